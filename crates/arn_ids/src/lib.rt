@@ -1,8 +1,26 @@
 //! Names, identifiers and the checked configuration of one account.
 #![tactic(auto)]
 
+mod conditions;
 mod config;
+mod faults;
+mod identifiers;
+pub mod laws;
+mod names;
 mod text;
+mod words;
 
 pub use config::{Checked, Config, EnvNo, FnNo, Function, Home, Slot};
+pub use faults::ConfigFault;
+pub use identifiers::{IdKind, IdParts, event_id, extension_id, id_parts, request_id, salt_word};
+pub use names::{FunctionName, NameFault, Named, arn_text};
 pub use text::{Bytes, Row, Text};
+
+#[cfg(test)]
+mod config_tests;
+#[cfg(test)]
+mod fault_order_tests;
+#[cfg(test)]
+mod fixtures;
+#[cfg(test)]
+mod tests;

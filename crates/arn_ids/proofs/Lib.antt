@@ -1,0 +1,6 @@
+pub mod Repeats
+pub mod Counting
+pub mod Bounds
+pub mod WordsRead
+pub mod Parts
+pub mod Arns

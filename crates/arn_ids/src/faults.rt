@@ -1,0 +1,158 @@
+//! The faults of a configuration.
+
+ghost use Rattle.std.specs.Prelude.{◌≡◌};
+ghost use Rattle.arn_ids.specs.Faults.{first_fault, earliest, account_faults, function_faults, environment_faults};
+
+use crate::{Config, conditions};
+use thiserror::Error;
+
+/// Why a configuration is refused: the first fault that holds, in the order of the variants. Each
+/// is looked for in the whole configuration before the next. Printed, a fault is its name.
+#[derive(Clone, Copy, Debug, PartialEq, Eq, Error)]
+pub enum ConfigFault {
+    /// The account isn't twelve digits.
+    #[error("BadAccount")]
+    BadAccount,
+    /// The region isn't 1 to 32 lower case letters, digits and `-`.
+    #[error("BadRegion")]
+    BadRegion,
+    /// The account's limit of concurrent invocations isn't between 1 and 1,000,000.
+    #[error("BadAccountLimit")]
+    BadAccountLimit,
+    /// The least remainder is above the account's limit.
+    #[error("BadLeastRemainder")]
+    BadLeastRemainder,
+    /// There are more than 64 functions.
+    #[error("TooManyFunctions")]
+    TooManyFunctions,
+    /// A function's name isn't 1 to 64 letters, digits, `-` and `_`.
+    #[error("BadName")]
+    BadName,
+    /// Two functions have one name.
+    #[error("DuplicateName")]
+    DuplicateName,
+    /// A handler isn't 1 to 128 printing ASCII characters.
+    #[error("BadHandler")]
+    BadHandler,
+    /// A timeout isn't between 1 and 900 seconds.
+    #[error("BadTimeout")]
+    BadTimeout,
+    /// A function has no port.
+    #[error("NoEnvironment")]
+    NoEnvironment,
+    /// The functions have more than 256 ports together.
+    #[error("TooManyEnvironments")]
+    TooManyEnvironments,
+    /// A port is 0.
+    #[error("BadPort")]
+    BadPort,
+    /// A port stands twice, that of the callers among them.
+    #[error("DuplicatePort")]
+    DuplicatePort,
+    /// A function expects more than ten extensions.
+    #[error("TooManyExtensions")]
+    TooManyExtensions,
+    /// The name of an extension isn't 1 to 128 printing ASCII characters.
+    #[error("BadExtension")]
+    BadExtension,
+    /// A function expects two extensions of one name.
+    #[error("DuplicateExtension")]
+    DuplicateExtension,
+    /// A function has more invocations reserved than it has environments.
+    #[error("ReservationAboveEnvironments")]
+    ReservationAboveEnvironments,
+    /// The reservations and the least remainder are together above the account's limit.
+    #[error("RemainderTooSmall")]
+    RemainderTooSmall,
+    /// The greatest number of entries of a journal is out of its range. `Config::check` never
+    /// gives this one: it is for the program, whose configuration names that number too. It is
+    /// printed as `EntriesOutOfRange`.
+    #[error("EntriesOutOfRange")]
+    BadEntries,
+}
+
+/// The fault that a configuration is refused for.
+#[tactic(auto, unfolding(crate::specs::Faults::first_fault))]
+pub(crate) fn fault_of(config: &Config) -> Option<ConfigFault>
+    ensures { result ≡ first_fault config.now }
+{
+    if let Some(fault) = account_fault(config) {
+        return Some(fault);
+    }
+    if let Some(fault) = function_fault(config) {
+        return Some(fault);
+    }
+    environment_fault(config)
+}
+
+fn account_fault(config: &Config) -> Option<ConfigFault>
+    ensures { result ≡ earliest (account_faults config.now) }
+{
+    if conditions::has_bad_account(config) {
+        return Some(ConfigFault::BadAccount);
+    }
+    if conditions::has_bad_region(config) {
+        return Some(ConfigFault::BadRegion);
+    }
+    if conditions::has_bad_account_limit(config) {
+        return Some(ConfigFault::BadAccountLimit);
+    }
+    if conditions::has_bad_least_remainder(config) {
+        return Some(ConfigFault::BadLeastRemainder);
+    }
+    None
+}
+
+fn function_fault(config: &Config) -> Option<ConfigFault>
+    ensures { result ≡ earliest (function_faults config.now) }
+{
+    if conditions::has_too_many_functions(config) {
+        return Some(ConfigFault::TooManyFunctions);
+    }
+    if conditions::has_bad_name(config) {
+        return Some(ConfigFault::BadName);
+    }
+    if conditions::has_duplicate_name(config) {
+        return Some(ConfigFault::DuplicateName);
+    }
+    if conditions::has_bad_handler(config) {
+        return Some(ConfigFault::BadHandler);
+    }
+    if conditions::has_bad_timeout(config) {
+        return Some(ConfigFault::BadTimeout);
+    }
+    if conditions::has_function_without_environment(config) {
+        return Some(ConfigFault::NoEnvironment);
+    }
+    if conditions::has_too_many_environments(config) {
+        return Some(ConfigFault::TooManyEnvironments);
+    }
+    None
+}
+
+fn environment_fault(config: &Config) -> Option<ConfigFault>
+    ensures { result ≡ earliest (environment_faults config.now) }
+{
+    if conditions::has_bad_port(config) {
+        return Some(ConfigFault::BadPort);
+    }
+    if conditions::has_duplicate_port(config) {
+        return Some(ConfigFault::DuplicatePort);
+    }
+    if conditions::has_too_many_extensions(config) {
+        return Some(ConfigFault::TooManyExtensions);
+    }
+    if conditions::has_bad_extension(config) {
+        return Some(ConfigFault::BadExtension);
+    }
+    if conditions::has_duplicate_extension(config) {
+        return Some(ConfigFault::DuplicateExtension);
+    }
+    if conditions::has_reservation_above_environments(config) {
+        return Some(ConfigFault::ReservationAboveEnvironments);
+    }
+    if conditions::has_too_small_remainder(config) {
+        return Some(ConfigFault::RemainderTooSmall);
+    }
+    None
+}

@@ -1,0 +1,5 @@
+pub mod Parsed
+pub mod Each
+pub mod MembersLemmas
+pub mod Whole
+pub mod Again

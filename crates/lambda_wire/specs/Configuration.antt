@@ -1,0 +1,73 @@
+-- The setup that a configuration says: one JSON object, with no member that isn't named here.
+use Rattle.std.specs.Prelude.{ℕ, ◌||◌, ◌^◌, Bool, nat_lt, if◌then◌else◌, List, [], length, bytes_eq, codes, Result, Ok, Err}
+use Rattle.serde_json.specs.Data.{Data}
+use Rattle.serde_json.specs.Find.{get}
+use Rattle.arn_ids.specs.declared.config.Slot.{Slot}
+use Rattle.arn_ids.specs.declared.config.Function.{Function}
+use Rattle.lambda_wire.specs.declared.setup.Setup.{Setup}
+use Rattle.lambda_wire.specs.declared.fault.WireFault.{WireFault}
+use Rattle.lambda_wire.specs.declared.fault.WireFault.TheVariants.{TooLong, BadShape}
+use Rattle.lambda_wire.specs.Reading.{◌>>=◌, json_in, has_only, required, or_else, optional, text_of, number_of, number_below, list_of}
+
+-- the members that a function may have
+abbrev pub is_function_member : List ℕ → Bool
+is_function_member k = bytes_eq k (codes "name") || bytes_eq k (codes "handler") || bytes_eq k (codes "timeout")
+    || bytes_eq k (codes "reserved") || bytes_eq k (codes "extensions") || bytes_eq k (codes "ports")
+
+-- the members that a configuration may have
+abbrev pub is_setup_member : List ℕ → Bool
+is_setup_member k = bytes_eq k (codes "account") || bytes_eq k (codes "region") || bytes_eq k (codes "functions")
+    || bytes_eq k (codes "accountLimit") || bytes_eq k (codes "leastRemainder") || bytes_eq k (codes "invokePort")
+    || bytes_eq k (codes "salt") || bytes_eq k (codes "maxEntries")
+
+-- a port's number, 0 among them
+abbrev pub port_of : Data → Result ℕ WireFault
+port_of = number_below (2 ^ 16)
+
+-- an environment is written as its port
+abbrev pub slot_of : Data → Result Slot WireFault
+slot_of d = port_of d >>= λ port. Ok (record { port = port })
+
+-- a function, and what stands for the members that it leaves out
+unfoldable pub function_of : Data → Result Function WireFault
+function_of d = if has_only is_function_member d then (do
+  name ← required text_of (get (codes "name") d)
+  handler ← or_else (codes "index.handler") text_of (get (codes "handler") d)
+  timeout_s ← or_else 3 (number_below (2 ^ 32)) (get (codes "timeout") d)
+  reserved ← optional (number_below (2 ^ 32)) (get (codes "reserved") d)
+  extensions ← or_else [] (list_of text_of) (get (codes "extensions") d)
+  slots ← required (list_of slot_of) (get (codes "ports") d)
+  Ok (record { name = name; handler = handler; timeout_s = timeout_s; reserved = reserved; extensions = extensions; slots = slots }))
+    else Err BadShape
+
+-- an account, and what stands for the members that it leaves out
+unfoldable pub setup_of : Data → Result Setup WireFault
+setup_of d = if has_only is_setup_member d then (do
+  account ← required text_of (get (codes "account") d)
+  region ← required text_of (get (codes "region") d)
+  functions ← required (list_of function_of) (get (codes "functions") d)
+  account_limit ← or_else 1000 (number_below (2 ^ 32)) (get (codes "accountLimit") d)
+  least_remainder ← or_else 100 (number_below (2 ^ 32)) (get (codes "leastRemainder") d)
+  invoke_port ← or_else 9000 port_of (get (codes "invokePort") d)
+  salt ← or_else 0 number_of (get (codes "salt") d)
+  max_entries ← or_else 1000000 number_of (get (codes "maxEntries") d)
+  Ok (record {
+    config = record {
+      home = record { account = account; region = region };
+      account_limit = account_limit;
+      least_remainder = least_remainder;
+      invoke_port = invoke_port;
+      functions = functions;
+    };
+    salt = salt;
+    max_entries = max_entries;
+  }))
+    else Err BadShape
+
+-- the setup that the bytes say, however many they are
+abbrev pub said_by : List ℕ → Result Setup WireFault
+said_by bytes = json_in bytes >>= setup_of
+
+-- the setup that at most 20,000,000 bytes say
+unfoldable pub read_setup : List ℕ → Result Setup WireFault
+read_setup bytes = if nat_lt 20000000 (length bytes) then Err TooLong else said_by bytes

@@ -1,0 +1,4 @@
+pub mod Reading
+pub mod Configuration
+pub mod ConfigurationText
+pub mod Ranges

@@ -1,0 +1,111 @@
+//! A configuration is written.
+
+ghost use Rattle.std.specs.Prelude.{◌≡◌, ◌≤◌, Ok, IfOk, length, map, All};
+ghost use Rattle.serde_json.specs.Data.{string};
+ghost use Rattle.serde_json.specs.View.{view};
+ghost use Rattle.lambda_wire.specs.Ranges.{IsSlotInRange, IsFunctionInRange, IsConfigInRange};
+ghost use Rattle.lambda_wire.specs.Configuration.{read_setup};
+ghost use Rattle.lambda_wire.specs.ConfigurationText.{slot_data, function_data, setup_data, setup_text};
+
+use arn_ids::{Config, Function, Slot, Text};
+use serde_json::{Value, json};
+use std::alloc::{AllocError, Global};
+
+fn text_values(alloc: Global, texts: &[Text]) -> Result<Vec<Value>, AllocError>
+    ensures { IfOk result (λ v. map view v.items ≡ map string texts.now) }
+{
+    let mut values = Vec::new(alloc);
+    for text in texts {
+        let copy = String::from_str(alloc, text.as_str())?;
+        values.push(Value::String(copy))?;
+    }
+    Ok(values)
+}
+
+fn port_values(alloc: Global, slots: &[Slot]) -> Result<Vec<Value>, AllocError>
+    ensures values { IfOk result (λ v. map view v.items ≡ map slot_data slots.now) }
+    ensures in_range { IfOk result (λ _. All IsSlotInRange slots.now) }
+{
+    let mut values = Vec::new(alloc);
+    for slot in slots {
+        values.push(Value::from(slot.port))?;
+    }
+    Ok(values)
+}
+
+fn function_value(alloc: Global, function: &Function) -> Result<Value, AllocError>
+    ensures value { IfOk result (λ v. view v ≡ function_data function.now) }
+    ensures in_range { IfOk result (λ _. IsFunctionInRange function.now) }
+{
+    let extensions = Value::Array(text_values(alloc, function.extensions.as_slice())?);
+    let ports = Value::Array(port_values(alloc, function.slots.as_slice())?);
+    match function.reserved {
+        None => json!(in alloc; {
+            "extensions": extensions,
+            "handler": function.handler.as_str(),
+            "name": function.name.as_str(),
+            "ports": ports,
+            "timeout": function.timeout_s
+        }),
+        Some(reserved) => json!(in alloc; {
+            "extensions": extensions,
+            "handler": function.handler.as_str(),
+            "name": function.name.as_str(),
+            "ports": ports,
+            "reserved": reserved,
+            "timeout": function.timeout_s
+        }),
+    }
+}
+
+fn function_values(alloc: Global, functions: &[Function]) -> Result<Vec<Value>, AllocError>
+    ensures values { IfOk result (λ v. map view v.items ≡ map function_data functions.now) }
+    ensures in_range { IfOk result (λ _. All IsFunctionInRange functions.now) }
+{
+    let mut values = Vec::new(alloc);
+    for function in functions {
+        values.push(function_value(alloc, function)?)?;
+    }
+    Ok(values)
+}
+
+fn setup_value(
+    alloc: Global,
+    config: &Config,
+    salt: u64,
+    max_entries: u64,
+) -> Result<Value, AllocError>
+    ensures value { IfOk result (λ v. view v ≡ setup_data config.now salt max_entries) }
+    ensures in_range { IfOk result (λ _. IsConfigInRange config.now) }
+{
+    let functions = Value::Array(function_values(alloc, config.functions.as_slice())?);
+    json!(in alloc; {
+        "account": config.home.account.as_str(),
+        "accountLimit": config.account_limit,
+        "functions": functions,
+        "invokePort": config.invoke_port,
+        "leastRemainder": config.least_remainder,
+        "maxEntries": max_entries,
+        "region": config.home.region.as_str(),
+        "salt": salt
+    })
+}
+
+/// Writes a configuration as compact JSON with every member, the keys in the order of their bytes;
+/// a function without a reservation has no member `reserved`. Texts are quoted as `serde_json`
+/// quotes them (RFC 8259, section 7). `salt` and `max_entries` are those of `Setup`.
+///
+/// The only error is want of memory.
+pub fn write_config(
+    alloc: Global,
+    config: &Config,
+    salt: u64,
+    max_entries: u64,
+) -> Result<Vec<u8>, AllocError>
+    ensures text { IfOk result (λ b. b.items ≡ setup_text config.now salt max_entries) }
+    // `read_config` reads it to the same setup, unless it is longer than a configuration may be.
+    ensures read_back { IfOk result (λ b. length b.items ≤ 20000000 → read_setup b.items
+        ≡ Ok (record { config = config.now; salt = salt; max_entries = max_entries })) }
+{
+    setup_value(alloc, config, salt, max_entries)?.to_vec(alloc)
+}
