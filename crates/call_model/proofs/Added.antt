@@ -1,0 +1,73 @@
+-- How many entries a call adds.
+use Rattle.std.proofs.Common.{◌≡◌, ℕ, suc, ◌+◌, ◌≤◌, Bool, true, false, List, [], ◌∷◌, length, filter_map, Option, Some, None, refl, ap, ◌∙◌, arith, if◌then◌else◌, nat_le, length-append, nat_lt, ◌*◌}
+use Rattle.std.proofs.lemmas.List.{length-map}
+use Rattle.std.specs.List.{cons_option}
+use Rattle.call_model.specs.declared.call.Call.{Call}
+use Rattle.call_model.specs.declared.call.Call.TheVariants.{Expire, Stop}
+use Rattle.call_model.specs.declared.call.Entry.{Entry}
+use Rattle.arn_ids.specs.declared.config.Config.{Config}
+use Rattle.arn_ids.specs.Environments.{environments}
+use Rattle.call_model.specs.Life.{phase}
+use Rattle.call_model.specs.Next.{due, due_at, deadline_of, in_order, by_deadline, entry_of, entered, expiries, added, moment_at, next}
+use Rattle.call_model.specs.Counts.{full, most_added}
+use Rattle.call_model.specs.History.{is_stop}
+use Rattle.std.proofs.lemmas.Bool.Decides.{nat_tests}
+
+expiries_length : (config : Config) (m : ℕ) (es : List ℕ) (h : List Entry) → length (expiries config m es h) ≡ length es
+expiries_length config m [] h = refl
+expiries_length config m (e ∷ rest) h = length-append (expiries config m rest (entered config h m (Expire e))) (entry_of config h m (Expire e) ∷ []) ∙ one (expiries_length config m rest (entered config h m (Expire e)))
+  where
+    one : {n : ℕ} → n ≡ length rest → n + 1 ≡ suc (length rest)
+    one q = omega (arith, q)
+
+-- A call adds its own entry, and one for each environment whose deadline has come.
+pub added_length : (config : Config) (h : List Entry) (now : ℕ) (call : Call) → length (added config h now call) ≡ suc (length (due config h (moment_at h now)))
+unfolding added
+added_length config h now call = ap suc (expiries_length config (moment_at h now) (due config h (moment_at h now)) h)
+
+in_order_length : (a : ℕ × ℕ) (xs : List (ℕ × ℕ)) → length (in_order a xs) ≡ suc (length xs)
+in_order_length a [] = refl
+in_order_length a (x ∷ xs) = go (nat_le a.0 x.0) (in_order_length a xs)
+  where
+    go : (b : Bool) → length (in_order a xs) ≡ suc (length xs) → length (if b then a ∷ x ∷ xs else x ∷ in_order a xs) ≡ suc (suc (length xs))
+    go true k = refl
+    go false k = ap suc k
+
+by_deadline_length : (xs : List (ℕ × ℕ)) → length (by_deadline xs) ≡ length xs
+by_deadline_length [] = refl
+by_deadline_length (x ∷ xs) = in_order_length x (by_deadline xs) ∙ ap suc (by_deadline_length xs)
+
+found_length : (f : ℕ → Option (ℕ × ℕ)) (xs : List ℕ) → length (filter_map f xs) ≤ length xs
+found_length f [] = omega arith
+found_length f (x ∷ xs) = go (f x) (found_length f xs)
+  where
+    go : (o : Option (ℕ × ℕ)) → length (filter_map f xs) ≤ length xs → length (cons_option o (filter_map f xs)) ≤ suc (length xs)
+    go None k = omega (arith, k)
+    go (Some y) k = omega (arith, k)
+
+-- At most all environments are due.
+pub due_length : (config : Config) (h : List Entry) (m : ℕ) → length (due config h m) ≤ length (environments config)
+unfolding due
+due_length config h m =
+    let found : length (by_deadline (filter_map (λ e. due_at m e (deadline_of (phase config h e))) (environments config))) ≤ length (environments config) = rw (by_deadline_length (filter_map (λ e. due_at m e (deadline_of (phase config h e))) (environments config))) (found_length (λ e. due_at m e (deadline_of (phase config h e))) (environments config)) in
+    rw (length-map (by_deadline (filter_map (λ e. due_at m e (deadline_of (phase config h e))) (environments config))) (λ (a : ℕ × ℕ). a.1)) found
+
+-- So a call adds at most one entry more than there are environments,
+pub next_length : (config : Config) (h : List Entry) (now : ℕ) (call : Call) → length (next config h now call) ≤ length h + most_added config
+unfolding next
+next_length config h now call = rw (length-append (added config h now call) h, added_length config h now call) (omega (arith, due_length config h (moment_at h now)))
+
+-- a journal that isn't full has room for it,
+pub room_for_call : (config : Config) (most : ℕ) (h : List Entry) (now : ℕ) (call : Call) → full config most h call ≡ false → length (next config h now call) ≤ most
+room_for_call config most h now call q = go (is_stop call) q (next_length config h now call)
+  where
+    go : (b : Bool) → nat_lt most (length h + (if b then most_added config else 2 * most_added config)) ≡ false → length (next config h now call) ≤ length h + most_added config → length (next config h now call) ≤ most
+    go true r k = grind (arith, nat_tests, r, k)
+    go false r k = grind (arith, nat_tests, r, k)
+
+-- and after any call but a Stop there is room for a Stop.
+pub room_for_stop : (config : Config) (most : ℕ) (h : List Entry) (now : ℕ) (call : Call) → full config most h call ≡ false → is_stop call ≡ false → full config most (next config h now call) Stop ≡ false
+room_for_stop config most h now call q s = enough (rw s at q) (next_length config h now call)
+  where
+    enough : nat_lt most (length h + 2 * most_added config) ≡ false → length (next config h now call) ≤ length h + most_added config → nat_lt most (length (next config h now call) + most_added config) ≡ false
+    enough r k = grind (arith, nat_tests, r, k)

@@ -1,0 +1,522 @@
+-- An invocation is delivered at most once.
+use Rattle.call_model.proofs.BoundWaits as W
+use Rattle.std.proofs.Common.{◌≡◌, ℕ, suc, ◌+◌, ◌-◌, Bool, true, false, List, length, Option, Some, None, sym, refl, ap, ◌∙◌, is_some, not, ◌&&◌, ◌||◌, ◌==◌, true≢false, if◌then◌else◌, nat_lt, zero, ◌<◌, ◌≤◌, cond, [], ◌∷◌, ap₂, subst, inl, inr, arith, ◌⊎◌, count_by, nat_le}
+use Rattle.std.specs.List.{find}
+use Rattle.call_model.specs.declared.answer.Answer.{Answer}
+use Rattle.call_model.specs.declared.answer.Answer.TheVariants.{Delivered, Told, Ending, Registered, Accepted, Output, Error, TimedOut, OutputTooLarge, Stopped, Withdrawn, Refused, Reserved}
+use Rattle.call_model.specs.declared.answer.Refusal.{Refusal}
+use Rattle.call_model.specs.declared.answer.Refusal.TheVariants.{NameInUse, TooMany, BadReservation}
+use Rattle.call_model.specs.declared.answer.Reason.{Reason}
+use Rattle.call_model.specs.declared.answer.Phase.{Phase}
+use Rattle.call_model.specs.declared.answer.Phase.TheVariants.{Starting, Idle, Busy, Closing, Off}
+use Rattle.call_model.specs.declared.call.Call.{Call}
+use Rattle.call_model.specs.declared.call.Call.TheVariants.{Invoke, RuntimeNext, Response, ResponseTooLarge, Failure, InitFailure, Register, ExtNext, ExtInitFailure, ExtExitFailure, Tick, Withdraw, Spindown, Stop, Expire, Reserve}
+use Rattle.call_model.specs.declared.call.Entry.{Entry}
+use Rattle.arn_ids.specs.declared.config.Config.{Config}
+use Rattle.arn_ids.specs.Environments.{function_at}
+use Rattle.call_model.specs.History.{stopped, env_of, or_else, answer_in, call_of, place_of}
+use Rattle.call_model.specs.Generation.{Member, hears_end, has_count, reports_exit}
+use Rattle.call_model.specs.Stand.{Stand, is_number, is_known, is_busy, role, Role, NoRole, Waiting, RuntimePoll, ExtensionPoll, bound_of, member_role, waits_as}
+use Rattle.call_model.specs.Table.{own_answer, by_phase, if_open, if_known, next_in_closing, register, closes, to_waiting, timed_out, kept}
+use Rattle.call_model.specs.Polls.{at_close, replaced, by_role, delivered, begun}
+use Rattle.call_model.specs.Life.{stand, names, Life, phase, seen, concerns, limit_of}
+use Rattle.call_model.specs.Limits.{verdict, Verdict, AfterStop, Refuses, Admits, reserved_in_all, or_zero, reservation, is_busy_with}
+use Rattle.call_model.specs.Answers.{first_answer, home, own_first, own_at, verdict_answer, reserve_answer, other_answer, answer_at, answers, answer_to, first_answers, first_entry, second_answer, second_at, each_from, with_answer, numbered, event_at}
+use Rattle.std.proofs.lemmas.Bool.{cases_lt, eqb-true}
+use Rattle.std.proofs.lemmas.Bool.Decides.{nat_tests}
+use Rattle.call_model.specs.Laws.{delivers, deliveries}
+use Rattle.call_model.specs.Next.{IsLegal, Follows}
+use Rattle.call_model.proofs.Once.{fresh}
+use Rattle.call_model.proofs.AtHand.{IsHeld, held, from_entry, bound_at_hand, busy_at_hand, at_hand_is}
+use Rattle.call_model.proofs.Scans.{legal_silent}
+use Rattle.call_model.proofs.PhaseStep.{phase_step, cell_of}
+use Rattle.call_model.proofs.FirstPhase.{phase_first, first_in, first_past}
+use Rattle.call_model.proofs.Basics.{count_cons, number_some, some-none}
+use Rattle.call_model.proofs.Elsewhere.{life_elsewhere}
+
+-- an answer of a Busy that begins, or one that only a Busy gives
+abbrev pub special : Option Answer → Bool
+special (Some (Delivered p d)) = true
+special (Some (Told p d event)) = true
+special (Some (Output source)) = true
+special (Some OutputTooLarge) = true
+special (Some TimedOut) = true
+special _ = false
+
+by_phase_plain : (a b c d e f : Option Answer) (s : Stand) (P : Phase) → special a ≡ false → special b ≡ false → special c ≡ false → special d ≡ false → special e ≡ false → special f ≡ false → special (by_phase a b c d e f s P) ≡ false
+by_phase_plain a b c d e f s (Starting t u) p q r v w x = p
+by_phase_plain a b c d e f s Idle p q r v w x = q
+by_phase_plain a b c d e f s (Busy t u) p q r v w x = go (is_some s.request)
+  where
+    go : (k : Bool) → special (if k then c else d) ≡ false
+    go true = r
+    go false = v
+by_phase_plain a b c d e f s (Closing t u k) p q r v w x = w
+by_phase_plain a b c d e f s Off p q r v w x = x
+
+open_plain : (b : Bool) (a : Answer) → special (Some a) ≡ false → special (if_open b a) ≡ false
+open_plain true a q = q
+open_plain false a q = refl
+
+known_plain : (b : Bool) (a : Option Answer) → special a ≡ false → special (if_known b a) ≡ false
+known_plain true a q = q
+known_plain false a q = refl
+
+register_plain : (s : Stand) (name : List ℕ) → special (Some (register s name)) ≡ false
+register_plain s name = go _ _
+  where
+    go : (a b : Bool) → special (Some (if a then Refused NameInUse else if b then Refused TooMany else Registered (suc s.registrations))) ≡ false
+    go true b = refl
+    go false true = refl
+    go false false = refl
+
+closing_plain : (x : Option Member) (P : Phase) → special (next_in_closing x P) ≡ false
+closing_plain (Some x) (Closing reason until bound) = go (hears_end x && not x.told)
+  where
+    go : (b : Bool) → special (if b then Some (Ending reason until 0) else Some (Refused Rattle.call_model.specs.declared.answer.Refusal.TheVariants.Container)) ≡ false
+    go true = refl
+    go false = refl
+closing_plain None P = refl
+closing_plain (Some x) P = refl
+
+-- the own answers are none of these
+own_plain : (s : Stand) (call : Call) → special (own_answer s call) ≡ false
+unfolding own_answer
+own_plain s (RuntimeNext e) = by_phase_plain _ _ _ _ _ _ s s.phase refl refl refl refl refl refl
+own_plain s (Response e id body) = by_phase_plain _ _ _ _ _ _ s s.phase refl refl (open_plain (is_number s.request id) Accepted refl) refl refl refl
+own_plain s (ResponseTooLarge e id) = by_phase_plain _ _ _ _ _ _ s s.phase refl refl (open_plain (is_number s.request id) _ refl) refl refl refl
+own_plain s (Failure e id body) = by_phase_plain _ _ _ _ _ _ s s.phase refl refl (open_plain (is_number s.request id) Accepted refl) refl refl refl
+own_plain s (InitFailure e body) = by_phase_plain _ _ _ _ _ _ s s.phase refl refl refl refl refl refl
+own_plain s (Register e name invoke shutdown account) = by_phase_plain _ _ _ _ _ _ s s.phase (register_plain s name) refl refl refl refl refl
+own_plain s (ExtNext e x) = by_phase_plain _ _ _ _ _ _ s s.phase (known_plain (is_known s x) None refl) (known_plain (is_known s x) None refl) (known_plain (is_known s x) None refl) (known_plain (is_known s x) None refl) (known_plain (is_known s x) _ (closing_plain (find (has_count x) s.members) s.phase)) refl
+own_plain s (ExtInitFailure e x body) = by_phase_plain _ _ _ _ _ _ s s.phase (known_plain (is_known s x) _ refl) (known_plain (is_known s x) _ refl) (known_plain (is_known s x) _ refl) (known_plain (is_known s x) _ refl) (known_plain (is_known s x) _ refl) refl
+own_plain s (ExtExitFailure e x body) = by_phase_plain _ _ _ _ _ _ s s.phase (known_plain (is_known s x) _ refl) (known_plain (is_known s x) _ refl) (known_plain (is_known s x) _ refl) (known_plain (is_known s x) _ refl) (known_plain (is_known s x) _ refl) refl
+own_plain s (Spindown e) = by_phase_plain _ _ _ _ _ _ s s.phase refl refl refl refl refl refl
+own_plain s call = refl
+
+pub own_first_plain : (config : Config) (h : List Entry) (call : Call) → special (own_first config h call) ≡ false
+unfolding own_first
+own_first_plain config h (Invoke f qualified trace body) = go (verdict config h f)
+  where
+    go : (v : Verdict) → special (verdict_answer v) ≡ false
+    go AfterStop = refl
+    go (Refuses reason) = refl
+    go (Admits e) = refl
+own_first_plain config h Tick = refl
+own_first_plain config h (Withdraw t) = refl
+own_first_plain config h Stop = refl
+own_first_plain config h (Reserve f c) = go (stopped h) c
+  where
+    two : (b : Bool) (k : ℕ) → special (Some (if b then Refused BadReservation else Reserved k)) ≡ false
+    two true k = refl
+    two false k = refl
+
+    go : (b : Bool) (c : Option ℕ) → special (Some (if b then Stopped else reserve_answer config h f c)) ≡ false
+    go true c = refl
+    go false None = refl
+    go false (Some k) = two (nat_lt (length (function_at config f).slots) k || nat_lt config.account_limit (((reserved_in_all config h - or_zero (reservation config h f)) + k) + config.least_remainder)) k
+own_first_plain config h call = at_env (env_of call)
+  where
+    at_env : (o : Option ℕ) → special (own_at config h call o) ≡ false
+    at_env None = refl
+    at_env (Some e) = own_plain (stand config h e) call
+
+or_plain : (a b : Option Answer) → special a ≡ false → special b ≡ false → special (or_else a b) ≡ false
+or_plain None b p q = q
+or_plain (Some a) b p q = p
+
+close_plain : (now : ℕ) (c : Option Reason) (call : Call) (r : Role) → special (at_close now c call r) ≡ false
+close_plain now (Some reason) call (ExtensionPoll x) = go (hears_end x && not (reports_exit x.extension.count call))
+  where
+    go : (b : Bool) → special (if b then Some (Ending reason (now + 2000) 0) else Some (Refused Rattle.call_model.specs.declared.answer.Refusal.TheVariants.Container)) ≡ false
+    go true = refl
+    go false = refl
+close_plain now (Some reason) call RuntimePoll = refl
+close_plain now (Some reason) call NoRole = refl
+close_plain now (Some reason) call Waiting = refl
+close_plain now None call r = refl
+
+replaced_plain : (t : ℕ) (call : Call) (r : Role) → special (replaced t call r) ≡ false
+replaced_plain t (RuntimeNext e) RuntimePoll = refl
+replaced_plain t (ExtNext e x) (ExtensionPoll y) = go (y.extension.count == x)
+  where
+    go : (b : Bool) → special (if b then Some (Refused Rattle.call_model.specs.declared.answer.Refusal.TheVariants.Replaced) else None) ≡ false
+    go true = refl
+    go false = refl
+replaced_plain t (Withdraw u) RuntimePoll = go (u == t)
+  where
+    go : (b : Bool) → special (if b then Some Withdrawn else None) ≡ false
+    go true = refl
+    go false = refl
+replaced_plain t (Withdraw u) (ExtensionPoll y) = go (u == t)
+  where
+    go : (b : Bool) → special (if b then Some Withdrawn else None) ≡ false
+    go true = refl
+    go false = refl
+replaced_plain t call r = refl
+
+-- a poll gets none of these by the table
+pub poll_plain : (own now : ℕ) (s : Stand) (call : Call) (t : ℕ) (r : Role) → special (by_role own now s call t r) ≡ true → r ≡ Waiting
+poll_plain own now s call t NoRole q = absurd (true≢false (sym q))
+poll_plain own now s call t Waiting q = refl
+poll_plain own now s call t RuntimePoll q = absurd (true≢false (sym q ∙ or_plain (at_close now (closes s call) call RuntimePoll) (replaced t call RuntimePoll) (close_plain now (closes s call) call RuntimePoll) (replaced_plain t call RuntimePoll)))
+poll_plain own now s call t (ExtensionPoll x) q = absurd (true≢false (sym q ∙ or_plain (at_close now (closes s call) call (ExtensionPoll x)) (replaced t call (ExtensionPoll x)) (close_plain now (closes s call) call (ExtensionPoll x)) (replaced_plain t call (ExtensionPoll x))))
+
+abbrev pub second : Option Answer → Bool
+second (Some (Delivered p d)) = true
+second (Some (Told p d event)) = true
+second _ = false
+
+second_special : (a : Option Answer) → second a ≡ true → special a ≡ true
+second_special (Some (Delivered p d)) q = refl
+second_special (Some (Told p d event)) q = refl
+second_special None q = absurd (true≢false (sym q))
+second_special (Some a) q = absurd (true≢false (sym q))
+
+if_one : (b : Bool) (a : Answer) → second (Some a) ≡ false → second (if b then Some a else None) ≡ false
+if_one true a q = q
+if_one false a q = refl
+
+waiting_first : (own : ℕ) (s : Stand) (call : Call) → second (to_waiting own s call) ≡ false
+unfolding to_waiting
+waiting_first own s (Response e id body) = if_one (is_busy s.phase && is_number s.request id) (Output own) refl
+waiting_first own s (ResponseTooLarge e id) = if_one (is_busy s.phase && is_number s.request id) OutputTooLarge refl
+waiting_first own s (Failure e id body) = if_one (is_busy s.phase && is_number s.request id) (Error own) refl
+waiting_first own s (InitFailure e body) = if_one (is_some (closes s (InitFailure e body))) (Error own) refl
+waiting_first own s (ExtInitFailure e x body) = if_one (is_some (closes s (ExtInitFailure e x body))) (Error own) refl
+waiting_first own s (ExtExitFailure e x body) = if_one (is_some (closes s (ExtExitFailure e x body))) (Error own) refl
+waiting_first own s (Expire e) = if_one (is_some (closes s (Expire e))) (timed_out s.phase) (go s.phase)
+  where
+    go : (P : Phase) → second (Some (timed_out P)) ≡ false
+    go (Starting d b) = refl
+    go P = refl
+waiting_first own s Stop = go s.stopped
+  where
+    go : (b : Bool) → second (if b then None else Some Stopped) ≡ false
+    go true = refl
+    go false = refl
+waiting_first own s call = refl
+
+-- no first answer is one of a Busy that begins
+pub first_first : (config : Config) (h : List Entry) (now : ℕ) (call : Call) (t : ℕ) → second (first_answer config h now call t) ≡ false
+unfolding first_answer
+first_first config h now call t = go (t == length h)
+  where
+    not_true : (b : Bool) → (b ≡ true → ⊥) → b ≡ false
+    not_true true f = absurd (f refl)
+    not_true false f = refl
+
+    by_waiting : (s : Stand) (r : Role) → r ≡ Waiting → second (by_role (length h) now s call t r) ≡ true → ⊥
+    by_waiting s r e q = true≢false (sym q ∙ ap (λ (r : Role). second (by_role (length h) now s call t r)) e ∙ waiting_first (length h) s call)
+
+    at_env : (e : ℕ) (b : Bool) → second (answer_at config h now e call t b) ≡ false
+    at_env e false = refl
+    at_env e true = not_true (second (by_role (length h) now (stand config h e) call t (role (stand config h e) t))) (λ q. by_waiting (stand config h e) (role (stand config h e) t) (poll_plain (length h) now (stand config h e) call t (role (stand config h e) t) (second_special (by_role (length h) now (stand config h e) call t (role (stand config h e) t)) q)) q)
+
+    other : (o : Option ℕ) → second (other_answer config h now call t o) ≡ false
+    other None = refl
+    other (Some e) = at_env e (names h e call)
+
+    go : (b : Bool) → second (if b then own_first config h call else other_answer config h now call t (home h t)) ≡ false
+    go true = not_true (second (own_first config h call)) (λ q. true≢false (sym (second_special (own_first config h call) q) ∙ own_first_plain config h call))
+    go false = other (home h t)
+
+abbrev pub gives : ℕ → Option Answer → Bool
+gives p None = false
+gives p (Some a) = delivers p a
+
+gives_second : (p : ℕ) (a : Option Answer) → gives p a ≡ true → second a ≡ true
+gives_second p (Some (Delivered q d)) k = refl
+gives_second p None k = absurd (true≢false (sym k))
+gives_second p (Some a) k = absurd (true≢false (sym k))
+
+-- numbering the events keeps what is delivered
+delivers_event : (h : List Entry) (entry : Entry) (before : List (ℕ × Answer)) (o : Option ℕ) (a : Answer) (p : ℕ) → delivers p (event_at h entry before o a) ≡ delivers p a
+delivers_event h entry before None a p = refl
+delivers_event h entry before (Some e) (Told q d event) p = refl
+delivers_event h entry before (Some e) (Ending reason until event) p = refl
+delivers_event h entry before (Some e) a p = refl
+
+pub count_numbered : (h : List Entry) (entry : Entry) (before pairs : List (ℕ × Answer)) (p : ℕ) → count_by (λ a. delivers p a.1) (numbered h entry before pairs) ≡ count_by (λ a. delivers p a.1) pairs
+count_numbered h entry before [] p = refl
+count_numbered h entry before (a ∷ rest) p =
+    count_cons (λ (a : ℕ × Answer). delivers p a.1) (a.0, event_at h entry before (env_of (call_of (entry ∷ h) a.0)) a.1) (numbered h entry (a ∷ before) rest)
+    ∙ ap₂ (λ (b : Bool) (n : ℕ). cond b 1 0 + n) (delivers_event h entry before (env_of (call_of (entry ∷ h) a.0)) a.1 p) (count_numbered h entry (a ∷ before) rest p)
+    ∙ sym (count_cons (λ (a : ℕ × Answer). delivers p a.1) a rest)
+
+pub with_count : (t p : ℕ) (a : Option Answer) (rest : List (ℕ × Answer)) → count_by (λ b. delivers p b.1) (with_answer t a rest) ≡ cond (gives p a) 1 0 + count_by (λ b. delivers p b.1) rest
+with_count t p None rest = add (count_by (λ (b : ℕ × Answer). delivers p b.1) rest)
+  where
+    add : (n : ℕ) → n ≡ 0 + n
+    add n = omega arith
+with_count t p (Some a) rest = count_cons (λ (b : ℕ × Answer). delivers p b.1) (t, a) rest
+
+-- where one ticket at most is given the invocation
+count_each : (t n p r : ℕ) (f : ℕ → Option Answer) → ((u : ℕ) → gives p (f u) ≡ true → u ≡ r) → count_by (λ b. delivers p b.1) (each_from t n f) ≤ cond (nat_le t r) 1 0
+count_each t zero p r f one = omega arith
+count_each t (suc n) p r f one = rw (with_count t p (f t) (each_from (suc t) n f)) (go (gives p (f t)) refl (count_each (suc t) n p r f one))
+  where
+    rest : ℕ
+    rest = count_by (λ b. delivers p b.1) (each_from (suc t) n f)
+
+    past : t ≡ r → nat_le (suc t) r ≡ false
+    past e = grind (arith, nat_tests, e)
+
+    at : t ≡ r → nat_le t r ≡ true
+    at e = grind (arith, nat_tests, e)
+
+    less : cond (nat_le (suc t) r) 1 0 ≤ cond (nat_le t r) 1 0
+    less = grind (arith, nat_tests)
+
+    go : (b : Bool) → gives p (f t) ≡ b → rest ≤ cond (nat_le (suc t) r) 1 0 → cond b 1 0 + rest ≤ cond (nat_le t r) 1 0
+    go true q k = let e : t ≡ r = one t q in rw (at e) (add (rw (past e) at k))
+      where
+        add : rest ≤ 0 → 1 + rest ≤ 1
+        add k = omega (arith, k)
+    go false q k = omega (arith, k, less)
+
+-- where the invocation is given, it is given to some ticket
+given_each : (t n p : ℕ) (f : ℕ → Option Answer) → 1 ≤ count_by (λ b. delivers p b.1) (each_from t n f) → (u : ℕ) × ((u < t + n) × (gives p (f u) ≡ true))
+given_each t zero p f k = absurd (omega (arith, k))
+given_each t (suc n) p f k = go (gives p (f t)) refl (subst (λ (m : ℕ). 1 ≤ m) (with_count t p (f t) (each_from (suc t) n f)) k) (given_each (suc t) n p f)
+  where
+    rest : ℕ
+    rest = count_by (λ b. delivers p b.1) (each_from (suc t) n f)
+
+    go : (b : Bool) → gives p (f t) ≡ b → 1 ≤ cond b 1 0 + rest → (1 ≤ rest → (u : ℕ) × ((u < suc t + n) × (gives p (f u) ≡ true))) → (u : ℕ) × ((u < t + suc n) × (gives p (f u) ≡ true))
+    go true q k ih = (t, (omega arith, q))
+    go false q k ih = let x : (u : ℕ) × ((u < suc t + n) × (gives p (f u) ≡ true)) = ih (drop k) in (x.0, (omega (arith, x.1.0), x.1.1))
+      where
+        drop : 1 ≤ 0 + rest → 1 ≤ rest
+        drop k = omega (arith, k)
+
+-- a ticket is given an invocation only by a second answer
+to_second : (config : Config) (h : List Entry) (now : ℕ) (call : Call) (p t : ℕ) → gives p (answer_to config h (first_entry config h now call) t) ≡ true → gives p (second_answer config h (first_entry config h now call) t) ≡ true
+unfolding answer_to
+to_second config h now call p t k = go (answer_in (first_answers config h now call) t) first k
+  where
+    first : second (answer_in (first_answers config h now call) t) ≡ false
+    first = elim (cases_lt (length h) t) [
+      | inl lt ↦ ap second (first_past config h now call t lt)
+      | inr ge ↦ ap second (first_in config h now call t (omega (arith, ge))) ∙ first_first config h now call t
+    ]
+
+    go : (a : Option Answer) → second a ≡ false → gives p (or_else a (second_answer config h (first_entry config h now call) t)) ≡ true → gives p (second_answer config h (first_entry config h now call) t) ≡ true
+    go None q r = r
+    go (Some a) q r = absurd (true≢false (sym (gives_second p (Some a) r) ∙ q))
+
+-- an environment where the Busy of the invocation begins, with the runtime's poll that gets it
+pub record IsBegun (config : Config) (h : List Entry) (entry : Entry) (p t : ℕ) : Type 0 where
+  pub env : ℕ
+  pub before : is_busy (phase config h env) ≡ false
+  pub busy : is_busy_with (phase config (entry ∷ h) env) p ≡ true
+  pub runtime : (stand config (entry ∷ h) env).runtime ≡ Some t
+
+from_begun : (P Q : Phase) (b : ℕ × ℕ) → begun P Q ≡ Some b → (is_busy P ≡ false) × (is_busy_with Q b.0 ≡ true)
+from_begun (Busy q d) Q b e = absurd (some-none (sym e))
+from_begun (Starting d k) (Busy p m) b e = (refl, same p b cc)
+  where
+    same : (p : ℕ) (b : ℕ × ℕ) → p ≡ b.0 → (p == b.0) ≡ true
+    same p b q = grind (arith, nat_tests, q)
+from_begun Idle (Busy p m) b e = (refl, same p b cc)
+  where
+    same : (p : ℕ) (b : ℕ × ℕ) → p ≡ b.0 → (p == b.0) ≡ true
+    same p b q = grind (arith, nat_tests, q)
+from_begun (Closing reason until k) (Busy p m) b e = (refl, same p b cc)
+  where
+    same : (p : ℕ) (b : ℕ × ℕ) → p ≡ b.0 → (p == b.0) ≡ true
+    same p b q = grind (arith, nat_tests, q)
+from_begun Off (Busy p m) b e = (refl, same p b cc)
+  where
+    same : (p : ℕ) (b : ℕ × ℕ) → p ≡ b.0 → (p == b.0) ≡ true
+    same p b q = grind (arith, nat_tests, q)
+from_begun P Q b e = absurd (some-none (sym e))
+
+poll_number : (s : Stand) (t : ℕ) → role s t ≡ RuntimePoll → s.runtime ≡ Some t
+unfolding role
+poll_number s t q = go (waits_as s t) (is_number s.runtime t) refl q
+  where
+    no_waiting : Waiting ≡ RuntimePoll → ⊥
+    no_waiting q = cc
+
+    no_member : (o : Option Member) → member_role o ≡ RuntimePoll → ⊥
+    no_member None q = cc
+    no_member (Some x) q = cc
+
+    go : (a b : Bool) → is_number s.runtime t ≡ b → (if a then Waiting else if b then RuntimePoll else member_role (find (λ x. is_number x.next t) s.members)) ≡ RuntimePoll → s.runtime ≡ Some t
+    go true b k r = absurd (no_waiting r)
+    go false true k r = number_some s.runtime t k
+    go false false k r = absurd (no_member (find (λ x. is_number x.next t) s.members) r)
+
+gives_poll : (p : ℕ) (o : Option (ℕ × ℕ)) (r : Role) → gives p (delivered o r) ≡ true → (r ≡ RuntimePoll) × ((b : ℕ × ℕ) × ((o ≡ Some b) × (b.0 ≡ p)))
+gives_poll p (Some b) RuntimePoll q = (refl, (b, (refl, eqb-true b.0 p q)))
+gives_poll p (Some b) (ExtensionPoll x) q = absurd (go (x.extension.invoke) q)
+  where
+    go : (c : Bool) → gives p (if c then Some (Told b.0 b.1 0) else None) ≡ true → ⊥
+    go true r = true≢false (sym r)
+    go false r = true≢false (sym r)
+gives_poll p (Some b) NoRole q = absurd (true≢false (sym q))
+gives_poll p (Some b) Waiting q = absurd (true≢false (sym q))
+gives_poll p None r q = absurd (true≢false (sym q))
+
+-- a second answer that gives an invocation
+second_gives : (config : Config) (h : List Entry) (entry : Entry) (p t : ℕ) → gives p (second_answer config h entry t) ≡ true → IsBegun config h entry p t
+unfolding second_answer
+second_gives config h entry p t q = go (home (entry ∷ h) t) q
+  where
+    at_env : (e : ℕ) → (role (stand config (entry ∷ h) e) t ≡ RuntimePoll) × ((b : ℕ × ℕ) × ((begun (phase config h e) (phase config (entry ∷ h) e) ≡ Some b) × (b.0 ≡ p))) → IsBegun config h entry p t
+    at_env e k = record {
+      env = e;
+      before = (from_begun (phase config h e) (phase config (entry ∷ h) e) (k.1.0) (k.1.1.0)).0;
+      busy = subst (λ (n : ℕ). is_busy_with (phase config (entry ∷ h) e) n ≡ true) (k.1.1.1) (from_begun (phase config h e) (phase config (entry ∷ h) e) (k.1.0) (k.1.1.0)).1;
+      runtime = poll_number (stand config (entry ∷ h) e) t (k.0);
+    }
+
+    go : (o : Option ℕ) → gives p (second_at config h entry t o) ≡ true → IsBegun config h entry p t
+    go None r = absurd (true≢false (sym r))
+    go (Some e) r = at_env e (gives_poll p (begun (phase config h e) (phase config (entry ∷ h) e)) (role (stand config (entry ∷ h) e) t) r)
+
+-- an entry that delivers an invocation begins its Busy
+pub entry_gives : (config : Config) (h : List Entry) (entry : Entry) (p : ℕ) → Follows config h entry → 1 ≤ count_by (λ a. delivers p a.1) entry.answers → (e : ℕ) × ((is_busy (phase config h e) ≡ false) × (is_busy_with (phase config (entry ∷ h) e) p ≡ true))
+unfolding answers
+entry_gives config h entry p w k =
+    (b.env, (b.before, ap (λ (P : Phase). is_busy_with P p) (sym (phase_first config h entry b.env w)) ∙ b.busy))
+  where
+    first : Entry
+    first = first_entry config h entry.moment entry.call
+
+    made : 1 ≤ count_by (λ b. delivers p b.1) (each_from 0 (suc (length h)) (answer_to config h first))
+    made = subst (λ (n : ℕ). 1 ≤ n) (ap (λ (xs : List (ℕ × Answer)). count_by (λ b. delivers p b.1) xs) (w.answers) ∙ count_numbered h first [] (each_from 0 (suc (length h)) (answer_to config h first)) p) k
+
+    found : (u : ℕ) × ((u < 0 + suc (length h)) × (gives p (answer_to config h first u) ≡ true))
+    found = given_each 0 (suc (length h)) p (answer_to config h first) made
+
+    b : IsBegun config h first p (found.0)
+    b = second_gives config h first p (found.0) (to_second config h entry.moment entry.call p (found.0) (found.1.1))
+
+-- an invocation whose Busy begins was new or bound
+pub begun_bound : (config : Config) (h : List Entry) (entry : Entry) (e p : ℕ) → IsLegal config (entry ∷ h) → is_busy (phase config h e) ≡ false → is_busy_with (phase config (entry ∷ h) e) p ≡ true → (length h ≡ p) ⊎ (bound_of (phase config h e) ≡ Some p)
+begun_bound config h entry e p l n b = elim (from_entry config h entry e p l.0 l.1 (busy_at_hand (phase config (entry ∷ h) e) p b)) [
+  | inl new ↦ inl (new.0)
+  | inr old ↦ elim (at_hand_is (phase config h e) p old) [
+    | inl k ↦ absurd (true≢false (sym (is_it (phase config h e) p k) ∙ n))
+    | inr k ↦ inr k
+  ]
+]
+  where
+    is_it : (P : Phase) (p : ℕ) → is_busy_with P p ≡ true → is_busy P ≡ true
+    is_it (Busy q d) p k = refl
+    is_it P p k = absurd (true≢false (sym k))
+
+-- a bound invocation was bound or is new
+pub bound_before : (config : Config) (h : List Entry) (entry : Entry) (e p : ℕ) → IsLegal config (entry ∷ h) → bound_of (phase config (entry ∷ h) e) ≡ Some p → (length h ≡ p) ⊎ (bound_of (phase config h e) ≡ Some p)
+unfolding seen
+bound_before config h entry e p l q = go (concerns h e entry) refl
+  where
+    s : Stand
+    s = stand config h e
+
+    go : (c : Bool) → concerns h e entry ≡ c → (length h ≡ p) ⊎ (bound_of (phase config h e) ≡ Some p)
+    go false w = inr (ap (λ (x : Life). bound_of x.phase) (sym (life_elsewhere config h entry e w)) ∙ q)
+    go true w = elim (W.from_kept entry.moment (limit_of config e entry.moment) (length h) s entry.call p
+        (W.from_closing entry.moment (closes s entry.call) (kept entry.moment (limit_of config e entry.moment) (length h) s entry.call) p
+        (W.from_after _ _ _ _ entry.moment (limit_of config e entry.moment) (cell_of config e entry (length h) s) p (sym (ap bound_of (phase_step config h entry e w (fresh config h (length h) l.0 (omega arith)) (legal_silent config h entry l.1))) ∙ q))).1) [
+          | inl new ↦ inl (new.0)
+          | inr stays ↦ inr (stays.0)
+        ]
+
+busy_unbound : (P : Phase) (p q : ℕ) → is_busy_with P p ≡ true → bound_of P ≡ Some q → ⊥
+busy_unbound (Busy r d) p q k e = some-none (sym e)
+busy_unbound P p q k e = true≢false (sym k)
+
+none_or_some : (n : ℕ) → (n ≡ 0) ⊎ (1 ≤ n)
+none_or_some zero = inl refl
+none_or_some (suc n) = inr (omega arith)
+
+-- a delivered invocation is old and bound nowhere
+pub delivered_done : (config : Config) (h : List Entry) (p : ℕ) → IsLegal config h → 1 ≤ deliveries h p → (p < length h) × ((e : ℕ) → bound_of (phase config h e) ≡ Some p → ⊥)
+delivered_done config [] p l k = absurd (omega (arith, k))
+delivered_done config (entry ∷ h) p l k = elim (none_or_some here) [
+  | inl none ↦ older (delivered_done config h p l.0 (drop none k))
+  | inr some ↦ newly (entry_gives config h entry p l.1 some)
+]
+  where
+    here : ℕ
+    here = count_by (λ a. delivers p a.1) entry.answers
+
+    drop : here ≡ 0 → 1 ≤ here + deliveries h p → 1 ≤ deliveries h p
+    drop a b = omega (arith, a, b)
+
+    older : (p < length h) × ((e : ℕ) → bound_of (phase config h e) ≡ Some p → ⊥) → (p < suc (length h)) × ((e : ℕ) → bound_of (phase config (entry ∷ h) e) ≡ Some p → ⊥)
+    older x = (
+      omega (arith, x.0),
+      λ e q. elim (bound_before config h entry e p l q) [
+        | inl new ↦ absurd (omega (arith, x.0, new))
+        | inr old ↦ x.1 e old
+      ],
+    )
+
+    number_same : (o : Option ℕ) (d e : ℕ) → is_number o d ≡ true → is_number o e ≡ true → d ≡ e
+    number_same None d e a b = absurd (true≢false (sym a))
+    number_same (Some n) d e a b = sym (eqb-true n d a) ∙ eqb-true n e b
+
+    newly : (d : ℕ) × ((is_busy (phase config h d) ≡ false) × (is_busy_with (phase config (entry ∷ h) d) p ≡ true)) → (p < suc (length h)) × ((e : ℕ) → bound_of (phase config (entry ∷ h) e) ≡ Some p → ⊥)
+    newly x =
+        let k : IsHeld (entry ∷ h) (x.0) p = held config (entry ∷ h) (x.0) p l (busy_at_hand (phase config (entry ∷ h) (x.0)) p (x.1.1)) in (
+          k.older,
+          λ e q.
+              busy_unbound (phase config (entry ∷ h) (x.0)) p p (x.1.1)
+              (ap (λ (n : ℕ). bound_of (phase config (entry ∷ h) n)) (number_same (place_of (entry ∷ h) p) (x.0) e (k.placed) ((held config (entry ∷ h) e p l (bound_at_hand (phase config (entry ∷ h) e) p q)).placed)) ∙ q),
+        )
+
+-- an entry delivers an invocation once at most
+pub entry_once : (config : Config) (h : List Entry) (entry : Entry) (p : ℕ) → IsLegal config (entry ∷ h) → count_by (λ a. delivers p a.1) entry.answers ≤ 1
+unfolding answers
+entry_once config h entry p l =
+    subst (λ (n : ℕ). n ≤ 1) (sym (ap (λ (xs : List (ℕ × Answer)). count_by (λ b. delivers p b.1) xs) (l.1.answers) ∙ count_numbered h first [] (each_from 0 (suc (length h)) (answer_to config h first)) p))
+    (le_one (nat_le 0 poll) (count_each 0 (suc (length h)) p poll (answer_to config h first) one))
+  where
+    first : Entry
+    first = first_entry config h entry.moment entry.call
+
+    poll : ℕ
+    poll = or_zero (stand config (first ∷ h) (or_zero (place_of (entry ∷ h) p))).runtime
+
+    le_one : (b : Bool) → {n : ℕ} → n ≤ cond b 1 0 → n ≤ 1
+    le_one true k = k
+    le_one false k = omega (arith, k)
+
+    at_place : (o : Option ℕ) (e : ℕ) → is_number o e ≡ true → e ≡ or_zero o
+    at_place None e k = absurd (true≢false (sym k))
+    at_place (Some n) e k = sym (eqb-true n e k)
+
+    is_poll : (u : ℕ) → IsBegun config h first p u → u ≡ poll
+    is_poll u b =
+        let busy : is_busy_with (phase config (entry ∷ h) b.env) p ≡ true = ap (λ (P : Phase). is_busy_with P p) (sym (phase_first config h entry b.env l.1)) ∙ b.busy in
+        let k : IsHeld (entry ∷ h) b.env p = held config (entry ∷ h) b.env p l (busy_at_hand (phase config (entry ∷ h) b.env) p busy) in
+        sym (ap (λ (e : ℕ). or_zero (stand config (first ∷ h) e).runtime) (sym (at_place (place_of (entry ∷ h) p) b.env (k.placed))) ∙ ap or_zero b.runtime)
+
+    one : (u : ℕ) → gives p (answer_to config h first u) ≡ true → u ≡ poll
+    one u q = is_poll u (second_gives config h first p u (to_second config h entry.moment entry.call p u q))
+
+-- An invocation is delivered at most once.
+pub delivered_once : (config : Config) (h : List Entry) (p : ℕ) → IsLegal config h → deliveries h p ≤ 1
+delivered_once config [] p l = omega arith
+delivered_once config (entry ∷ h) p l = go (none_or_some here) (none_or_some (deliveries h p)) (entry_once config h entry p l) (delivered_once config h p l.0)
+  where
+    here : ℕ
+    here = count_by (λ a. delivers p a.1) entry.answers
+
+    twice : 1 ≤ here → 1 ≤ deliveries h p → ⊥
+    twice a b = both (entry_gives config h entry p l.1 a) (delivered_done config h p l.0 b)
+      where
+        both : (d : ℕ) × ((is_busy (phase config h d) ≡ false) × (is_busy_with (phase config (entry ∷ h) d) p ≡ true)) → (p < length h) × ((e : ℕ) → bound_of (phase config h e) ≡ Some p → ⊥) → ⊥
+        both x y = elim (begun_bound config h entry (x.0) p l (x.1.0) (x.1.1)) [
+          | inl new ↦ omega (arith, y.0, new)
+          | inr old ↦ y.1 (x.0) old
+        ]
+
+    go : (here ≡ 0) ⊎ (1 ≤ here) → (deliveries h p ≡ 0) ⊎ (1 ≤ deliveries h p) → here ≤ 1 → deliveries h p ≤ 1 → here + deliveries h p ≤ 1
+    go (inl a) b c d = omega (arith, a, d)
+    go (inr a) (inl b) c d = omega (arith, b, c)
+    go (inr a) (inr b) c d = absurd (twice a b)

@@ -1,0 +1,41 @@
+-- Where invocations live and Nexts stand, as the public law states it.
+use Rattle.std.proofs.Common.{◌≡◌, ℕ, Bool, true, false, List, Some, sym, refl, ◌∙◌, not, ◌&&◌}
+use Rattle.call_model.specs.declared.call.Entry.{Entry}
+use Rattle.arn_ids.specs.declared.config.Config.{Config}
+use Rattle.call_model.specs.History.{pending, answered, place_of, call_of, is_expiry}
+use Rattle.call_model.specs.Generation.{Actor}
+use Rattle.call_model.specs.Stand.{at_hand, is_number}
+use Rattle.call_model.specs.Life.{phase}
+use Rattle.call_model.specs.Laws.{lives, poll_of, is_open}
+use Rattle.call_model.specs.Next.{IsLegal}
+use Rattle.call_model.proofs.AtHand.{held}
+use Rattle.call_model.proofs.Lives as L
+use Rattle.call_model.proofs.ParkedNexts.{standing}
+use Rattle.call_model.proofs.Basics.{eqb-self, and_right, number_some}
+
+-- an invocation lives in one place
+pub lives_there : (config : Config) (h : List Entry) (p e : ℕ) → IsLegal config h → place_of h p ≡ Some e → pending h p ≡ true → lives config h p e ≡ true
+lives_there config h p e l q w = rw (w, L.lives config h e p l (rw q (eqb-self e)) w, eqb-self p) refl
+
+at_place : (config : Config) (h : List Entry) (p e : ℕ) → lives config h p e ≡ true → at_hand (phase config h e) ≡ Some p
+at_place config h p e q = number_some (at_hand (phase config h e)) p (and_right (pending h p) (is_number (at_hand (phase config h e)) p) q)
+
+pub lives_only_there : (config : Config) (h : List Entry) (p e : ℕ) → IsLegal config h → lives config h p e ≡ true → place_of h p ≡ Some e
+lives_only_there config h p e l q = number_some (place_of h p) e ((held config h e p l (at_place config h p e q)).placed)
+
+pub lives_alone : (config : Config) (h : List Entry) (p q e : ℕ) → lives config h p e ≡ true → lives config h q e ≡ true → p ≡ q
+lives_alone config h p q e a b = inner p q (sym (at_place config h p e a) ∙ at_place config h q e b)
+  where
+    inner : (m n : ℕ) → Some m ≡ Some n → m ≡ n
+    inner m n r = cc
+
+pub lives_nowhere : (config : Config) (h : List Entry) (p e : ℕ) → answered h p ≡ true → lives config h p e ≡ false
+lives_nowhere config h p e q = rw q (go (not (is_expiry (call_of h p))))
+  where
+    go : (b : Bool) → ((b && false) && is_number (at_hand (phase config h e)) p) ≡ false
+    go true = refl
+    go false = refl
+
+-- parked polls
+pub stands_open : (config : Config) (h : List Entry) (e t : ℕ) (actor : Actor) → IsLegal config h → poll_of (call_of h t) ≡ Some (e, actor) → pending h t ≡ true → is_open (phase config h e) ≡ true
+stands_open config h e t actor l q w = (standing config h e t actor l q w).opened

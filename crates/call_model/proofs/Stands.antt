@@ -1,0 +1,37 @@
+-- The stands of all environments after an entry that concerns one of them.
+use Rattle.std.proofs.Common.{◌≡◌, ℕ, zero, suc, ◌+◌, ◌<◌, ◌≤◌, false, List, ◌∷◌, length, sym, refl, ap, ap₂, ◌∙◌, subst, arith, ◌≢◌, map, set}
+use Rattle.call_model.specs.declared.call.Entry.{Entry}
+use Rattle.arn_ids.specs.declared.config.Config.{Config}
+use Rattle.arn_ids.specs.Environments.{count_from, owners, environments}
+use Rattle.call_model.specs.Life.{stand, concerns}
+use Rattle.call_model.specs.Stand.{Stand}
+use Rattle.call_model.specs.Next.{IsLegal, Follows}
+use Rattle.call_model.proofs.Frame.{stand_elsewhere}
+
+pub all_same : {A : Type 0} (f g : ℕ → A) (first n : ℕ) → ((d : ℕ) → first ≤ d → f d ≡ g d) → map f (count_from first n) ≡ map g (count_from first n)
+all_same f g first zero e = refl
+all_same f g first (suc n) e = ap₂ ◌∷◌ (e first (omega arith)) (all_same f g (suc first) n (λ d le. e d (omega (arith, le))))
+
+pub one_changes : {A : Type 0} (f g : ℕ → A) (first n i : ℕ) → ((d : ℕ) → d ≢ first + i → f d ≡ g d) → i < n → map f (count_from first n) ≡ set (map g (count_from first n)) i (f (first + i))
+one_changes f g first zero i e lt = absurd (omega (arith, lt))
+one_changes f g first (suc n) zero e lt = let same : first + 0 ≡ first = omega arith in ap₂ ◌∷◌ (ap f (sym same)) (all_same f g (suc first) n (λ d le. e d (λ q. no first d (omega (arith, q, same)) le)))
+  where
+    no : (a d : ℕ) → d ≡ a → suc a ≤ d → ⊥
+    no a d q le = omega (arith, q, le)
+one_changes f g first (suc n) (suc i) e lt = let same : suc first + i ≡ first + suc i = omega arith in ap₂ ◌∷◌ (e first (λ q. no first i q)) (subst (λ m. map f (count_from (suc first) n) ≡ set (map g (count_from (suc first) n)) i (f m)) same (one_changes f g (suc first) n i (λ d ne. e d (λ q. ne (q ∙ sym same))) (omega (arith, lt))))
+  where
+    no : (a b : ℕ) → a ≡ a + suc b → ⊥
+    no a b q = omega (arith, q)
+
+-- the stands of all environments
+abbrev pub stands : Config → List Entry → List Stand
+stands config h = map (stand config h) (environments config)
+
+-- An entry that concerns one environment changes that one's stand alone.
+pub stands_one : (config : Config) (h : List Entry) (entry : Entry) (i : ℕ) → IsLegal config h → Follows config h entry → ((d : ℕ) → d ≢ 1 + i → concerns h d entry ≡ false) → i < length (owners config)
+    → stands config (entry ∷ h) ≡ set (stands config h) i (stand config (entry ∷ h) (1 + i))
+stands_one config h entry i l w only lt = one_changes (stand config (entry ∷ h)) (stand config h) 1 (length (owners config)) i (λ d ne. stand_elsewhere config h entry d l w (only d ne)) lt
+
+-- An entry that concerns none changes none.
+pub stands_none : (config : Config) (h : List Entry) (entry : Entry) → IsLegal config h → Follows config h entry → ((d : ℕ) → concerns h d entry ≡ false) → stands config (entry ∷ h) ≡ stands config h
+stands_none config h entry l w only = all_same (stand config (entry ∷ h)) (stand config h) 1 (length (owners config)) (λ d le. stand_elsewhere config h entry d l w (only d))

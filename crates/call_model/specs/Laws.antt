@@ -1,0 +1,81 @@
+-- Words of the laws over legal histories.
+use Rattle.std.specs.Prelude.{◌≡◌, ◌≤◌, ℕ, Bool, true, false, ◌&&◌, ◌+◌, ◌==◌, List, [], ◌∷◌, Option, Some, None, count_by, is_some, length}
+use Rattle.std.specs.List.{list_any}
+use Rattle.call_model.specs.declared.call.Call.{Call}
+use Rattle.call_model.specs.declared.call.Call.TheVariants.{Reserve, RuntimeNext, ExtNext}
+use Rattle.call_model.specs.declared.call.Entry.{Entry}
+use Rattle.call_model.specs.declared.answer.Answer.{Answer}
+use Rattle.call_model.specs.declared.answer.Answer.TheVariants.{Delivered, Output, OutputTooLarge, TimedOut}
+use Rattle.call_model.specs.declared.answer.Phase.{Phase}
+use Rattle.call_model.specs.declared.answer.Phase.TheVariants.{Starting, Idle, Busy}
+use Rattle.call_model.specs.Generation.{Actor, TheRuntime, TheExtension}
+use Rattle.arn_ids.specs.declared.config.Config.{Config}
+use Rattle.arn_ids.specs.declared.config.Function.{Function}
+use Rattle.call_model.specs.History.{with_tickets, is_invoke_of, pending}
+use Rattle.call_model.specs.Life.{phase}
+use Rattle.call_model.specs.Stand.{at_hand, is_number}
+use Rattle.call_model.specs.Limits.{charged}
+
+-- how many charged invocations are placed in an environment
+abbrev pub charged_in : Config → List Entry → ℕ → ℕ
+charged_in config h e = count_by (λ taken. is_number taken.1.place e && charged config h taken.0 taken.1) (with_tickets h)
+
+-- whether a phase is Busy or has an invocation bound
+abbrev pub is_taken : Phase → Bool
+is_taken phase = is_some (at_hand phase)
+
+-- whether an entry admits an Invoke of a function
+abbrev pub admits : ℕ → Entry → Bool
+admits f entry = is_invoke_of f entry.call && is_some entry.place
+
+-- the call that sets or removes a reservation
+abbrev pub is_reserve : Call → Bool
+is_reserve (Reserve f count) = true
+is_reserve _ = false
+
+-- whether a Reserve stands in the history
+abbrev pub re_reserved : List Entry → Bool
+re_reserved h = list_any (λ entry. is_reserve entry.call) h
+
+-- the configuration gives a function no greater reservation than it has environments
+abbrev pub IsWithinEnvironments : Function → Type 0
+IsWithinEnvironments fun = (n : ℕ) → fun.reserved ≡ Some n → n ≤ length fun.slots
+
+-- whether an answer delivers an invocation
+abbrev pub delivers : ℕ → Answer → Bool
+delivers p (Delivered q deadline) = q == p
+delivers p _ = false
+
+-- how many answers of the history deliver an invocation
+abbrev pub deliveries : List Entry → ℕ → ℕ
+deliveries [] p = 0
+deliveries (entry ∷ h) p = count_by (λ a. delivers p a.1) entry.answers + deliveries h p
+
+-- what only a delivered invocation is answered
+abbrev pub is_outcome : Answer → Bool
+is_outcome (Output source) = true
+is_outcome OutputTooLarge = true
+is_outcome TimedOut = true
+is_outcome _ = false
+
+-- the environment and the actor of a Next
+abbrev pub poll_of : Call → Option (ℕ × Actor)
+poll_of (RuntimeNext e) = Some (e, TheRuntime)
+poll_of (ExtNext e x) = Some (e, TheExtension x)
+poll_of _ = None
+
+-- a phase in which a Next may stand
+abbrev pub is_open : Phase → Bool
+is_open (Starting deadline bound) = true
+is_open Idle = true
+is_open (Busy p deadline) = true
+is_open _ = false
+
+-- A placed invocation lives where it is bound, or served, and waits for its answer.
+abbrev pub lives : Config → List Entry → ℕ → ℕ → Bool
+lives config h p e = pending h p && is_number (at_hand (phase config h e)) p
+
+-- how many answers of the history have this ticket
+abbrev pub times : List Entry → ℕ → ℕ
+times [] t = 0
+times (entry ∷ h) t = count_by (λ a. a.0 == t) entry.answers + times h t

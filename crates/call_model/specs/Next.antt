@@ -1,0 +1,111 @@
+-- What is due, the next history, a whole run, and which histories are legal.
+use Rattle.std.specs.Prelude.{◌≡◌, ℕ, ◌≤◌, max, if◌then◌else◌, nat_le, List, [], ◌∷◌, ◌++◌, length, map, Option, Some, None, filter_map}
+use Rattle.call_model.specs.declared.call.Call.{Call}
+use Rattle.call_model.specs.declared.call.Call.TheVariants.{Expire}
+use Rattle.call_model.specs.declared.call.Entry.{Entry}
+use Rattle.call_model.specs.declared.answer.Answer.{Answer}
+use Rattle.call_model.specs.declared.answer.Phase.{Phase}
+use Rattle.call_model.specs.declared.answer.Phase.TheVariants.{Starting, Busy, Closing}
+use Rattle.arn_ids.specs.declared.config.Config.{Config}
+use Rattle.arn_ids.specs.Environments.{environments}
+use Rattle.call_model.specs.Life.{phase}
+use Rattle.call_model.specs.Limits.{place_for}
+use Rattle.call_model.specs.Answers.{answers}
+
+-- when a phase ends by itself: Init after 10 s, an invocation at its function's timeout, a Closing after 2 s
+abbrev pub deadline_of : Phase → Option ℕ
+deadline_of (Starting d bound) = d
+deadline_of (Busy p d) = Some d
+deadline_of (Closing reason until bound) = Some until
+deadline_of _ = None
+
+-- an environment with its deadline, where that has come
+abbrev pub due_at : ℕ → ℕ → Option ℕ → Option (ℕ × ℕ)
+due_at m e None = None
+due_at m e (Some d) = if nat_le d m then Some (d, e) else None
+
+-- an environment in its place by (deadline, number), in a list of those with greater numbers
+abbrev pub in_order : ℕ × ℕ → List (ℕ × ℕ) → List (ℕ × ℕ)
+in_order a [] = a ∷ []
+in_order a (b ∷ rest) = if nat_le a.0 b.0 then a ∷ b ∷ rest else b ∷ in_order a rest
+
+-- all of them in that order
+abbrev pub by_deadline : List (ℕ × ℕ) → List (ℕ × ℕ)
+by_deadline [] = []
+by_deadline (a ∷ rest) = in_order a (by_deadline rest)
+
+-- Due: the environments whose deadline has come, the earliest first, of several with one deadline the lowest numbered.
+unfoldable pub due : Config → List Entry → ℕ → List ℕ
+due config h m = map (λ a. a.1) (by_deadline (filter_map (λ e. due_at m e (deadline_of (phase config h e))) (environments config)))
+
+-- the entry of a call that is taken at a moment
+abbrev pub entry_of : Config → List Entry → ℕ → Call → Entry
+entry_of config h m call = record { moment = m; call = call; answers = answers config h m call; place = place_for config h call }
+
+-- the history with that entry
+abbrev pub entered : Config → List Entry → ℕ → Call → List Entry
+entered config h m call = entry_of config h m call ∷ h
+
+-- the history in which environments expired, one after the other
+abbrev pub expired : Config → ℕ → List ℕ → List Entry → List Entry
+expired config m [] h = h
+expired config m (e ∷ rest) h = expired config m rest (entered config h m (Expire e))
+
+-- the entries of those expiries, the newest first
+abbrev pub expiries : Config → ℕ → List ℕ → List Entry → List Entry
+expiries config m [] h = []
+expiries config m (e ∷ rest) h = expiries config m rest (entered config h m (Expire e)) ++ (entry_of config h m (Expire e) ∷ [])
+
+-- the moment of the newest entry; 0 before the first
+abbrev pub last_moment : List Entry → ℕ
+last_moment [] = 0
+last_moment (entry ∷ h) = entry.moment
+
+-- the moment at which a call is taken: time never goes back
+abbrev pub moment_at : List Entry → ℕ → ℕ
+moment_at h now = max now (last_moment h)
+
+-- the call's own entry, taken after those of the expiries
+abbrev pub after_expiries : Config → List Entry → ℕ → Call → List Entry → List Entry
+after_expiries config h m call es = entry_of config (es ++ h) m call ∷ es
+
+-- The entries that a call adds, the newest first: what is due expires, and then the call is taken.
+unfoldable pub added : Config → List Entry → ℕ → Call → List Entry
+added config h now call =
+    after_expiries config h (moment_at h now) call (expiries config (moment_at h now) (due config h (moment_at h now)) h)
+
+-- The next history.
+unfoldable pub next : Config → List Entry → ℕ → Call → List Entry
+next config h now call = added config h now call ++ h
+
+-- A run: call after call, each with the moment at which it is handed in.
+unfoldable pub run : Config → List Entry → List (ℕ × Call) → List Entry
+run config h [] = h
+run config h (c ∷ calls) = run config (next config h c.0 c.1) calls
+
+-- the answers of a history in the order in which they were given: the entry, the ticket, the answer
+abbrev pub lines : List Entry → List (ℕ × ℕ × Answer)
+lines [] = []
+lines (entry ∷ h) = lines h ++ map (λ a. (length h, a.0, a.1)) entry.answers
+
+-- the first of a list
+abbrev pub IsFirst : ℕ → List ℕ → Type 0
+IsFirst e [] = ⊥
+IsFirst e (d ∷ rest) = e ≡ d
+
+-- what is due expires, in its order, before any other call is taken
+abbrev pub IsTimely : ℕ → Call → List ℕ → Type 0
+IsTimely m (Expire e) due = IsFirst e due
+IsTimely m _ due = due ≡ []
+
+-- an entry that the rules allow after a history: time doesn't go back, and answers and place are the ones defined
+pub record Follows (config : Config) (h : List Entry) (entry : Entry) : Type 0 where
+  pub later : last_moment h ≤ entry.moment
+  pub timely : IsTimely entry.moment entry.call (due config h entry.moment)
+  pub answers : entry.answers ≡ answers config h entry.moment entry.call
+  pub place : entry.place ≡ place_for config h entry.call
+
+-- Legal: a history each of whose entries follows the ones before it. This is the machine of one thread.
+abbrev pub IsLegal : Config → List Entry → Type 0
+IsLegal config [] = Unit {0}
+IsLegal config (entry ∷ h) = IsLegal config h × Follows config h entry

@@ -1,0 +1,52 @@
+-- What an entry answers to the older tickets of an environment: the parked Nexts and the waiting call.
+use Rattle.std.specs.Prelude.{ℕ, ◌+◌, not, ◌&&◌, if◌then◌else◌, ◌==◌, Option, Some, None}
+use Rattle.call_model.specs.declared.call.Call.{Call}
+use Rattle.call_model.specs.declared.call.Call.TheVariants.{RuntimeNext, ExtNext, Withdraw}
+use Rattle.call_model.specs.declared.answer.Answer.{Answer}
+use Rattle.call_model.specs.declared.answer.Answer.TheVariants.{Delivered, Told, Ending, Withdrawn}
+use Rattle.call_model.specs.declared.answer.Refusal.TheVariants.{Replaced, Container}
+use Rattle.call_model.specs.declared.answer.Reason.{Reason}
+use Rattle.call_model.specs.declared.answer.Phase.{Phase}
+use Rattle.call_model.specs.declared.answer.Phase.TheVariants.{Busy}
+use Rattle.call_model.specs.History.{or_else}
+use Rattle.call_model.specs.Generation.{hears_end, reports_exit}
+use Rattle.call_model.specs.Stand.{Stand, Role, NoRole, Waiting, RuntimePoll, ExtensionPoll}
+use Rattle.call_model.specs.Table.{refused, closes, to_waiting}
+
+-- Where the environment closes, every parked Next is answered: an extension that is registered for SHUTDOWN, has not
+-- exited and isn't just reporting its own exit hears the end; all others are refused.
+-- (Extensions API: Shutdown event)
+abbrev pub at_close : ℕ → Option Reason → Call → Role → Option Answer
+at_close now (Some reason) call RuntimePoll = refused Container
+at_close now (Some reason) call (ExtensionPoll x) =
+    if hears_end x && not (reports_exit x.extension.count call)
+    then Some (Ending reason (now + 2000) 0)
+    else refused Container
+at_close now _ call _ = None
+
+-- A newer Next of the same actor replaces a parked one; a Withdraw takes the one back that it names.
+abbrev pub replaced : ℕ → Call → Role → Option Answer
+replaced t (RuntimeNext e) RuntimePoll = refused Replaced
+replaced t (ExtNext e x) (ExtensionPoll y) = if y.extension.count == x then refused Replaced else None
+replaced t (Withdraw u) RuntimePoll = if u == t then Some Withdrawn else None
+replaced t (Withdraw u) (ExtensionPoll y) = if u == t then Some Withdrawn else None
+replaced t call role = None
+
+-- What an older ticket gets by its role.
+abbrev pub by_role : ℕ → ℕ → Stand → Call → ℕ → Role → Option Answer
+by_role own now s call t NoRole = None
+by_role own now s call t Waiting = to_waiting own s call
+by_role own now s call t role = or_else (at_close now (closes s call) call role) (replaced t call role)
+
+-- the invocation of a Busy that begins between two phases, with its deadline
+abbrev pub begun : Phase → Phase → Option (ℕ × ℕ)
+begun (Busy q b) phase = None
+begun _ (Busy p d) = Some (p, d)
+begun _ _ = None
+
+-- Where a Busy begins, the runtime's Next delivers the invocation, and each extension registered for INVOKE is told.
+-- (Runtime API: Next invocation; Extensions API: Invoke event)
+abbrev pub delivered : Option (ℕ × ℕ) → Role → Option Answer
+delivered (Some b) RuntimePoll = Some (Delivered b.0 b.1)
+delivered (Some b) (ExtensionPoll x) = if x.extension.invoke then Some (Told b.0 b.1 0) else None
+delivered _ _ = None

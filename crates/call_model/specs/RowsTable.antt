@@ -1,0 +1,175 @@
+-- The table of phases cell by cell, at one stand for each of its columns: what a call is answered, why it makes the
+-- environment close, and what the waiting call gets.
+use Rattle.std.specs.Prelude.{◌≡◌, ℕ, Bool, true, false, if◌then◌else◌, List, [], ◌∷◌, map, Option, Some, None, is_some, refl}
+use Rattle.call_model.specs.declared.call.Call.{Call}
+use Rattle.call_model.specs.declared.call.Call.TheVariants.{RuntimeNext, Response, ResponseTooLarge, Failure, InitFailure, Register, ExtNext, ExtInitFailure, ExtExitFailure, Tick, Spindown, Stop, Expire}
+use Rattle.call_model.specs.declared.answer.Answer.{Answer}
+use Rattle.call_model.specs.declared.answer.Answer.TheVariants.{Ending, Registered, Accepted, Output, Error, TimedOut, InitTimedOut, OutputTooLarge, Stopped, Refused}
+use Rattle.call_model.specs.declared.answer.Refusal.TheVariants.{State, BadId, Unknown, TooLarge, Container, NameInUse, NotIdle}
+use Rattle.call_model.specs.declared.answer.Reason.{Reason}
+use Rattle.call_model.specs.declared.answer.Reason.TheVariants.{Timeout, Failure as Failed, Spindown as SpunDown}
+use Rattle.call_model.specs.declared.answer.Phase.{Phase}
+use Rattle.call_model.specs.declared.answer.Phase.TheVariants.{Starting, Idle, Busy, Closing, Off}
+use Rattle.call_model.specs.Generation.{Member}
+use Rattle.call_model.specs.Stand.{Stand}
+use Rattle.call_model.specs.Table.{own_answer, closes, to_waiting}
+use Rattle.call_model.specs.Sample.{name_a, name_b}
+
+-- the extension a, of number 1, registered for INVOKE and SHUTDOWN, its Next parked
+abbrev extension : Member
+extension = record {
+  extension = record { count = 1; name = name_a; invoke = true; shutdown = true };
+  next = Some 2;
+  told = false;
+  again = false;
+  exited = false;
+}
+
+-- the waiting call's request has count 7; three extensions were registered so far
+abbrev stand : Phase → List Member → Option ℕ → Bool → Stand
+stand phase members request stopped = record {
+  phase = phase;
+  runtime = None;
+  members = members;
+  request = request;
+  stopped = stopped;
+  registrations = 3;
+  events = 0;
+}
+
+-- Starting, Idle, Busy unanswered, Busy answered, Closing, Off
+abbrev columns : List Stand
+columns =
+    stand (Starting (Some 10000) (Some 5)) (extension ∷ []) (Some 7) false ∷ stand Idle (extension ∷ []) None false
+    ∷ stand (Busy 5 3000) (extension ∷ []) (Some 7) false ∷ stand (Busy 5 3000) (extension ∷ []) None false
+    ∷ stand (Closing Failed 2000 (Some 5)) (extension ∷ []) (Some 7) false ∷ stand Off [] None true ∷ []
+
+-- a cell: the answer to the call, why the environment closes, the answer to the waiting call
+abbrev Cell : Type 0
+Cell = Option Answer × Option Reason × Option Answer
+
+-- the cells of a call's row; its ticket is 9
+unfoldable cells : Call → List Cell
+unfolding own_answer closes to_waiting
+cells call = map (λ s. (own_answer s call, closes s call, if is_some s.request then to_waiting 9 s call else None)) columns
+
+-- the call parks, or gives nothing here
+abbrev nothing : Cell
+nothing = (None, None, None)
+
+-- the call is answered
+abbrev own : Answer → Cell
+own a = (Some a, None, None)
+
+-- the call is answered, and so is the waiting one
+abbrev both : Answer → Answer → Cell
+both a b = (Some a, None, Some b)
+
+-- the call is accepted, and the environment closes; with its waiting call, or with none
+abbrev fails : Cell
+fails = (Some Accepted, Some Failed, Some (Error 9))
+
+-- the call is accepted, and the environment closes
+abbrev closing : Reason → Cell
+closing reason = (Some Accepted, Some reason, None)
+
+-- the clock or a Stop closes; with its waiting call, or with none
+abbrev ending : Reason → Answer → Cell
+ending reason a = (None, Some reason, Some a)
+
+-- the environment closes
+abbrev ends : Reason → Cell
+ends reason = (None, Some reason, None)
+
+-- The refusals.
+abbrev state : Cell
+state = own (Refused State)
+
+abbrev unknown : Cell
+unknown = own (Refused Unknown)
+
+abbrev container : Cell
+container = own (Refused Container)
+
+abbrev not_idle : Cell
+not_idle = own (Refused NotIdle)
+
+runtime_next : cells (RuntimeNext 1) ≡ (nothing ∷ nothing ∷ state ∷ nothing ∷ container ∷ container ∷ [])
+unfolding cells
+runtime_next = refl
+
+response : cells (Response 1 7 []) ≡ (state ∷ state ∷ both Accepted (Output 9) ∷ state ∷ state ∷ container ∷ [])
+unfolding cells
+response = refl
+
+response_to_another : cells (Response 1 6 []) ≡ (state ∷ state ∷ own (Refused BadId) ∷ state ∷ state ∷ container ∷ [])
+unfolding cells
+response_to_another = refl
+
+response_too_large : cells (ResponseTooLarge 1 7) ≡ (state ∷ state ∷ both (Refused TooLarge) OutputTooLarge ∷ state ∷ state ∷ container ∷ [])
+unfolding cells
+response_too_large = refl
+
+response_too_large_to_another : cells (ResponseTooLarge 1 6) ≡ (state ∷ state ∷ own (Refused BadId) ∷ state ∷ state ∷ container ∷ [])
+unfolding cells
+response_too_large_to_another = refl
+
+failure : cells (Failure 1 7 []) ≡ (state ∷ state ∷ both Accepted (Error 9) ∷ state ∷ state ∷ container ∷ [])
+unfolding cells
+failure = refl
+
+failure_of_another : cells (Failure 1 6 []) ≡ (state ∷ state ∷ own (Refused BadId) ∷ state ∷ state ∷ container ∷ [])
+unfolding cells
+failure_of_another = refl
+
+init_failure : cells (InitFailure 1 []) ≡ (fails ∷ state ∷ state ∷ state ∷ state ∷ container ∷ [])
+unfolding cells
+init_failure = refl
+
+register : cells (Register 1 name_b true true false) ≡ (own (Registered 4) ∷ state ∷ state ∷ state ∷ state ∷ container ∷ [])
+unfolding cells
+register = refl
+
+register_again : cells (Register 1 name_a true true false) ≡ (own (Refused NameInUse) ∷ state ∷ state ∷ state ∷ state ∷ container ∷ [])
+unfolding cells
+register_again = refl
+
+ext_next : cells (ExtNext 1 1) ≡ (nothing ∷ nothing ∷ nothing ∷ nothing ∷ own (Ending Failed 2000 0) ∷ container ∷ [])
+unfolding cells
+ext_next = refl
+
+ext_next_unknown : cells (ExtNext 1 2) ≡ (unknown ∷ unknown ∷ unknown ∷ unknown ∷ unknown ∷ container ∷ [])
+unfolding cells
+ext_next_unknown = refl
+
+ext_init_failure : cells (ExtInitFailure 1 1 []) ≡ (fails ∷ state ∷ state ∷ state ∷ state ∷ container ∷ [])
+unfolding cells
+ext_init_failure = refl
+
+ext_init_failure_unknown : cells (ExtInitFailure 1 2 []) ≡ (unknown ∷ unknown ∷ unknown ∷ unknown ∷ unknown ∷ container ∷ [])
+unfolding cells
+ext_init_failure_unknown = refl
+
+ext_exit_failure : cells (ExtExitFailure 1 1 []) ≡ (fails ∷ closing Failed ∷ fails ∷ closing Failed ∷ own Accepted ∷ container ∷ [])
+unfolding cells
+ext_exit_failure = refl
+
+ext_exit_failure_unknown : cells (ExtExitFailure 1 2 []) ≡ (unknown ∷ unknown ∷ unknown ∷ unknown ∷ unknown ∷ container ∷ [])
+unfolding cells
+ext_exit_failure_unknown = refl
+
+spindown : cells (Spindown 1) ≡ (not_idle ∷ closing SpunDown ∷ not_idle ∷ not_idle ∷ not_idle ∷ not_idle ∷ [])
+unfolding cells
+spindown = refl
+
+expire : cells (Expire 1) ≡ (ending Timeout InitTimedOut ∷ nothing ∷ ending Timeout TimedOut ∷ ends Timeout ∷ nothing ∷ nothing ∷ [])
+unfolding cells
+expire = refl
+
+stop : cells Stop ≡ (ending SpunDown Stopped ∷ ends SpunDown ∷ ending SpunDown Stopped ∷ ends SpunDown ∷ (None, None, Some Stopped) ∷ nothing ∷ [])
+unfolding cells
+stop = refl
+
+tick : cells Tick ≡ (nothing ∷ nothing ∷ nothing ∷ nothing ∷ nothing ∷ nothing ∷ [])
+unfolding cells
+tick = refl

@@ -1,0 +1,158 @@
+//! Answers, reasons and phases.
+
+use crate::Ticket;
+
+/// Why an environment closes (Extensions API, Shutdown phase: `shutdownReason`).
+#[derive(Clone, Copy, Debug, PartialEq, Eq)]
+pub enum Reason {
+    /// Its Init or its invocation took too long.
+    Timeout,
+    /// Its Init failed, or an extension reported that it exits.
+    Failure,
+    /// It was idle and taken down, or the service was stopped.
+    Spindown,
+}
+
+/// Why an invocation is not admitted (Invoke: `TooManyRequestsException` and its reasons).
+#[derive(Clone, Copy, Debug, PartialEq, Eq)]
+pub enum Throttle {
+    /// As many of the function's invocations are charged as its reservation allows
+    /// (`ReservedFunctionConcurrentInvocationLimitExceeded`).
+    Function,
+    /// As many of the unreserved functions' invocations are charged as the reservations leave of
+    /// the account's limit (`ConcurrentInvocationLimitExceeded`).
+    Account,
+    /// None of the function's environments is free (this service's own).
+    Environments,
+}
+
+/// Why a call is refused.
+#[derive(Clone, Copy, Debug, PartialEq, Eq)]
+pub enum Refusal {
+    /// The environment's phase does not allow the call.
+    State,
+    /// A newer Next of the same runtime or extension took this one's place.
+    Replaced,
+    /// The call does not name the invocation that is open.
+    BadId,
+    /// The extension is not registered in the present generation of the environment.
+    Unknown,
+    /// The response is larger than 6,291,456 bytes (Runtime API: 413).
+    TooLarge,
+    /// The environment is shutting down (Runtime API and Extensions API: 500, container error).
+    Container,
+    /// An extension of this name is registered.
+    NameInUse,
+    /// Ten extensions are registered (Lambda quotas).
+    TooMany,
+    /// Only an idle environment can be taken down.
+    NotIdle,
+    /// The reservation is above the function's environments, or leaves too little unreserved
+    /// (PutFunctionConcurrency: `InvalidParameterValueException`).
+    BadReservation,
+}
+
+/// The answer to a call. It holds no bytes: where it has a payload or an output, it names the
+/// ticket of the call that brought them. Moments are milliseconds, at most 2^53 - 1, but a deadline
+/// may lie past that.
+#[derive(Clone, Copy, Debug, PartialEq, Eq)]
+pub enum Answer {
+    /// A runtime's Next brings an invocation (Runtime API, Next invocation).
+    Delivered {
+        /// The ticket of the Invoke, whose payload is delivered.
+        invoke: Ticket,
+        /// When the invocation times out (`Lambda-Runtime-Deadline-Ms`).
+        deadline: u64,
+    },
+    /// An extension's Next tells that an invocation began (Extensions API, INVOKE event).
+    Told {
+        /// The ticket of the Invoke.
+        invoke: Ticket,
+        /// When the invocation times out (`deadlineMs`).
+        deadline: u64,
+        /// The event's number at its environment, from 1.
+        event: u64,
+    },
+    /// An extension's Next tells that the environment ends (Extensions API, SHUTDOWN event).
+    Ending {
+        /// Why it ends (`shutdownReason`).
+        reason: Reason,
+        /// When the environment is gone in any case (`deadlineMs`).
+        until: u64,
+        /// The event's number at its environment, from 1.
+        event: u64,
+    },
+    /// The extension is registered (Extensions API, Register).
+    Registered {
+        /// Its number at its environment, from 1 over all generations.
+        count: u64,
+    },
+    /// The report, spindown or stop is accepted (Runtime API: 202).
+    Accepted,
+    /// The clock ticked, or the withdrawal was looked at.
+    Done,
+    /// The invocation's output (Invoke: 200).
+    Output {
+        /// The ticket of the Response that has its bytes.
+        source: Ticket,
+    },
+    /// The invocation failed (Invoke: `X-Amz-Function-Error`).
+    Error {
+        /// The ticket of the report that has the error's bytes.
+        source: Ticket,
+    },
+    /// The invocation took longer than its function's timeout.
+    TimedOut,
+    /// The invocation waited for an Init that took longer than 10 seconds.
+    InitTimedOut,
+    /// The invocation's output was larger than 6,291,456 bytes.
+    OutputTooLarge,
+    /// The invocation is not admitted (Invoke: 429).
+    Throttled(Throttle),
+    /// The service is stopped.
+    Stopped,
+    /// The Next was taken back: its connection ended.
+    Withdrawn,
+    /// The call is refused.
+    Refused(Refusal),
+    /// The function's reservation is set (PutFunctionConcurrency).
+    Reserved {
+        /// How many concurrent invocations are reserved.
+        count: u32,
+    },
+    /// The function's reservation is removed (DeleteFunctionConcurrency).
+    Unreserved,
+}
+
+/// Where an environment is in its life (Lambda Developer Guide, "Understanding the Lambda execution
+/// environment lifecycle"). Moments are milliseconds.
+#[derive(Clone, Copy, Debug, PartialEq, Eq)]
+pub enum Phase {
+    /// Init: the runtime or some extension has not asked for its Next yet.
+    Starting {
+        /// When the Init times out: 10 seconds after the first contact, none before it.
+        deadline: Option<u64>,
+        /// The ticket of the Invoke that waits for the Init to end.
+        bound: Option<Ticket>,
+    },
+    /// Ready for an invocation.
+    Idle,
+    /// Invoke: from the delivery until the invocation is answered and all have asked again.
+    Busy {
+        /// The ticket of the Invoke that it serves.
+        invoke: Ticket,
+        /// When the invocation times out.
+        deadline: u64,
+    },
+    /// Shutdown: extensions that registered for SHUTDOWN are told and waited for.
+    Closing {
+        /// Why it closes.
+        reason: Reason,
+        /// When it ends in any case: 2 seconds after it began.
+        until: u64,
+        /// The ticket of the Invoke that the next generation is to serve.
+        bound: Option<Ticket>,
+    },
+    /// Shut down after a stop of the service, for good.
+    Off,
+}

@@ -1,0 +1,90 @@
+//! Laws over the definitions: what holds of every legal history. Each function does nothing; its clauses are the laws.
+
+ghost use Rattle.std.specs.Prelude.{◌≡◌, ◌≤◌, ℕ, Bool, true, false, cond, List, ◌∷◌, length, Option, Some, None, count_by, filter, is_some, not, ◌+◌, ◌&&◌, ◌==◌};
+ghost use Rattle.call_model.specs.declared.call.Call.{Call};
+ghost use Rattle.call_model.specs.declared.call.Entry.{Entry};
+ghost use Rattle.call_model.specs.declared.answer.Answer.{Answer};
+ghost use Rattle.call_model.specs.declared.answer.Throttle.TheVariants.{Environments as ByEnvironments};
+ghost use Rattle.arn_ids.specs.declared.config.Config.{Config};
+ghost use Rattle.arn_ids.specs.Environments.{function_of, environments, function_at};
+ghost use Rattle.call_model.specs.History.{pending, answered, place_of, call_of, answer_in, answer_of, is_expiry};
+ghost use Rattle.call_model.specs.Generation.{Actor};
+ghost use Rattle.call_model.specs.Stand.{is_number};
+ghost use Rattle.call_model.specs.Answers.{home};
+ghost use Rattle.call_model.specs.Life.{phase, stand, concerns};
+ghost use Rattle.call_model.specs.Own.{own, own_ticket};
+ghost use Rattle.call_model.specs.After.{ended_by, stand_after, moves_of, fixed_of, step_at, count_at};
+ghost use Rattle.call_model.specs.Isolation.{IsUnnamed, IsLegalSave, named, gist};
+ghost use Rattle.call_model.specs.Limits.{is_charged, verdict, Verdict, Refuses, reservation, remainder, in_flight, unreserved_in_flight};
+ghost use Rattle.call_model.specs.Laws.{lives, times, deliveries, is_outcome, poll_of, is_open, admits, re_reserved, charged_in, is_taken, IsWithinEnvironments};
+ghost use Rattle.call_model.specs.Next.{IsLegal, next};
+
+/// Where invocations live, how often they are answered and delivered, and where polls stand.
+pub fn safe()
+    // A call that is taken leaves a legal history legal: so every history that calls make is legal.
+    ensures next_is_legal { (config : Config) (h : List Entry) (now : ℕ) (call : Call) → IsLegal config h → is_expiry call ≡ false → IsLegal config (next config h now call) }
+    // An admitted invocation whose caller waits is in the environment where it was placed,
+    ensures lives_in_its_place { (config : Config) (h : List Entry) (p e : ℕ) → IsLegal config h → place_of h p ≡ Some e → pending h p ≡ true → lives config h p e ≡ true }
+    // and in no other;
+    ensures lives_nowhere_else { (config : Config) (h : List Entry) (p e : ℕ) → IsLegal config h → lives config h p e ≡ true → place_of h p ≡ Some e }
+    // an environment has one at a time (life cycle: one invocation per execution environment);
+    ensures lives_alone { (config : Config) (h : List Entry) (p q e : ℕ) → lives config h p e ≡ true → lives config h q e ≡ true → p ≡ q }
+    // one that was answered is in none.
+    ensures answered_lives_nowhere { (config : Config) (h : List Entry) (p e : ℕ) → answered h p ≡ true → lives config h p e ≡ false }
+    // No ticket is answered twice,
+    ensures answered_once { (config : Config) (h : List Entry) (t : ℕ) → IsLegal config h → times h t ≤ 1 }
+    // nor before its own entry.
+    ensures answered_late { (config : Config) (h : List Entry) (t : ℕ) → IsLegal config h → length h ≤ t → answer_of h t ≡ None }
+    // A runtime's Next delivers an invocation at most once (Runtime API: Next invocation),
+    ensures delivered_once { (config : Config) (h : List Entry) (p : ℕ) → IsLegal config h → deliveries h p ≤ 1 }
+    // and only a delivered one gets an output, too large an output or a timeout, in an entry after its delivery.
+    ensures delivered_before { (config : Config) (h : List Entry) (entry : Entry) (p : ℕ) (a : Answer) → IsLegal config (entry ∷ h) → answer_in entry.answers p ≡ Some a → is_outcome a ≡ true → 1 ≤ deliveries h p }
+    // A parked Next stands only at an environment that starts, is idle or serves,
+    ensures next_stands_open { (config : Config) (h : List Entry) (e t : ℕ) (actor : Actor) → IsLegal config h → poll_of (call_of h t) ≡ Some (e, actor) → pending h t ≡ true → is_open (phase config h e) ≡ true }
+    // at most one for the runtime and for each extension.
+    ensures next_stands_alone { (config : Config) (h : List Entry) (e t u : ℕ) (actor : Actor) → IsLegal config h → poll_of (call_of h t) ≡ Some (e, actor) → pending h t ≡ true → poll_of (call_of h u) ≡ Some (e, actor) → pending h u ≡ true → t ≡ u }
+{}
+
+/// What admissions count: the limits, and the environments that are taken (reserved concurrency).
+pub fn counted()
+    // An entry that admits an Invoke of a reserved function leaves it with no more in flight than its reservation;
+    ensures reserved { (config : Config) (h : List Entry) (entry : Entry) (f limit : ℕ) → IsLegal config (entry ∷ h) → admits f entry ≡ true → reservation config (entry ∷ h) f ≡ Some limit → in_flight config (entry ∷ h) f ≤ limit }
+    // one that admits an Invoke of another leaves the unreserved functions together with no more than the remainder.
+    ensures unreserved { (config : Config) (h : List Entry) (entry : Entry) (f : ℕ) → IsLegal config (entry ∷ h) → admits f entry ≡ true → reservation config (entry ∷ h) f ≡ None → unreserved_in_flight config (entry ∷ h) ≤ remainder config (entry ∷ h) }
+    // While no reservation is changed, both hold at every moment. (A lowered one may lie below what is in flight.)
+    ensures always_reserved { (config : Config) (h : List Entry) (f limit : ℕ) → IsLegal config h → re_reserved h ≡ false → reservation config h f ≡ Some limit → in_flight config h f ≤ limit }
+    ensures always_unreserved { (config : Config) (h : List Entry) → IsLegal config h → re_reserved h ≡ false → unreserved_in_flight config h ≤ remainder config h }
+    // One charged invocation is placed in an environment that serves or has one bound, and none in any other.
+    ensures taken { (config : Config) (h : List Entry) (e : ℕ) → IsLegal config h → charged_in config h e ≡ cond (is_taken (phase config h e)) 1 0 }
+    // So a function has as many in flight as environments that serve or have one bound.
+    ensures flight { (config : Config) (h : List Entry) (f : ℕ) → IsLegal config h → in_flight config h f ≡ count_by (λ e. (function_of config e == f) && is_taken (phase config h e)) (environments config) }
+    // An entry adds to them the Invoke that it admits, less those whose charge it ends.
+    ensures flight_moves { (config : Config) (h : List Entry) (entry : Entry) (f : ℕ) → IsLegal config (entry ∷ h) → in_flight config (entry ∷ h) f + count_by (λ e. (function_of config e == f) && is_some (ended_by (phase config h e) (phase config (entry ∷ h) e))) (environments config) ≡ in_flight config h f + cond (admits f entry) 1 0 }
+    // A function whose reservation its environments can serve is never refused for want of an environment.
+    ensures never_local { (config : Config) (h : List Entry) (f limit : ℕ) → IsLegal config h → IsWithinEnvironments (function_at config f) → reservation config h f ≡ Some limit → verdict config h f ≡ Refuses ByEnvironments → ⊥ }
+{}
+
+/// Isolation by reservation: a function that is reserved in the configuration and named by no Reserve gets what it
+/// would get in an account where nobody else calls and the clock ticks at the same moments.
+pub fn isolated()
+    // Its own history is legal, save that at a Tick something may be due;
+    ensures legal { (config : Config) (h : List Entry) (f limit : ℕ) → IsLegal config h → (function_at config f).reserved ≡ Some limit → IsUnnamed f h → IsLegalSave config (own config h f) }
+    // there each of its tickets has the answer, the calls and the counts of which its reply is made,
+    ensures texts { (config : Config) (h : List Entry) (f t : ℕ) → IsLegal config h → own_ticket config h f t ≡ true → gist (own config h f) f t ≡ gist h f t }
+    // an answer to it names no ticket of another function,
+    ensures names { (config : Config) (h : List Entry) (f t p : ℕ) (a : Answer) → IsLegal config h → own_ticket config h f t ≡ true → answer_of h t ≡ Some a → named a ≡ Some p → own_ticket config h f p ≡ true }
+    // and each of its environments stands as in the whole history.
+    ensures stands { (config : Config) (h : List Entry) (f e : ℕ) → IsLegal config h → function_of config e ≡ f → stand config (own config h f) e ≡ stand config h e }
+{}
+
+/// The step of one environment: what an entry makes of its stand, a function of that stand and the call.
+pub fn step()
+    // An entry that doesn't concern an environment leaves its stand as it is.
+    ensures frame { (config : Config) (h : List Entry) (entry : Entry) (e : ℕ) → IsLegal config (entry ∷ h) → concerns h e entry ≡ false → stand config (entry ∷ h) e ≡ stand config h e }
+    // One that does makes of it what stand_after says,
+    ensures stands { (config : Config) (h : List Entry) (entry : Entry) (e : ℕ) → IsLegal config (entry ∷ h) → concerns h e entry ≡ true → stand config (entry ∷ h) e ≡ stand_after (fixed_of config e) (step_at h entry (count_at config h entry e)) (stand config h e) entry.call }
+    // and gives the environment's tickets the answers that moves_of lists.
+    ensures moves { (config : Config) (h : List Entry) (entry : Entry) (e : ℕ) → IsLegal config (entry ∷ h) → concerns h e entry ≡ true → filter (λ a. is_number (home (entry ∷ h) a.0) e) entry.answers ≡ moves_of (fixed_of config e) (step_at h entry (count_at config h entry e)) (stand config h e) entry.call }
+    // An invocation placed there was charged before the entry and isn't after just where ended_by names it.
+    ensures ended { (config : Config) (h : List Entry) (entry : Entry) (e p : ℕ) → IsLegal config (entry ∷ h) → (is_number (place_of h p) e && (is_charged config h p && not (is_charged config (entry ∷ h) p))) ≡ is_number (ended_by (phase config h e) (phase config (entry ∷ h) e)) p }
+{}

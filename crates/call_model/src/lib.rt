@@ -1,0 +1,15 @@
+//! The calls, answers and entries of one account, and what a history of them means.
+#![tactic(auto)]
+
+mod answer;
+mod call;
+mod head;
+pub mod laws;
+mod stats;
+#[cfg(test)]
+mod tests;
+
+pub use answer::{Answer, Phase, Reason, Refusal, Throttle};
+pub use call::{Answers, Call, Entry, Ticket};
+pub use head::{Head, Kind};
+pub use stats::Stats;
