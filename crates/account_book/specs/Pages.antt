@@ -1,0 +1,10 @@
+-- A journal as the book sees it.
+use Rattle.std.specs.Prelude.{ℕ, List}
+use Rattle.arn_ids.specs.declared.config.Config.{Config}
+use Rattle.call_model.specs.declared.call.Entry.{Entry}
+
+-- the configuration, the history, and how many entries it takes without taking memory
+pub record Pages : Type 0 where
+  pub config : Config
+  pub history : List Entry
+  pub room : ℕ

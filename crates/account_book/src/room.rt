@@ -1,0 +1,93 @@
+//! A list with room made beforehand.
+
+ghost use Rattle.std.specs.Prelude.{◌≡◌, ◌+◌, ◌-◌, ◌<◌, ◌≤◌, ◌++◌, ◌∷◌, [], List, ℕ, length, IfOk, OnOk, OnErr};
+
+use std::alloc::{AllocError, Global};
+use std::marker::Model;
+
+/// A list that takes no memory for as many values as there is room for.
+/// Contracts see its values and its room.
+#[derive(Debug, Drop)]
+pub struct Roomy<T> {
+    items: Vec<T>,
+    room: usize,
+}
+
+impl<T> Model for Roomy<T> {
+    ghost use Rattle.std.specs.Prelude.{List, ℕ, ◌+◌, ◌≤◌, vec_len, vec_capacity};
+
+    ghost Value = { List T × ℕ };
+
+    ghost view = { λ r. (r.items.items, r.room) };
+
+    ghost invariant = { λ r. vec_len r.items + r.room ≤ vec_capacity r.items };
+}
+
+impl<T> Roomy<T> {
+    /// No values and no room.
+    pub fn new(alloc: Global) -> Roomy<T>
+        ensures { result ≡ ([], 0) }
+    {
+        Roomy {
+            items: Vec::new(alloc),
+            room: 0,
+        }
+    }
+
+    /// No values, and room for this many.
+    pub fn with_room(alloc: Global, room: usize) -> Result<Roomy<T>, AllocError>
+        ensures { IfOk result (λ r. r ≡ ([], room)) }
+    {
+        Ok(Roomy {
+            items: Vec::with_capacity(alloc, room)?,
+            room,
+        })
+    }
+
+    /// Makes room for this many values; a refusal leaves the list and its room.
+    pub fn make_room(&mut self, room: usize) -> Result<(), AllocError>
+        ensures values { self.new.0 ≡ self.old.0 }
+        ensures made { OnOk result (self.new.1 ≡ room) }
+        ensures refused { OnErr result (self.new.1 ≡ self.old.1) }
+    {
+        self.items.try_reserve(room)?;
+        self.room = room;
+        Ok(())
+    }
+
+    /// Gives up the room; the values stay.
+    pub fn give_up_room(&mut self)
+        ensures { self.new ≡ (self.old.0, 0) }
+    {
+        self.room = 0;
+    }
+
+    /// The values.
+    pub fn as_slice(&self) -> &[T]
+        ensures { result.now ≡ self.now.0 }
+    {
+        &self.items
+    }
+
+    /// Gives the values back, with their memory.
+    pub fn into_vec(self) -> Vec<T>
+        ensures { result.items ≡ self.0 }
+    {
+        self.items
+    }
+}
+
+impl<T: Drop> Roomy<T> {
+    /// Adds a value where there is room.
+    pub fn push(&mut self, value: T)
+        requires { 0 < self.old.1 }
+        ensures { self.new ≡ (self.old.0 ++ value ∷ [], self.old.1 - 1) }
+    {
+        match self.items.push(value) {
+            Ok(()) => {
+                self.room -= 1;
+            }
+            Err(_full) => unreachable!(),
+        }
+    }
+}

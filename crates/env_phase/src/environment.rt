@@ -1,0 +1,169 @@
+//! One execution environment, and the calls that concern it.
+
+mod after;
+mod cells;
+
+ghost use Rattle.std.specs.Prelude.{◌≡◌, ◌+◌, ◌*◌, ◌<◌, ◌≤◌, ◌^◌, length, [], IfOk};
+ghost use Rattle.call_model.specs.Next.{deadline_of};
+ghost use Rattle.call_model.specs.After.{expires_now};
+ghost use Rattle.env_phase.specs.Taking.{opened, step_of, taken, given, IsServed};
+
+use crate::Step;
+use arn_ids::{Function, Row, Text};
+use call_model::{Call, Phase, Ticket};
+use extension_set::{ExtensionSet, Moves};
+use std::alloc::{AllocError, Global};
+use std::marker::Model;
+
+/// One execution environment as it stands. No call but `open` takes memory.
+#[derive(Debug, Drop)]
+pub struct Environment {
+    /// Its function's timeout in milliseconds.
+    timeout: u64,
+    /// The names of the extensions without which it isn't ready.
+    expected: Row<Text>,
+    phase: Phase,
+    /// The ticket of the runtime's parked Next.
+    runtime: Option<Ticket>,
+    /// Those of the present generation.
+    extensions: ExtensionSet,
+    /// The count in the request identifier of the call at hand, while that waits for its answer.
+    request: Option<u64>,
+    /// Whether the service was stopped.
+    stopped: bool,
+    /// How many extensions were registered, over all generations.
+    registrations: u64,
+    /// How many events were told, over all generations.
+    events: u64,
+}
+
+impl Model for Environment {
+    ghost use Rattle.std.specs.Prelude.{◌<◌, ◌≤◌, ◌^◌, length};
+    ghost use Rattle.call_model.specs.After.{Known};
+
+    ghost Value = { Known };
+
+    ghost view = { λ a. record { fixed = record { timeout = a.timeout; expected = a.expected }; stand = record { phase = a.phase; runtime = a.runtime; members = a.extensions; request = a.request; stopped = a.stopped; registrations = a.registrations; events = a.events } } };
+
+    ghost invariant = { λ a. (a.timeout < 2 ^ 32) × (length a.extensions ≤ 10) };
+}
+
+/// Copies of the names.
+fn copied(alloc: Global, names: &[Text]) -> Result<Row<Text>, AllocError>
+    ensures { IfOk result (λ row. row ≡ names.now) }
+{
+    let mut row = Vec::with_capacity(alloc, names.len())?;
+    for name in names {
+        row.push(Text::new(String::from_str(alloc, name.as_str())?))?;
+    }
+    Ok(Row::new(row))
+}
+
+impl Environment {
+    /// An environment of the function before any call: it starts, and the clock of its Init stands.
+    /// The function's timeout is at most 900 seconds, as in a checked configuration.
+    pub fn open(alloc: Global, function: &Function) -> Result<Environment, AllocError>
+        requires { function.now.timeout_s ≤ 900 }
+        ensures { IfOk result (λ e. e ≡ opened function.now) }
+    {
+        Ok(Environment {
+            timeout: 1000 * u64::from(function.timeout_s),
+            expected: copied(alloc, function.extensions.as_slice())?,
+            phase: Phase::Starting {
+                deadline: None,
+                bound: None,
+            },
+            runtime: None,
+            extensions: ExtensionSet::new(alloc),
+            request: None,
+            stopped: false,
+            registrations: 0,
+            events: 0,
+        })
+    }
+
+    /// Takes a call that concerns this environment: an Invoke that is placed here, or a call that
+    /// names it. The moves are the entry's answers to this environment's tickets. It never fails and
+    /// takes no memory.
+    pub fn take(&mut self, step: Step, call: &Call, moves: &mut Moves)
+        requires moment { step.now < 2 ^ 53 }
+        requires empty { moves.old ≡ [] }
+        requires few { self.old.stand.events < 2 ^ 52 }
+        requires served { IsServed call.now }
+        ensures stand { self.new ≡ taken self.old (step_of step) call.now }
+        ensures given { moves.new ≡ given self.old (step_of step) call.now }
+        // No extension comes with these calls, and the answers are few.
+        ensures members { length self.new.stand.members ≤ length self.old.stand.members }
+        ensures answers { length moves.new ≤ 2 * length self.old.stand.members + 4 }
+        ensures events { self.new.stand.events ≤ self.old.stand.events + 24 }
+    {
+        self.take_in_stages(step, call, moves);
+    }
+
+    /// The table's cell for the call, and then what comes after each entry.
+    #[tactic(auto, unfolding(call_model::specs::After::stand_after, call_model::specs::After::moves_of))]
+    fn take_in_stages(&mut self, step: Step, call: &Call, moves: &mut Moves)
+        requires moment { step.now < 2 ^ 53 }
+        requires empty { moves.old ≡ [] }
+        requires few { self.old.stand.events < 2 ^ 52 }
+        requires served { IsServed call.now }
+        ensures stand { self.new ≡ taken self.old (step_of step) call.now }
+        ensures given { moves.new ≡ given self.old (step_of step) call.now }
+        ensures ten_extensions { length self.old.stand.members ≤ 10 }
+    {
+        let before = self.phase;
+        let expires = self.expires(call);
+        self.first(step, call, moves);
+        self.finish(step.now, expires, before, moves);
+    }
+
+    /// Whether the call lets a Closing expire.
+    fn expires(&self, call: &Call) -> bool
+        ensures { result ≡ expires_now self.now.stand call.now }
+    {
+        matches!(call, Call::Expire { env: _ })
+            && matches!(
+                self.phase,
+                Phase::Closing {
+                    reason: _,
+                    until: _,
+                    bound: _,
+                },
+            )
+    }
+
+    /// The moment, in milliseconds, at which a Busy ends by itself that begins now.
+    fn limit(&self, now: u64) -> u64
+        requires { now < 2 ^ 53 }
+        ensures { result ≡ now + self.now.fixed.timeout }
+    {
+        now + self.timeout
+    }
+
+    /// The phase.
+    pub fn phase(&self) -> Phase
+        ensures { result ≡ self.now.stand.phase }
+    {
+        self.phase
+    }
+
+    /// When the phase ends by itself: a moment in milliseconds, or none where it lasts until a call
+    /// ends it. (life cycle: Init phase, Invoke phase, Shutdown phase)
+    pub fn deadline(&self) -> Option<u64>
+        ensures { result ≡ deadline_of self.now.stand.phase }
+    {
+        match self.phase {
+            Phase::Starting { deadline, bound: _ } => deadline,
+            Phase::Busy {
+                invoke: _,
+                deadline,
+            } => Some(deadline),
+            Phase::Closing {
+                reason: _,
+                until,
+                bound: _,
+            } => Some(until),
+            Phase::Idle | Phase::Off => None,
+        }
+    }
+}

@@ -1,0 +1,12 @@
+//! One execution environment: its phase, its parked polls, and what a call makes of them.
+//! (Lambda Developer Guide: Understanding the Lambda execution environment lifecycle)
+#![tactic(auto)]
+
+mod environment;
+mod phases;
+mod step;
+#[cfg(test)]
+mod tests;
+
+pub use environment::Environment;
+pub use step::Step;

@@ -1,0 +1,5 @@
+pub mod Lists
+pub mod Lengths
+pub mod PutInPlace
+pub mod NumberedInPlace
+pub mod EachExtension

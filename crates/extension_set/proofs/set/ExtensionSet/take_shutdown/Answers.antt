@@ -1,0 +1,15 @@
+use Rattle.std.proofs.Common.{◌≡◌, arith, length, refl, ap, add-one, ◌∙◌, reverse, map, get_or}
+use Rattle.extension_set.specs.Closing.{closed}
+use Rattle.std.proofs.lemmas.List.{with_items_is}
+use Rattle.extension_set.proofs.EachExtension.{each_more, each_whole}
+use Rattle.extension_set.proofs.set.ExtensionSet.take_shutdown.Goals as goal
+
+pub loop-member-preserved : goal.loop-member-preserved
+loop-member-preserved c = rw (add-one c.loop-member.member-index, c.close.ensures.closed)
+    (each_more _ _ c.loop-member.member-index c.member-item.result (get_or c.loop-member.member-items c.loop-member.member-index c.member-item.result) _ _ _ _ _ c.loop-member.invariant c.loop-member-test.true refl c.close.ensures.given)
+
+pub returns-clause-closed : goal.returns-clause-closed
+returns-clause-closed c =
+    let at : c.loop-member.member-index ≡ length c.deref_mut-member-items.result.now = omega (arith, c.loop-member.auto.member-index-end, c.loop-member-test.false) in
+    let long : length c.loop-member.member-items ≡ c.self.inside.members.len = omega (arith, c.loop-member.auto.member-items, c.deref_mut-member-items.ensures.len) in
+    ap reverse (with_items_is c.self.inside.members c.loop-member.member-items long) ∙ (each_whole _ _ c.loop-member.member-index _ _ _ _ c.loop-member.invariant at).0 ∙ ap (λ xs. map (closed c.args.reason c.args.until) (reverse xs)) c.deref_mut-member-items.ensures.value ∙ ap (map (closed c.args.reason c.args.until)) c.self.view_is

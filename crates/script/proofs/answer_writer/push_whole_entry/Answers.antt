@@ -1,0 +1,9 @@
+use Rattle.script.specs.AnswerText.{entry_text}
+use Rattle.script.proofs.WritingLemmas.{adds_after}
+use Rattle.script.proofs.answer_writer.push_whole_entry.Goals as goal
+
+pub returns : goal.returns
+unfolding entry_text
+returns c =
+    adds_after c.push_lines.result _ _ _ _ _ c.in_ok-push_call.ensures
+    (adds_after c.push_lines.result _ _ _ _ _ c.in_ok-end_line.ensures (rw c.as_slice.ensures at c.push_lines.ensures))

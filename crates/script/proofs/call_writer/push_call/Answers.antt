@@ -1,0 +1,10 @@
+use Rattle.script.specs.CallText.{call_text}
+use Rattle.script.proofs.WritingLemmas.{adds_after}
+use Rattle.script.proofs.call_writer.push_call.Goals as goal
+
+pub returns : goal.returns
+unfolding call_text
+returns c =
+    let marked = rw c.mark.ensures at c.in_ok-push_word.ensures in
+    adds_after c.push_call_words.result _ _ _ _ _ marked
+    (adds_after c.push_call_words.result _ _ _ _ _ c.in_ok-push_word-2.ensures c.push_call_words.ensures)

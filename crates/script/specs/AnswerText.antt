@@ -1,0 +1,115 @@
+-- The lines of answers.
+use Rattle.std.specs.Prelude.{ℕ, ◌^◌, ◌&&◌, nat_lt, if◌then◌else◌, List, [], ◌∷◌, ◌++◌, codes, unwrap_or, decimal}
+use Rattle.std.specs.List.{flat_map}
+use Rattle.uuid.specs.Text.{hyphenated_text, lower}
+use Rattle.arn_ids.specs.Identifiers.{identifier_of}
+use Rattle.arn_ids.specs.declared.identifiers.IdKind.{IdKind}
+use Rattle.arn_ids.specs.declared.identifiers.IdKind.TheVariants.{Request, Extension, Event}
+use Rattle.arn_ids.specs.declared.config.Config.{Config}
+use Rattle.call_model.specs.declared.call.Call.{Call}
+use Rattle.call_model.specs.declared.call.Call.TheVariants.{Invoke, Response, Failure, InitFailure, ExtInitFailure, ExtExitFailure}
+use Rattle.call_model.specs.declared.call.Entry.{Entry}
+use Rattle.call_model.specs.declared.answer.Answer.{Answer}
+use Rattle.call_model.specs.declared.answer.Answer.TheVariants.{Delivered, Told, Ending, Registered, Accepted, Done, Output, Error, TimedOut, InitTimedOut, OutputTooLarge, Throttled, Stopped, Withdrawn, Refused, Reserved, Unreserved}
+use Rattle.call_model.specs.declared.answer.Reason.{Reason}
+use Rattle.call_model.specs.declared.answer.Reason.TheVariants.{Timeout, Failure as Failed, Spindown}
+use Rattle.call_model.specs.declared.answer.Throttle.{Throttle}
+use Rattle.call_model.specs.declared.answer.Throttle.TheVariants.{Function, Account, Environments}
+use Rattle.call_model.specs.declared.answer.Refusal.{Refusal}
+use Rattle.call_model.specs.declared.answer.Refusal.TheVariants.{State, Replaced, BadId, Unknown, TooLarge, Container, NameInUse, TooMany, NotIdle, BadReservation}
+use Rattle.call_model.specs.History.{call_of, env_of, upto}
+use Rattle.script.specs.CallText.{line_of, call_text}
+use Rattle.script.specs.CallCounts.{request_count}
+use Rattle.script.specs.TextFields.{text_field}
+
+-- an identifier (RFC 9562, section 4); a dash for a number or a count that no identifier has
+unfoldable pub id_word : ℕ → IdKind → ℕ → ℕ → List ℕ
+id_word salt kind number count = if nat_lt number 4096 && nat_lt count (2 ^ 48) then hyphenated_text lower (identifier_of salt kind number count) else codes "-"
+
+-- the function that a call invokes; 0 for a call that is no Invoke
+abbrev pub invoked : Call → ℕ
+invoked (Invoke f qualified trace body) = f
+invoked _ = 0
+
+-- the bytes of a call: a payload, an output or a report; none for a call that has none
+abbrev pub body_of : Call → List ℕ
+body_of (Invoke f qualified trace body) = body
+body_of (Response e id body) = body
+body_of (Failure e id body) = body
+body_of (InitFailure e body) = body
+body_of (ExtInitFailure e x body) = body
+body_of (ExtExitFailure e x body) = body
+body_of _ = []
+
+-- the request identifier of the Invoke with a ticket (Runtime API: Lambda-Runtime-Aws-Request-Id)
+abbrev pub request_word : ℕ → List Entry → ℕ → List ℕ
+request_word salt h p = id_word salt Request (invoked (call_of h p)) (request_count (upto h p) (call_of h p))
+
+-- the identifier of an event or an extension of the environment that the call with a ticket names
+abbrev pub env_word : ℕ → IdKind → List Entry → ℕ → ℕ → List ℕ
+env_word salt kind h t count = id_word salt kind (unwrap_or (env_of (call_of h t)) 0) count
+
+-- the field of the bytes of the call with a ticket
+abbrev pub body_word : List Entry → ℕ → List ℕ
+body_word h t = text_field (body_of (call_of h t))
+
+-- why an environment ends (Extensions API: shutdownReason)
+abbrev pub reason_word : Reason → List ℕ
+reason_word Timeout = codes "TIMEOUT"
+reason_word Failed = codes "FAILURE"
+reason_word Spindown = codes "SPINDOWN"
+
+-- why an invocation isn't admitted (Invoke: the Reason of TooManyRequestsException)
+abbrev pub throttle_word : Throttle → List ℕ
+throttle_word Function = codes "ReservedFunctionConcurrentInvocationLimitExceeded"
+throttle_word Account = codes "ConcurrentInvocationLimitExceeded"
+throttle_word Environments = codes "LocalEnvironmentLimitExceeded"
+
+-- why a call is refused
+abbrev pub refusal_word : Refusal → List ℕ
+refusal_word State = codes "State"
+refusal_word Replaced = codes "Replaced"
+refusal_word BadId = codes "BadId"
+refusal_word Unknown = codes "Unknown"
+refusal_word TooLarge = codes "TooLarge"
+refusal_word Container = codes "Container"
+refusal_word NameInUse = codes "NameInUse"
+refusal_word TooMany = codes "TooMany"
+refusal_word NotIdle = codes "NotIdle"
+refusal_word BadReservation = codes "BadReservation"
+
+-- The words of an answer to a ticket.
+unfoldable pub answer_words : ℕ → List Entry → ℕ → Answer → List (List ℕ)
+answer_words salt h t (Delivered p deadline) = codes "deliver" ∷ request_word salt h p ∷ decimal deadline ∷ body_word h p ∷ []
+answer_words salt h t (Told p deadline event) = codes "tell" ∷ env_word salt Event h t event ∷ request_word salt h p ∷ decimal deadline ∷ []
+answer_words salt h t (Ending reason until event) = codes "shutdown" ∷ env_word salt Event h t event ∷ reason_word reason ∷ decimal until ∷ []
+answer_words salt h t (Registered count) = codes "registered" ∷ env_word salt Extension h t count ∷ []
+answer_words salt h t Accepted = codes "accepted" ∷ []
+answer_words salt h t Done = codes "done" ∷ []
+answer_words salt h t (Output source) = codes "output" ∷ body_word h source ∷ []
+answer_words salt h t (Error source) = codes "error" ∷ body_word h source ∷ []
+answer_words salt h t TimedOut = codes "timeout" ∷ []
+answer_words salt h t InitTimedOut = codes "init-timeout" ∷ []
+answer_words salt h t OutputTooLarge = codes "too-large-output" ∷ []
+answer_words salt h t (Throttled reason) = codes "throttled" ∷ throttle_word reason ∷ []
+answer_words salt h t Stopped = codes "stopped" ∷ []
+answer_words salt h t Withdrawn = codes "withdrawn" ∷ []
+answer_words salt h t (Refused refusal) = codes "refused" ∷ refusal_word refusal ∷ []
+answer_words salt h t (Reserved count) = codes "reserved" ∷ decimal count ∷ []
+answer_words salt h t Unreserved = codes "unreserved" ∷ []
+
+-- The line of an answer: the number of the entry that gave it, the ticket that got it, and its words.
+unfoldable pub answer_line : ℕ → List Entry → ℕ → ℕ → Answer → List ℕ
+answer_line salt h number t answer = line_of (decimal number ∷ decimal t ∷ answer_words salt h t answer) ++ 10 ∷ []
+
+-- The lines of an entry's answers, in their order.
+unfoldable pub answer_lines : ℕ → List Entry → ℕ → Entry → List ℕ
+answer_lines salt h number entry = flat_map (λ a. answer_line salt h number a.0 a.1) entry.answers
+
+-- an answer's line in a history, where it is a comment
+abbrev pub comment_line : ℕ → List Entry → ℕ → ℕ × Answer → List ℕ
+comment_line salt h number a = codes "# " ++ answer_line salt h number a.0 a.1
+
+-- The text of an entry in a history: the line of its call, and those of its answers.
+unfoldable pub entry_text : Config → ℕ → List Entry → ℕ → Entry → List ℕ
+entry_text config salt h number entry = call_text config entry.moment entry.call ++ 10 ∷ flat_map (comment_line salt h number) entry.answers

@@ -1,0 +1,54 @@
+-- Which calls are within the limits of the service.
+use Rattle.std.specs.Prelude.{◌≡◌, ◌≤◌, ℕ, true, List, length, Option, Some, None}
+use Rattle.arn_ids.specs.Words.{is_label}
+use Rattle.arn_ids.specs.Environments.{owners}
+use Rattle.arn_ids.specs.declared.config.Config.{Config}
+use Rattle.call_model.specs.declared.call.Call.{Call}
+use Rattle.call_model.specs.declared.call.Call.TheVariants.{Invoke, RuntimeNext, Response, ResponseTooLarge, Failure, InitFailure, Register, ExtNext, ExtInitFailure, ExtExitFailure, Tick, Withdraw, Spindown, Stop, Expire, Reserve}
+use Rattle.script.specs.Numbers.{greatest_moment, greatest_count, greatest_ticket, greatest_reservation}
+use Rattle.script.specs.TextFields.{is_body, is_trace}
+
+-- an environment of the configuration
+abbrev pub IsEnv : Config → ℕ → Type 0
+IsEnv config e = (1 ≤ e) × (e ≤ length (owners config))
+
+-- a function of the configuration
+abbrev pub IsFunction : Config → ℕ → Type 0
+IsFunction config f = (1 ≤ f) × (f ≤ length config.functions)
+
+-- a count that an identifier can have
+abbrev pub IsCount : ℕ → Type 0
+IsCount n = n ≤ greatest_count
+
+-- no trace, or one of 1 to 256 printing characters
+abbrev pub IsTrace : Option (List ℕ) → Type 0
+IsTrace None = Unit {0}
+IsTrace (Some trace) = is_trace trace ≡ true
+
+-- no reservation, or one below 2^32
+abbrev pub IsReservation : Option ℕ → Type 0
+IsReservation None = Unit {0}
+IsReservation (Some count) = count ≤ greatest_reservation
+
+-- A call that a script can make: its numbers are those of the configuration, and its texts have their lengths.
+abbrev pub IsWithin : Config → Call → Type 0
+IsWithin config (Invoke f qualified trace body) = IsFunction config f × IsTrace trace × (is_body body ≡ true)
+IsWithin config (RuntimeNext e) = IsEnv config e
+IsWithin config (Response e id body) = IsEnv config e × IsCount id × (is_body body ≡ true)
+IsWithin config (ResponseTooLarge e id) = IsEnv config e × IsCount id
+IsWithin config (Failure e id body) = IsEnv config e × IsCount id × (is_body body ≡ true)
+IsWithin config (InitFailure e body) = IsEnv config e × (is_body body ≡ true)
+IsWithin config (Register e name invoke shutdown account) = IsEnv config e × (is_label name ≡ true)
+IsWithin config (ExtNext e x) = IsEnv config e × IsCount x
+IsWithin config (ExtInitFailure e x body) = IsEnv config e × IsCount x × (is_body body ≡ true)
+IsWithin config (ExtExitFailure e x body) = IsEnv config e × IsCount x × (is_body body ≡ true)
+IsWithin config Tick = Unit {0}
+IsWithin config (Withdraw t) = t ≤ greatest_ticket
+IsWithin config (Spindown e) = IsEnv config e
+IsWithin config Stop = Unit {0}
+IsWithin config (Expire e) = ⊥
+IsWithin config (Reserve f count) = IsFunction config f × IsReservation count
+
+-- a call at a moment that a script can give it
+abbrev pub IsTimed : Config → ℕ × Call → Type 0
+IsTimed config timed = (timed.0 ≤ greatest_moment) × IsWithin config timed.1

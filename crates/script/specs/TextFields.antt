@@ -1,0 +1,51 @@
+-- The text fields of a script: an equals sign, and bytes of which some are percent-encoded.
+use Rattle.std.specs.Prelude.{ℕ, ◌/◌, ◌%◌, Bool, true, ◌||◌, ◌==◌, nat_le, nat_lt, if◌then◌else◌, List, [], ◌∷◌, length, codes, bytes_eq, Option, Some, None, option_map, option_and_then}
+use Rattle.std.specs.List.{flat_map}
+use Rattle.std.specs.Fmt.{digit_glyph}
+use Rattle.percent_encoding.specs.Percent.{percent_decode}
+use Rattle.arn_ids.specs.Words.{is_printable, is_word, is_label}
+
+-- a byte below 0x21, the percent sign, or a byte above 0x7E
+abbrev pub is_escaped : ℕ → Bool
+is_escaped b = nat_lt b 33 || b == 37 || nat_lt 126 b
+
+-- the byte as it stands, or a percent sign and its two digits in upper case (RFC 3986, section 2.1)
+abbrev pub text_byte : ℕ → List ℕ
+text_byte b = if is_escaped b then 37 ∷ digit_glyph true (b / 16 % 16) ∷ digit_glyph true (b % 16) ∷ [] else b ∷ []
+
+-- the bytes with those that need it escaped
+unfoldable pub escaped : List ℕ → List ℕ
+escaped bytes = flat_map text_byte bytes
+
+-- the field of these bytes
+abbrev pub text_field : List ℕ → List ℕ
+text_field bytes = 61 ∷ escaped bytes
+
+-- what a field says, behind its equals sign: a percent sign without two digits stays as it is
+abbrev pub text_in : List ℕ → Option (List ℕ)
+text_in [] = None
+text_in (b ∷ bs) = if b == 61 then Some (percent_decode bs) else None
+
+-- a text that passes a test
+abbrev pub text_that : (List ℕ → Bool) → List ℕ → Option (List ℕ)
+text_that passes field = option_and_then (λ text. if passes text then Some text else None) (text_in field)
+
+-- a payload, an output or a report has at most 6,291,456 bytes (Lambda quotas: invocation payload)
+abbrev pub is_body : List ℕ → Bool
+is_body body = nat_le (length body) 6291456
+
+-- a trace: 1 to 256 printing characters
+abbrev pub is_trace : List ℕ → Bool
+is_trace = is_word is_printable 256
+
+-- a body's field
+abbrev pub body_in : List ℕ → Option (List ℕ)
+body_in = text_that is_body
+
+-- the field of an extension's name
+abbrev pub name_in : List ℕ → Option (List ℕ)
+name_in = text_that is_label
+
+-- the field of a trace, or the dash of a call without one
+abbrev pub trace_in : List ℕ → Option (Option (List ℕ))
+trace_in field = if bytes_eq field (codes "-") then Some None else option_map Some (text_that is_trace field)

@@ -1,0 +1,273 @@
+//! The lines of answers, and the text of an entry in a history.
+
+ghost use Rattle.std.specs.Prelude.{◌≡◌, ◌<◌, ◌++◌, length, reverse, slice_index_or, OnOk, OnErr};
+ghost use Rattle.std.specs.List.{flat_map};
+ghost use Rattle.call_model.specs.declared.call.Entry.{Entry};
+ghost use Rattle.script.specs.AnswerText as spec;
+ghost use Rattle.script.specs.AnswerText.{answer_words, answer_line, answer_lines, entry_text, reason_word, throttle_word, refusal_word};
+ghost use Rattle.script.specs.CallCounts.{call_counts};
+ghost use Rattle.script.specs.Writing.{Adds, spaced, marked_lines};
+
+use crate::call_writer::push_call;
+use crate::past::Past;
+use crate::words::{Word, end_line, push_spaced, push_word, push_words};
+use arn_ids::{Checked, IdKind};
+use call_model::{Answer, Entry, Reason, Refusal, Throttle, Ticket};
+use std::alloc::AllocError;
+
+fn reason_text(reason: Reason) -> &'static str
+    ensures { result.now ≡ reason_word reason }
+{
+    match reason {
+        Reason::Timeout => "TIMEOUT",
+        Reason::Failure => "FAILURE",
+        Reason::Spindown => "SPINDOWN",
+    }
+}
+
+fn throttle_text(throttle: Throttle) -> &'static str
+    ensures { result.now ≡ throttle_word throttle }
+{
+    match throttle {
+        Throttle::Function => "ReservedFunctionConcurrentInvocationLimitExceeded",
+        Throttle::Account => "ConcurrentInvocationLimitExceeded",
+        Throttle::Environments => "LocalEnvironmentLimitExceeded",
+    }
+}
+
+fn refusal_text(refusal: Refusal) -> &'static str
+    ensures { result.now ≡ refusal_word refusal }
+{
+    match refusal {
+        Refusal::State => "State",
+        Refusal::Replaced => "Replaced",
+        Refusal::BadId => "BadId",
+        Refusal::Unknown => "Unknown",
+        Refusal::TooLarge => "TooLarge",
+        Refusal::Container => "Container",
+        Refusal::NameInUse => "NameInUse",
+        Refusal::TooMany => "TooMany",
+        Refusal::NotIdle => "NotIdle",
+        Refusal::BadReservation => "BadReservation",
+    }
+}
+
+/// Adds the words of an answer, each behind a space.
+#[tactic(auto, unfolding(crate::specs::AnswerText::answer_words))]
+fn push_answer_words(
+    out: &mut Vec<u8>,
+    past: &Past,
+    ticket: Ticket,
+    answer: Answer,
+) -> Result<(), AllocError>
+    ensures { Adds result (spaced (answer_words past.now.salt (reverse past.now.entries.now) ticket answer)) out.old.items out.new.items }
+{
+    match answer {
+        Answer::Delivered { invoke, deadline } => push_words(
+            out,
+            &[
+                Word::Plain("deliver"),
+                past.request(invoke),
+                Word::Number(deadline),
+                past.body(invoke),
+            ],
+        ),
+        Answer::Told {
+            invoke,
+            deadline,
+            event,
+        } => push_words(
+            out,
+            &[
+                Word::Plain("tell"),
+                past.at_env(IdKind::Event, ticket, event),
+                past.request(invoke),
+                Word::Number(deadline),
+            ],
+        ),
+        Answer::Ending {
+            reason,
+            until,
+            event,
+        } => push_words(
+            out,
+            &[
+                Word::Plain("shutdown"),
+                past.at_env(IdKind::Event, ticket, event),
+                Word::Plain(reason_text(reason)),
+                Word::Number(until),
+            ],
+        ),
+        Answer::Registered { count } => {
+            push_words(
+                out,
+                &[
+                    Word::Plain("registered"),
+                    past.at_env(IdKind::Extension, ticket, count),
+                ],
+            )
+        }
+        Answer::Accepted => push_words(out, &[Word::Plain("accepted")]),
+        Answer::Done => push_words(out, &[Word::Plain("done")]),
+        Answer::Output { source } => push_words(out, &[Word::Plain("output"), past.body(source)]),
+        Answer::Error { source } => push_words(out, &[Word::Plain("error"), past.body(source)]),
+        Answer::TimedOut => push_words(out, &[Word::Plain("timeout")]),
+        Answer::InitTimedOut => push_words(out, &[Word::Plain("init-timeout")]),
+        Answer::OutputTooLarge => push_words(out, &[Word::Plain("too-large-output")]),
+        Answer::Throttled(reason) => push_words(
+            out,
+            &[Word::Plain("throttled"), Word::Plain(throttle_text(reason))],
+        ),
+        Answer::Stopped => push_words(out, &[Word::Plain("stopped")]),
+        Answer::Withdrawn => push_words(out, &[Word::Plain("withdrawn")]),
+        Answer::Refused(refusal) => push_words(
+            out,
+            &[Word::Plain("refused"), Word::Plain(refusal_text(refusal))],
+        ),
+        Answer::Reserved { count } => push_words(
+            out,
+            &[Word::Plain("reserved"), Word::Number(u64::from(count))],
+        ),
+        Answer::Unreserved => push_words(out, &[Word::Plain("unreserved")]),
+    }
+}
+
+/// Adds the line of an answer, behind a mark.
+#[tactic(auto, unfolding(crate::specs::AnswerText::answer_line), using(crate::proofs::WritingLemmas::in_front, crate::proofs::WritingLemmas::still_in_front, crate::proofs::WritingLemmas::as_before))]
+fn push_answer(
+    out: &mut Vec<u8>,
+    past: &Past,
+    mark: &str,
+    number: usize,
+    ticket: Ticket,
+    answer: Answer,
+) -> Result<(), AllocError>
+    ensures { Adds result (mark.now ++ answer_line past.now.salt (reverse past.now.entries.now) number ticket answer) out.old.items out.new.items }
+{
+    push_word(out, &Word::Plain(mark))?;
+    push_word(out, &Word::Number(number as u64))?;
+    push_spaced(out, &Word::Number(ticket))?;
+    push_answer_words(out, past, ticket, answer)?;
+    end_line(out)?;
+    Ok(())
+}
+
+/// Adds the lines of answers, each behind a mark.
+#[tactic(auto, using(crate::proofs::WritingLemmas::in_front, crate::proofs::WritingLemmas::still_in_front, crate::proofs::WritingLemmas::as_before))]
+fn push_lines(
+    out: &mut Vec<u8>,
+    past: &Past,
+    mark: &str,
+    number: usize,
+    answers: &[(Ticket, Answer)],
+) -> Result<(), AllocError>
+    ensures { Adds result (marked_lines past.now.salt (reverse past.now.entries.now) mark.now number answers.now) out.old.items out.new.items }
+{
+    for (ticket, answer) in answers {
+        push_answer(out, past, mark, number, *ticket, *answer)?;
+    }
+    Ok(())
+}
+
+/// Adds the lines of the answers that the entry with a number gave, in rising ticket order: `E T
+/// words` and a line feed, E the entry's number, T the ticket that was answered.
+///
+/// | Answer | Words |
+/// |---|---|
+/// | `Delivered` | `deliver REQ D =BODY`, REQ the request identifier, D the deadline in ms |
+/// | `Told` | `tell EV REQ D`, EV the event identifier |
+/// | `Ending` | `shutdown EV TIMEOUT U`, `.. FAILURE U` or `.. SPINDOWN U`, U in ms |
+/// | `Registered` | `registered ID`, ID the extension identifier |
+/// | `Output`, `Error` | `output =BODY`, `error =BODY` |
+/// | `TimedOut`, `InitTimedOut`, `OutputTooLarge` | `timeout`, `init-timeout`, `too-large-output` |
+/// | `Throttled` | `throttled REASON`, as Invoke names it |
+/// | `Refused` | `refused KIND`, the refusal's name |
+/// | `Reserved`, `Unreserved` | `reserved N`, `unreserved` |
+/// | `Accepted`, `Done`, `Stopped`, `Withdrawn` | the same word in lower case |
+///
+/// Of a body the bytes below 0x21, `%` and those above 0x7E are percent-encoded. An identifier whose
+/// number or count no identifier has is a dash.
+///
+/// `entries` are those of the whole history, the oldest first, and `counts` the count in the request
+/// identifier of each that is an Invoke, 0 for each other one. No entry is looked at but those that
+/// the answers name.
+///
+/// The only error is want of memory, after which `out` is as it was.
+pub fn push_answers(
+    out: &mut Vec<u8>,
+    salt: u64,
+    entries: &[Entry],
+    counts: &[u64],
+    number: usize,
+) -> Result<(), AllocError>
+    requires counted { reverse counts.now ≡ call_counts (reverse entries.now) }
+    requires there { number < length entries.now }
+    ensures ok { OnOk result ((d : Entry) → out.new.items ≡ out.old.items ++ answer_lines salt (reverse entries.now) number (slice_index_or entries.now number d)) }
+    ensures err { OnErr result (out.new.items ≡ out.old.items) }
+{
+    let start = out.len();
+    let past = Past {
+        salt,
+        entries,
+        counts,
+    };
+    let entry = &entries[number];
+    match push_lines(out, &past, "", number, entry.answers.as_slice()) {
+        Ok(()) => Ok(()),
+        Err(error) => {
+            out.truncate(start);
+            Err(error)
+        }
+    }
+}
+
+#[tactic(auto, using(crate::proofs::WritingLemmas::in_front, crate::proofs::WritingLemmas::still_in_front, crate::proofs::WritingLemmas::as_before))]
+fn push_whole_entry(
+    out: &mut Vec<u8>,
+    config: &Checked,
+    past: &Past,
+    number: usize,
+    entry: &Entry,
+) -> Result<(), AllocError>
+    ensures { Adds result (entry_text config.now past.now.salt (reverse past.now.entries.now) number entry.now) out.old.items out.new.items }
+{
+    push_call(out, config, entry.moment, &entry.call)?;
+    end_line(out)?;
+    push_lines(out, past, "# ", number, entry.answers.as_slice())
+}
+
+/// Adds the text of the entry with a number as a history has it: the line of its call, as
+/// `read_call` reads it, and the lines of its answers as `push_answers` writes them, each behind
+/// `# `. An expiry, which nobody called, is the comment `## M expire E`.
+///
+/// `entries` and `counts` are as for `push_answers`.
+///
+/// The only error is want of memory, after which `out` is as it was.
+pub fn push_entry(
+    out: &mut Vec<u8>,
+    config: &Checked,
+    salt: u64,
+    entries: &[Entry],
+    counts: &[u64],
+    number: usize,
+) -> Result<(), AllocError>
+    requires counted { reverse counts.now ≡ call_counts (reverse entries.now) }
+    requires there { number < length entries.now }
+    ensures ok { OnOk result ((d : Entry) → out.new.items ≡ out.old.items ++ entry_text config.now salt (reverse entries.now) number (slice_index_or entries.now number d)) }
+    ensures err { OnErr result (out.new.items ≡ out.old.items) }
+{
+    let start = out.len();
+    let past = Past {
+        salt,
+        entries,
+        counts,
+    };
+    let entry = &entries[number];
+    match push_whole_entry(out, config, &past, number, entry) {
+        Ok(()) => Ok(()),
+        Err(error) => {
+            out.truncate(start);
+            Err(error)
+        }
+    }
+}

@@ -1,0 +1,62 @@
+//! The fields of a line, which stand between its spaces.
+
+ghost use Rattle.std.specs.Prelude.{◌≡◌, ◌∷◌, [], ◌==◌, option_map, position, MatchOption};
+ghost use Rattle.script.specs.Lines.{fields};
+ghost use Rattle.script.specs.Lines as spec;
+ghost use Rattle.script.specs.Views.{fields_left, text_of, two_of, three_of, four_of};
+
+/// Where the first space is.
+fn space_at(text: &[u8]) -> Option<usize>
+    ensures { result ≡ position (λ b. b == 32) text.now }
+{
+    text.iter().position(|b| *b == b' ')
+}
+
+/// The front field, and what follows its space where there is one.
+pub(crate) fn cut(text: &[u8]) -> (&[u8], Option<&[u8]>)
+    ensures { fields text.now ≡ result.0.now ∷ fields_left result.1 }
+{
+    match space_at(text) {
+        Some(at) => (&text[..at], Some(&text[at + 1..])),
+        None => (text, None),
+    }
+}
+
+/// One field and no more.
+#[tactic(auto, using(crate::proofs::FieldLemmas::too_many))]
+pub(crate) fn one_field(rest: Option<&[u8]>) -> Option<&[u8]>
+    ensures { option_map text_of result ≡ spec.one_field (fields_left rest.entry) }
+{
+    let (first, more) = cut(rest?);
+    match more {
+        None => Some(first),
+        Some(_) => None,
+    }
+}
+
+/// Two fields and no more.
+pub(crate) fn two_fields(rest: Option<&[u8]>) -> Option<(&[u8], &[u8])>
+    ensures { option_map two_of result ≡ spec.two_fields (fields_left rest.entry) }
+{
+    let (first, more) = cut(rest?);
+    let second = one_field(more)?;
+    Some((first, second))
+}
+
+/// Three fields and no more.
+pub(crate) fn three_fields(rest: Option<&[u8]>) -> Option<(&[u8], &[u8], &[u8])>
+    ensures { option_map three_of result ≡ spec.three_fields (fields_left rest.entry) }
+{
+    let (first, more) = cut(rest?);
+    let (second, third) = two_fields(more)?;
+    Some((first, second, third))
+}
+
+/// Four fields and no more.
+pub(crate) fn four_fields(rest: Option<&[u8]>) -> Option<(&[u8], &[u8], &[u8], &[u8])>
+    ensures { option_map four_of result ≡ spec.four_fields (fields_left rest.entry) }
+{
+    let (first, more) = cut(rest?);
+    let (second, third, fourth) = three_fields(more)?;
+    Some((first, second, third, fourth))
+}

@@ -1,0 +1,22 @@
+//! The text forms of calls and answers: the lines of a script, and those of a history.
+#![tactic(auto)]
+
+mod answer_writer;
+mod call_reader;
+mod call_writer;
+mod fields;
+pub mod laws;
+mod numbers;
+mod past;
+mod text_fields;
+mod words;
+
+pub use answer_writer::{push_answers, push_entry};
+pub use call_reader::read_call;
+
+#[cfg(test)]
+mod fixtures;
+#[cfg(test)]
+mod reader_tests;
+#[cfg(test)]
+mod writer_tests;

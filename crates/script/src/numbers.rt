@@ -1,0 +1,44 @@
+//! Decimal numbers.
+
+ghost use Rattle.std.specs.Prelude.{◌≡◌, ◌≤◌, IfSome};
+ghost use Rattle.script.specs.Numbers.{number_in, digits_in};
+
+/// A decimal number of at most `most`, without leading zeros.
+pub(crate) fn number(text: &[u8], most: u64) -> Option<u64>
+    ensures value { result ≡ number_in most text.now }
+    ensures within { IfSome result (λ n. n ≤ most) }
+{
+    match text {
+        [] => None,
+        [b'0', _, ..] => None,
+        _ => digits(text, most),
+    }
+}
+
+/// The same where `most` is below 2^32.
+pub(crate) fn number_u32(text: &[u8], most: u32) -> Option<u32>
+    ensures { result ≡ number_in most text.now }
+{
+    let number = number(text, u64::from(most))?;
+    Some(number as u32)
+}
+
+fn digits(text: &[u8], most: u64) -> Option<u64>
+    ensures value { result ≡ digits_in most 0 text.now }
+    ensures within { IfSome result (λ n. n ≤ most) }
+{
+    let mut number = 0u64;
+    let mut rest = text;
+    while let Some((first, others)) = rest.split_first() {
+        if !first.is_ascii_digit() {
+            return None;
+        }
+        let next = 10 * u128::from(number) + u128::from(*first - b'0');
+        if next > u128::from(most) {
+            return None;
+        }
+        number = next as u64;
+        rest = others;
+    }
+    Some(number)
+}

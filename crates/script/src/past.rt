@@ -1,0 +1,143 @@
+//! What a line of an answer tells of the calls before it.
+
+ghost use Rattle.std.specs.Prelude.{◌≡◌, reverse, unwrap_or, MatchOption};
+ghost use Rattle.call_model.specs.declared.call.Call.TheVariants.{Expire as NoCall};
+ghost use Rattle.call_model.specs.History.{call_of, upto, env_of as env_name};
+ghost use Rattle.script.specs.CallCounts.{call_counts, request_count};
+ghost use Rattle.script.specs.AnswerText as spec;
+ghost use Rattle.script.specs.Writing.{word_text};
+
+use crate::words::Word;
+use arn_ids::{EnvNo, FnNo, IdKind, event_id, extension_id, request_id};
+use call_model::{Call, Entry, Ticket};
+
+/// The entries of a history, the oldest first, with the count in the request identifier of each
+/// Invoke.
+#[derive(Clone, Copy)]
+pub(crate) struct Past<'a> {
+    pub(crate) salt: u64,
+    pub(crate) entries: &'a [Entry],
+    pub(crate) counts: &'a [u64],
+    ghost counted: { reverse counts.now ≡ call_counts (reverse entries.now) },
+}
+
+/// An identifier; a dash for a number or a count that no identifier has.
+#[tactic(auto, unfolding(crate::specs::AnswerText::id_word))]
+fn id_word(salt: u64, kind: IdKind, number: u32, count: u64) -> Word<'static>
+    ensures { word_text result ≡ spec.id_word salt kind number count }
+{
+    if number >= 4096 {
+        return Word::Plain("-");
+    }
+    if count >= 1 << 48 {
+        return Word::Plain("-");
+    }
+    Word::Identifier(match kind {
+        IdKind::Request => request_id(salt, number, count),
+        IdKind::Extension => extension_id(salt, number, count),
+        IdKind::Event => event_id(salt, number, count),
+    })
+}
+
+/// The function that a call invokes, 0 where it is no Invoke.
+fn invoked(call: &Call) -> FnNo
+    ensures { result ≡ spec.invoked call.now }
+{
+    match call {
+        Call::Invoke { function, .. } => *function,
+        _ => 0,
+    }
+}
+
+/// The environment that a call names, 0 where it names none.
+fn env_of(call: &Call) -> EnvNo
+    ensures { result ≡ unwrap_or (env_name call.now) 0 }
+{
+    match call {
+        Call::RuntimeNext { env } => *env,
+        Call::Response { env, .. } => *env,
+        Call::ResponseTooLarge { env, .. } => *env,
+        Call::Failure { env, .. } => *env,
+        Call::InitFailure { env, .. } => *env,
+        Call::Register { env, .. } => *env,
+        Call::ExtNext { env, .. } => *env,
+        Call::ExtInitFailure { env, .. } => *env,
+        Call::ExtExitFailure { env, .. } => *env,
+        Call::Spindown { env } => *env,
+        Call::Expire { env } => *env,
+        _ => 0,
+    }
+}
+
+/// The bytes of a call, none where it has none.
+fn body_of(call: &Call) -> &[u8]
+    ensures { result.now ≡ spec.body_of call.now }
+{
+    match call {
+        Call::Invoke { body, .. } => body.as_slice(),
+        Call::Response { body, .. } => body.as_slice(),
+        Call::Failure { body, .. } => body.as_slice(),
+        Call::InitFailure { body, .. } => body.as_slice(),
+        Call::ExtInitFailure { body, .. } => body.as_slice(),
+        Call::ExtExitFailure { body, .. } => body.as_slice(),
+        _ => &[],
+    }
+}
+
+impl<'a> Past<'a> {
+    /// The call with a ticket, where there is one.
+    #[tactic(auto, using(crate::proofs::PastLemmas::call_here, crate::proofs::PastLemmas::no_call_here))]
+    fn call(&self, ticket: Ticket) -> Option<&'a Call>
+        ensures { MatchOption result (call_of (reverse self.now.entries.now) ticket ≡ NoCall 0) (λ call. call.now ≡ call_of (reverse self.now.entries.now) ticket) }
+    {
+        let place = ticket as usize;
+        if place >= self.entries.len() {
+            return None;
+        }
+        Some(&self.entries[place].call)
+    }
+
+    /// The count in the request identifier of the Invoke with a ticket; 0 where there is none.
+    #[tactic(auto, using(crate::proofs::PastLemmas::count_here, crate::proofs::PastLemmas::no_count_here))]
+    fn count(&self, ticket: Ticket) -> u64
+        ensures { let h = reverse self.now.entries.now in result ≡ request_count (upto h ticket) (call_of h ticket) }
+    {
+        let place = ticket as usize;
+        if place >= self.counts.len() {
+            return 0;
+        }
+        self.counts[place]
+    }
+
+    /// The request identifier of the Invoke with a ticket.
+    pub(crate) fn request(&self, ticket: Ticket) -> Word<'static>
+        ensures { word_text result ≡ spec.request_word self.now.salt (reverse self.now.entries.now) ticket }
+    {
+        let function = match self.call(ticket) {
+            None => 0,
+            Some(call) => invoked(call),
+        };
+        id_word(self.salt, IdKind::Request, function, self.count(ticket))
+    }
+
+    /// The identifier of an event or an extension at the environment of the call with a ticket.
+    pub(crate) fn at_env(&self, kind: IdKind, ticket: Ticket, count: u64) -> Word<'static>
+        ensures { word_text result ≡ spec.env_word self.now.salt kind (reverse self.now.entries.now) ticket count }
+    {
+        let env = match self.call(ticket) {
+            None => 0,
+            Some(call) => env_of(call),
+        };
+        id_word(self.salt, kind, env, count)
+    }
+
+    /// The bytes of the call with a ticket.
+    pub(crate) fn body(&self, ticket: Ticket) -> Word<'a>
+        ensures { word_text result ≡ spec.body_word (reverse self.now.entries.now) ticket }
+    {
+        match self.call(ticket) {
+            None => Word::Text(&[]),
+            Some(call) => Word::Text(body_of(call)),
+        }
+    }
+}

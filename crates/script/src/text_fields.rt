@@ -1,0 +1,89 @@
+//! Text fields: an equals sign, and bytes of which some are percent-encoded.
+
+ghost use Rattle.std.specs.Prelude.{◌≡◌, ◌&&◌, nat_le, length, option_map, IfOk};
+ghost use Rattle.std.specs.List.{list_all};
+ghost use Rattle.arn_ids.specs.Words.{is_word, is_printable as is_printable_byte};
+ghost use Rattle.script.specs.TextFields.{text_in, text_that, body_in, name_in, trace_in};
+ghost use Rattle.script.specs.TextFields as spec;
+
+use arn_ids::{Bytes, Text};
+use percent_encoding::percent_decode;
+use std::alloc::{AllocError, Global};
+
+const LONGEST_BODY: usize = 6_291_456;
+
+const LONGEST_TRACE: usize = 256;
+
+const LONGEST_NAME: usize = 128;
+
+/// The bytes that a field stands for.
+fn decoded(alloc: Global, field: &[u8]) -> Result<Option<Vec<u8>>, AllocError>
+    ensures { IfOk result (λ text. option_map (λ v. v.items) text ≡ text_in field.now) }
+{
+    let [b'=', rest @ ..] = field else {
+        return Ok(None);
+    };
+    let mut bytes = Vec::new(alloc);
+    percent_decode(rest).append_to(&mut bytes)?;
+    Ok(Some(bytes))
+}
+
+fn is_printable(bytes: &[u8]) -> bool
+    ensures { result ≡ list_all is_printable_byte bytes.now }
+{
+    bytes.iter().all(|b| b' ' <= *b && *b <= b'~')
+}
+
+/// Whether there are from 1 to `most` bytes, all of which print.
+fn is_within(bytes: &[u8], most: usize) -> bool
+    ensures { result ≡ is_word is_printable_byte most bytes.now }
+{
+    1 <= bytes.len() && bytes.len() <= most && is_printable(bytes)
+}
+
+/// A text of 1 to `most` characters that print.
+fn printable_text(alloc: Global, field: &[u8], most: usize) -> Result<Option<Text>, AllocError>
+    ensures { IfOk result (λ text. text ≡ text_that (is_word is_printable_byte most) field.now) }
+{
+    let Some(bytes) = decoded(alloc, field)? else {
+        return Ok(None);
+    };
+    if !is_within(bytes.as_slice(), most) {
+        return Ok(None);
+    }
+    match String::from_utf8(bytes) {
+        Ok(text) => Ok(Some(Text::new(text))),
+        Err(_) => unreachable!(),
+    }
+}
+
+/// A payload, an output or a report.
+pub(crate) fn body(alloc: Global, field: &[u8]) -> Result<Option<Bytes>, AllocError>
+    ensures { IfOk result (λ body. body ≡ body_in field.now) }
+{
+    let Some(bytes) = decoded(alloc, field)? else {
+        return Ok(None);
+    };
+    if bytes.len() > LONGEST_BODY {
+        return Ok(None);
+    }
+    Ok(Some(Bytes::new(bytes)))
+}
+
+/// The name of an extension.
+pub(crate) fn extension_name(alloc: Global, field: &[u8]) -> Result<Option<Text>, AllocError>
+    ensures { IfOk result (λ name. name ≡ name_in field.now) }
+{
+    printable_text(alloc, field, LONGEST_NAME)
+}
+
+/// A trace, or the dash of a call without one.
+pub(crate) fn trace(alloc: Global, field: &[u8]) -> Result<Option<Option<Text>>, AllocError>
+    ensures { IfOk result (λ trace. trace ≡ trace_in field.now) }
+{
+    if field == b"-".as_slice() {
+        return Ok(Some(None));
+    }
+    let text = printable_text(alloc, field, LONGEST_TRACE)?;
+    Ok(text.map(Some))
+}
