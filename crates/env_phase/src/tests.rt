@@ -3,7 +3,7 @@
 //! No public call registers an extension yet, and without one a Closing ends where it begins: so
 //! Closing and Off are not seen here.
 
-ghost use Rattle.std.specs.Prelude.{◌≡◌, ◌≤◌, IfOk};
+ghost use Rattle.std.specs.Prelude.{◌≡◌, IfOk};
 ghost use Rattle.env_phase.specs.Taking.{IsServed};
 
 use crate::{Environment, Step};
