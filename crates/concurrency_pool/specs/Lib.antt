@@ -1,0 +1,4 @@
+pub mod Usages
+pub mod Numbers
+pub mod Pools
+pub mod Meets

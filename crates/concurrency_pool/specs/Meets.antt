@@ -1,0 +1,39 @@
+-- What the numbers are after a history.
+use Rattle.std.specs.Prelude.{ℕ, Bool, true, false, List, length, map, Option, Some, None}
+use Rattle.arn_ids.specs.declared.config.Config.{Config}
+use Rattle.arn_ids.specs.Environments.{function_at, function_numbers}
+use Rattle.call_model.specs.declared.answer.Answer.{Answer}
+use Rattle.call_model.specs.declared.answer.Answer.TheVariants.{Refused, Reserved, Unreserved}
+use Rattle.call_model.specs.declared.answer.Refusal.TheVariants.{BadReservation}
+use Rattle.call_model.specs.declared.answer.Throttle.{Throttle}
+use Rattle.call_model.specs.declared.call.Entry.{Entry}
+use Rattle.call_model.specs.Limits.{in_flight, reservation, Verdict, Refuses, where_placed}
+use Rattle.concurrency_pool.specs.declared.pool.Usage.{Usage}
+use Rattle.concurrency_pool.specs.Numbers.{Numbers}
+
+-- what a function may have and has
+abbrev pub usage : Config → List Entry → ℕ → Usage
+usage config h f = record {
+  environments = length (function_at config f).slots;
+  reserved = reservation config h f;
+  in_flight = in_flight config h f;
+}
+
+-- all of them, with the account's limits
+abbrev pub numbers : Config → List Entry → Numbers
+numbers config h = record {
+  account_limit = config.account_limit;
+  least_remainder = config.least_remainder;
+  functions = map (usage config h) (function_numbers config);
+}
+
+-- the verdict where a limit refuses, and where none does
+abbrev pub by_throttle : Option Throttle → Option ℕ → Verdict
+by_throttle (Some reason) place = Refuses reason
+by_throttle None place = where_placed place
+
+-- what a Reserve is answered that may be taken, and one that may not
+abbrev pub by_reserve : Bool → Option ℕ → Answer
+by_reserve false count = Refused BadReservation
+by_reserve true None = Unreserved
+by_reserve true (Some count) = Reserved count

@@ -1,0 +1,24 @@
+//! What the numbers after a history say of it. Each function does nothing; its clauses are the laws.
+
+ghost use Rattle.std.specs.Prelude.{◌≡◌, ◌≤◌, ℕ, List, [], length, Option};
+ghost use Rattle.arn_ids.specs.declared.config.Config.{Config};
+ghost use Rattle.call_model.specs.Answers.{reserve_answer};
+ghost use Rattle.call_model.specs.declared.call.Entry.{Entry};
+ghost use Rattle.call_model.specs.Limits as model;
+ghost use Rattle.concurrency_pool.specs.Pools.{opened, usage_at, remainder, unreserved_in_flight, throttle, may_reserve};
+ghost use Rattle.concurrency_pool.specs.Meets.{numbers, usage, by_throttle, by_reserve};
+
+/// The numbers meet the history.
+pub fn meets()
+    // Before any call nothing is in flight, and the reservations are those of the configuration.
+    ensures opened { (config : Config) → opened config ≡ numbers config [] }
+    // A function's numbers are what the history gives it in flight and in reservation.
+    ensures function { (config : Config) (h : List Entry) (f : ℕ) → 1 ≤ f → f ≤ length config.functions → usage_at (numbers config h) f ≡ usage config h f }
+    // The remainder and what is in flight of it are the history's.
+    ensures remainder { (config : Config) (h : List Entry) → remainder (numbers config h) ≡ model.remainder config h }
+    ensures unreserved { (config : Config) (h : List Entry) → unreserved_in_flight (numbers config h) ≡ model.unreserved_in_flight config h }
+    // Where a limit refuses an Invoke, its verdict has that reason; where none does, it goes to a free environment.
+    ensures verdict { (config : Config) (h : List Entry) (f : ℕ) → 1 ≤ f → f ≤ length config.functions → model.by_limits config h f (model.reservation config h f) ≡ by_throttle (throttle (numbers config h) f) (model.place config h f) }
+    // A Reserve is refused where the numbers don't allow it.
+    ensures reserve { (config : Config) (h : List Entry) (f : ℕ) (count : Option ℕ) → 1 ≤ f → f ≤ length config.functions → reserve_answer config h f count ≡ by_reserve (may_reserve (numbers config h) f count) count }
+{}

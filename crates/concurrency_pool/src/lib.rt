@@ -1,0 +1,11 @@
+//! How many invocations each function has in flight, and whether its limit admits one more.
+#![tactic(auto)]
+
+pub mod laws;
+mod limits;
+mod pool;
+
+pub use pool::{Pool, Usage};
+
+#[cfg(test)]
+mod tests;

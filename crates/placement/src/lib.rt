@@ -1,0 +1,12 @@
+//! Where an invocation goes: which of its function's environments takes it.
+#![tactic(auto)]
+
+mod class;
+pub mod laws;
+mod places;
+
+pub use class::Class;
+pub use places::{Place, Places};
+
+#[cfg(test)]
+mod tests;
