@@ -1,0 +1,67 @@
+-- Where the lines of a text are.
+use Rattle.std.proofs.Common.{◌≡◌, ℕ, ◌+◌, ◌<◌, ◌≤◌, Bool, true, false, cond, ◌==◌, nat_lt, List, [], ◌∷◌, ◌++◌, length, take, drop, position, get_or, Some, None, refl, ap, ◌∙◌, arith, length-take}
+use Rattle.std.specs.List.{slice_split, onto_first, position_or_len}
+use Rattle.std.specs.Str.Lines.{lines, lines_of_parts, strip_carriage_return}
+use Rattle.std.proofs.lemmas.Bool.Decides.{nat_tests}
+use Rattle.std.proofs.lemmas.Option.{cond_some}
+use Rattle.std.proofs.lemmas.List.Elements.{All-from_get_or}
+use Rattle.std.proofs.lemmas.List.Splits.{slice_split_at, slice_split_none}
+use Rattle.std.proofs.lemmas.List.Sums.{fails_before_first, passes_at_first, split_at_first}
+use Rattle.std.proofs.Math.Seq.{get_or-take}
+use Rattle.lambda_local.specs.Steps.{IsOpen, EndsLine}
+
+abbrev pub is_break : ℕ → Bool
+is_break b = b == 10
+
+begins_onto : (b : Bool) (x : ℕ) (rest : List (List ℕ)) → (q : List ℕ) × (qs : List (List ℕ)) × (rest ≡ q ∷ qs)
+    → (q : List ℕ) × (qs : List (List ℕ)) × (cond b ([] ∷ rest) (onto_first x rest) ≡ q ∷ qs)
+begins_onto true x rest h = ([], rest, refl)
+begins_onto false x rest (q, qs, e) = (x ∷ q, qs, rw e refl)
+
+-- there is a first piece
+pub pieces_begin : (xs : List ℕ) → (q : List ℕ) × (qs : List (List ℕ)) × (slice_split is_break xs ≡ q ∷ qs)
+pieces_begin [] = ([], [], refl)
+pieces_begin (x ∷ xs) = begins_onto (is_break x) x (slice_split is_break xs) (pieces_begin xs)
+
+line_before : (line : List ℕ) (rest : List (List ℕ)) (q : List ℕ) (qs : List (List ℕ)) → rest ≡ q ∷ qs → lines_of_parts (line ∷ rest) ≡ strip_carriage_return line ∷ lines_of_parts rest
+line_before line rest q qs e = rw e refl
+
+-- a line feed ends a line
+pub line_ends : (line more : List ℕ) → IsOpen line → lines (line ++ 10 ∷ more) ≡ strip_carriage_return line ∷ lines more
+line_ends line more free =
+    let begins = pieces_begin more in
+    ap lines_of_parts (slice_split_at is_break line 10 more free refl) ∙ line_before line (slice_split is_break more) begins.0 begins.1 begins.2
+
+-- bytes in which no line ends are at most one line
+pub one_line : (line : List ℕ) → IsOpen line → lines line ≡ lines_of_parts (line ∷ [])
+one_line line free = ap lines_of_parts (slice_split_none is_break line free)
+
+ten : (b : ℕ) → is_break b ≡ true → b ≡ 10
+ten b h = grind (arith, nat_tests)
+
+not_there : (b : Bool) (n : ℕ) → cond b (Some n) None ≡ None → b ≡ false
+not_there true n e = cc
+not_there false n e = refl
+
+open_before : (xs : List ℕ) (at : ℕ) → at ≤ position_or_len is_break xs → IsOpen (take at xs)
+open_before xs at within = All-from_get_or (λ x. is_break x ≡ false) (take at xs) 0 (λ i below.
+    let small : i < at = omega (arith, length-take at xs) in
+    rw (get_or-take at xs i 0 small) (fails_before_first is_break xs i 0 (omega arith)))
+
+-- the first line feed, where there is one, ends the first line
+pub feed_ends_line : (xs : List ℕ) (at : ℕ) → position is_break xs ≡ Some at → EndsLine xs (take at xs) (drop (at + 1) xs)
+feed_ends_line xs at e =
+    let found = cond_some (nat_lt (position_or_len is_break xs) (length xs)) (position_or_len is_break xs) at e in
+    let within : position_or_len is_break xs < length xs = grind (arith, nat_tests) in
+    let feed = ten (get_or xs (position_or_len is_break xs) 0) (passes_at_first is_break xs 0 within) in
+    let split = split_at_first is_break xs 0 within in
+    record {
+      free = open_before xs at (omega (arith, found.1));
+      split = rw (feed, found.1) at split;
+    }
+
+pub no_feed : (xs : List ℕ) → position is_break xs ≡ None → IsOpen xs
+no_feed xs e =
+    let far = not_there (nat_lt (position_or_len is_break xs) (length xs)) (position_or_len is_break xs) e in
+    let past : length xs ≤ position_or_len is_break xs = grind (arith, nat_tests) in
+    All-from_get_or (λ x. is_break x ≡ false) xs 0 (λ i within. fails_before_first is_break xs i 0 (omega arith))
