@@ -6,3 +6,4 @@ pub mod Journals
 pub mod Totals
 pub mod Verdicts
 pub mod Room
+pub mod Run

@@ -9,7 +9,7 @@ use Rattle.call_model.specs.Counts.{full}
 use Rattle.call_model.specs.Next.{next, added}
 use Rattle.script.specs.AnswerText.{answer_lines}
 use Rattle.account_book.specs.Book.{Kept}
-use Rattle.lambda_local.specs.Run.{answered, lines_from, added_lines}
+use Rattle.account_book.specs.Run.{answered, lines_from, added_lines}
 
 pub next_added : (config : Config) (h : List Entry) (now : ℕ) (call : Call) → next config h now call ≡ added config h now call ++ h
 unfolding next

@@ -1,11 +1,11 @@
 -- Lines replayed one after the other.
-use Rattle.std.proofs.Common.{◌≡◌, ℕ, ◌+◌, List, [], ◌∷◌, ◌++◌, length, Option, Some, None, Result, Ok, Err, refl, sym, ap, ◌∙◌, arith, append_assoc, length-append}
+use Rattle.std.proofs.Common.{◌≡◌, ℕ, ◌+◌, List, [], ◌∷◌, ◌++◌, length, Option, Some, Result, Ok, Err, refl, sym, ap, ◌∙◌, arith, append_assoc, length-append}
 use Rattle.std.proofs.lemmas.List.{append-nil}
 use Rattle.std.specs.Io.KnownBytes.{Appends}
-use Rattle.account_book.specs.Book.{Kept}
-use Rattle.lambda_local.specs.Run.{Replayed, before, and_then, line_taken, replay_from}
+use Rattle.account_book.specs.Run.{ScriptFault, InConfiguration, InText, InLine, Progress, fault_at_end, Replayed, before, and_then, line_taken, replay_from}
 use Rattle.lambda_local.specs.Replays.{Ended, Broken, Cut, StoppedAt}
-use Rattle.lambda_local.specs.Steps.{HasFault, Played}
+use Rattle.lambda_local.specs.Faults.{HasFault}
+use Rattle.lambda_local.specs.Steps.{Played}
 use Rattle.lambda_local.specs.declared.fault.ReplayFault.{ReplayFault}
 use Rattle.lambda_local.specs.declared.fault.ReplayFault.TheVariants as faults
 use Rattle.lambda_local.proofs.Written.{appends_nothing, appends_more}
@@ -14,22 +14,22 @@ use Rattle.lambda_local.proofs.Written.{appends_nothing, appends_more}
 before_before : (a b : List ℕ) (r : Replayed) → before a (before b r) ≡ before (a ++ b) r
 before_before a b r = ap (λ (t : List ℕ). record { text = t; fault = r.fault }) (sym (append_assoc a b r.text))
 
-pub played_none : (number : ℕ) (book : Option Kept) (old : Option (List ℕ)) → Played number book book [] old old
-played_none number book old = record {
+pub played_none : (number : ℕ) (progress : Progress) (old : Option (List ℕ)) → Played number progress progress [] old old
+played_none number progress old = record {
   text = [];
   played = λ more. let same : number + 0 ≡ number = omega arith in rw same refl;
   wrote = appends_nothing old;
 }
 
-pub played_one : (number : ℕ) (book : Option Kept) (next : Kept) (line text : List ℕ) (old new : Option (List ℕ)) → line_taken number book line ≡ Ok (next, text) → Appends old new text
-    → Played number book (Some next) (line ∷ []) old new
-played_one number book next line text old new e wrote = record {
+pub played_one : (number : ℕ) (progress : Progress) (next : Progress) (line text : List ℕ) (old new : Option (List ℕ)) → line_taken number progress line ≡ Ok (next, text) → Appends old new text
+    → Played number progress next (line ∷ []) old new
+played_one number progress next line text old new e wrote = record {
   text = text;
-  played = λ more. ap (λ (r : Result (Kept × List ℕ) ReplayFault). and_then r (λ (b : Kept). replay_from (number + 1) (Some b) more)) e;
+  played = λ more. ap (λ (r : Result (Progress × List ℕ) ScriptFault). and_then r (λ (b : Progress). replay_from (number + 1) b more)) e;
   wrote = wrote;
 }
 
-pub played_more : (number then : ℕ) (a b c : Option Kept) (xs ys : List (List ℕ)) (old mid new : Option (List ℕ)) → Played number a b xs old mid → Played then b c ys mid new → then ≡ number + length xs
+pub played_more : (number then : ℕ) (a b c : Progress) (xs ys : List (List ℕ)) (old mid new : Option (List ℕ)) → Played number a b xs old mid → Played then b c ys mid new → then ≡ number + length xs
     → Played number a c (xs ++ ys) old new
 played_more number then a b c xs ys old mid new p q is = record {
   text = p.text ++ q.text;
@@ -42,12 +42,12 @@ played_more number then a b c xs ys old mid new p q is = record {
 }
 
 -- what lines come to after others
-played_before : (number then : ℕ) (a b : Option Kept) (xs rest all : List (List ℕ)) (old mid : Option (List ℕ)) (p : Played number a b xs old mid) → then ≡ number + length xs → all ≡ xs ++ rest
+played_before : (number then : ℕ) (a b : Progress) (xs rest all : List (List ℕ)) (old mid : Option (List ℕ)) (p : Played number a b xs old mid) → then ≡ number + length xs → all ≡ xs ++ rest
     → replay_from number a all ≡ before p.text (replay_from then b rest)
 played_before number then a b xs rest all old mid p counted is =
     ap (replay_from number a) is ∙ p.played rest ∙ ap (λ (k : ℕ). before p.text (replay_from k b rest)) (sym counted)
 
-ended_after : (number then : ℕ) (a b : Option Kept) (xs rest all : List (List ℕ)) (old mid new : Option (List ℕ)) (fault : Option ReplayFault) → Played number a b xs old mid → then ≡ number + length xs → all ≡ xs ++ rest
+pub ended_after : (number then : ℕ) (a b : Progress) (xs rest all : List (List ℕ)) (old mid new : Option (List ℕ)) (fault : Option ScriptFault) → Played number a b xs old mid → then ≡ number + length xs → all ≡ xs ++ rest
     → Ended then b rest fault mid new → Ended number a all fault old new
 ended_after number then a b xs rest all old mid new fault p counted is s =
     let whole = played_before number then a b xs rest all old mid p counted is in
@@ -56,7 +56,7 @@ ended_after number then a b xs rest all old mid new fault p counted is s =
       wrote = rw whole (appends_more old mid new p.text (replay_from then b rest).text p.wrote s.wrote);
     }
 
-broken_after : (number then : ℕ) (a b : Option Kept) (xs rest all : List (List ℕ)) (old mid new : Option (List ℕ)) → Played number a b xs old mid → then ≡ number + length xs → all ≡ xs ++ rest
+broken_after : (number then : ℕ) (a b : Progress) (xs rest all : List (List ℕ)) (old mid new : Option (List ℕ)) → Played number a b xs old mid → then ≡ number + length xs → all ≡ xs ++ rest
     → Broken then b rest mid new → Broken number a all old new
 broken_after number then a b xs rest all old mid new p counted is s =
     let whole = played_before number then a b xs s.first (xs ++ s.first) old mid p counted refl in
@@ -67,7 +67,7 @@ broken_after number then a b xs rest all old mid new p counted is s =
       wrote = rw whole (appends_more old mid new p.text (replay_from then b s.first).text p.wrote s.wrote);
     }
 
-cut_after : (number then : ℕ) (a b : Option Kept) (xs rest all : List (List ℕ)) (old mid new : Option (List ℕ)) → Played number a b xs old mid → then ≡ number + length xs → all ≡ xs ++ rest
+cut_after : (number then : ℕ) (a b : Progress) (xs rest all : List (List ℕ)) (old mid new : Option (List ℕ)) → Played number a b xs old mid → then ≡ number + length xs → all ≡ xs ++ rest
     → Cut then b rest mid new → Cut number a all old new
 cut_after number then a b xs rest all old mid new p counted is s =
     let whole = played_before number then a b xs rest all old mid p counted is in
@@ -79,43 +79,43 @@ cut_after number then a b xs rest all old mid new p counted is s =
     }
 
 -- a fault after lines that were played
-pub stopped_after : (number then : ℕ) (a b : Option Kept) (xs rest all : List (List ℕ)) (old mid new : Option (List ℕ)) (e : ReplayFault) → Played number a b xs old mid → then ≡ number + length xs → all ≡ xs ++ rest
+pub stopped_after : (number then : ℕ) (a b : Progress) (xs rest all : List (List ℕ)) (old mid new : Option (List ℕ)) (e : ReplayFault) → Played number a b xs old mid → then ≡ number + length xs → all ≡ xs ++ rest
     → StoppedAt then b rest mid new e → StoppedAt number a all old new e
-stopped_after number then a b xs rest all old mid new (faults.Config fault) p counted is s = ended_after number then a b xs rest all old mid new (Some (faults.Config fault)) p counted is s
-stopped_after number then a b xs rest all old mid new (faults.Wire fault) p counted is s = ended_after number then a b xs rest all old mid new (Some (faults.Wire fault)) p counted is s
-stopped_after number then a b xs rest all old mid new (faults.Script line) p counted is s = ended_after number then a b xs rest all old mid new (Some (faults.Script line)) p counted is s
+stopped_after number then a b xs rest all old mid new (faults.Config fault) p counted is s = ended_after number then a b xs rest all old mid new (Some (InConfiguration fault)) p counted is s
+stopped_after number then a b xs rest all old mid new (faults.Wire fault) p counted is s = ended_after number then a b xs rest all old mid new (Some (InText fault)) p counted is s
+stopped_after number then a b xs rest all old mid new (faults.Script line) p counted is s = ended_after number then a b xs rest all old mid new (Some (InLine line)) p counted is s
 stopped_after number then a b xs rest all old mid new faults.Read p counted is s = broken_after number then a b xs rest all old mid new p counted is s
 stopped_after number then a b xs rest all old mid new faults.Write p counted is s = cut_after number then a b xs rest all old mid new p counted is s
 stopped_after number then a b xs rest all old mid new faults.OutOfMemory p counted is s = broken_after number then a b xs rest all old mid new p counted is s
 
 -- nothing was written, of some lines
-pub nothing_played : (number : ℕ) (book : Option Kept) (lines : List (List ℕ)) (old : Option (List ℕ)) → Broken number book lines old old
-nothing_played number book lines old = record { first = []; rest = lines; split = refl; wrote = appends_nothing old }
+pub nothing_played : (number : ℕ) (progress : Progress) (lines : List (List ℕ)) (old : Option (List ℕ)) → Broken number progress lines old old
+nothing_played number progress lines old = record { first = []; rest = lines; split = refl; wrote = appends_nothing old }
 
-ends_here : (number : ℕ) (book : Option Kept) (line : List ℕ) (rest : List (List ℕ)) (old : Option (List ℕ)) (fault : ReplayFault) → line_taken number book line ≡ Err fault
-    → Ended number book (line ∷ rest) (Some fault) old old
-ends_here number book line rest old fault is =
-    let whole : replay_from number book (line ∷ rest) ≡ record { text = []; fault = Some fault } =
-    ap (λ (r : Result (Kept × List ℕ) ReplayFault). and_then r (λ (b : Kept). replay_from (number + 1) (Some b) rest)) is in
+ends_here : (number : ℕ) (progress : Progress) (line : List ℕ) (rest : List (List ℕ)) (old : Option (List ℕ)) (fault : ScriptFault) → line_taken number progress line ≡ Err fault
+    → Ended number progress (line ∷ rest) (Some fault) old old
+ends_here number progress line rest old fault is =
+    let whole : replay_from number progress (line ∷ rest) ≡ record { text = []; fault = Some fault } =
+    ap (λ (r : Result (Progress × List ℕ) ScriptFault). and_then r (λ (b : Progress). replay_from (number + 1) b rest)) is in
     record { ends = ap (λ (r : Replayed). r.fault) whole; wrote = rw whole (appends_nothing old) }
 
 -- the first line has a fault
-pub line_stops : (number : ℕ) (book : Option Kept) (line : List ℕ) (rest : List (List ℕ)) (old : Option (List ℕ)) (e : ReplayFault) → HasFault (line_taken number book line) e
-    → StoppedAt number book (line ∷ rest) old old e
-line_stops number book line rest old (faults.Config fault) has = ends_here number book line rest old (faults.Config fault) has
-line_stops number book line rest old (faults.Wire fault) has = ends_here number book line rest old (faults.Wire fault) has
-line_stops number book line rest old (faults.Script at) has = ends_here number book line rest old (faults.Script at) has
-line_stops number book line rest old faults.Read has = absurd has
-line_stops number book line rest old faults.Write has = absurd has
-line_stops number book line rest old faults.OutOfMemory has = nothing_played number book (line ∷ rest) old
+pub line_stops : (number : ℕ) (progress : Progress) (line : List ℕ) (rest : List (List ℕ)) (old : Option (List ℕ)) (e : ReplayFault) → HasFault (line_taken number progress line) e
+    → StoppedAt number progress (line ∷ rest) old old e
+line_stops number progress line rest old (faults.Config fault) has = ends_here number progress line rest old (InConfiguration fault) has
+line_stops number progress line rest old (faults.Wire fault) has = ends_here number progress line rest old (InText fault) has
+line_stops number progress line rest old (faults.Script at) has = ends_here number progress line rest old (InLine at) has
+line_stops number progress line rest old faults.Read has = absurd has
+line_stops number progress line rest old faults.Write has = absurd has
+line_stops number progress line rest old faults.OutOfMemory has = nothing_played number progress (line ∷ rest) old
 
 -- what the first line comes to was not written whole
-pub line_cut : (number : ℕ) (book : Option Kept) (next : Kept) (line text front lost : List ℕ) (rest : List (List ℕ)) (old new : Option (List ℕ)) → line_taken number book line ≡ Ok (next, text) → text ≡ front ++ lost
-    → Appends old new front → Cut number book (line ∷ rest) old new
-line_cut number book next line text front lost rest old new is split wrote =
-    let last = replay_from (number + 1) (Some next) rest in
-    let whole : replay_from number book (line ∷ rest) ≡ before text last =
-    ap (λ (r : Result (Kept × List ℕ) ReplayFault). and_then r (λ (b : Kept). replay_from (number + 1) (Some b) rest)) is in
+pub line_cut : (number : ℕ) (progress : Progress) (next : Progress) (line text front lost : List ℕ) (rest : List (List ℕ)) (old new : Option (List ℕ)) → line_taken number progress line ≡ Ok (next, text) → text ≡ front ++ lost
+    → Appends old new front → Cut number progress (line ∷ rest) old new
+line_cut number progress next line text front lost rest old new is split wrote =
+    let last = replay_from (number + 1) next rest in
+    let whole : replay_from number progress (line ∷ rest) ≡ before text last =
+    ap (λ (r : Result (Progress × List ℕ) ScriptFault). and_then r (λ (b : Progress). replay_from (number + 1) b rest)) is in
     record {
       front = front;
       lost = lost ++ last.text;
@@ -124,12 +124,17 @@ line_cut number book next line text front lost rest old new is split wrote =
     }
 
 -- lines that were played, with nothing behind them
-played_alone : (number : ℕ) (book next : Option Kept) (lines : List (List ℕ)) (old new : Option (List ℕ)) (p : Played number book next lines old new) → replay_from number book lines ≡ record { text = p.text; fault = None }
-played_alone number book next lines old new p =
-    ap (replay_from number book) (sym (append-nil lines)) ∙ p.played [] ∙ ap (λ (t : List ℕ). record { text = t; fault = None }) (append-nil p.text)
+played_alone : (number : ℕ) (first next : Progress) (lines : List (List ℕ)) (old new : Option (List ℕ)) (p : Played number first next lines old new)
+    → replay_from number first lines ≡ record { text = p.text; fault = fault_at_end next }
+played_alone number first next lines old new p =
+    ap (replay_from number first) (sym (append-nil lines)) ∙ p.played [] ∙ ap (λ (t : List ℕ). record { text = t; fault = fault_at_end next }) (append-nil p.text)
 
-pub all_played : (number : ℕ) (book next : Option Kept) (lines : List (List ℕ)) (old new : Option (List ℕ)) → Played number book next lines old new → Appends old new (replay_from number book lines).text
-all_played number book next lines old new p = rw (played_alone number book next lines old new p) p.wrote
+pub all_played : (number : ℕ) (first next : Progress) (lines : List (List ℕ)) (old new : Option (List ℕ)) → Played number first next lines old new → Appends old new (replay_from number first lines).text
+all_played number first next lines old new p = rw (played_alone number first next lines old new p) p.wrote
 
-pub none_stopped : (number : ℕ) (book next : Option Kept) (lines : List (List ℕ)) (old new : Option (List ℕ)) → Played number book next lines old new → (replay_from number book lines).fault ≡ None
-none_stopped number book next lines old new p = ap (λ (r : Replayed). r.fault) (played_alone number book next lines old new p)
+-- the input ends behind lines that were played
+pub ends_played : (number : ℕ) (first next : Progress) (lines : List (List ℕ)) (old new : Option (List ℕ)) (fault : Option ScriptFault) → Played number first next lines old new → fault_at_end next ≡ fault → Ended number first lines fault old new
+ends_played number first next lines old new fault p end = record {
+  ends = ap (λ (r : Replayed). r.fault) (played_alone number first next lines old new p) ∙ end;
+  wrote = all_played number first next lines old new p;
+}

@@ -4,10 +4,10 @@ use Rattle.std.specs.List.{slice_split, AllByRecursion}
 use Rattle.std.specs.Str.Lines.{lines, lines_of_parts, strip_carriage_return}
 use Rattle.std.proofs.lemmas.Bool.Decides.{nat_tests}
 use Rattle.std.proofs.lemmas.List.Elements.{All-append, recursion_from_All}
-use Rattle.account_book.specs.Book.{Kept}
-use Rattle.lambda_local.specs.Run.{line_limit, line_taken}
+use Rattle.account_book.specs.Run.{Progress, line_limit, line_taken}
 use Rattle.lambda_local.specs.Replays.{StoppedAt}
-use Rattle.lambda_local.specs.Steps.{IsOpen, HasFault}
+use Rattle.lambda_local.specs.Faults.{HasFault}
+use Rattle.lambda_local.specs.Steps.{IsOpen}
 use Rattle.lambda_local.specs.declared.fault.ReplayFault.{ReplayFault}
 use Rattle.lambda_local.proofs.LineEnds.{is_break, pieces_begin}
 use Rattle.lambda_local.proofs.Composing.{line_stops}
@@ -39,10 +39,10 @@ goes_past p rest free some =
     (first.0, first.1, ap lines_of_parts whole ∙ first.2, omega (arith, first.3, length-append p begins.0))
 
 -- a line that has passed its limit has the fault of such lines, whatever follows
-pub stops_past : (number : ℕ) (book : Option Kept) (pending bytes rest : List ℕ) (old : Option (List ℕ)) (e : ReplayFault) → IsOpen pending → IsOpen bytes → line_limit + 1 < length pending + length bytes
-    → ((line : List ℕ) → line_limit < length line → HasFault (line_taken number book line) e) → StoppedAt number book (lines (pending ++ (bytes ++ rest))) old old e
-stops_past number book pending bytes rest old e free more_free far has =
+pub stops_past : (number : ℕ) (progress : Progress) (pending bytes rest : List ℕ) (old : Option (List ℕ)) (e : ReplayFault) → IsOpen pending → IsOpen bytes → line_limit + 1 < length pending + length bytes
+    → ((line : List ℕ) → line_limit < length line → HasFault (line_taken number progress line) e) → StoppedAt number progress (lines (pending ++ (bytes ++ rest))) old old e
+stops_past number progress pending bytes rest old e free more_free far has =
     let all = All-append (λ b. (b == 10) ≡ false) pending bytes free more_free in
     let past = goes_past (pending ++ bytes) rest all (omega (arith, length-append pending bytes)) in
     let is : lines (pending ++ (bytes ++ rest)) ≡ past.0 ∷ past.1 = ap lines (sym (append_assoc pending bytes rest)) ∙ past.2 in
-    rw is (line_stops number book past.0 past.1 old e (has past.0 (omega (arith, past.3, length-append pending bytes))))
+    rw is (line_stops number progress past.0 past.1 old e (has past.0 (omega (arith, past.3, length-append pending bytes))))

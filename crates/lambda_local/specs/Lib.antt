@@ -1,4 +1,4 @@
-pub mod Run
+pub mod Faults
 pub mod Steps
 pub mod Replays
 pub mod Views

@@ -3,8 +3,8 @@
 ghost use Rattle.std.specs.Prelude.{◌≡◌, ◌<◌, ◌≤◌, ◌^◌, ◌++◌, true, length, reverse, drop, OnOk, IfOk, IfErr, Ok, Err};
 ghost use Rattle.call_model.specs.declared.call.Call.{Call};
 ghost use Rattle.account_book.specs.Taking.{IsWithin};
-ghost use Rattle.lambda_local.specs.Run.{is_taken as takes, opened, answered, lines_from};
-ghost use Rattle.lambda_local.specs.Steps.{HasOpenFault};
+ghost use Rattle.account_book.specs.Run.{is_taken as takes, opened, answered, lines_from};
+ghost use Rattle.lambda_local.specs.Faults.{HasFault};
 
 use crate::fault::ReplayFault;
 use account_book::{Book, OpenFault, Refusal};
@@ -14,10 +14,10 @@ use lambda_wire::{WireFault, read_config};
 use std::alloc::{AllocError, Global};
 
 /// Opens the book that the configuration's line says.
-#[tactic(auto, unfolding(crate::specs::Run::opened))]
+#[tactic(auto, unfolding(account_book::specs::Run::opened))]
 pub fn open_book(alloc: Global, line: &[u8]) -> Result<Book, ReplayFault>
     ensures book { IfOk result (λ book. opened line.now ≡ Ok book) }
-    ensures fault { IfErr result (λ e. HasOpenFault (opened line.now) e) }
+    ensures fault { IfErr result (λ e. HasFault (opened line.now) e) }
 {
     let setup = match read_config(alloc, line) {
         Ok(setup) => setup,
@@ -65,7 +65,7 @@ fn push_from(book: &Book, from: usize, out: &mut Vec<u8>) -> Result<(), AllocErr
 }
 
 /// Hands the book a call, and adds the lines that it is answered.
-#[tactic(auto, unfolding(crate::specs::Run::answered))]
+#[tactic(auto, unfolding(account_book::specs::Run::answered))]
 pub fn answer(book: &mut Book, now: u64, call: Call, out: &mut Vec<u8>) -> Result<(), AllocError>
     requires moment { now < 2 ^ 53 }
     requires taken { takes call ≡ true }

@@ -19,7 +19,7 @@ pub enum ReplayFault {
     /// The configuration's line is not read.
     #[error("configuration: {0:?}")]
     Wire(WireFault),
-    /// This line stands for no call, or is too long. The configuration's line is 1.
+    /// This line stands for no call, or is too long. The first line is 1.
     #[error("script: line {line}")]
     Script { line: u64 },
     /// The reader failed, or took more than 2^32 calls.

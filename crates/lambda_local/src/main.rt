@@ -4,10 +4,16 @@
 
 mod book;
 mod fault;
+#[cfg(test)]
+mod fault_tests;
+#[cfg(test)]
+mod fixtures;
 mod line;
 mod replay;
 #[cfg(test)]
-mod tests;
+mod row_tests;
+#[cfg(test)]
+mod stream_tests;
 mod whole;
 
 use crate::fault::ReplayFault;

@@ -3,22 +3,22 @@
 ghost use Rattle.std.specs.Prelude.{◌≡◌, ◌+◌, ◌<◌, ◌≤◌, ◌^◌, ◌∷◌, [], ◌++◌, List, ℕ, Option, Some, None, length, position, MatchOption, IfOk, IfErr, IfSome, OnOk, OnErr, IsErr, vec_len, ◌==◌};
 ghost use Rattle.std.specs.Io.KnownBytes.{IsAtEnd};
 ghost use Rattle.std.specs.Str.Lines.{lines, strip_carriage_return};
-ghost use Rattle.lambda_local.specs.Replays.{StoppedAt, Replays, Stops};
-ghost use Rattle.lambda_local.specs.Steps.{Stand, IsOpen, EndsLine, IsStand, HasBegun, Played, Going, StoppedIn, last_lines};
-ghost use Rattle.lambda_local.specs.Views.{stand};
+ghost use Rattle.lambda_local.specs.Replays.{Ended, StoppedAt, Replays, Stops};
+ghost use Rattle.lambda_local.specs.Steps.{Stand, IsOpen, EndsLine, Played, Going, StoppedIn, last_lines};
+ghost use Rattle.lambda_local.specs.Views.{seen, stand};
 
 use crate::fault::ReplayFault;
-use crate::line::{LINE_LIMIT, drop_return, overlong, take_line};
+use crate::line::{LINE_LIMIT, Progress, drop_return, overlong, take_line};
 use crate::whole::write_whole;
-use account_book::Book;
+use lambda_wire::WireFault;
 use std::alloc::{AllocError, Global};
 use std::io::{self, Read, Write};
 
 /// Where a replay stands.
 #[derive(Drop)]
 struct Player {
-    /// The book, once the first line was taken.
-    book: Option<Book>,
+    /// Where it stands between two lines.
+    progress: Progress,
     /// How many lines were taken.
     line: u64,
     /// What was read of the next line.
@@ -34,18 +34,17 @@ fn play_line<W: Write>(
     writer: &mut W,
 ) -> Result<(), ReplayFault>
     requires line { player.old.line + 1 < 2 ^ 64 }
-    ensures played { OnOk result (Played (player.old.line + 1) player.old.book player.new.book (player.old.pending.items ∷ [])
+    ensures played { OnOk result (Played (player.old.line + 1) (seen player.old.progress) (seen player.new.progress) (player.old.pending.items ∷ [])
         (W.contents writer.old) (W.contents writer.new)) }
-    ensures begun { OnOk result (HasBegun player.new.book player.new.line) }
     ensures next { OnOk result ((player.new.line ≡ player.old.line + 1) × (player.new.pending.items ≡ [])) }
-    ensures stopped { IfErr result (λ e. (rest : List (List ℕ)) → StoppedAt (player.old.line + 1) player.old.book
+    ensures stopped { IfErr result (λ e. (rest : List (List ℕ)) → StoppedAt (player.old.line + 1) (seen player.old.progress)
         (player.old.pending.items ∷ rest) (W.contents writer.old) (W.contents writer.new) e) }
 {
     player.answers.clear();
     take_line(
         alloc,
         player.line + 1,
-        &mut player.book,
+        &mut player.progress,
         &player.pending,
         &mut player.answers,
     )?;
@@ -58,15 +57,15 @@ fn play_line<W: Write>(
 /// Keeps bytes of the next line, in which no line ends.
 fn keep(player: &mut Player, bytes: &[u8]) -> Result<(), ReplayFault>
     requires free { IsOpen bytes.now }
-    requires stands { IsStand (stand player.old) }
+    requires pending { IsOpen player.old.pending.items }
     requires line { player.old.line + 1 < 2 ^ 64 }
     ensures kept { OnOk result (stand player.new ≡ record (stand player.old) { pending = player.old.pending.items ++ bytes.now }) }
-    ensures stopped { IfErr result (λ e. (old : Option (List ℕ)) (rest : List ℕ) → StoppedAt (player.old.line + 1) player.old.book
+    ensures stopped { IfErr result (λ e. (old : Option (List ℕ)) (rest : List ℕ) → StoppedAt (player.old.line + 1) (seen player.old.progress)
         (lines (player.old.pending.items ++ (bytes.now ++ rest))) old old e) }
 {
     // A carriage return that ends the line isn't counted.
     if player.pending.len() + bytes.len() > LINE_LIMIT + 1 {
-        return Err(overlong(player.line + 1, &player.book));
+        return Err(overlong(player.line + 1, &player.progress));
     }
     player.pending.extend_from_slice(bytes)?;
     Ok(())
@@ -94,7 +93,7 @@ fn feed<W: Write>(
     writer: &mut W,
     piece: &[u8],
 ) -> Result<(), ReplayFault>
-    requires stands { IsStand (stand player.old) }
+    requires pending { IsOpen player.old.pending.items }
     requires line { player.old.line + length piece.now + 1 < 2 ^ 64 }
     ensures ok { OnOk result (Going (stand player.old) (stand player.new) piece.now []
         (W.contents writer.old) (W.contents writer.new)) }
@@ -111,18 +110,38 @@ fn feed<W: Write>(
     keep(player, rest)
 }
 
-/// Takes what was read after the last line feed, if anything was. Without a line, the configuration is empty.
-fn finish<W: Write>(alloc: Global, player: &mut Player, writer: &mut W) -> Result<(), ReplayFault>
+/// Takes what was read after the last line feed, if anything was.
+fn play_last<W: Write>(
+    alloc: Global,
+    player: &mut Player,
+    writer: &mut W,
+) -> Result<(), ReplayFault>
     requires line { player.old.line + 1 < 2 ^ 64 }
-    ensures ok { OnOk result (Played (player.old.line + 1) player.old.book player.new.book (last_lines player.old.book player.old.pending.items)
+    ensures ok { OnOk result (Played (player.old.line + 1) (seen player.old.progress) (seen player.new.progress) (last_lines player.old.pending.items)
         (W.contents writer.old) (W.contents writer.new)) }
-    ensures stopped { IfErr result (λ e. StoppedAt (player.old.line + 1) player.old.book (last_lines player.old.book player.old.pending.items)
+    ensures stopped { IfErr result (λ e. StoppedAt (player.old.line + 1) (seen player.old.progress) (last_lines player.old.pending.items)
         (W.contents writer.old) (W.contents writer.new) e) }
 {
-    if player.book.is_some() && player.pending.is_empty() {
+    if player.pending.is_empty() {
         return Ok(());
     }
     play_line(alloc, player, writer)
+}
+
+/// Takes the end of the input. Without a configuration there is no text, which is no JSON.
+fn finish<W: Write>(alloc: Global, player: &mut Player, writer: &mut W) -> Result<(), ReplayFault>
+    requires line { player.old.line + 1 < 2 ^ 64 }
+    ensures ok { OnOk result (Ended (player.old.line + 1) (seen player.old.progress) (last_lines player.old.pending.items) None
+        (W.contents writer.old) (W.contents writer.new)) }
+    ensures stopped { IfErr result (λ e. StoppedAt (player.old.line + 1) (seen player.old.progress) (last_lines player.old.pending.items)
+        (W.contents writer.old) (W.contents writer.new) e) }
+{
+    play_last(alloc, player, writer)?;
+    match player.progress {
+        Progress::Taking { .. } => Ok(()),
+        Progress::AtStart => Err(ReplayFault::Wire(WireFault::NotJson)),
+        Progress::AfterForm => Err(ReplayFault::Wire(WireFault::NotJson)),
+    }
 }
 
 /// So many zeros.
@@ -151,7 +170,7 @@ fn replay_by<R: Read, W: Write>(
         (W.contents writer.old) (W.contents writer.new) e)) }
 {
     let mut player = Player {
-        book: None,
+        progress: Progress::AtStart,
         line: 0,
         pending: Vec::new(alloc),
         answers: Vec::new(alloc),
@@ -170,9 +189,10 @@ fn replay_by<R: Read, W: Write>(
     Err(ReplayFault::Read)
 }
 
-/// Replays the script that the reader gives, and writes the answers and nothing else. The first
-/// line is the configuration; each other one that is neither empty nor a comment is a call. What a
-/// line is answered is written before the next one is taken.
+/// Replays the script that the reader gives, and writes the answers and nothing else. Where the
+/// first line is `form 2`, the script is of form 2, in which lines may be `reserve`, and the second
+/// line is the configuration; else the first one is. Each other line that is neither empty nor a
+/// comment is a call. What a line is answered is written before the next one is taken.
 ///
 /// The errors are `Config` and `Wire` where the configuration has the fault; `Script` where a line
 /// stands for no call, or has more than 20,000,000 bytes; `Read` where the reader failed or was

@@ -2,7 +2,7 @@ use Rattle.std.proofs.Common.{◌≡◌, ◌++◌, ◌∙◌, List, ℕ, sym, ap
 use Rattle.std.proofs.lemmas.List.{length-reverse}
 use Rattle.std.proofs.lemmas.Result.{on_ok_weaker}
 use Rattle.account_book.specs.Book.{Kept}
-use Rattle.lambda_local.specs.Run.{answered}
+use Rattle.account_book.specs.Run.{answered}
 use Rattle.lambda_local.proofs.AddedEntries.{next_longer, lines_answered, not_true}
 use Rattle.lambda_local.proofs.book.answer.Goals as goal
 

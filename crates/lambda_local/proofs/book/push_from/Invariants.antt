@@ -1,5 +1,5 @@
 use Rattle.std.proofs.Common.{◌≡◌, ◌≤◌, ◌-◌, ◌++◌, length, reverse, drop}
-use Rattle.lambda_local.specs.Run.{lines_from}
+use Rattle.account_book.specs.Run.{lines_from}
 use Rattle.lambda_local.proofs.book.push_from.Given as goal
 
 abbrev pub invariant-loop-number : goal.invariant-loop-number

@@ -5,7 +5,7 @@ use Rattle.lambda_local.proofs.Feeding.{going_start, going_line, going_rest, sto
 use Rattle.lambda_local.proofs.replay.feed.Goals as goal
 
 pub loop-line-init : goal.loop-line-init
-loop-line-init g c = going_start _ _ _ c.requires.stands
+loop-line-init g c = going_start _ _ _ c.requires.pending
 
 pub returns-in_err-keep-clause-stopped : goal.returns-in_err-keep-clause-stopped
 returns-in_err-keep-clause-stopped g c =
@@ -16,22 +16,22 @@ pub returns-in_err-play_line-clause-stopped : goal.returns-in_err-play_line-clau
 returns-in_err-play_line-clause-stopped g c =
     let p = err_from_is_err_and c.from_residual-in_err-play_line.result c.from_residual-in_err-play_line.ensures.1 in
     let kept = c.in_ok-keep.ensures.kept in
-    let book = ap (λ (s : Stand). s.book) kept in
+    let progress = ap (λ (s : Stand). s.progress) kept in
     let line = ap (λ (s : Stand). s.line) kept in
     let pending = ap (λ (s : Stand). s.pending) kept in
-    let stopped = rw (book, line, c.drop_return.ensures, pending) at c.in_err-play_line.ensures.stopped in
+    let stopped = rw (progress, line, c.drop_return.ensures, pending) at c.in_err-play_line.ensures.stopped in
     rw (p.1, p.2) (stopped_line _ _ _ _ c.in-Some.line.now c.in-Some.others.now _ _ _ _ c.loop-line.invariant c.in-Some.ensures stopped)
 
 pub loop-line-preserved : goal.loop-line-preserved
 loop-line-preserved g c =
     let kept = c.in_ok-keep.ensures.kept in
-    let book = ap (λ (s : Stand). s.book) kept in
+    let progress = ap (λ (s : Stand). s.progress) kept in
     let line = ap (λ (s : Stand). s.line) kept in
     let pending = ap (λ (s : Stand). s.pending) kept in
-    let played = rw (book, line, c.drop_return.ensures, pending) at c.in_ok-play_line.ensures.played in
+    let played = rw (progress, line, c.drop_return.ensures, pending) at c.in_ok-play_line.ensures.played in
     let next = c.in_ok-play_line.ensures.next in
     let counted = rw line at next.0 in
-    rw next.1 (going_line _ _ _ _ c.in-Some.line.now c.in-Some.others.now _ _ _ _ _ c.loop-line.invariant c.in-Some.ensures played c.in_ok-play_line.ensures.begun counted)
+    rw next.1 (going_line _ _ _ _ c.in-Some.line.now c.in-Some.others.now _ _ _ _ _ c.loop-line.invariant c.in-Some.ensures played counted)
 
 pub returns-clause-ok : goal.returns-clause-ok
 returns-clause-ok g c = on_ok_weaker c.keep-2.result (λ kept. rw kept (going_rest _ _ _ _ _ _ c.loop-line.invariant c.in_default.ensures)) c.keep-2.ensures.kept

@@ -10,4 +10,4 @@ returns-in_err-write_whole-clause-stopped g c =
     let grown = rw c.clear.ensures.items at took.grown in
     let gave = rw c.deref.ensures.value at took.gave in
     let lost = c.in_err-write_whole.ensures.err in
-    rw (p.1, p.2, lost.0) (λ rest. line_cut _ _ took.next _ took.text lost.1.0 lost.1.1 rest _ _ gave (sym grown ∙ sym c.deref-2.ensures.value ∙ lost.1.2) lost.1.3)
+    rw (p.1, p.2, lost.0) (λ rest. line_cut _ _ _ _ took.text lost.1.0 lost.1.1 rest _ _ gave (sym grown ∙ sym c.deref-2.ensures.value ∙ lost.1.2) lost.1.3)

@@ -10,7 +10,7 @@ returns-in-Ok-eq0-clause-ok g c =
     let zero = c.in-Ok-eq0.field-0-test in
     let so_far = read_nothing _ _ _ _ _ _ _ _ c.loop.invariant.so_far read.0 zero in
     let some : 0 < length c.read.new.buf = omega (arith, c.in-Ok-eq0.ensures.bound, c.loop.auto.piece, c.read.auto, c.requires.room) in
-    on_ok_weaker c.finish.result (λ last. read_last _ _ _ _ _ _ _ so_far (read.1 zero some) last) c.finish.ensures.ok
+    on_ok_weaker c.finish.result (λ last. read_last _ _ _ _ _ _ so_far (read.1 zero some) last) c.finish.ensures.ok
 
 pub returns-in-Ok-eq0-clause-stopped : goal.returns-in-Ok-eq0-clause-stopped
 returns-in-Ok-eq0-clause-stopped g c =

@@ -1,0 +1,145 @@
+-- What a script comes to: what is written while it is replayed, and the fault that ends it, if any.
+use Rattle.std.specs.Prelude.{ℕ, ◌+◌, ◌^◌, ◌==◌, Bool, true, false, nat_lt, if◌then◌else◌, List, [], ◌∷◌, ◌++◌, length, reverse, bytes_eq, codes, Option, Some, None, Result, Ok, Err}
+use Rattle.std.specs.Str.Lines.{lines}
+use Rattle.arn_ids.specs.Environments.{owners}
+use Rattle.arn_ids.specs.Faults.{first_fault, is_between}
+use Rattle.arn_ids.specs.declared.faults.ConfigFault.{ConfigFault}
+use Rattle.arn_ids.specs.declared.faults.ConfigFault.TheVariants.{BadEntries}
+use Rattle.lambda_wire.specs.Configuration.{read_setup}
+use Rattle.lambda_wire.specs.declared.setup.Setup.{Setup}
+use Rattle.lambda_wire.specs.declared.fault.WireFault.{WireFault}
+use Rattle.lambda_wire.specs.declared.fault.WireFault.TheVariants.{NotJson}
+use Rattle.call_model.specs.declared.call.Call.{Call}
+use Rattle.call_model.specs.declared.call.Call.TheVariants.{Invoke, RuntimeNext, Response, Tick}
+use Rattle.call_model.specs.declared.call.Entry.{Entry}
+use Rattle.call_model.specs.Counts.{full}
+use Rattle.call_model.specs.Next.{next, added}
+use Rattle.script.specs.Lines.{call_in}
+use Rattle.script.specs.AnswerText.{answer_lines}
+use Rattle.account_book.specs.Book.{Kept}
+
+-- how many bytes a line may have, its ending not counted
+abbrev pub line_limit : ℕ
+line_limit = 20000000
+
+-- the calls that a replay takes so far
+abbrev pub is_taken : Call → Bool
+is_taken (Invoke f qualified trace body) = true
+is_taken (RuntimeNext e) = true
+is_taken (Response e id body) = true
+is_taken Tick = true
+is_taken _ = false
+
+-- Why a replay ends before its input does: no account can have the configuration; its line isn't read; the line of a
+-- number stands for no call, or is too long.
+pub data ScriptFault : Type 0 where
+  InConfiguration : ConfigFault → ScriptFault
+  InText : WireFault → ScriptFault
+  InLine : ℕ → ScriptFault
+
+-- Where a replay stands: before the first line; behind the line that says form 2; with its book, and whether lines
+-- may be `reserve`.
+pub data Progress : Type 0 where
+  AtStart : Progress
+  AfterForm : Progress
+  Taking : Bool → Kept → Progress
+
+-- the first line of a script of form 2
+abbrev pub is_form_2 : List ℕ → Bool
+is_form_2 line = bytes_eq line (codes "form 2")
+
+-- an empty line, or a comment
+abbrev pub is_skipped : List ℕ → Bool
+is_skipped [] = true
+is_skipped (b ∷ bs) = b == 35
+
+-- the book of a setup, before its first call
+abbrev pub new_book : Setup → Kept
+new_book setup = record { config = setup.config; salt = setup.salt; max_entries = setup.max_entries; history = [] }
+
+-- a book is opened where the configuration has no fault, and its greatest number of entries is in range
+abbrev pub book_where : Option ConfigFault → Setup → Result Kept ScriptFault
+book_where (Some fault) setup = Err (InConfiguration fault)
+book_where None setup = if is_between (length (owners setup.config) + 1) (2 ^ 32) setup.max_entries then Ok (new_book setup) else Err (InConfiguration BadEntries)
+
+-- the book of what was read as a setup
+abbrev pub book_of : Result Setup WireFault → Result Kept ScriptFault
+book_of (Err fault) = Err (InText fault)
+book_of (Ok setup) = book_where (first_fault setup.config) setup
+
+-- The book that the configuration's line opens.
+unfoldable pub opened : List ℕ → Result Kept ScriptFault
+opened line = book_of (read_setup line)
+
+-- the answer lines of entries in the order in which they were taken, the first of them with this number
+abbrev pub lines_from : ℕ → List Entry → ℕ → List Entry → List ℕ
+lines_from salt h number [] = []
+lines_from salt h number (entry ∷ entries) = answer_lines salt h number entry ++ lines_from salt h (number + 1) entries
+
+-- the answer lines of the entries that were added to a history
+abbrev pub added_lines : ℕ → List Entry → List Entry → List ℕ
+added_lines salt h new = lines_from salt (new ++ h) (length h) (reverse new)
+
+-- What a book makes of a call: the next book, and the lines that are written. A full journal takes no call.
+unfoldable pub answered : Kept → ℕ → Call → Kept × List ℕ
+answered book now call =
+    if full book.config book.max_entries book.history call then (book, codes "refused JournalFull\n") else
+    (record book { history = next book.config book.history now call }, added_lines book.salt book.history (added book.config book.history now call))
+
+-- the same where a line stands for a call that is taken; else the line of this number is at fault
+abbrev pub answered_if : ℕ → Kept → Option (ℕ × Call) → Result (Kept × List ℕ) ScriptFault
+answered_if number book None = Err (InLine number)
+answered_if number book (Some (now, call)) = if is_taken call then Ok (answered book now call) else Err (InLine number)
+
+-- What a book makes of a line; reserves says whether it may be a `reserve`.
+unfoldable pub line_answered : Bool → ℕ → Kept → List ℕ → Result (Kept × List ℕ) ScriptFault
+line_answered reserves number book line =
+    if nat_lt line_limit (length line) then Err (InLine number) else
+    if is_skipped line then Ok (book, []) else answered_if number book (call_in reserves book.config line)
+
+-- a book was opened, and nothing is written
+abbrev pub begun : Bool → Result Kept ScriptFault → Result (Progress × List ℕ) ScriptFault
+begun reserves (Err fault) = Err fault
+begun reserves (Ok book) = Ok (Taking reserves book, [])
+
+-- a book goes on
+abbrev pub going_on : Bool → Result (Kept × List ℕ) ScriptFault → Result (Progress × List ℕ) ScriptFault
+going_on reserves (Err fault) = Err fault
+going_on reserves (Ok (book, text)) = Ok (Taking reserves book, text)
+
+-- What the line of a number does. The first one may say form 2; the next one, and else the first, is the configuration,
+-- which opens the book; the book takes each other one.
+abbrev pub line_taken : ℕ → Progress → List ℕ → Result (Progress × List ℕ) ScriptFault
+line_taken number AtStart line = if is_form_2 line then Ok (AfterForm, []) else begun false (opened line)
+line_taken number AfterForm line = begun true (opened line)
+line_taken number (Taking reserves book) line = going_on reserves (line_answered reserves number book line)
+
+-- at the end of the input the book must be there: no text is no JSON
+abbrev pub fault_at_end : Progress → Option ScriptFault
+fault_at_end AtStart = Some (InText NotJson)
+fault_at_end AfterForm = Some (InText NotJson)
+fault_at_end (Taking reserves book) = None
+
+-- what a replay writes, and the fault that ends it before its input does
+pub record Replayed : Type 0 where
+  pub text : List ℕ
+  pub fault : Option ScriptFault
+
+-- a text, and then what a replay writes
+abbrev pub before : List ℕ → Replayed → Replayed
+before text rest = record { text = text ++ rest.text; fault = rest.fault }
+
+-- what a line gave, and then the rest; a fault ends the replay
+abbrev pub and_then : Result (Progress × List ℕ) ScriptFault → (Progress → Replayed) → Replayed
+and_then (Err fault) rest = record { text = []; fault = Some fault }
+and_then (Ok (next, text)) rest = before text (rest next)
+
+-- line after line, the first of them with this number
+abbrev pub replay_from : ℕ → Progress → List (List ℕ) → Replayed
+replay_from number progress [] = record { text = []; fault = fault_at_end progress }
+replay_from number progress (line ∷ lines) = and_then (line_taken number progress line) (λ next. replay_from (number + 1) next lines)
+
+-- What the replay of a script comes to. A line feed ends each line, with one carriage return before it; the last may
+-- lack it.
+abbrev pub run : List ℕ → Replayed
+run input = replay_from 1 AtStart (lines input)

@@ -1,0 +1,145 @@
+//! Scripts in memory, and readers and writers that fail.
+
+ghost use Rattle.std.specs.Prelude.{◌≤◌, length};
+
+use crate::fault::ReplayFault;
+use crate::replay::replay;
+use std::alloc::Global;
+use std::io::{self, Read, Write};
+use std::process::Abort;
+
+/// One function with one environment.
+pub const C: &str =
+    r#"{"account":"123456789012","region":"us-east-2","functions":[{"name":"f","ports":[9001]}]}"#;
+
+/// The same, as a line.
+pub const CONFIG_LINE: &str =
+    "{\"account\":\"123456789012\",\"region\":\"us-east-2\",\"functions\":[{\"name\":\"f\",\"ports\":[9001]}]}\n";
+
+/// Gives a configuration and then the rest of a script, at most so many bytes at once; then it
+/// ends, or fails.
+#[derive(Drop)]
+pub struct Pieces<'a> {
+    config: &'a [u8],
+    script: &'a [u8],
+    at_once: usize,
+    fails: bool,
+}
+
+/// Moves bytes from the front of one slice to the front of another.
+pub fn give(from: &mut &[u8], at_once: usize, buf: &mut [u8]) -> usize
+    ensures { result ≤ length buf.old }
+{
+    let n = from.len().min(at_once).min(buf.len());
+    buf[..n].copy_from_slice(&from[..n]);
+    *from = &from[n..];
+    n
+}
+
+impl<'a> Read for Pieces<'a> {
+    fn read(&mut self, buf: &mut [u8]) -> io::Result<usize> {
+        if !self.config.is_empty() {
+            return Ok(give(&mut self.config, self.at_once, buf));
+        }
+        if self.script.is_empty() && self.fails {
+            return Err(io::Error::from(io::ErrorKind::Other));
+        }
+        Ok(give(&mut self.script, self.at_once, buf))
+    }
+}
+
+/// Takes so many bytes, three at most in a call, and then fails; it takes no memory.
+#[derive(Drop)]
+pub struct Page {
+    bytes: [u8; 1024],
+    len: usize,
+    room: usize,
+}
+
+impl Write for Page {
+    fn write(&mut self, buf: &[u8]) -> io::Result<usize> {
+        let n = (self.room.min(1024) - self.len.min(self.room.min(1024)))
+            .min(buf.len())
+            .min(3);
+        if n == 0 {
+            return Err(io::Error::from(io::ErrorKind::Other));
+        }
+        self.bytes[self.len..self.len + n].copy_from_slice(&buf[..n]);
+        self.len += n;
+        Ok(n)
+    }
+
+    fn flush(&mut self) -> io::Result<()> {
+        Ok(())
+    }
+}
+
+impl Page {
+    /// A page that takes so many bytes.
+    pub fn new(room: usize) -> Page {
+        Page {
+            bytes: [0; 1024],
+            len: 0,
+            room,
+        }
+    }
+
+    fn written(&self) -> &[u8] {
+        &self.bytes[..self.len.min(1024)]
+    }
+}
+
+/// A replay that a test makes.
+#[derive(Clone, Copy)]
+pub struct Try<'a> {
+    config: &'a str,
+    script: &'a str,
+    pub at_once: usize,
+    pub fails: bool,
+    pub room: usize,
+}
+
+impl<'a> Try<'a> {
+    pub fn new(config: &'a str, script: &'a str) -> Try<'a> {
+        Try {
+            config,
+            script,
+            at_once: usize::MAX,
+            fails: false,
+            room: usize::MAX,
+        }
+    }
+
+    /// Replays, once more where memory ran out, and asserts how the replay ends and what is written.
+    /// Where memory ran out, the answers of some first lines were written whole.
+    pub fn ends(
+        &self,
+        rt: &(impl Alloc<A = Global> + Abort),
+        wanted: Result<(), ReplayFault>,
+        answers: &str,
+        name: &str,
+    ) {
+        for _ in 0..2 {
+            let mut input = Pieces {
+                config: self.config.as_bytes(),
+                script: self.script.as_bytes(),
+                at_once: self.at_once,
+                fails: self.fails,
+            };
+            let mut page = Page::new(self.room);
+            let ended = replay(rt.alloc(), &mut input, &mut page);
+            if ended == Err(ReplayFault::OutOfMemory) {
+                assert!(rt; answers.as_bytes().starts_with(page.written()), "{name}");
+                assert!(rt;
+                    matches!(page.written().last(), None | Some(b'\n')),
+                    "{name}"
+                );
+            } else {
+                assert_eq!(rt; ended, wanted, "{name}");
+                assert!(rt; page.written() == answers.as_bytes(), "{name}");
+                return;
+            }
+        }
+        panic!(rt; "memory ran out twice in {name}");
+    }
+}
