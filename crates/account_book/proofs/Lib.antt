@@ -12,3 +12,11 @@ pub mod VerdictMeets
 pub mod Expiring
 -- The room of the journal.
 pub mod RoomMeets
+-- A history's text is replayed to that history.
+pub mod LineEnds
+pub mod HistoryLines
+pub mod GoingOn
+pub mod AnswersStay
+pub mod Reaching
+pub mod Replaying
+pub mod WholeText

@@ -7,3 +7,5 @@ pub mod Totals
 pub mod Verdicts
 pub mod Room
 pub mod Run
+pub mod Reached
+pub mod HistoryText

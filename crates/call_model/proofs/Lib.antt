@@ -57,5 +57,6 @@ pub mod OwnVerdict
 pub mod OwnAnswers
 pub mod OwnLegal
 pub mod OwnTexts
+pub mod NamedTickets
 -- Histories that show what the laws need.
 pub mod Witness

@@ -9,12 +9,12 @@ use Rattle.call_model.specs.declared.call.Call.TheVariants.{Invoke, RuntimeNext,
 use Rattle.call_model.specs.declared.call.Entry.{Entry}
 use Rattle.arn_ids.specs.declared.config.Config.{Config}
 use Rattle.arn_ids.specs.Environments.{function_of}
-use Rattle.call_model.specs.History.{answer_in, answer_of, call_of, place_of, env_of, requests, upto, or_else}
+use Rattle.call_model.specs.History.{answer_in, answer_of, call_of, place_of, env_of, requests, stopped, upto, or_else}
 use Rattle.call_model.specs.Generation.{TheRuntime, Member}
 use Rattle.call_model.specs.Stand.{Stand, is_number, at_hand, role, Role, NoRole, Waiting, RuntimePoll, ExtensionPoll}
 use Rattle.call_model.specs.Table.{closes, by_phase, own_answer, if_known, if_open, refused, to_waiting, timed_out, next_in_closing, register}
 use Rattle.call_model.specs.Life.{phase, stand, names}
-use Rattle.call_model.specs.Answers.{answers, each_from, answer_to, home, first_answer, first_answers, second_answer, second_at, own_first, other_answer, answer_at, verdict_answer, with_event}
+use Rattle.call_model.specs.Answers.{answers, each_from, answer_to, home, first_answer, first_answers, second_answer, second_at, own_first, other_answer, answer_at, verdict_answer, reserve_answer, with_event}
 use Rattle.call_model.specs.Limits.{verdict, Verdict, Admits, AfterStop, Refuses}
 use Rattle.call_model.specs.declared.answer.Phase.TheVariants.{Starting, Idle, Busy, Closing, Off}
 use Rattle.call_model.specs.declared.answer.Refusal.TheVariants.{Container, Replaced}
@@ -31,10 +31,10 @@ use Rattle.call_model.proofs.Once.{fresh}
 use Rattle.call_model.proofs.OwnTickets.{own_call, own_answer_of, own_home, own_old}
 use Rattle.call_model.proofs.Basics.{eqb-self, some-none}
 
-abbrev names_of : Option Answer → Option ℕ
+abbrev pub names_of : Option Answer → Option ℕ
 names_of a = seen_by named None a
 
-abbrev IsMute : Option Answer → Type 0
+abbrev pub IsMute : Option Answer → Type 0
 IsMute a = names_of a ≡ None
 
 mute_if : (b : Bool) (x y : Option Answer) → IsMute x → IsMute y → IsMute (if b then x else y)
@@ -98,27 +98,39 @@ mute_verdict AfterStop = refl
 mute_verdict (Refuses reason) = refl
 mute_verdict (Admits e) = refl
 
-mute_first : (config : Config) (h : List Entry) (f : ℕ) (call : Call) → is_own config h f call ≡ true → IsMute (own_first config h call)
+mute_reserve : (config : Config) (h : List Entry) (f : ℕ) (count : Option ℕ) → named (reserve_answer config h f count) ≡ None
+mute_reserve config h f None = refl
+mute_reserve config h f (Some count) = go _
+  where
+    go : (b : Bool) → named (if b then Rattle.call_model.specs.declared.answer.Answer.TheVariants.Refused Rattle.call_model.specs.declared.answer.Refusal.TheVariants.BadReservation else Rattle.call_model.specs.declared.answer.Answer.TheVariants.Reserved count) ≡ None
+    go true = refl
+    go false = refl
+
+mute_stopped : (b : Bool) (a : Answer) → named a ≡ None → named (if b then Stopped else a) ≡ None
+mute_stopped true a p = refl
+mute_stopped false a p = p
+
+mute_first : (config : Config) (h : List Entry) (call : Call) → IsMute (own_first config h call)
 unfolding own_first
-mute_first config h f (Invoke g qualified trace body) w = mute_verdict (verdict config h g)
-mute_first config h f Tick w = refl
-mute_first config h f (Withdraw t) w = refl
-mute_first config h f Stop w = refl
-mute_first config h f (Reserve g count) w = absurd (true≢false (sym w))
-mute_first config h f (RuntimeNext e) w = mute_own (stand config h e) (RuntimeNext e)
-mute_first config h f (Response e id body) w = mute_own (stand config h e) (Response e id body)
-mute_first config h f (ResponseTooLarge e id) w = mute_own (stand config h e) (ResponseTooLarge e id)
-mute_first config h f (Failure e id body) w = mute_own (stand config h e) (Failure e id body)
-mute_first config h f (InitFailure e body) w = mute_own (stand config h e) (InitFailure e body)
-mute_first config h f (Register e name invoke shutdown account) w = mute_own (stand config h e) (Register e name invoke shutdown account)
-mute_first config h f (ExtNext e x) w = mute_own (stand config h e) (ExtNext e x)
-mute_first config h f (ExtInitFailure e x body) w = mute_own (stand config h e) (ExtInitFailure e x body)
-mute_first config h f (ExtExitFailure e x body) w = mute_own (stand config h e) (ExtExitFailure e x body)
-mute_first config h f (Spindown e) w = mute_own (stand config h e) (Spindown e)
-mute_first config h f (Expire e) w = mute_own (stand config h e) (Expire e)
+mute_first config h (Invoke g qualified trace body) = mute_verdict (verdict config h g)
+mute_first config h Tick = refl
+mute_first config h (Withdraw t) = refl
+mute_first config h Stop = refl
+mute_first config h (Reserve g count) = mute_stopped (stopped h) (reserve_answer config h g count) (mute_reserve config h g count)
+mute_first config h (RuntimeNext e) = mute_own (stand config h e) (RuntimeNext e)
+mute_first config h (Response e id body) = mute_own (stand config h e) (Response e id body)
+mute_first config h (ResponseTooLarge e id) = mute_own (stand config h e) (ResponseTooLarge e id)
+mute_first config h (Failure e id body) = mute_own (stand config h e) (Failure e id body)
+mute_first config h (InitFailure e body) = mute_own (stand config h e) (InitFailure e body)
+mute_first config h (Register e name invoke shutdown account) = mute_own (stand config h e) (Register e name invoke shutdown account)
+mute_first config h (ExtNext e x) = mute_own (stand config h e) (ExtNext e x)
+mute_first config h (ExtInitFailure e x body) = mute_own (stand config h e) (ExtInitFailure e x body)
+mute_first config h (ExtExitFailure e x body) = mute_own (stand config h e) (ExtExitFailure e x body)
+mute_first config h (Spindown e) = mute_own (stand config h e) (Spindown e)
+mute_first config h (Expire e) = mute_own (stand config h e) (Expire e)
 
 -- what an answer is made of, if anything, is the call n
-abbrev IsOf : ℕ → Option Answer → Type 0
+abbrev pub IsOf : ℕ → Option Answer → Type 0
 IsOf n a = (p : ℕ) → names_of a ≡ Some p → n ≡ p
 
 of_mute : (n : ℕ) (a : Option Answer) → IsMute a → IsOf n a
@@ -186,9 +198,9 @@ of_role n now s call t RuntimePoll = of_mute n (or_else (at_close now (closes s 
 of_role n now s call t (ExtensionPoll x) = of_mute n (or_else (at_close now (closes s call) call (ExtensionPoll x)) (replaced t call (ExtensionPoll x))) (mute_or (at_close now (closes s call) call (ExtensionPoll x)) (replaced t call (ExtensionPoll x)) (mute_close_member now (closes s call) call x) (mute_replaced_member t call x))
 
 -- the first answers are made of the entry's own call only
-of_first : (config : Config) (h : List Entry) (f now : ℕ) (call : Call) (t : ℕ) → is_own config h f call ≡ true → IsOf (length h) (first_answer config h now call t)
+pub of_first : (config : Config) (h : List Entry) (now : ℕ) (call : Call) (t : ℕ) → IsOf (length h) (first_answer config h now call t)
 unfolding first_answer
-of_first config h f now call t w = go (t == length h)
+of_first config h now call t = go (t == length h)
   where
     at_env : (e : ℕ) (b : Bool) → IsOf (length h) (answer_at config h now e call t b)
     at_env e true = of_role (length h) now (stand config h e) call t (role (stand config h e) t)
@@ -199,19 +211,19 @@ of_first config h f now call t w = go (t == length h)
     at_home (Some e) = at_env e (names h e call)
 
     go : (b : Bool) → IsOf (length h) (if b then own_first config h call else other_answer config h now call t (home h t))
-    go true = of_mute (length h) (own_first config h call) (mute_first config h f call w)
+    go true = of_mute (length h) (own_first config h call) (mute_first config h call)
     go false = at_home (home h t)
 
-abbrev first_number : Option (ℕ × ℕ) → Option ℕ
+abbrev pub first_number : Option (ℕ × ℕ) → Option ℕ
 first_number None = None
 first_number (Some b) = Some b.0
 
-begun_hand : (P Q : Phase) (p : ℕ) → first_number (begun P Q) ≡ Some p → at_hand Q ≡ Some p
+pub begun_hand : (P Q : Phase) (p : ℕ) → first_number (begun P Q) ≡ Some p → at_hand Q ≡ Some p
 begun_hand (Busy q b) Q p e = absurd (some-none (sym e))
 begun_hand P (Busy q d) p e = e
 begun_hand P Q p e = absurd (some-none (sym e))
 
-delivered_number : (b : Option (ℕ × ℕ)) (r : Role) (p : ℕ) → names_of (delivered b r) ≡ Some p → first_number b ≡ Some p
+pub delivered_number : (b : Option (ℕ × ℕ)) (r : Role) (p : ℕ) → names_of (delivered b r) ≡ Some p → first_number b ≡ Some p
 delivered_number (Some b) RuntimePoll p e = e
 delivered_number (Some b) (ExtensionPoll x) p e = go x.extension.invoke e
   where
@@ -237,7 +249,7 @@ second_mine config h entry f t p l w k e = go (home (y ∷ h) t) mine e
     go (Some d) at q = (same_fit config h y f d l.0 (first_fit config h entry.moment entry.call) w (at d refl)).1 p
         (begun_hand (phase config h d) (phase config (y ∷ h) d) p (delivered_number (begun (phase config h d) (phase config (y ∷ h) d)) (role (stand config (y ∷ h) d) t) p q))
 
-keeps_named : (n : ℕ) (a : Answer) → named (with_event n a) ≡ named a
+pub keeps_named : (n : ℕ) (a : Answer) → named (with_event n a) ≡ named a
 keeps_named n (Told p d event) = refl
 keeps_named n (Ending reason until event) = refl
 keeps_named n a = refl
@@ -263,7 +275,7 @@ named_now config h entry f t p l w k e = go (first_answer config h entry.moment 
 
     go : (a : Option Answer) → first_answer config h entry.moment entry.call t ≡ a → names_of (or_else a (second_answer config h y t)) ≡ Some p → own_ticket config (entry ∷ h) f p ≡ true
     go None r q = second_mine config h entry f t p l w k q
-    go (Some a) r q = subst (λ n. own_ticket config (entry ∷ h) f n ≡ true) (of_first config h f entry.moment entry.call t w p (ap names_of r ∙ q)) (rw (eqb-self (length h)) w)
+    go (Some a) r q = subst (λ n. own_ticket config (entry ∷ h) f n ≡ true) (of_first config h entry.moment entry.call t p (ap names_of r ∙ q)) (rw (eqb-self (length h)) w)
 
 -- What an answer to the function is made of is the function's.
 pub named_own : (config : Config) (h : List Entry) (f t p : ℕ) (a : Answer) → IsLegal config h → own_ticket config h f t ≡ true → answer_of h t ≡ Some a → named a ≡ Some p → own_ticket config h f p ≡ true

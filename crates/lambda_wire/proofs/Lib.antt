@@ -3,3 +3,4 @@ pub mod Each
 pub mod MembersLemmas
 pub mod Whole
 pub mod Again
+pub mod PlainText

@@ -8,3 +8,6 @@ pub mod WithinLemmas
 pub mod NumberLemmas
 pub mod SplitLemmas
 pub mod ReadAgain
+pub mod WordBounds
+pub mod LineBounds
+pub mod StableLines

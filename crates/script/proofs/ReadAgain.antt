@@ -177,7 +177,7 @@ plain_words config (Reserve f count) sound (is_f, is_c) = (plain_by_test (codes 
 
 -- ---- the whole line
 
-no_mark : (config : Config) (call : Call) → IsWithin config call → before_moment call ≡ []
+pub no_mark : (config : Config) (call : Call) → IsWithin config call → before_moment call ≡ []
 no_mark config (Invoke f qualified trace body) h = refl
 no_mark config (RuntimeNext e) h = refl
 no_mark config (Response e n body) h = refl

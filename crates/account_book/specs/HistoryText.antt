@@ -1,0 +1,33 @@
+-- The text of a book's history. It is itself a script.
+use Rattle.std.specs.Prelude.{◌≡◌, ℕ, List, [], ◌∷◌, ◌++◌, length, codes, Ok}
+use Rattle.arn_ids.specs.declared.config.Config.{Config}
+use Rattle.lambda_wire.specs.Configuration.{read_setup}
+use Rattle.lambda_wire.specs.ConfigurationText.{setup_text}
+use Rattle.call_model.specs.declared.call.Entry.{Entry}
+use Rattle.script.specs.AnswerText.{entry_text, answer_lines}
+
+-- what stands before the first entry: the line of form 2, and that of the configuration
+abbrev pub opening_text : Config → ℕ → ℕ → List ℕ
+opening_text config salt max_entries = codes "form 2\n" ++ (setup_text config salt max_entries ++ 10 ∷ [])
+
+-- the texts of entries of a history, the oldest first; an entry's number is how many are older
+abbrev pub entries_text : Config → ℕ → List Entry → List Entry → List ℕ
+entries_text config salt h [] = []
+entries_text config salt h (entry ∷ older) = entries_text config salt h older ++ entry_text config salt h (length older) entry
+
+-- The text of a history.
+unfoldable pub history_text : Config → ℕ → ℕ → List Entry → List ℕ
+history_text config salt max_entries h = opening_text config salt max_entries ++ entries_text config salt h h
+
+-- the answer lines of entries of a history, the oldest first
+abbrev pub answers_from : ℕ → List Entry → List Entry → List ℕ
+answers_from salt h [] = []
+answers_from salt h (entry ∷ older) = answers_from salt h older ++ answer_lines salt h (length older) entry
+
+-- All answer lines of a history.
+abbrev pub answers_text : ℕ → List Entry → List ℕ
+answers_text salt h = answers_from salt h h
+
+-- the configuration's line is read as what it was written from
+abbrev pub IsReadBack : Config → ℕ → ℕ → Type 0
+IsReadBack config salt max_entries = read_setup (setup_text config salt max_entries) ≡ Ok (record { config = config; salt = salt; max_entries = max_entries })

@@ -1,0 +1,33 @@
+-- Which histories a book can have.
+use Rattle.std.specs.Prelude.{◌≡◌, ◌<◌, ◌≤◌, ℕ, true, false, List, [], ◌∷◌, All}
+use Rattle.arn_ids.specs.declared.config.Config.{Config}
+use Rattle.call_model.specs.declared.call.Call.{Call}
+use Rattle.call_model.specs.declared.call.Entry.{Entry}
+use Rattle.call_model.specs.Counts.{full}
+use Rattle.call_model.specs.Next.{next}
+use Rattle.script.specs.AnswerText.{body_of}
+use Rattle.script.specs.Limits.{IsTimed}
+use Rattle.account_book.specs.Run.{is_taken}
+
+-- a call that a book takes at a moment, after a history: it is within the limits, and the journal isn't full for it
+pub record IsTakenAfter (config : Config) (max_entries : ℕ) (h : List Entry) (now : ℕ) (call : Call) : Type 0 where
+  pub timed : IsTimed config (now, call)
+  pub bytes : All (λ b. b < 256) (body_of call)
+  pub known : is_taken call ≡ true
+  pub room : full config max_entries h call ≡ false
+
+-- the history that calls lead to, each with the moment at which it is handed in; the newest call first, as in a history
+abbrev pub led_to : Config → List (ℕ × Call) → List Entry
+led_to config [] = []
+led_to config (c ∷ calls) = next config (led_to config calls) c.0 c.1
+
+-- each of them is taken after those before it
+abbrev pub AreTaken : Config → ℕ → List (ℕ × Call) → Type 0
+AreTaken config max_entries [] = Unit {0}
+AreTaken config max_entries (c ∷ calls) = AreTaken config max_entries calls × IsTakenAfter config max_entries (led_to config calls) c.0 c.1
+
+-- Reached: a history that calls led to, each of which a book takes.
+pub record IsReached (config : Config) (max_entries : ℕ) (h : List Entry) : Type 0 where
+  pub calls : List (ℕ × Call)
+  pub taken : AreTaken config max_entries calls
+  pub led : h ≡ led_to config calls
