@@ -28,7 +28,7 @@ pub leads_line : (line : List ℕ) (first next : Progress) (text : List ℕ) →
 leads_line line first next text taken number more =
     ap (λ (r : Result (Progress × List ℕ) ScriptFault). and_then r (λ (p : Progress). replay_from (number + 1) p more)) (taken number)
 
-within_limit : (line : List ℕ) → Fits 20000000 line → nat_lt line_limit (length line) ≡ false
+pub within_limit : (line : List ℕ) → Fits 20000000 line → nat_lt line_limit (length line) ≡ false
 within_limit line f = let short = f.short in grind (arith, nat_tests)
 
 skipped_taken : (reserves : Bool) (book : Kept) (line : List ℕ) → Fits 20000000 line → is_skipped line ≡ true → (number : ℕ) → line_taken number (Taking reserves book) line ≡ Ok (Taking reserves book, [])
@@ -38,4 +38,4 @@ skipped_taken reserves book line fits skipped number = rw (within_limit line fit
 pub leads_past : (reserves : Bool) (book : Kept) (ls : List (List ℕ)) → AreSkipped ls → Leads ls (Taking reserves book) (Taking reserves book) []
 leads_past reserves book [] h = leads_nowhere (Taking reserves book)
 leads_past reserves book (line ∷ ls) h =
-    leads_on (line ∷ []) ls _ _ _ [] [] (leads_line line _ _ [] (skipped_taken reserves book line h.0.0 h.0.1)) (leads_past reserves book ls h.1)
+    leads_on (line ∷ []) ls (Taking reserves book) (Taking reserves book) (Taking reserves book) [] [] (leads_line line (Taking reserves book) (Taking reserves book) [] (skipped_taken reserves book line h.0.0 h.0.1)) (leads_past reserves book ls h.1)

@@ -64,15 +64,15 @@ skipped_lines : (ls : List (List ℕ)) → AreSkipped ls → AreLines ls
 skipped_lines [] h = tt
 skipped_lines (l ∷ ls) h = (h.0.0, skipped_lines ls h.1)
 
+expiry_marked : (config : Config) (moment e : ℕ) → is_skipped (call_text config moment (Expire e)) ≡ true
+unfolding call_text
+expiry_marked config moment e = refl
+
 pub expiry_skipped : (config : Config) (salt : ℕ) (h : List Entry) (number : ℕ) (entry : Entry) (e : ℕ) → entry.call ≡ Expire e → HasShortBodies h → AreSkipped (entry_lines config salt h number entry)
 expiry_skipped config salt h number entry e is short =
     let text : call_text config entry.moment (Expire e) ≡ call_text config entry.moment entry.call = ap (call_text config entry.moment) (sym is) in
     let P : List ℕ → Type 0 = λ line. Fits 20000000 line × (is_skipped line ≡ true) in
-    (subst P text (expiry_line_fits config entry.moment e, marked config entry.moment e), comments_skipped salt h number entry.answers short)
-  where
-    marked : (c : Config) (m d : ℕ) → is_skipped (call_text c m (Expire d)) ≡ true
-    unfolding call_text
-    marked c m d = refl
+    (subst P text (expiry_line_fits config entry.moment e, expiry_marked config entry.moment e), comments_skipped salt h number entry.answers short)
 
 -- ---- the calls of a history
 
@@ -104,11 +104,11 @@ short_call config (Reserve f count) h = omega arith
 
 pub short_bodies : (config : Config) (h : List Entry) → AreHandedIn config h → HasShortBodies h
 short_bodies config [] all t = omega arith
-short_bodies config (entry ∷ h) all t = go (t == length h)
+short_bodies config (entry ∷ h) all t = go (t == length h) (short_bodies config h all.1 t)
   where
-    go : (b : Bool) → length (body_of (if b then entry.call else call_of h t)) ≤ 6291456
-    go true = short_call config entry.call all.0
-    go false = short_bodies config h all.1 t
+    go : (b : Bool) → length (body_of (call_of h t)) ≤ 6291456 → length (body_of (if b then entry.call else call_of h t)) ≤ 6291456
+    go true older = short_call config entry.call all.0
+    go false older = older
 
 line_fits : (config : Config) (moment : ℕ) (call : Call) → first_fault config ≡ None → (is_expiry call ≡ false → IsWithin config call) → Fits 20000000 (call_text config moment call)
 line_fits config moment (Expire e) sound h = expiry_line_fits config moment e

@@ -79,7 +79,29 @@ skips_expiries config salt all [] h first book text x short p = p
 skips_expiries config salt all (entry ∷ es) h first book text x short p =
     subst (Leads (entries_lines config salt all (entry ∷ (es ++ h))) first (Taking true book)) (append-nil text)
     (leads_on (entries_lines config salt all (es ++ h)) (entry_lines config salt all (length (es ++ h)) entry) first (Taking true book) (Taking true book) text []
-    (skips_expiries config salt all es h first book text x.1 short p) (leads_past true book _ (expiry_skipped config salt all (length (es ++ h)) entry x.0.0 x.0.1 short)))
+    (skips_expiries config salt all es h first book text x.1 short p) (leads_past true book (entry_lines config salt all (length (es ++ h)) entry) (expiry_skipped config salt all (length (es ++ h)) entry x.0.0 x.0.1 short)))
+
+-- one call more
+one_more : (config : Config) (salt max_entries : ℕ) (all h : List Entry) (now : ℕ) (call : Call) → first_fault config ≡ None → HasShortBodies all → IsLegal config h → last_moment h ≤ greatest_moment → IsTakenAfter config max_entries h now call
+    → Leads (entries_lines config salt all h) (Taking true (book_with config salt max_entries [])) (Taking true (book_with config salt max_entries h)) (answers_text salt h)
+    → Leads (entries_lines config salt all (next config h now call)) (Taking true (book_with config salt max_entries [])) (Taking true (book_with config salt max_entries (next config h now call))) (answers_text salt (next config h now call))
+unfolding next added
+one_more config salt max_entries all h now call sound short lawful old t p =
+    let m = moment_at h now in
+    let es = expiries config m (due config h m) h in
+    let entry = entry_of config (es ++ h) m call in
+    let first = Taking true (book_with config salt max_entries []) in
+    let before = Taking true (book_with config salt max_entries h) in
+    let after = book_with config salt max_entries (next config h now call) in
+    let lines_added = added_lines salt h (added config h now call) in
+    let text : answers_text salt h ++ (lines_added ++ []) ≡ answers_text salt (next config h now call) =
+    ap (λ (x : List ℕ). answers_text salt h ++ x) (append-nil lines_added) ∙ sym (answers_added config salt (added config h now call) h lawful) in
+    subst (Leads (entries_lines config salt all (next config h now call)) first (Taking true after)) text
+    (leads_on (entries_lines config salt all (es ++ h)) (entry_lines config salt all (length (es ++ h)) entry) first before (Taking true after) (answers_text salt h) (lines_added ++ [])
+    (skips_expiries config salt all es h first (book_with config salt max_entries h) (answers_text salt h) (are_expiries config m (due config h m) h) short p)
+    (leads_on (call_text config m call ∷ []) (comments salt all (length (es ++ h)) entry.answers) before (Taking true after) (Taking true after) lines_added []
+    (leads_line (call_text config m call) before (Taking true after) lines_added (line_taken_is config salt max_entries h now call sound old t))
+    (leads_past true after (comments salt all (length (es ++ h)) entry.answers) (comments_skipped salt all (length (es ++ h)) entry.answers short))))
 
 pub leads_again : (config : Config) (salt max_entries : ℕ) (all : List Entry) (calls : List (ℕ × Call)) → first_fault config ≡ None → HasShortBodies all → AreTaken config max_entries calls
     → Leads (entries_lines config salt all (led_to config calls)) (Taking true (book_with config salt max_entries [])) (Taking true (book_with config salt max_entries (led_to config calls))) (answers_text salt (led_to config calls))
@@ -87,24 +109,3 @@ leads_again config salt max_entries all [] sound short taken = leads_nowhere (Ta
 leads_again config salt max_entries all (c ∷ calls) sound short taken =
     one_more config salt max_entries all (led_to config calls) c.0 c.1 sound short (legal config max_entries calls taken.0) (early config max_entries calls taken.0) taken.1
     (leads_again config salt max_entries all calls sound short taken.0)
-  where
-    one_more : (config : Config) (salt max_entries : ℕ) (all h : List Entry) (now : ℕ) (call : Call) → first_fault config ≡ None → HasShortBodies all → IsLegal config h → last_moment h ≤ greatest_moment → IsTakenAfter config max_entries h now call
-        → Leads (entries_lines config salt all h) (Taking true (book_with config salt max_entries [])) (Taking true (book_with config salt max_entries h)) (answers_text salt h)
-        → Leads (entries_lines config salt all (next config h now call)) (Taking true (book_with config salt max_entries [])) (Taking true (book_with config salt max_entries (next config h now call))) (answers_text salt (next config h now call))
-    unfolding next added
-    one_more config salt max_entries all h now call sound short lawful old t p =
-        let m = moment_at h now in
-        let es = expiries config m (due config h m) h in
-        let entry = entry_of config (es ++ h) m call in
-        let first = Taking true (book_with config salt max_entries []) in
-        let before = Taking true (book_with config salt max_entries h) in
-        let after = book_with config salt max_entries (next config h now call) in
-        let lines_added = added_lines salt h (added config h now call) in
-        let text : answers_text salt h ++ (lines_added ++ []) ≡ answers_text salt (next config h now call) =
-        ap (λ (x : List ℕ). answers_text salt h ++ x) (append-nil lines_added) ∙ sym (answers_added config salt (added config h now call) h lawful) in
-        subst (Leads (entries_lines config salt all (next config h now call)) first (Taking true after)) text
-        (leads_on (entries_lines config salt all (es ++ h)) (entry_lines config salt all (length (es ++ h)) entry) first before (Taking true after) (answers_text salt h) (lines_added ++ [])
-        (skips_expiries config salt all es h first (book_with config salt max_entries h) (answers_text salt h) (are_expiries config m (due config h m) h) short p)
-        (leads_on (call_text config m call ∷ []) (comments salt all (length (es ++ h)) entry.answers) before (Taking true after) (Taking true after) lines_added []
-        (leads_line (call_text config m call) before (Taking true after) lines_added (line_taken_is config salt max_entries h now call sound old t))
-        (leads_past true after _ (comments_skipped salt all (length (es ++ h)) entry.answers short))))

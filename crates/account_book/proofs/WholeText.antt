@@ -19,7 +19,7 @@ use Rattle.account_book.specs.HistoryText.{opening_text, history_text, entries_t
 use Rattle.account_book.specs.Reached.{led_to, IsReached}
 use Rattle.account_book.specs.Run.{ScriptFault, Progress, AtStart, AfterForm, Taking, Replayed, before, begun, opened, line_taken, replay_from, run}
 use Rattle.account_book.proofs.LineEnds.{ended, AreLines, lines_again}
-use Rattle.account_book.proofs.HistoryLines.{entries_lines, entries_are, entries_lines_are, short_bodies}
+use Rattle.account_book.proofs.HistoryLines.{entries_lines, AreHandedIn, entries_are, entries_lines_are, short_bodies}
 use Rattle.account_book.proofs.GoingOn.{Leads, leads_nowhere, leads_on, leads_line}
 use Rattle.account_book.proofs.Reaching.{handed_in}
 use Rattle.account_book.proofs.Replaying.{book_with, leads_again}
@@ -60,27 +60,34 @@ reads : (config : Config) (salt max_entries : ℕ) (h : List Entry) → first_fa
     → IsReached config max_entries h → (AreLines (history_lines config salt max_entries h)) × Leads (history_lines config salt max_entries h) AtStart (Taking true (book_with config salt max_entries h)) (answers_text salt h)
 reads config salt max_entries h sound within back r =
     subst (λ (k : List Entry). (AreLines (history_lines config salt max_entries k)) × Leads (history_lines config salt max_entries k) AtStart (Taking true (book_with config salt max_entries k)) (answers_text salt k)) (sym r.led)
-    ((fits_word 20000000 (codes "form 2") refl, record { plain = setup_plain config salt max_entries; short = short_line (setup_text config salt max_entries) _ back }, entries_lines_are config salt k k sound short handed),
+    ((fits_word 20000000 (codes "form 2") refl, (record { plain = setup_plain config salt max_entries; short = short_line (setup_text config salt max_entries) _ back }, entries_lines_are config salt k k sound short handed)),
      leads_on (codes "form 2" ∷ setup_text config salt max_entries ∷ []) (entries_lines config salt k k) AtStart (Taking true (book_with config salt max_entries [])) (Taking true (book_with config salt max_entries k)) [] (answers_text salt k)
      (begins config salt max_entries sound within back) (leads_again config salt max_entries k r.calls sound short r.taken))
   where
     k : List Entry
     k = led_to config r.calls
 
-    handed : Rattle.account_book.proofs.HistoryLines.AreHandedIn config k
+    handed : AreHandedIn config k
     handed = handed_in config max_entries r.calls r.taken
 
     short : HasShortBodies k
     short = short_bodies config k handed
 
+-- how many lines there are
+counted : (config : Config) (salt max_entries : ℕ) (h : List Entry) → AreLines (history_lines config salt max_entries h) → length (lines (history_text config salt max_entries h)) ≡ length (history_lines config salt max_entries h)
+counted config salt max_entries h all =
+    ap (λ (t : List ℕ). length (lines t)) (text_is config salt max_entries h ∙ sym (append-nil (ended (history_lines config salt max_entries h))))
+    ∙ ap length (lines_again (history_lines config salt max_entries h) [] all ∙ append-nil (history_lines config salt max_entries h))
+
 -- The text, and then more of a script.
 pub replayed_on : (config : Config) (salt max_entries : ℕ) (h : List Entry) (more : List ℕ) → first_fault config ≡ None → is_between (length (owners config) + 1) (2 ^ 32) max_entries ≡ true → IsReadBack config salt max_entries → IsReached config max_entries h
-    → run (history_text config salt max_entries h ++ more) ≡ before (answers_text salt h) (replay_from (1 + length (history_lines config salt max_entries h)) (Taking true (book_with config salt max_entries h)) (lines more))
+    → run (history_text config salt max_entries h ++ more) ≡ before (answers_text salt h) (replay_from (1 + length (lines (history_text config salt max_entries h))) (Taking true (book_with config salt max_entries h)) (lines more))
 replayed_on config salt max_entries h more sound within back r =
     let all = reads config salt max_entries h sound within back r in
     ap (λ (t : List ℕ). run (t ++ more)) (text_is config salt max_entries h)
     ∙ ap (replay_from 1 AtStart) (lines_again (history_lines config salt max_entries h) more all.0)
     ∙ all.1 1 (lines more)
+    ∙ ap (λ (n : ℕ). before (answers_text salt h) (replay_from (1 + n) (Taking true (book_with config salt max_entries h)) (lines more))) (sym (counted config salt max_entries h all.0))
 
 -- The text alone.
 pub replayed : (config : Config) (salt max_entries : ℕ) (h : List Entry) → first_fault config ≡ None → is_between (length (owners config) + 1) (2 ^ 32) max_entries ≡ true → IsReadBack config salt max_entries → IsReached config max_entries h

@@ -5,6 +5,7 @@ mod admission;
 mod answering;
 mod book;
 mod journal;
+pub mod laws;
 mod opening;
 mod room;
 mod site;

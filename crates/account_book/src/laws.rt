@@ -1,0 +1,38 @@
+//! Laws of histories and their texts: functions with no work in them, whose contracts are proved.
+
+ghost use Rattle.std.specs.Prelude.{◌≡◌, ◌+◌, ◌^◌, ℕ, true, List, [], ◌++◌, length, None};
+ghost use Rattle.std.specs.Str.Lines.{lines};
+ghost use Rattle.arn_ids.specs.Environments.{owners};
+ghost use Rattle.arn_ids.specs.Faults.{first_fault, is_between};
+ghost use Rattle.arn_ids.specs.declared.config.Config.{Config};
+ghost use Rattle.call_model.specs.declared.call.Call.{Call};
+ghost use Rattle.call_model.specs.declared.call.Entry.{Entry};
+ghost use Rattle.call_model.specs.Next.{IsLegal, next};
+ghost use Rattle.account_book.specs.HistoryText.{IsReadBack, answers_text, history_text};
+ghost use Rattle.account_book.specs.Reached.{IsReached, IsTakenAfter};
+ghost use Rattle.account_book.specs.Run.{Taking, before, replay_from, run};
+
+/// The history of a new book is reached; each call that a book takes reaches the next one; and
+/// whatever is reached is a legal history.
+pub fn reached()
+    ensures first { (config : Config) (max_entries : ℕ) → IsReached config max_entries [] }
+    ensures next { (config : Config) (max_entries : ℕ) (h : List Entry) (now : ℕ) (call : Call) → IsReached config max_entries h → IsTakenAfter config max_entries h now call → IsReached config max_entries (next config h now call) }
+    ensures legal { (config : Config) (max_entries : ℕ) (h : List Entry) → IsReached config max_entries h → IsLegal config h }
+{}
+
+/// A history replays to its own answers: the text of a history that calls led to is a script
+/// without a fault, and what its replay writes is exactly the answer lines of the history. Over
+/// every configuration without a fault whose line is read back.
+pub fn replays()
+    ensures { (config : Config) (salt max_entries : ℕ) (h : List Entry) → first_fault config ≡ None → is_between (length (owners config) + 1) (2 ^ 32) max_entries ≡ true → IsReadBack config salt max_entries
+        → IsReached config max_entries h → run (history_text config salt max_entries h) ≡ record { text = answers_text salt h; fault = None } }
+{}
+
+/// Its replay makes the same history again: behind the text, a script goes on from a book with that
+/// history, and with the same configuration, salt and greatest number of entries.
+pub fn goes_on()
+    ensures { (config : Config) (salt max_entries : ℕ) (h : List Entry) (more : List ℕ) → first_fault config ≡ None → is_between (length (owners config) + 1) (2 ^ 32) max_entries ≡ true → IsReadBack config salt max_entries
+        → IsReached config max_entries h → run (history_text config salt max_entries h ++ more)
+        ≡ before (answers_text salt h) (replay_from (1 + length (lines (history_text config salt max_entries h)))
+            (Taking true (record { config = config; salt = salt; max_entries = max_entries; history = h })) (lines more)) }
+{}
