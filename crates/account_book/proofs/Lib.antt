@@ -14,6 +14,7 @@ pub mod Expiring
 pub mod RoomMeets
 -- A history's text is replayed to that history.
 pub mod LineEnds
+pub mod FormsAgree
 pub mod HistoryLines
 pub mod GoingOn
 pub mod AnswersStay

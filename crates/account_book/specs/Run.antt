@@ -143,3 +143,12 @@ replay_from number progress (line ∷ lines) = and_then (line_taken number progr
 -- lack it.
 abbrev pub run : List ℕ → Replayed
 run input = replay_from 1 AtStart (lines input)
+
+-- whether the first line says form 2
+abbrev pub begins_form_2 : List (List ℕ) → Bool
+begins_form_2 [] = false
+begins_form_2 (line ∷ lines) = is_form_2 line
+
+-- whether a script is of form 2
+abbrev pub is_of_form_2 : List ℕ → Bool
+is_of_form_2 input = begins_form_2 (lines input)

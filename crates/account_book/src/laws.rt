@@ -1,6 +1,6 @@
 //! Laws of histories and their texts: functions with no work in them, whose contracts are proved.
 
-ghost use Rattle.std.specs.Prelude.{◌≡◌, ◌+◌, ◌^◌, ℕ, true, List, [], ◌++◌, length, None};
+ghost use Rattle.std.specs.Prelude.{◌≡◌, ◌+◌, ◌^◌, ℕ, true, false, List, [], ◌++◌, length, codes, None};
 ghost use Rattle.std.specs.Str.Lines.{lines};
 ghost use Rattle.arn_ids.specs.Environments.{owners};
 ghost use Rattle.arn_ids.specs.Faults.{first_fault, is_between};
@@ -10,7 +10,7 @@ ghost use Rattle.call_model.specs.declared.call.Entry.{Entry};
 ghost use Rattle.call_model.specs.Next.{IsLegal, next};
 ghost use Rattle.account_book.specs.HistoryText.{IsReadBack, answers_text, history_text};
 ghost use Rattle.account_book.specs.Reached.{IsReached, IsTakenAfter};
-ghost use Rattle.account_book.specs.Run.{Taking, before, replay_from, run};
+ghost use Rattle.account_book.specs.Run.{Taking, before, is_of_form_2, replay_from, run};
 
 /// The history of a new book is reached; each call that a book takes reaches the next one; and
 /// whatever is reached is a legal history.
@@ -35,4 +35,11 @@ pub fn goes_on()
         → IsReached config max_entries h → run (history_text config salt max_entries h ++ more)
         ≡ before (answers_text salt h) (replay_from (1 + length (lines (history_text config salt max_entries h)))
             (Taking true (record { config = config; salt = salt; max_entries = max_entries; history = h })) (lines more)) }
+{}
+
+/// A script of form 1 that has no fault is replayed to the same text, without a fault, where
+/// `form 2` is put before it. Where it has one, what it writes up to there is written all the same.
+pub fn form_2_goes_as_far()
+    ensures same { (input : List ℕ) → is_of_form_2 input ≡ false → (run input).fault ≡ None → run (codes "form 2\n" ++ input) ≡ run input }
+    ensures front { (input : List ℕ) → is_of_form_2 input ≡ false → (more : List ℕ) × ((run (codes "form 2\n" ++ input)).text ≡ (run input).text ++ more) }
 {}

@@ -11,3 +11,4 @@ pub mod ReadAgain
 pub mod WordBounds
 pub mod LineBounds
 pub mod StableLines
+pub mod FormsAgree
