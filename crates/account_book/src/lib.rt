@@ -4,6 +4,7 @@
 mod admission;
 mod answering;
 mod book;
+mod history_text;
 mod journal;
 pub mod laws;
 mod opening;
@@ -11,6 +12,7 @@ mod room;
 mod site;
 
 pub use book::{Book, OpenFault, Refusal};
+pub use history_text::opening_text;
 
 #[cfg(test)]
 mod tests;

@@ -141,6 +141,13 @@ impl Checked {
         unreachable!()
     }
 
+    /// What was checked.
+    pub fn as_config(&self) -> &Config
+        ensures { result.now ≡ self.now }
+    {
+        &self.config
+    }
+
     /// The account and the region.
     pub fn home(&self) -> &Home
         ensures { result.now ≡ self.now.home }

@@ -6,7 +6,7 @@ use Rattle.account_book.specs.Run.{Progress}
 use Rattle.lambda_local.specs.Replays.{StoppedAt}
 use Rattle.lambda_local.specs.Steps.{IsOpen, EndsLine, Played, Stand, Going, StoppedIn}
 use Rattle.lambda_local.specs.declared.fault.ReplayFault.{ReplayFault}
-use Rattle.lambda_local.proofs.LineEnds.{line_ends}
+use Rattle.account_book.proofs.LineEnds.{line_ends}
 use Rattle.lambda_local.proofs.Composing.{played_none, played_more, stopped_after}
 
 -- a stand at which more of the next line was read

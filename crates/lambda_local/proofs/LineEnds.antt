@@ -8,29 +8,8 @@ use Rattle.std.proofs.lemmas.List.Elements.{All-from_get_or}
 use Rattle.std.proofs.lemmas.List.Splits.{slice_split_at, slice_split_none}
 use Rattle.std.proofs.lemmas.List.Sums.{fails_before_first, passes_at_first, split_at_first}
 use Rattle.std.proofs.Math.Seq.{get_or-take}
+use Rattle.account_book.proofs.LineEnds.{is_break}
 use Rattle.lambda_local.specs.Steps.{IsOpen, EndsLine}
-
-abbrev pub is_break : ℕ → Bool
-is_break b = b == 10
-
-begins_onto : (b : Bool) (x : ℕ) (rest : List (List ℕ)) → (q : List ℕ) × (qs : List (List ℕ)) × (rest ≡ q ∷ qs)
-    → (q : List ℕ) × (qs : List (List ℕ)) × (cond b ([] ∷ rest) (onto_first x rest) ≡ q ∷ qs)
-begins_onto true x rest h = ([], rest, refl)
-begins_onto false x rest (q, qs, e) = (x ∷ q, qs, rw e refl)
-
--- there is a first piece
-pub pieces_begin : (xs : List ℕ) → (q : List ℕ) × (qs : List (List ℕ)) × (slice_split is_break xs ≡ q ∷ qs)
-pieces_begin [] = ([], [], refl)
-pieces_begin (x ∷ xs) = begins_onto (is_break x) x (slice_split is_break xs) (pieces_begin xs)
-
-line_before : (line : List ℕ) (rest : List (List ℕ)) (q : List ℕ) (qs : List (List ℕ)) → rest ≡ q ∷ qs → lines_of_parts (line ∷ rest) ≡ strip_carriage_return line ∷ lines_of_parts rest
-line_before line rest q qs e = rw e refl
-
--- a line feed ends a line
-pub line_ends : (line more : List ℕ) → IsOpen line → lines (line ++ 10 ∷ more) ≡ strip_carriage_return line ∷ lines more
-line_ends line more free =
-    let begins = pieces_begin more in
-    ap lines_of_parts (slice_split_at is_break line 10 more free refl) ∙ line_before line (slice_split is_break more) begins.0 begins.1 begins.2
 
 -- bytes in which no line ends are at most one line
 pub one_line : (line : List ℕ) → IsOpen line → lines line ≡ lines_of_parts (line ∷ [])

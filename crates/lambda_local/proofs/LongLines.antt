@@ -9,7 +9,7 @@ use Rattle.lambda_local.specs.Replays.{StoppedAt}
 use Rattle.lambda_local.specs.Faults.{HasFault}
 use Rattle.lambda_local.specs.Steps.{IsOpen}
 use Rattle.lambda_local.specs.declared.fault.ReplayFault.{ReplayFault}
-use Rattle.lambda_local.proofs.LineEnds.{is_break, pieces_begin}
+use Rattle.account_book.proofs.LineEnds.{is_break, pieces_begin}
 use Rattle.lambda_local.proofs.Composing.{line_stops}
 
 joins : (p xs q : List ℕ) (qs : List (List ℕ)) → AllByRecursion (λ b. (b == 10) ≡ false) p → slice_split is_break xs ≡ q ∷ qs → slice_split is_break (p ++ xs) ≡ (p ++ q) ∷ qs
