@@ -1,7 +1,6 @@
 -- The text of a book's history. It is itself a script.
-use Rattle.std.specs.Prelude.{◌≡◌, ℕ, List, [], ◌∷◌, ◌++◌, length, codes, Ok}
+use Rattle.std.specs.Prelude.{ℕ, List, [], ◌∷◌, ◌++◌, length, codes}
 use Rattle.arn_ids.specs.declared.config.Config.{Config}
-use Rattle.lambda_wire.specs.Configuration.{read_setup}
 use Rattle.lambda_wire.specs.ConfigurationText.{setup_text}
 use Rattle.call_model.specs.declared.call.Entry.{Entry}
 use Rattle.script.specs.AnswerText.{entry_text, answer_lines}
@@ -27,7 +26,3 @@ answers_from salt h (entry ∷ older) = answers_from salt h older ++ answer_line
 -- All answer lines of a history.
 abbrev pub answers_text : ℕ → List Entry → List ℕ
 answers_text salt h = answers_from salt h h
-
--- the configuration's line is read as what it was written from
-abbrev pub IsReadBack : Config → ℕ → ℕ → Type 0
-IsReadBack config salt max_entries = read_setup (setup_text config salt max_entries) ≡ Ok (record { config = config; salt = salt; max_entries = max_entries })

@@ -1,6 +1,9 @@
--- Which histories a book can have.
-use Rattle.std.specs.Prelude.{◌≡◌, ◌<◌, ◌≤◌, ℕ, true, false, List, [], ◌∷◌, All}
+-- Which histories a book can have, and what else it is made of.
+use Rattle.std.specs.Prelude.{◌≡◌, ◌+◌, ◌^◌, ◌<◌, ℕ, true, false, List, [], ◌∷◌, length, None, All}
+use Rattle.arn_ids.specs.Environments.{owners}
+use Rattle.arn_ids.specs.Faults.{first_fault, is_between}
 use Rattle.arn_ids.specs.declared.config.Config.{Config}
+use Rattle.lambda_wire.specs.Ranges.{IsConfigInRange}
 use Rattle.call_model.specs.declared.call.Call.{Call}
 use Rattle.call_model.specs.declared.call.Entry.{Entry}
 use Rattle.call_model.specs.Counts.{full}
@@ -8,6 +11,13 @@ use Rattle.call_model.specs.Next.{next}
 use Rattle.script.specs.AnswerText.{body_of}
 use Rattle.script.specs.Limits.{IsTimed}
 use Rattle.account_book.specs.Run.{is_taken}
+
+-- a configuration, a salt and a greatest number of entries that a book can have
+pub record IsBooked (config : Config) (salt max_entries : ℕ) : Type 0 where
+  pub sound : first_fault config ≡ None
+  pub in_range : IsConfigInRange config
+  pub salted : salt < 2 ^ 64
+  pub within : is_between (length (owners config) + 1) (2 ^ 32) max_entries ≡ true
 
 -- a call that a book takes at a moment, after a history: it is within the limits, and the journal isn't full for it
 pub record IsTakenAfter (config : Config) (max_entries : ℕ) (h : List Entry) (now : ℕ) (call : Call) : Type 0 where

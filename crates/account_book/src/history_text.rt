@@ -1,6 +1,7 @@
 //! The text of a history: what stands before its first entry.
 
 ghost use Rattle.std.specs.Prelude.{◌≡◌, IfOk};
+ghost use Rattle.lambda_wire.specs.Ranges.{IsConfigInRange};
 ghost use Rattle.account_book.specs.HistoryText.{opening_text};
 
 use arn_ids::Checked;
@@ -17,7 +18,9 @@ pub fn opening_text(
     salt: u64,
     max_entries: u64,
 ) -> Result<Vec<u8>, AllocError>
-    ensures { IfOk result (λ text. text.items ≡ opening_text config.now salt max_entries) }
+    ensures text { IfOk result (λ text. text.items ≡ opening_text config.now salt max_entries) }
+    // What is written is in the ranges of its types.
+    ensures in_range { IfOk result (λ _. IsConfigInRange config.now) }
 {
     let line = write_config(alloc, config.as_config(), salt, max_entries)?;
     let mut text = Vec::new(alloc);

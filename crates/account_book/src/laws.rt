@@ -1,15 +1,13 @@
 //! Laws of histories and their texts: functions with no work in them, whose contracts are proved.
 
-ghost use Rattle.std.specs.Prelude.{◌≡◌, ◌+◌, ◌^◌, ℕ, true, false, List, [], ◌++◌, length, codes, None};
+ghost use Rattle.std.specs.Prelude.{◌≡◌, ◌+◌, ℕ, true, false, List, [], ◌++◌, length, codes, None};
 ghost use Rattle.std.specs.Str.Lines.{lines};
-ghost use Rattle.arn_ids.specs.Environments.{owners};
-ghost use Rattle.arn_ids.specs.Faults.{first_fault, is_between};
 ghost use Rattle.arn_ids.specs.declared.config.Config.{Config};
 ghost use Rattle.call_model.specs.declared.call.Call.{Call};
 ghost use Rattle.call_model.specs.declared.call.Entry.{Entry};
 ghost use Rattle.call_model.specs.Next.{IsLegal, next};
-ghost use Rattle.account_book.specs.HistoryText.{IsReadBack, answers_text, history_text};
-ghost use Rattle.account_book.specs.Reached.{IsReached, IsTakenAfter};
+ghost use Rattle.account_book.specs.HistoryText.{answers_text, history_text};
+ghost use Rattle.account_book.specs.Reached.{IsBooked, IsReached, IsTakenAfter};
 ghost use Rattle.account_book.specs.Run.{Taking, before, is_of_form_2, replay_from, run};
 
 /// The history of a new book is reached; each call that a book takes reaches the next one; and
@@ -21,20 +19,18 @@ pub fn reached()
 {}
 
 /// A history replays to its own answers: the text of a history that calls led to is a script
-/// without a fault, and what its replay writes is exactly the answer lines of the history. Over
-/// every configuration without a fault whose line is read back.
+/// without a fault, and what its replay writes is exactly the answer lines of the history.
 pub fn replays()
-    ensures { (config : Config) (salt max_entries : ℕ) (h : List Entry) → first_fault config ≡ None → is_between (length (owners config) + 1) (2 ^ 32) max_entries ≡ true → IsReadBack config salt max_entries
-        → IsReached config max_entries h → run (history_text config salt max_entries h) ≡ record { text = answers_text salt h; fault = None } }
+    ensures { (config : Config) (salt max_entries : ℕ) (h : List Entry) → IsBooked config salt max_entries → IsReached config max_entries h
+        → run (history_text config salt max_entries h) ≡ record { text = answers_text salt h; fault = None } }
 {}
 
 /// Its replay makes the same history again: behind the text, a script goes on from a book with that
 /// history, and with the same configuration, salt and greatest number of entries.
 pub fn goes_on()
-    ensures { (config : Config) (salt max_entries : ℕ) (h : List Entry) (more : List ℕ) → first_fault config ≡ None → is_between (length (owners config) + 1) (2 ^ 32) max_entries ≡ true → IsReadBack config salt max_entries
-        → IsReached config max_entries h → run (history_text config salt max_entries h ++ more)
-        ≡ before (answers_text salt h) (replay_from (1 + length (lines (history_text config salt max_entries h)))
-            (Taking true (record { config = config; salt = salt; max_entries = max_entries; history = h })) (lines more)) }
+    ensures { (config : Config) (salt max_entries : ℕ) (h : List Entry) (more : List ℕ) → IsBooked config salt max_entries → IsReached config max_entries h
+        → run (history_text config salt max_entries h ++ more) ≡ before (answers_text salt h) (replay_from (1 + length (lines (history_text config salt max_entries h)))
+        (Taking true (record { config = config; salt = salt; max_entries = max_entries; history = h })) (lines more)) }
 {}
 
 /// A script of form 1 that has no fault is replayed to the same text, without a fault, where

@@ -39,7 +39,7 @@ functions_again : (fs : List Function) → All IsFunctionInRange fs → each fun
 functions_again [] h = refl
 functions_again (f ∷ fs) h = rw (function_again f (All-head IsFunctionInRange f fs h), functions_again fs (All-tail IsFunctionInRange f fs h)) refl
 
-setup_again : (config : Config) (salt max_entries : ℕ) → IsConfigInRange config → setup_of (setup_data config salt max_entries) ≡ Ok (record { config = config; salt = salt; max_entries = max_entries })
+pub setup_again : (config : Config) (salt max_entries : ℕ) → IsConfigInRange config → setup_of (setup_data config salt max_entries) ≡ Ok (record { config = config; salt = salt; max_entries = max_entries })
 unfolding setup_of
 setup_again config salt max_entries h =
     rw (functions_again config.functions h.3, below_again (2 ^ 32) config.account_limit h.0, below_again (2 ^ 32) config.least_remainder h.1, below_again (2 ^ 16) config.invoke_port h.2) refl
@@ -60,10 +60,10 @@ functions_flat : (fs : List Function) → items_depth (items_of (map function_da
 functions_flat [] = omega arith
 functions_flat (f ∷ fs) = rw (texts_flat f.extensions, slots_flat f.slots, reserved_flat f.reserved f.timeout_s) (omega (arith, functions_flat fs))
 
-setup_flat : (config : Config) (salt max_entries : ℕ) → depth (setup_data config salt max_entries) ≤ max_depth
+pub setup_flat : (config : Config) (salt max_entries : ℕ) → depth (setup_data config salt max_entries) ≤ max_depth
 setup_flat config salt max_entries = omega (arith, functions_flat config.functions)
 
-short_again : (bytes : List ℕ) (s : Setup) → said_by bytes ≡ Ok s → length bytes ≤ 20000000 → read_setup bytes ≡ Ok s
+pub short_again : (bytes : List ℕ) (s : Setup) → said_by bytes ≡ Ok s → length bytes ≤ 20000000 → read_setup bytes ≡ Ok s
 unfolding read_setup
 short_again bytes s e short = grind (arith)
 

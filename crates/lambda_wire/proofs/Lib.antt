@@ -4,3 +4,5 @@ pub mod MembersLemmas
 pub mod Whole
 pub mod Again
 pub mod PlainText
+pub mod TextAgain
+pub mod SetupAgain

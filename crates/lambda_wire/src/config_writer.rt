@@ -103,6 +103,8 @@ pub fn write_config(
     max_entries: u64,
 ) -> Result<Vec<u8>, AllocError>
     ensures text { IfOk result (λ b. b.items ≡ setup_text config.now salt max_entries) }
+    // What is written is in the ranges of its types.
+    ensures in_range { IfOk result (λ _. IsConfigInRange config.now) }
     // `read_config` reads it to the same setup, unless it is longer than a configuration may be.
     ensures read_back { IfOk result (λ b. length b.items ≤ 20000000 → read_setup b.items
         ≡ Ok (record { config = config.now; salt = salt; max_entries = max_entries })) }
