@@ -8,7 +8,7 @@ use Rattle.script.specs.Lines.{call_in}
 use Rattle.script.proofs.FormsAgree.{call_same}
 use Rattle.script.proofs.WordBounds.{fits_word}
 use Rattle.account_book.specs.Book.{Kept}
-use Rattle.account_book.specs.Run.{ScriptFault, InLine, Progress, AtStart, AfterForm, Taking, is_form_2, is_skipped, is_taken, line_limit, answered, begins_form_2, is_of_form_2, opened, answered_if, line_answered, going_on, begun, Replayed, before, and_then, replay_from, run}
+use Rattle.account_book.specs.Run.{ScriptFault, InLine, Progress, AtStart, AfterForm, Taking, is_form_2, is_skipped, line_limit, answered, begins_form_2, is_of_form_2, opened, answered_if, line_answered, going_on, begun, Replayed, before, and_then, replay_from, run}
 use Rattle.account_book.proofs.LineEnds.{lines_again}
 
 -- what the second replay comes to, where the first has no fault; and before a fault of the first, what that writes
@@ -32,11 +32,7 @@ behind text a b g = record {
 
 call_if : (n m : ℕ) (book : Kept) (a b : Option (ℕ × Call)) (r : Kept × List ℕ) → ((x : ℕ × Call) → a ≡ Some x → b ≡ Some x) → answered_if n book a ≡ Ok r → answered_if m book b ≡ Ok r
 call_if n m book None b r h e = cc
-call_if n m book (Some (now, call)) b r h e = rw (h (now, call) refl) (go (is_taken call) e)
-  where
-    go : (t : Bool) → (if t then Ok (answered book now call) else Err (InLine n)) ≡ Ok r → (if t then Ok (answered book now call) else Err (InLine m)) ≡ Ok r
-    go true k = k
-    go false k = cc
+call_if n m book (Some (now, call)) b r h e = rw (h (now, call) refl) e
 
 line_same : (n m : ℕ) (book : Kept) (line : List ℕ) (r : Kept × List ℕ) → line_answered false n book line ≡ Ok r → line_answered true m book line ≡ Ok r
 unfolding line_answered

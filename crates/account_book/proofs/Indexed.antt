@@ -1,83 +1,56 @@
--- What stands at a number in the lists of a book.
-use Rattle.std.proofs.Common.{◌≡◌, ℕ, zero, suc, ◌+◌, ◌-◌, ◌<◌, ◌≤◌, Bool, true, false, List, [], ◌∷◌, length, map, reverse, Option, Some, None, sym, refl, ap, ◌∙◌, arith, ◌≢◌, set, get_or, subst, ◌==◌}
-use Rattle.std.proofs.lemmas.Bool.Decides.{nat_tests}
-use Rattle.std.proofs.lemmas.List.Sums.{count_by-le-length}
-use Rattle.arn_ids.specs.declared.config.Config.{Config}
-use Rattle.arn_ids.specs.Environments.{function_of, function_numbers, environments, count_from, owners}
-use Rattle.call_model.proofs.Basics.{none-some, eqb-self}
-use Rattle.call_model.specs.declared.call.Call.{Call}
-use Rattle.call_model.specs.declared.call.Call.TheVariants.{Invoke, RuntimeNext, Response, Tick, Expire}
+-- What was answered, by ticket, after one more entry.
+use Rattle.std.proofs.Common.{◌≡◌, ◌≢◌, ℕ, zero, suc, ◌+◌, ◌<◌, ◌≤◌, Bool, true, false, eqb, List, [], ◌∷◌, ◌++◌, length, map, set, get_or, All, Option, Some, None, sym, refl, ap, ap₂, ◌∙◌, arith, if◌then◌else◌}
+use Rattle.std.proofs.lemmas.List.{length-set}
+use Rattle.arn_ids.specs.Environments.{count_from}
+use Rattle.call_model.specs.declared.answer.Answer.{Answer}
 use Rattle.call_model.specs.declared.call.Entry.{Entry}
-use Rattle.call_model.specs.History.{is_invoke_of, requests}
-use Rattle.call_model.specs.Next.{IsLegal, Follows}
-use Rattle.call_model.proofs.AfterEntry.{requests_cons}
-use Rattle.account_book.specs.declared.site.Site.{Site}
-use Rattle.call_model.specs.Limits.{place_for}
-use Rattle.call_model.proofs.Flight.{place_for_between}
-use Rattle.account_book.specs.Taking.{IsTaken, IsWithin, target, site, sites, request_counts}
-use Rattle.script.specs.CallCounts.{request_count}
-use Rattle.account_book.proofs.SitesMeet.{count_length, sites_length}
-use Rattle.account_book.proofs.AfterCall.{sites_one, requests_of_invoke, requests_of_other}
+use Rattle.call_model.specs.History.{answer_in, answer_of, or_else}
+use Rattle.call_model.proofs.Basics.{eqb-self, map_same}
+use Rattle.call_model.proofs.Pairs.{eqb-other}
+use Rattle.call_model.proofs.Stands.{one_changes}
+use Rattle.account_book.specs.Indexes.{answered, noted}
+use Rattle.account_book.proofs.BeforeCalls.{count_more}
+use Rattle.account_book.proofs.FleetMeets.{count_length}
+use Rattle.account_book.proofs.RequestCounts.{numbered_at}
+use Rattle.std.proofs.lemmas.List.{length-map}
 
-map_length : {A : Type 0} (g : ℕ → A) (es : List ℕ) → length (map g es) ≡ length es
-map_length g [] = refl
-map_length g (e ∷ es) = ap suc (map_length g es)
+pub noted_length : (answers : List (ℕ × Answer)) (given : List (Option Answer)) → length (noted answers given) ≡ length given
+noted_length [] given = refl
+noted_length (a ∷ rest) given = length-set (noted rest given) a.0 (Some a.1) ∙ noted_length rest given
 
-pub counts_length : (config : Config) (h : List Entry) → length (request_counts config h) ≡ length config.functions
-counts_length config h = map_length (requests h) (function_numbers config) ∙ count_length 1 (length config.functions)
-
-numbered_at : {A : Type 0} (g : ℕ → A) (a n i : ℕ) (d : A) → i < n → get_or (map g (count_from a n)) i d ≡ g (a + i)
-numbered_at g a zero i d lt = absurd (omega (arith, lt))
-numbered_at g a (suc n) zero d lt = let same : a ≡ a + 0 = omega arith in ap g same
-numbered_at g a (suc n) (suc i) d lt = let same : suc a + i ≡ a + suc i = omega arith in numbered_at g (suc a) n i d (omega (arith, lt)) ∙ ap g same
-
-pub site_at : (config : Config) (h : List Entry) (e : ℕ) (d : Site) → 1 ≤ e → e ≤ length (owners config) → get_or (sites config h) (e - 1) d ≡ site config h e
-site_at config h e d low high = let same : 1 + (e - 1) ≡ e = omega (arith, low) in numbered_at (site config h) 1 (length (owners config)) (e - 1) d (omega (arith, low, high)) ∙ ap (site config h) same
-
-pub request_at : (config : Config) (h : List Entry) (f d : ℕ) → 1 ≤ f → f ≤ length config.functions → get_or (request_counts config h) (f - 1) d ≡ requests h f
-request_at config h f d low high = let same : 1 + (f - 1) ≡ f = omega (arith, low) in numbered_at (requests h) 1 (length config.functions) (f - 1) d (omega (arith, low, high)) ∙ ap (requests h) same
-
-pub requests_few : (h : List Entry) (f : ℕ) → requests h f ≤ length h
-requests_few h f = count_by-le-length (λ (entry : Entry). is_invoke_of f entry.call) h
-
--- an entry changes the environment that it concerns alone
-pub sites_after : (config : Config) (h : List Entry) (entry : Entry) (e : ℕ) → IsLegal config h → Follows config h entry → IsTaken entry.call → target entry.place entry.call ≡ Some e → 1 ≤ e → e ≤ length (owners config)
-    → sites config (entry ∷ h) ≡ set (sites config h) (e - 1) (site config (entry ∷ h) e)
-sites_after config h entry e l w taken at low high =
-    let same : 1 + (e - 1) ≡ e = omega (arith, low) in
-    sites_one config h entry (e - 1) l w taken (at ∙ ap (λ (n : ℕ). Some n) (sym same)) (omega (arith, low, high)) ∙ ap (λ (d : ℕ). set (sites config h) (e - 1) (site config (entry ∷ h) d)) same
-
--- an Invoke is counted for its function alone
-pub counts_after_invoke : (config : Config) (h : List Entry) (entry : Entry) (f : ℕ) (qualified : Bool) (trace : Option (List ℕ)) (body : List ℕ) → entry.call ≡ Invoke f qualified trace body → 1 ≤ f → f ≤ length config.functions
-    → request_counts config (entry ∷ h) ≡ set (request_counts config h) (f - 1) (requests h f + 1)
-counts_after_invoke config h entry f qualified trace body same low high =
-    let back : 1 + (f - 1) ≡ f = omega (arith, low) in
-    requests_of_invoke config h entry (f - 1) (rw same (this (1 + (f - 1)) back)) (λ g ne. rw same (other g (λ q. ne (q ∙ sym back)))) (omega (arith, low, high))
-    ∙ ap (λ (g : ℕ). set (request_counts config h) (f - 1) (suc (requests h g))) back
-    ∙ ap (set (request_counts config h) (f - 1)) (plus (requests h f))
+-- the first answer of a ticket stands, else what stood there
+noted_is : (answers : List (ℕ × Answer)) (g : ℕ → Option Answer) (m : ℕ) → All (λ a. a.0 < m) answers → noted answers (map g (count_from 0 m)) ≡ map (λ t. or_else (answer_in answers t) (g t)) (count_from 0 m)
+noted_is [] g m all = refl
+noted_is (a ∷ rest) g m all =
+    ap (λ xs. set xs a.0 (Some a.1)) (noted_is rest g m (λ i d lt. all (suc i) d (omega (arith, lt))))
+    ∙ ap (set (map (λ t. or_else (answer_in rest t) (g t)) (count_from 0 m)) a.0) here
+    ∙ sym (one_changes (λ t. or_else (answer_in (a ∷ rest) t) (g t)) (λ t. or_else (answer_in rest t) (g t)) 0 m a.0 (λ t ne. ap (λ (b : Bool). or_else (if b then Some a.1 else answer_in rest t) (g t)) (eqb-other a.0 t (other t ne))) (all 0 a (omega arith)))
   where
-    this : (g : ℕ) → g ≡ f → (f == g) ≡ true
-    this g q = grind (arith, nat_tests, q)
+    zero_plus : 0 + a.0 ≡ a.0
+    zero_plus = omega arith
 
-    other : (g : ℕ) → g ≢ f → (f == g) ≡ false
-    other g ne = grind (arith, nat_tests, ne)
+    here : Some a.1 ≡ or_else (answer_in (a ∷ rest) (0 + a.0)) (g (0 + a.0))
+    here = rw (zero_plus, eqb-self a.0) refl
 
-    plus : (n : ℕ) → suc n ≡ n + 1
-    plus n = omega arith
+    other : (t : ℕ) → t ≢ 0 + a.0 → a.0 ≢ t
+    other t ne same = ne (sym same ∙ sym zero_plus)
 
-named_within : (config : Config) (d e : ℕ) → (1 ≤ d) × (d ≤ length (owners config)) → Some d ≡ Some e → (1 ≤ e) × (e ≤ length (owners config))
-named_within config d e w r = let same : d ≡ e = cc in (omega (arith, same, w.0), omega (arith, same, w.1))
+-- the index after one more entry
+pub answered_next : (entry : Entry) (h : List Entry) → answer_of h (length h) ≡ None → All (λ a. a.0 ≤ length h) entry.answers → noted entry.answers (answered h ++ None ∷ []) ≡ answered (entry ∷ h)
+answered_next entry h fresh all =
+    ap (noted entry.answers) (ap (λ (o : Option Answer). answered h ++ o ∷ []) (sym fresh ∙ ap (answer_of h) (let z : length h ≡ 0 + length h = omega arith in z)) ∙ sym (count_more (answer_of h) 0 (length h)))
+    ∙ noted_is entry.answers (answer_of h) (length h + 1) (λ i d lt. omega (arith, all i d lt))
+    ∙ ap (λ n. map (answer_of (entry ∷ h)) (count_from 0 n)) (let one : length h + 1 ≡ suc (length h) = omega arith in one)
 
--- the environment that a call concerns is one that there is
-pub target_within : (config : Config) (h : List Entry) (call : Call) (place : Option ℕ) (e : ℕ) → IsTaken call → IsWithin config call → place ≡ place_for config h call → target place call ≡ Some e → (1 ≤ e) × (e ≤ length (owners config))
-target_within config h (Invoke f qualified trace body) None e t w p q = absurd (none-some q)
-target_within config h (Invoke f qualified trace body) (Some d) e t w p q =
-    let between = place_for_between config h (Invoke f qualified trace body) e (sym p ∙ q) in (omega (arith, between.0), omega (arith, between.1))
-target_within config h (RuntimeNext d) place e t w p q = named_within config d e w (rw p at q)
-target_within config h (Response d id body) place e t w p q = named_within config d e w (rw p at q)
-target_within config h Tick place e t w p q = absurd (none-some (rw p at q))
-target_within config h (Expire d) place e t w p q = named_within config d e w (rw p at q)
-target_within config h call place e t w p q = absurd t
+pub answered_length : (h : List Entry) → length (answered h) ≡ length h
+answered_length h = length-map (count_from 0 (length h)) (answer_of h) ∙ count_length 0 (length h)
 
-pub one_more : (h : List Entry) (entry : Entry) (f : ℕ) (qualified : Bool) (trace : Option (List ℕ)) (body : List ℕ) → entry.call ≡ Invoke f qualified trace body → requests (entry ∷ h) f ≡ requests h f + 1
-one_more h entry f qualified trace body same = requests_cons entry h f ∙ rw (same, eqb-self f) (omega arith)
+pub answered_at : (h : List Entry) (t : ℕ) (d : Option Answer) → t < length h → get_or (answered h) t d ≡ answer_of h t
+answered_at h t d lt = numbered_at (answer_of h) 0 (length h) t d lt ∙ ap (answer_of h) (let z : 0 + t ≡ t = omega arith in z)
+
+-- what stands at a ticket, and past the end
+pub given_some : (given : List (Option Answer)) (h : List Entry) (t : ℕ) (d : Option Answer) → given ≡ answered h → t < length given → get_or given t d ≡ answer_of h t
+given_some given h t d is lt = let long : length given ≡ length h = ap length is ∙ answered_length h in ap (λ (g : List (Option Answer)). get_or g t d) is ∙ answered_at h t d (omega (arith, lt, long))
+
+pub given_none : (given : List (Option Answer)) (h : List Entry) (t : ℕ) → given ≡ answered h → length given ≤ t → ((u : ℕ) → length h ≤ u → answer_of h u ≡ None) → answer_of h t ≡ None
+given_none given h t is le none = let long : length given ≡ length h = ap length is ∙ answered_length h in none t (omega (arith, le, long))

@@ -1,15 +1,22 @@
--- The answers of an entry, by the environment that it concerns.
-pub mod AnswersOfEntry
--- What is kept beside the entries: before any call, at a number, after one more entry.
 pub mod BeforeCalls
-pub mod Indexed
-pub mod AfterCall
-pub mod Quiet
-pub mod Here
--- What is asked of all environments: what is due, who is in flight, the place, the verdict.
-pub mod SitesMeet
-pub mod VerdictMeets
+pub mod Concerned
+pub mod EntryAnswers
+pub mod EntryMoves
+pub mod EntryExtent
 pub mod Expiring
+pub mod Extent
+pub mod FleetMeets
+pub mod Flown
+pub mod InForce
+pub mod Indexed
+pub mod LedgerKept
+pub mod Loops
+pub mod Merging
+pub mod Newly
+pub mod RequestCounts
+pub mod Verdicts
+pub mod Visiting
+pub mod Visits
 -- The room of the journal.
 pub mod RoomMeets
 -- A history's text is replayed to that history.

@@ -68,7 +68,7 @@ unfolding line_answered
 line_taken_is config salt max_entries h now call sound old t number =
     let small : moment_at h now ≤ greatest_moment = max-le t.timed.0 old in
     let limit = within_limit (call_text config (moment_at h now) call) (call_line_fits config (moment_at h now) call sound t.timed.1) in
-    rw (limit, call_not_skipped config (moment_at h now) call small t.timed.1, read_again config (moment_at h now) call sound small t.timed.1 t.bytes, t.known)
+    rw (limit, call_not_skipped config (moment_at h now) call small t.timed.1, read_again config (moment_at h now) call sound small t.timed.1 t.bytes)
     (ap (λ (r : Kept × List ℕ). going_on true (Ok r)) (answered_is config salt max_entries h now call t.room))
 
 -- ---- what it makes of all lines

@@ -3,8 +3,10 @@ use Rattle.std.specs.Prelude.{ℕ, List}
 use Rattle.arn_ids.specs.declared.config.Config.{Config}
 use Rattle.call_model.specs.declared.call.Entry.{Entry}
 
--- the configuration, the history, and how many entries it takes without taking memory
+-- the configuration, the history, how many entries it takes without taking memory, and the most extensions that any
+-- environment has had at once
 pub record Pages : Type 0 where
   pub config : Config
   pub history : List Entry
   pub room : ℕ
+  pub widest : ℕ

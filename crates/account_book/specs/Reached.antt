@@ -10,7 +10,6 @@ use Rattle.call_model.specs.Counts.{full}
 use Rattle.call_model.specs.Next.{next}
 use Rattle.script.specs.AnswerText.{body_of}
 use Rattle.script.specs.Limits.{IsTimed}
-use Rattle.account_book.specs.Run.{is_taken}
 
 -- a configuration, a salt and a greatest number of entries that a book can have
 pub record IsBooked (config : Config) (salt max_entries : ℕ) : Type 0 where
@@ -23,7 +22,6 @@ pub record IsBooked (config : Config) (salt max_entries : ℕ) : Type 0 where
 pub record IsTakenAfter (config : Config) (max_entries : ℕ) (h : List Entry) (now : ℕ) (call : Call) : Type 0 where
   pub timed : IsTimed config (now, call)
   pub bytes : All (λ b. b < 256) (body_of call)
-  pub known : is_taken call ≡ true
   pub room : full config max_entries h call ≡ false
 
 -- the history that calls lead to, each with the moment at which it is handed in; the newest call first, as in a history

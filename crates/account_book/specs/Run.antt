@@ -10,7 +10,6 @@ use Rattle.lambda_wire.specs.declared.setup.Setup.{Setup}
 use Rattle.lambda_wire.specs.declared.fault.WireFault.{WireFault}
 use Rattle.lambda_wire.specs.declared.fault.WireFault.TheVariants.{NotJson}
 use Rattle.call_model.specs.declared.call.Call.{Call}
-use Rattle.call_model.specs.declared.call.Call.TheVariants.{Invoke, RuntimeNext, Response, Tick}
 use Rattle.call_model.specs.declared.call.Entry.{Entry}
 use Rattle.call_model.specs.Counts.{full}
 use Rattle.call_model.specs.Next.{next, added}
@@ -21,14 +20,6 @@ use Rattle.account_book.specs.Book.{Kept}
 -- how many bytes a line may have, its ending not counted
 abbrev pub line_limit : ℕ
 line_limit = 20000000
-
--- the calls that a replay takes so far
-abbrev pub is_taken : Call → Bool
-is_taken (Invoke f qualified trace body) = true
-is_taken (RuntimeNext e) = true
-is_taken (Response e id body) = true
-is_taken Tick = true
-is_taken _ = false
 
 -- Why a replay ends before its input does: no account can have the configuration; its line isn't read; the line of a
 -- number stands for no call, or is too long.
@@ -86,10 +77,10 @@ answered book now call =
     if full book.config book.max_entries book.history call then (book, codes "refused JournalFull\n") else
     (record book { history = next book.config book.history now call }, added_lines book.salt book.history (added book.config book.history now call))
 
--- the same where a line stands for a call that is taken; else the line of this number is at fault
+-- the same where a line stands for a call; else the line of this number is at fault
 abbrev pub answered_if : ℕ → Kept → Option (ℕ × Call) → Result (Kept × List ℕ) ScriptFault
 answered_if number book None = Err (InLine number)
-answered_if number book (Some (now, call)) = if is_taken call then Ok (answered book now call) else Err (InLine number)
+answered_if number book (Some (now, call)) = Ok (answered book now call)
 
 -- What a book makes of a line; reserves says whether it may be a `reserve`.
 unfoldable pub line_answered : Bool → ℕ → Kept → List ℕ → Result (Kept × List ℕ) ScriptFault

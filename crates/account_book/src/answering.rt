@@ -1,37 +1,23 @@
 //! What a call makes of the lists that a journal keeps beside its entries.
 
-ghost use Rattle.std.specs.Prelude.{◌≡◌, ◌<◌, ◌^◌, [], length, reverse, Some, None};
-ghost use Rattle.call_model.specs.Answers.{answers as answers_to, own_first};
+ghost use Rattle.std.specs.Prelude.{◌≡◌, ◌<◌, ◌≤◌, ◌^◌, [], length, reverse, None};
+ghost use Rattle.arn_ids.specs.Environments.{owners};
+ghost use Rattle.call_model.specs.Answers.{answers as answers_to};
 ghost use Rattle.call_model.specs.Limits.{place_for};
 ghost use Rattle.call_model.specs.Next.{IsLegal, Follows, entry_of, entered};
-ghost use Rattle.account_book.specs.Taking.{IsTaken, AllTaken, IsWithin, target, sites as sites_in, request_counts};
+ghost use Rattle.concurrency_pool.specs.Meets.{numbers};
+ghost use Rattle.env_phase.specs.Taking.{registered_name};
 ghost use Rattle.script.specs.CallCounts.{request_count};
+ghost use Rattle.account_book.specs.Answering.{most_answers, in_force, IsInOrder};
+ghost use Rattle.account_book.specs.Fleets.{flown};
+ghost use Rattle.account_book.specs.Reaches.{book_answer, homed};
+ghost use Rattle.account_book.specs.Taking.{IsKnown, AllKnown, sites as sites_in, request_counts};
 
+use crate::fleet::{Fleet, Visit};
+use crate::reach::Reach;
 use crate::room::Roomy;
-use crate::site::Site;
-use arn_ids::{Checked, EnvNo};
+use arn_ids::{Checked, EnvNo, Text};
 use call_model::{Answer, Call, Entry, Ticket};
-use env_phase::Step;
-
-/// The environment that a call concerns: where it is placed, or that it names.
-fn target(place: Option<EnvNo>, call: &Call) -> Option<EnvNo>
-    requires { IsTaken call.now }
-    ensures { result ≡ target place call.now }
-{
-    if place.is_some() {
-        return place;
-    }
-    match call {
-        Call::RuntimeNext { env } => Some(*env),
-        Call::Response {
-            env,
-            id: _,
-            body: _,
-        } => Some(*env),
-        Call::Expire { env } => Some(*env),
-        _ => None,
-    }
-}
 
 /// Counts an Invoke for its function; gives the count in its request identifier, 0 for another call.
 pub fn count_call(
@@ -41,8 +27,7 @@ pub fn count_call(
     moment: u64,
     call: &Call,
 ) -> u64
-    requires taken { IsTaken call.now }
-    requires within { IsWithin config.now call.now }
+    requires known { IsKnown config.now call.now }
     requires short { length entries.now < 2 ^ 32 }
     requires counts { requests.old ≡ request_counts config.now (reverse entries.now) }
     ensures counts { requests.new ≡ request_counts config.now (entered config.now (reverse entries.now) moment call.now) }
@@ -64,44 +49,95 @@ pub fn count_call(
     }
 }
 
-/// Answers a call: what it makes of the environment that it concerns, or its own answer.
+/// Answers a call that is placed here or nowhere: with what it makes of the environments that it
+/// concerns, and with the book's own answer, where that has one. A Register comes with a copy of its
+/// name.
 pub fn answer_call(
     config: &Checked,
     entries: &[Entry],
-    sites: &mut [Site],
-    requests: &[u64],
-    moment: u64,
-    call: &Call,
+    fleet: &mut Fleet,
+    visit: Visit<'_>,
     place: Option<EnvNo>,
-    own: Answer,
+    own: Option<Answer>,
+    name: Option<Text>,
     answers: &mut Roomy<(Ticket, Answer)>,
 )
-    requires moment { moment < 2 ^ 53 }
+    requires moment { visit.moment < 2 ^ 53 }
     requires short { length entries.now < 2 ^ 32 }
+    requires ticket { visit.ticket ≡ length entries.now }
     requires legal { IsLegal config.now (reverse entries.now) }
-    requires all_taken { AllTaken (reverse entries.now) }
-    requires follows { Follows config.now (reverse entries.now) (entry_of config.now (reverse entries.now) moment call.now) }
-    requires taken { IsTaken call.now }
-    requires within { IsWithin config.now call.now }
-    requires placed { place ≡ place_for config.now (reverse entries.now) call.now }
-    requires own { target place call.now ≡ None → own_first config.now (reverse entries.now) call.now ≡ Some own }
-    requires sites { sites.old ≡ sites_in config.now (reverse entries.now) }
-    requires counts { requests.now ≡ request_counts config.now (entered config.now (reverse entries.now) moment call.now) }
-    requires room { answers.old ≡ ([], 4) }
-    ensures sites { sites.new ≡ sites_in config.now (entered config.now (reverse entries.now) moment call.now) }
-    ensures answers { answers.new.0 ≡ answers_to config.now (reverse entries.now) moment call.now }
+    requires all_known { AllKnown config.now (reverse entries.now) }
+    requires follows { Follows config.now (reverse entries.now) (entry_of config.now (reverse entries.now) visit.moment visit.call.now) }
+    requires known { IsKnown config.now visit.call.now }
+    requires placed { place ≡ place_for config.now (reverse entries.now) visit.call.now }
+    requires own { own ≡ book_answer config.now (reverse entries.now) visit.call.now }
+    requires named { name ≡ registered_name visit.call.now }
+    requires sites { fleet.old.sites ≡ sites_in config.now (reverse entries.now) }
+    requires pool { fleet.old.pool ≡ numbers config.now (reverse entries.now) }
+    requires counts { visit.requests.now ≡ request_counts config.now (entered config.now (reverse entries.now) visit.moment visit.call.now) }
+    requires room { most_answers fleet.old.widest (length (owners config.now)) visit.call.now ≤ answers.old.1 }
+    requires empty { answers.old.0 ≡ [] }
+    ensures sites { fleet.new.sites ≡ sites_in config.now (entered config.now (reverse entries.now) visit.entry.moment visit.entry.call.now) }
+    ensures pool { fleet.new.pool ≡ numbers config.now (entered config.now (reverse entries.now) visit.entry.moment visit.entry.call.now) }
+    ensures widest { registered_name visit.entry.call.now ≡ None → fleet.new.widest ≡ fleet.old.widest }
+    ensures answers { answers.new.0 ≡ answers_to config.now (reverse entries.now) visit.entry.moment visit.entry.call.now }
 {
-    let ticket = entries.len() as u64;
-    match target(place, call) {
-        None => answers.push((ticket, own)),
-        Some(env) => {
-            let site = &mut sites[(env - 1) as usize];
-            let step = Step {
-                ticket,
-                now: moment,
-                count: requests[(site.function - 1) as usize],
-            };
-            site.take(step, call, answers);
+    visit_environments(config, entries, fleet, visit, place, name, answers);
+    put_in_force(fleet, visit.call, own);
+    if let Some(own) = own {
+        answers.push((visit.ticket, own));
+    }
+}
+
+/// Hands a call to the environments that it concerns.
+fn visit_environments(
+    config: &Checked,
+    entries: &[Entry],
+    fleet: &mut Fleet,
+    visit: Visit<'_>,
+    place: Option<EnvNo>,
+    name: Option<Text>,
+    answers: &mut Roomy<(Ticket, Answer)>,
+)
+    requires moment { visit.moment < 2 ^ 53 }
+    requires short { length entries.now < 2 ^ 32 }
+    requires ticket { visit.ticket ≡ length entries.now }
+    requires legal { IsLegal config.now (reverse entries.now) }
+    requires all_known { AllKnown config.now (reverse entries.now) }
+    requires follows { Follows config.now (reverse entries.now) (entry_of config.now (reverse entries.now) visit.moment visit.call.now) }
+    requires known { IsKnown config.now visit.call.now }
+    requires placed { place ≡ place_for config.now (reverse entries.now) visit.call.now }
+    requires named { name ≡ registered_name visit.call.now }
+    requires sites { fleet.old.sites ≡ sites_in config.now (reverse entries.now) }
+    requires pool { fleet.old.pool ≡ numbers config.now (reverse entries.now) }
+    requires counts { visit.requests.now ≡ request_counts config.now (entered config.now (reverse entries.now) visit.moment visit.call.now) }
+    requires room { most_answers fleet.old.widest (length (owners config.now)) visit.call.now ≤ answers.old.1 }
+    requires empty { answers.old.0 ≡ [] }
+    ensures sites { fleet.new.sites ≡ sites_in config.now (entered config.now (reverse entries.now) visit.entry.moment visit.entry.call.now) }
+    ensures pool { fleet.new.pool ≡ flown fleet.new.sites fleet.old.pool }
+    ensures widest { registered_name visit.entry.call.now ≡ None → fleet.new.widest ≡ fleet.old.widest }
+    ensures answers { answers.new.0 ≡ homed (reverse entries.now) (entry_of config.now (reverse entries.now) visit.entry.moment visit.entry.call.now) }
+    ensures room { 0 < answers.new.1 }
+{
+    fleet.facts();
+    match Reach::of(entries, place, visit.call) {
+        Reach::Nowhere => {}
+        Reach::At(env) => fleet.take_at(env, visit, name, answers),
+        Reach::Everywhere => fleet.take_all(visit, answers),
+    }
+}
+
+/// Puts the reservation of a Reserve in force that is taken.
+fn put_in_force(fleet: &mut Fleet, call: &Call, own: Option<Answer>)
+    requires { IsInOrder fleet.old.pool call.now own }
+    ensures { fleet.new ≡ record fleet.old { pool = in_force call.now own fleet.old.pool } }
+{
+    if let Call::Reserve { function, count } = call {
+        match own {
+            Some(Answer::Reserved { count: _ } | Answer::Unreserved) => {
+                fleet.reserve(*function, *count);
+            }
+            _ => {}
         }
     }
 }

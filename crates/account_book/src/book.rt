@@ -1,22 +1,32 @@
 //! The book of an account: what callers hand their calls to.
 
-ghost use Rattle.std.specs.Prelude.{◌≡◌, ◌+◌, ◌<◌, ◌≤◌, ◌^◌, ◌↔◌, [], ◌∷◌, length, reverse, All, IfOk, IfErr, Err, Some, None, true, false, slice_get, slice_index_or, option_map, MatchOption};
-ghost use Rattle.arn_ids.specs.Environments.{owners, environments};
-ghost use Rattle.call_model.specs.Counts.{full};
-ghost use Rattle.call_model.specs.History.{is_expiry, answer_of, answer_in};
-ghost use Rattle.call_model.specs.Next.{IsLegal, next};
+ghost use Rattle.std.specs.Prelude.{◌≡◌, ◌+◌, ◌<◌, ◌≤◌, ◌^◌, ◌↔◌, [], length, reverse, All, IfOk, IfErr, Err, Some, None, true, false, is_some, slice_get, slice_index_or, option_map, MatchOption};
+ghost use Rattle.arn_ids.specs.Environments.{owners};
+ghost use Rattle.arn_ids.specs.Faults.{first_fault};
+ghost use Rattle.call_model.specs.declared.call.Call.TheVariants.{Stop};
 ghost use Rattle.call_model.specs.declared.call.Entry.{Entry};
-ghost use Rattle.script.specs.AnswerText.{entry_text};
-ghost use Rattle.account_book.specs.Room.{wanted};
-ghost use Rattle.account_book.specs.Taking.{IsTaken, AllTaken, IsWithin};
+ghost use Rattle.call_model.specs.Counts.{full, stats};
+ghost use Rattle.call_model.specs.History.{answer_of, stopped};
+ghost use Rattle.call_model.specs.Limits.{reservation};
+ghost use Rattle.call_model.specs.Next.{IsLegal, next, due};
+ghost use Rattle.deadlines.specs.Due.{first};
+ghost use Rattle.env_phase.specs.Taking.{registered_name};
+ghost use Rattle.script.specs.AnswerText.{body_of, entry_text};
 ghost use Rattle.script.specs.CallCounts.{call_counts};
-ghost use Rattle.account_book.specs.declared.book.Refusal.TheVariants.{JournalFull, OutOfMemory};
+ghost use Rattle.script.specs.Limits.{IsWithin};
+ghost use Rattle.account_book.specs.Answering.{most_answers};
+ghost use Rattle.account_book.specs.Books.{life};
+ghost use Rattle.account_book.specs.HistoryText.{opening_text};
+ghost use Rattle.account_book.specs.Reached.{IsReached};
+ghost use Rattle.account_book.specs.Room.{wanted};
 ghost use Rattle.account_book.specs.declared.book.OpenFault.TheVariants.{EntriesOutOfRange, OutOfMemory as NoMemory};
+ghost use Rattle.account_book.specs.declared.book.Refusal.TheVariants.{JournalFull, OutOfMemory};
 
+use crate::history_text::opening_text;
 use crate::journal::Journal;
 use crate::room::Roomy;
-use arn_ids::Checked;
-use call_model::{Answer, Call, Entry, Ticket};
+use arn_ids::{Checked, FnNo, Text};
+use call_model::{Answer, Call, Entry, Stats, Ticket};
 use script::push_entry;
 use std::alloc::{AllocError, Global};
 use std::marker::Model;
@@ -60,8 +70,16 @@ impl From<AllocError> for Refusal {
     }
 }
 
-/// How many answers an entry has at most, while no extension registers.
-const MOST_ANSWERS: usize = 4;
+/// How far a service has come to its end.
+#[derive(Clone, Copy, Debug, PartialEq, Eq)]
+pub enum Life {
+    /// It was not stopped.
+    Open,
+    /// It was stopped, and some environment is not shut down yet.
+    Stopping,
+    /// It was stopped, and every environment is shut down.
+    Off,
+}
 
 /// The journal of one account. Its history is a legal one: each entry has the answers, the place
 /// and the moment that the entries before it and its call determine.
@@ -74,27 +92,76 @@ pub struct Book {
 }
 
 impl Model for Book {
-    ghost use Rattle.std.specs.Prelude.{◌+◌, ◌≤◌, ◌^◌, length};
-    ghost use Rattle.arn_ids.specs.Environments.{owners};
     ghost use Rattle.account_book.specs.Book.{Kept};
+    ghost use Rattle.account_book.specs.Books.{kept, IsBook};
 
     ghost Value = { Kept };
 
-    ghost view = { λ b. record { config = b.journal.config; salt = b.salt; max_entries = b.max_entries; history = b.journal.history } };
+    ghost view = { kept };
 
-    ghost invariant = { λ b. (length (owners b.journal.config) + 1 ≤ b.max_entries) × (b.max_entries ≤ 2 ^ 32) };
+    ghost invariant = { IsBook };
 }
 
 /// Room for the answers of so many entries.
-fn make_rooms(alloc: Global, entries: usize) -> Result<Vec<Roomy<(Ticket, Answer)>>, AllocError>
+fn make_rooms(
+    alloc: Global,
+    entries: usize,
+    answers: usize,
+) -> Result<Vec<Roomy<(Ticket, Answer)>>, AllocError>
     ensures as_many { IfOk result (λ rooms. length rooms.items ≡ entries) }
-    ensures empty { IfOk result (λ rooms. All (λ room. room ≡ ([], 4)) rooms.items) }
+    ensures enough { IfOk result (λ rooms. All (λ room. room ≡ ([], answers)) rooms.items) }
 {
     let mut rooms = Vec::with_capacity(alloc, entries)?;
     for _entry in 0..entries {
-        rooms.push(Roomy::with_room(alloc, MOST_ANSWERS)?)?;
+        rooms.push(Roomy::with_room(alloc, answers)?)?;
     }
     Ok(rooms)
+}
+
+/// For how many answers a call wants room.
+fn answers_wanted(widest: usize, environments: u64, call: &Call) -> usize
+    requires few { environments ≤ 256 }
+    requires ten { widest ≤ 10 }
+    ensures { result ≡ most_answers widest environments call.now }
+{
+    if matches!(call, Call::Stop) {
+        24 * environments as usize + 1
+    } else {
+        2 * widest + 5
+    }
+}
+
+/// What bytes are: numbers below 256.
+fn bytes_fit(bytes: &[u8])
+    ensures { All (λ b. b < 256) bytes.now }
+{}
+
+/// The same of a call's payload, output or report.
+fn body_fits(call: &Call)
+    ensures { All (λ b. b < 256) (body_of call.now) }
+{
+    match call {
+        Call::Invoke { body, .. } => bytes_fit(body.as_slice()),
+        Call::Response { body, .. } => bytes_fit(body.as_slice()),
+        Call::Failure { body, .. } => bytes_fit(body.as_slice()),
+        Call::InitFailure { body, .. } => bytes_fit(body.as_slice()),
+        Call::ExtInitFailure { body, .. } => bytes_fit(body.as_slice()),
+        Call::ExtExitFailure { body, .. } => bytes_fit(body.as_slice()),
+        _ => {}
+    }
+}
+
+/// A copy of the name that a Register brings.
+fn copied_name(alloc: Global, call: &Call) -> Result<Option<Text>, AllocError>
+    ensures { IfOk result (λ name. name ≡ registered_name call.now) }
+{
+    match call {
+        Call::Register { name, .. } => {
+            let copy = String::from_str(alloc, name.as_str())?;
+            Ok(Some(Text::new(copy)))
+        }
+        _ => Ok(None),
+    }
 }
 
 /// For how many entries a call wants room.
@@ -137,8 +204,6 @@ impl Book {
     /// number, each with an entry of its own; then the call is taken. Gives the call's ticket.
     pub fn apply(&mut self, now: u64, call: Call) -> Result<Ticket, Refusal>
         requires moment { now < 2 ^ 53 }
-        requires taken { IsTaken call }
-        requires called { is_expiry call ≡ false }
         requires within { IsWithin self.old.config call }
         ensures full { (result ≡ Err JournalFull) ↔ (full self.old.config self.old.max_entries self.old.history call ≡ true) }
         ensures step { IfOk result (λ ticket. self.new ≡ record self.old { history = next self.old.config self.old.history now call }) }
@@ -154,8 +219,6 @@ impl Book {
     /// Takes a call for which there is room in the journal.
     fn take(&mut self, now: u64, call: Call) -> Result<Ticket, AllocError>
         requires moment { now < 2 ^ 53 }
-        requires taken { IsTaken call }
-        requires called { is_expiry call ≡ false }
         requires within { IsWithin self.old.config call }
         requires free { full self.old.config self.old.max_entries self.old.history call ≡ false }
         ensures step { IfOk result (λ ticket. self.new ≡ record self.old { history = next self.old.config self.old.history now call }) }
@@ -163,12 +226,16 @@ impl Book {
         ensures refused { IfErr result (λ refusal. self.new ≡ self.old) }
     {
         self.journal.facts();
+        body_fits(&call);
         let moment = now.max(self.journal.last_moment());
-        let rooms = make_rooms(self.alloc, self.journal.count_due(moment))?;
-        let answers = Roomy::with_room(self.alloc, MOST_ANSWERS)?;
+        let widest = self.journal.widest();
+        let rooms = make_rooms(self.alloc, self.journal.count_due(moment), 2 * widest + 5)?;
+        let wanted = answers_wanted(widest, self.journal.environments(), &call);
+        let answers = Roomy::with_room(self.alloc, wanted)?;
+        let name = copied_name(self.alloc, &call)?;
         self.journal.make_room(rooms.len() + 1)?;
         self.journal.expire_due(moment, rooms);
-        self.journal.take(moment, call, answers);
+        self.journal.take(moment, call, name, answers);
         Ok(self.journal.entries().len() as u64 - 1)
     }
 
@@ -213,7 +280,53 @@ impl Book {
     pub fn answer(&self, ticket: Ticket) -> Option<Answer>
         ensures { result ≡ answer_of self.now.history ticket }
     {
-        answer_among(self.journal.entries(), ticket)
+        self.journal.answer(ticket)
+    }
+
+    /// The counts of the account.
+    pub fn stats(&self) -> Stats
+        ensures { result ≡ stats self.now.config self.now.history }
+    {
+        self.journal.stats()
+    }
+
+    /// Whether an environment is due at a moment in milliseconds.
+    pub fn due(&self, now: u64) -> bool
+        ensures { result ≡ is_some (first (due self.now.config self.now.history now)) }
+    {
+        self.journal.first_due(now).is_some()
+    }
+
+    /// How far the service has come to its end.
+    pub fn life(&self) -> Life
+        ensures { result ≡ life self.now.config self.now.history }
+    {
+        if !self.journal.is_stopped() {
+            Life::Open
+        } else if self.journal.is_off() {
+            Life::Off
+        } else {
+            Life::Stopping
+        }
+    }
+
+    /// A function's reservation in force, none where it has none.
+    /// (GetFunctionConcurrency)
+    pub fn reservation(&self, function: FnNo) -> Option<u32>
+        requires from_one { 1 ≤ function }
+        requires there { function ≤ length self.now.config.functions }
+        ensures { result ≡ reservation self.now.config self.now.history function }
+    {
+        self.journal.reservation(function)
+    }
+
+    /// The text of the history before its first entry: the line of form 2, and that of the
+    /// configuration. With the texts of the entries behind it, the oldest first, it is a script that
+    /// replays to the history's own answers.
+    pub fn opening(&self) -> Result<Vec<u8>, AllocError>
+        ensures { IfOk result (λ text. text.items ≡ opening_text self.now.config self.now.salt self.now.max_entries) }
+    {
+        opening_text(self.alloc, self.journal.config(), self.salt, self.max_entries)
     }
 
     /// The history text of the entry with a ticket: its call's line, and its answer lines behind
@@ -252,37 +365,14 @@ impl Book {
         self.salt
     }
 
-    /// What the history of every book is: a legal one.
+    /// What the history of every book is: one that calls led to, each of which the book takes; so it
+    /// is a legal one. And there is always room for a first Stop.
     pub fn facts(&self)
+        ensures sound { first_fault self.now.config ≡ None }
+        ensures reached { IsReached self.now.config self.now.max_entries self.now.history }
         ensures legal { IsLegal self.now.config self.now.history }
-        ensures all_taken { AllTaken self.now.history }
+        ensures stop { stopped self.now.history ≡ false → full self.now.config self.now.max_entries self.now.history Stop ≡ false }
     {
         self.journal.facts();
     }
-}
-
-/// The answer that the entries have for a ticket.
-fn answer_among(entries: &[Entry], ticket: Ticket) -> Option<Answer>
-    ensures { result ≡ answer_of (reverse entries.now) ticket }
-{
-    let mut found = None;
-    for entry in entries {
-        let here = answer_in(entry.answers.as_slice(), ticket);
-        if here.is_some() {
-            found = here;
-        }
-    }
-    found
-}
-
-/// The answer that the pairs have for a ticket.
-fn answer_in(pairs: &[(Ticket, Answer)], ticket: Ticket) -> Option<Answer>
-    ensures { result ≡ answer_in pairs.now ticket }
-{
-    for (number, answer) in pairs {
-        if *number == ticket {
-            return Some(*answer);
-        }
-    }
-    None
 }

@@ -1,105 +1,90 @@
 //! The history of an account, with what is known of it.
 
-ghost use Rattle.std.specs.Prelude.{◌≡◌, ◌+◌, ◌-◌, ◌<◌, ◌≤◌, ◌^◌, [], ℕ, length, reverse, Some, None, IfOk, OnOk, All, MatchResult, false};
-ghost use Rattle.arn_ids.specs.Environments.{owners};
-ghost use Rattle.call_model.specs.declared.answer.Answer.TheVariants.{Done, Throttled};
+ghost use Rattle.std.specs.Prelude.{◌≡◌, ◌+◌, ◌-◌, ◌<◌, ◌≤◌, ◌^◌, [], ℕ, length, reverse, Some, None, IfOk, OnOk, All, false, if◌then◌else◌};
+ghost use Rattle.std.specs.List.{list_all};
+ghost use Rattle.arn_ids.specs.Environments.{owners, environments};
+ghost use Rattle.arn_ids.specs.Faults.{first_fault};
+ghost use Rattle.call_model.specs.declared.answer.Answer.TheVariants.{Stopped};
 ghost use Rattle.call_model.specs.declared.call.Call.TheVariants.{Expire};
-ghost use Rattle.call_model.specs.Answers.{own_first};
-ghost use Rattle.call_model.specs.History.{is_expiry};
-ghost use Rattle.call_model.specs.Limits.{place_for, verdict, Admits, Refuses};
+ghost use Rattle.call_model.specs.Answers.{reserve_answer, verdict_answer};
+ghost use Rattle.call_model.specs.Counts.{stats};
+ghost use Rattle.call_model.specs.History.{answer_of, is_expiry, stopped};
+ghost use Rattle.call_model.specs.Life.{phase};
+ghost use Rattle.call_model.specs.Limits.{place_for, reservation, verdict, admitted_to};
 ghost use Rattle.call_model.specs.Next.{IsLegal, Follows, entry_of, entered, due, last_moment, expired};
-ghost use Rattle.account_book.specs.Sites.{first, first_or_0};
-ghost use Rattle.account_book.specs.Taking.{IsTaken, AllTaken, IsWithin, target};
+ghost use Rattle.deadlines.specs.Due.{first};
+ghost use Rattle.env_phase.specs.Taking.{registered_name, is_off};
 ghost use Rattle.script.specs.CallCounts.{call_counts};
+ghost use Rattle.script.specs.Limits.{IsWithin};
+ghost use Rattle.account_book.specs.Answering.{most_answers, first_or_0, IsRoom};
+ghost use Rattle.account_book.specs.Reaches.{book_answer};
+ghost use Rattle.account_book.specs.Taking.{IsKnown, AllKnown};
 
-use crate::admission::admitted;
 use crate::answering::{answer_call, count_call};
-use crate::opening::{open_counts, open_sites};
+use crate::fleet::{Fleet, Visit};
+use crate::ledger::Ledger;
+use crate::opening::open_counts;
 use crate::room::Roomy;
-use crate::site::{Site, count_due, first_due};
-use arn_ids::{Checked, EnvNo, FnNo};
-use call_model::{Answer, Answers, Call, Entry, Throttle, Ticket};
+use arn_ids::{Checked, EnvNo, FnNo, Text};
+use call_model::{Answer, Call, Entry, Refusal, Stats, Ticket};
 use std::alloc::{AllocError, Global};
 use std::marker::Model;
 
-/// The history with what is known of it: how each environment stands, and how many Invokes each
-/// function has had. Room for an entry is made beforehand.
+/// The history with what is known of it. Room for an entry is made beforehand.
 #[derive(Debug, Drop)]
 pub struct Journal {
     config: Checked,
-    sites: Vec<Site>,
+    fleet: Fleet,
+    /// How many Invokes each function has had.
     requests: Vec<u64>,
-    entries: Roomy<Entry>,
-    counts: Roomy<u64>,
+    ledger: Ledger,
 }
 
 impl Model for Journal {
     ghost use Rattle.account_book.specs.Pages.{Pages};
+    ghost use Rattle.account_book.specs.Journals.{pages, IsJournal};
 
     ghost Value = { Pages };
-
-    ghost use Rattle.account_book.specs.Journals.{pages, IsJournal};
 
     ghost view = { pages };
 
     ghost invariant = { IsJournal };
 }
 
-impl Journal {
-    /// Takes a call whose place and own answer are known, as the next entry.
-    pub fn enter(
-        &mut self,
-        moment: u64,
-        call: Call,
-        place: Option<EnvNo>,
-        own: Answer,
-        answers: Roomy<(Ticket, Answer)>,
-    )
-        requires moment { moment < 2 ^ 53 }
-        requires follows { Follows self.old.config self.old.history (entry_of self.old.config self.old.history moment call) }
-        requires taken { IsTaken call }
-        requires within { IsWithin self.old.config call }
-        requires placed { place ≡ place_for self.old.config self.old.history call }
-        requires own { target place call ≡ None → own_first self.old.config self.old.history call ≡ Some own }
-        requires room { 0 < self.old.room }
-        requires empty { answers ≡ ([], 4) }
-        ensures { self.new ≡ record { config = self.old.config; history = entered self.old.config self.old.history moment call; room = self.old.room - 1 } }
-    {
-        let mut answers = answers;
-        let entries = self.entries.as_slice();
-        let count = count_call(&self.config, entries, &mut self.requests, moment, &call);
-        answer_call(
-            &self.config,
-            entries,
-            &mut self.sites,
-            &self.requests,
-            moment,
-            &call,
-            place,
-            own,
-            &mut answers,
-        );
-        self.counts.push(count);
-        self.entries.push(Entry {
-            moment,
-            call,
-            answers: Answers::new(answers.into_vec()),
-            place,
-        });
-    }
+/// What an account says to a call: where it is placed, and its own answer, where the call names no
+/// environment.
+#[derive(Clone, Copy, Debug)]
+pub struct Verdict {
+    /// Where an admitted Invoke goes.
+    pub place: Option<EnvNo>,
+    /// The answer to the call itself.
+    pub own: Option<Answer>,
+}
 
+impl Verdict {
+    /// A call that is placed nowhere, with its own answer.
+    fn own(answer: Answer) -> Verdict
+        ensures { result ≡ record { place = None; own = Some answer } }
+    {
+        Verdict {
+            place: None,
+            own: Some(answer),
+        }
+    }
+}
+
+impl Journal {
     /// An empty journal.
     pub fn open(alloc: Global, config: Checked) -> Result<Journal, AllocError>
-        ensures { IfOk result (λ j. j ≡ record { config = config; history = []; room = 0 }) }
+        ensures { IfOk result (λ j. j ≡ record { config = config; history = []; room = 0; widest = 0 }) }
     {
         let requests = open_counts(alloc, config.functions())?;
-        let sites = open_sites(alloc, &config)?;
+        let fleet = Fleet::open(alloc, &config)?;
         Ok(Journal {
             config,
-            sites,
+            fleet,
             requests,
-            entries: Roomy::new(alloc),
-            counts: Roomy::new(alloc),
+            ledger: Ledger::new(alloc),
         })
     }
 
@@ -115,14 +100,58 @@ impl Journal {
         ensures value { result.now ≡ reverse self.now.history }
         ensures few { length self.now.history ≤ 2 ^ 32 }
     {
-        self.entries.as_slice()
+        self.ledger.entries()
     }
 
     /// For each entry the count in its request identifier, 0 where its call is no Invoke.
     pub fn counts(&self) -> &[u64]
         ensures { reverse result.now ≡ call_counts self.now.history }
     {
-        self.counts.as_slice()
+        self.ledger.counts()
+    }
+
+    /// The answer to a ticket; none where nothing was answered.
+    pub fn answer(&self, ticket: Ticket) -> Option<Answer>
+        ensures { result ≡ answer_of self.now.history ticket }
+    {
+        self.ledger.answer(ticket)
+    }
+
+    /// The counts of the account.
+    pub fn stats(&self) -> Stats
+        ensures { result ≡ stats self.now.config self.now.history }
+    {
+        let totals = self.ledger.totals();
+        Stats {
+            entries: self.ledger.entries().len() as u64,
+            admitted: totals.admitted,
+            throttled: totals.throttled,
+            failed: totals.failed,
+            in_flight: self.fleet.in_flight(),
+        }
+    }
+
+    /// Whether the service was stopped.
+    pub fn is_stopped(&self) -> bool
+        ensures { result ≡ stopped self.now.history }
+    {
+        self.ledger.is_stopped()
+    }
+
+    /// Whether every environment is shut down for good.
+    pub fn is_off(&self) -> bool
+        ensures { result ≡ list_all (λ e. is_off (phase self.now.config self.now.history e)) (environments self.now.config) }
+    {
+        self.fleet.is_off()
+    }
+
+    /// A function's reservation in force.
+    pub fn reservation(&self, function: FnNo) -> Option<u32>
+        requires from_one { 1 ≤ function }
+        requires there { function ≤ length self.now.config.functions }
+        ensures { result ≡ reservation self.now.config self.now.history function }
+    {
+        self.fleet.reservation(function)
     }
 
     /// The greatest moment so far, in milliseconds.
@@ -130,7 +159,7 @@ impl Journal {
         ensures value { result ≡ last_moment self.now.history }
         ensures early { result < 2 ^ 53 }
     {
-        match self.entries.as_slice().last() {
+        match self.ledger.entries().last() {
             None => 0,
             Some(entry) => entry.moment,
         }
@@ -141,105 +170,176 @@ impl Journal {
         ensures value { result ≡ length (owners self.now.config) }
         ensures few { result ≤ 256 }
     {
-        u64::from(self.config.environments())
+        u64::from(self.fleet.environments())
+    }
+
+    /// The most extensions that any environment has had at once.
+    pub fn widest(&self) -> usize
+        ensures value { result ≡ self.now.widest }
+        ensures ten { result ≤ 10 }
+    {
+        self.fleet.widest()
     }
 
     /// What a journal's history always is.
     pub fn facts(&self)
+        ensures sound { first_fault self.now.config ≡ None }
         ensures legal { IsLegal self.now.config self.now.history }
-        ensures all_taken { AllTaken self.now.history }
+        ensures all_known { AllKnown self.now.config self.now.history }
     {
-        let _known = &self.sites;
+        let _known = &self.requests;
     }
 
     /// Makes room for this many entries; a refusal leaves the history.
     pub fn make_room(&mut self, entries: usize) -> Result<(), AllocError>
         requires { length self.old.history + entries ≤ 2 ^ 32 }
-        ensures same { (self.new.config ≡ self.old.config) × (self.new.history ≡ self.old.history) }
+        ensures same { (self.new.config ≡ self.old.config) × (self.new.history ≡ self.old.history) × (self.new.widest ≡ self.old.widest) }
         ensures made { OnOk result (self.new.room ≡ entries) }
     {
-        self.entries.make_room(entries)?;
-        let made = self.counts.make_room(entries);
-        if made.is_err() {
-            self.entries.give_up_room();
-            self.counts.give_up_room();
-        }
-        made
+        self.ledger.make_room(entries)
     }
 
     /// How many environments are due.
     pub fn count_due(&self, moment: u64) -> usize
-        ensures { result ≡ length (due self.now.config self.now.history moment) }
+        ensures value { result ≡ length (due self.now.config self.now.history moment) }
+        ensures few { result ≤ 256 }
     {
-        count_due(&self.sites, moment)
+        self.fleet.count_due(moment)
     }
 
     /// The environment that is due first, by deadline and number.
     pub fn first_due(&self, moment: u64) -> Option<EnvNo>
         ensures { result ≡ first (due self.now.config self.now.history moment) }
     {
-        match first_due(&self.sites, moment) {
-            None => None,
-            Some((_deadline, env)) => Some(env),
-        }
+        self.fleet.first_due(moment)
     }
 
-    /// Whether an Invoke of a function is admitted, and where; else why it is not.
-    /// (Invoke: TooManyRequestsException)
-    pub fn admit(&self, function: FnNo) -> Result<EnvNo, Throttle>
-        requires low { 1 ≤ function }
-        requires high { function ≤ length self.now.config.functions }
-        ensures { MatchResult result (λ e. verdict self.now.config self.now.history function ≡ Admits e) (λ reason. verdict self.now.config self.now.history function ≡ Refuses reason) }
-    {
-        admitted(&self.config, &self.sites, function)
-    }
-
-    /// Takes a call at a moment at which nothing is due.
-    pub fn take(&mut self, moment: u64, call: Call, answers: Roomy<(Ticket, Answer)>)
+    /// Takes a call at a moment at which nothing is due, with a copy of the name that a Register
+    /// brings and room for its answers.
+    pub fn take(
+        &mut self,
+        moment: u64,
+        call: Call,
+        name: Option<Text>,
+        answers: Roomy<(Ticket, Answer)>,
+    )
         requires moment { moment < 2 ^ 53 }
         requires later { last_moment self.old.history ≤ moment }
         requires none_due { due self.old.config self.old.history moment ≡ [] }
-        requires taken { IsTaken call }
         requires called { is_expiry call ≡ false }
         requires within { IsWithin self.old.config call }
+        requires named { name ≡ registered_name call }
         requires room { 0 < self.old.room }
-        requires empty { answers ≡ ([], 4) }
-        ensures { self.new ≡ record { config = self.old.config; history = entered self.old.config self.old.history moment call; room = self.old.room - 1 } }
+        requires answers { most_answers self.old.widest (length (owners self.old.config)) call ≤ answers.1 }
+        requires empty { answers.0 ≡ [] }
+        ensures config { self.new.config ≡ self.old.config }
+        ensures history { self.new.history ≡ entered self.old.config self.old.history moment call }
     {
-        match self.place(&call) {
-            Ok(place) => self.enter(moment, call, place, Answer::Done, answers),
-            Err(reason) => self.enter(moment, call, None, Answer::Throttled(reason), answers),
+        let verdict = self.verdict(&call);
+        self.enter(moment, call, verdict, name, answers);
+    }
+
+    /// What the account says to a call.
+    #[tactic(auto, unfolding(call_model::specs::Answers::own_first))]
+    fn verdict(&self, call: &Call) -> Verdict
+        requires called { is_expiry call.now ≡ false }
+        requires within { IsWithin self.now.config call.now }
+        ensures placed { result.place ≡ place_for self.now.config self.now.history call.now }
+        ensures own { result.own ≡ book_answer self.now.config self.now.history call.now }
+    {
+        match call {
+            Call::Invoke { function, .. } => self.admit(*function),
+            Call::Tick | Call::Withdraw { ticket: _ } => Verdict::own(Answer::Done),
+            Call::Stop => Verdict::own(Answer::Accepted),
+            Call::Reserve { function, count } => Verdict::own(self.reserve(*function, *count)),
+            _ => Verdict {
+                place: None,
+                own: None,
+            },
         }
     }
 
-    /// Where a call is placed: an Invoke where it is admitted, another call nowhere.
-    #[tactic(auto, unfolding(call_model::specs::Answers::own_first))]
-    fn place(&self, call: &Call) -> Result<Option<EnvNo>, Throttle>
-        requires taken { IsTaken call.now }
-        requires within { IsWithin self.now.config call.now }
-        ensures placed { MatchResult result (λ place. place ≡ place_for self.now.config self.now.history call.now) (λ reason. place_for self.now.config self.now.history call.now ≡ None) }
-        ensures own { MatchResult result (λ place. is_expiry call.now ≡ false → target place call.now ≡ None → own_first self.now.config self.now.history call.now ≡ Some Done) (λ reason. own_first self.now.config self.now.history call.now ≡ Some (Throttled reason)) }
+    /// Whether an Invoke is admitted, and where; else why not.
+    /// (Invoke: TooManyRequestsException, ServiceException)
+    fn admit(&self, function: FnNo) -> Verdict
+        requires from_one { 1 ≤ function }
+        requires there { function ≤ length self.now.config.functions }
+        ensures placed { result.place ≡ admitted_to (verdict self.now.config self.now.history function) }
+        ensures own { result.own ≡ verdict_answer (verdict self.now.config self.now.history function) }
     {
-        match call {
-            Call::Invoke {
-                function,
-                qualified: _,
-                trace: _,
-                body: _,
-            } => match self.admit(*function) {
-                Ok(env) => Ok(Some(env)),
-                Err(reason) => Err(reason),
-            },
-            Call::RuntimeNext { env: _ } => Ok(None),
-            Call::Response {
-                env: _,
-                id: _,
-                body: _,
-            } => Ok(None),
-            Call::Expire { env: _ } => Ok(None),
-            Call::Tick => Ok(None),
-            _ => unreachable!(),
+        if self.ledger.is_stopped() {
+            return Verdict::own(Answer::Stopped);
         }
+        match self.fleet.admit(function) {
+            Ok(env) => Verdict {
+                place: Some(env),
+                own: None,
+            },
+            Err(reason) => Verdict::own(Answer::Throttled(reason)),
+        }
+    }
+
+    /// The answer to a Reserve. (PutFunctionConcurrency, DeleteFunctionConcurrency)
+    fn reserve(&self, function: FnNo, count: Option<u32>) -> Answer
+        requires from_one { 1 ≤ function }
+        requires there { function ≤ length self.now.config.functions }
+        ensures { result ≡ if stopped self.now.history then Stopped else reserve_answer self.now.config self.now.history function count }
+    {
+        if self.ledger.is_stopped() {
+            return Answer::Stopped;
+        }
+        if !self.fleet.may_reserve(function, count) {
+            return Answer::Refused(Refusal::BadReservation);
+        }
+        match count {
+            None => Answer::Unreserved,
+            Some(count) => Answer::Reserved { count },
+        }
+    }
+
+    /// Takes a call to which the account says this, as the next entry.
+    fn enter(
+        &mut self,
+        moment: u64,
+        call: Call,
+        verdict: Verdict,
+        name: Option<Text>,
+        answers: Roomy<(Ticket, Answer)>,
+    )
+        requires moment { moment < 2 ^ 53 }
+        requires follows { Follows self.old.config self.old.history (entry_of self.old.config self.old.history moment call) }
+        requires known { IsKnown self.old.config call }
+        requires placed { verdict.place ≡ place_for self.old.config self.old.history call }
+        requires own { verdict.own ≡ book_answer self.old.config self.old.history call }
+        requires named { name ≡ registered_name call }
+        requires room { 0 < self.old.room }
+        requires answers { most_answers self.old.widest (length (owners self.old.config)) call ≤ answers.1 }
+        requires empty { answers.0 ≡ [] }
+        ensures config { self.new.config ≡ self.old.config }
+        ensures history { self.new.history ≡ entered self.old.config self.old.history moment call }
+        ensures room { self.new.room ≡ self.old.room - 1 }
+        ensures widest { registered_name call ≡ None → self.new.widest ≡ self.old.widest }
+    {
+        let mut answers = answers;
+        let entries = self.ledger.entries();
+        let count = count_call(&self.config, entries, &mut self.requests, moment, &call);
+        let visit = Visit {
+            ticket: entries.len() as u64,
+            moment,
+            requests: &self.requests,
+            call: &call,
+        };
+        answer_call(
+            &self.config,
+            entries,
+            &mut self.fleet,
+            visit,
+            verdict.place,
+            verdict.own,
+            name,
+            &mut answers,
+        );
+        self.ledger.add(moment, call, answers.into_vec(), verdict.place, count);
     }
 
     /// Lets the environments expire that are due, one entry each, by deadline and number.
@@ -247,9 +347,9 @@ impl Journal {
         requires moment { moment < 2 ^ 53 }
         requires later { last_moment self.old.history ≤ moment }
         requires as_many { length rooms.items ≡ length (due self.old.config self.old.history moment) }
-        requires empty { All (λ room. room ≡ ([], 4)) rooms.items }
+        requires enough { All (IsRoom self.old.widest) rooms.items }
         requires room { length rooms.items ≤ self.old.room }
-        ensures { self.new ≡ record { config = self.old.config; history = expired self.old.config moment (due self.old.config self.old.history moment) self.old.history; room = self.old.room - length rooms.items } }
+        ensures { self.new ≡ record self.old { history = expired self.old.config moment (due self.old.config self.old.history moment) self.old.history; room = self.old.room - length rooms.items } }
     {
         self.facts();
         let mut rooms = rooms;
@@ -264,14 +364,18 @@ impl Journal {
         requires later { last_moment self.old.history ≤ moment }
         requires some_due { 0 < length (due self.old.config self.old.history moment) }
         requires room { 0 < self.old.room }
-        requires empty { answers ≡ ([], 4) }
-        ensures expired { self.new ≡ record { config = self.old.config; history = entered self.old.config self.old.history moment (Expire (first_or_0 (due self.old.config self.old.history moment))); room = self.old.room - 1 } }
+        requires enough { IsRoom self.old.widest answers }
+        ensures expired { self.new ≡ record self.old { history = entered self.old.config self.old.history moment (Expire (first_or_0 (due self.old.config self.old.history moment))); room = self.old.room - 1 } }
         ensures legal { IsLegal self.new.config self.new.history }
     {
         match self.first_due(moment) {
             None => unreachable!(),
             Some(env) => {
-                self.enter(moment, Call::Expire { env }, None, Answer::Done, answers);
+                let verdict = Verdict {
+                    place: None,
+                    own: None,
+                };
+                self.enter(moment, Call::Expire { env }, verdict, None, answers);
                 self.facts();
             }
         }

@@ -1,18 +1,20 @@
 //! The journal of an account: its history, and what each call adds to it.
 #![tactic(auto)]
 
-mod admission;
 mod answering;
 mod book;
+mod fleet;
 mod history_text;
 mod journal;
 pub mod laws;
+mod ledger;
 mod opening;
+mod reach;
 mod room;
 mod site;
+mod totals;
 
-pub use book::{Book, OpenFault, Refusal};
-pub use history_text::opening_text;
+pub use book::{Book, Life, OpenFault, Refusal};
 
-#[cfg(test)]
-mod tests;
+
+

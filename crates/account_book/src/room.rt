@@ -1,7 +1,9 @@
 //! A list with room made beforehand.
 
-ghost use Rattle.std.specs.Prelude.{◌≡◌, ◌+◌, ◌-◌, ◌<◌, ◌≤◌, ◌++◌, ◌∷◌, [], List, ℕ, length, IfOk, OnOk, OnErr};
+ghost use Rattle.std.specs.Prelude.{◌≡◌, ◌+◌, ◌-◌, ◌<◌, ◌≤◌, ◌++◌, ◌∷◌, [], List, ℕ, length, IfOk, OnOk, OnErr, slice_set};
+ghost use Rattle.call_model.specs.After.{put};
 
+use call_model::{Answer, Ticket};
 use std::alloc::{AllocError, Global};
 use std::marker::Model;
 
@@ -78,6 +80,14 @@ impl<T> Roomy<T> {
 }
 
 impl<T: Drop> Roomy<T> {
+    /// Puts a value in the place of another.
+    pub fn set(&mut self, index: usize, value: T)
+        requires { index < length self.old.0 }
+        ensures { self.new ≡ (slice_set self.old.0 index value, self.old.1) }
+    {
+        self.items[index] = value;
+    }
+
     /// Adds a value where there is room.
     pub fn push(&mut self, value: T)
         requires { 0 < self.old.1 }
@@ -90,4 +100,31 @@ impl<T: Drop> Roomy<T> {
             Err(_full) => unreachable!(),
         }
     }
+}
+
+impl Roomy<(Ticket, Answer)> {
+    /// Puts an answer in its place, before those to greater tickets.
+    pub fn put(&mut self, pair: (Ticket, Answer))
+        requires { 0 < self.old.1 }
+        ensures { self.new ≡ (put pair self.old.0, self.old.1 - 1) }
+    {
+        let last = carry(&mut self.items, pair);
+        self.push(last);
+    }
+}
+
+/// Lays a pair down before those with greater tickets, each of which moves on by one place; gives
+/// the one that the last place was taken from.
+fn carry(pairs: &mut [(Ticket, Answer)], pair: (Ticket, Answer)) -> (Ticket, Answer)
+    ensures { pairs.new ++ result ∷ [] ≡ put pair pairs.old }
+{
+    let mut carried = pair;
+    for place in 0..pairs.len() {
+        if carried.0 < pairs[place].0 {
+            let next = pairs[place];
+            pairs[place] = carried;
+            carried = next;
+        }
+    }
+    carried
 }

@@ -8,12 +8,13 @@ use Rattle.call_model.specs.declared.answer.Answer.TheVariants.{Refused, Reserve
 use Rattle.call_model.specs.declared.answer.Refusal.TheVariants.{BadReservation}
 use Rattle.call_model.specs.declared.answer.Throttle.TheVariants.{Function as ByFunction, Account as ByAccount}
 use Rattle.call_model.specs.declared.call.Entry.{Entry}
+use Rattle.call_model.specs.Counts.{all_in_flight}
 use Rattle.call_model.specs.Limits as model
 use Rattle.call_model.specs.Limits.{in_flight, reservation, place, by_limits, Refuses, Verdict, where_placed, or_zero}
 use Rattle.concurrency_pool.specs.declared.pool.Usage.{Usage}
 use Rattle.concurrency_pool.specs.Numbers.{Numbers}
-use Rattle.concurrency_pool.specs.Usages.{no_usage, usage_of, reserved_by, unreserved_by}
-use Rattle.concurrency_pool.specs.Pools.{opened, usage_at, reserved_in_all, remainder, unreserved_in_flight, throttle, throttle_by, may_reserve}
+use Rattle.concurrency_pool.specs.Usages.{no_usage, usage_of, reserved_by, unreserved_by, charged_by}
+use Rattle.concurrency_pool.specs.Pools.{opened, usage_at, reserved_in_all, remainder, unreserved_in_flight, in_flight_in_all, throttle, throttle_by, may_reserve}
 use Rattle.concurrency_pool.specs.Meets.{usage, numbers, by_throttle, by_reserve}
 use Rattle.concurrency_pool.proofs.Numbered.{numbered_is, sum_map, map_by_number}
 
@@ -32,6 +33,9 @@ remainder_is config h = ap (λ n. config.account_limit - n) (reserved_is config 
 
 pub unreserved_is : (config : Config) (h : List Entry) → unreserved_in_flight (numbers config h) ≡ model.unreserved_in_flight config h
 unreserved_is config h = sum_map unreserved_by (usage config h) (function_numbers config)
+
+pub in_flight_is : (config : Config) (h : List Entry) → in_flight_in_all (numbers config h) ≡ all_in_flight config h
+in_flight_is config h = sum_map charged_by (usage config h) (function_numbers config)
 
 pub verdict_is : (config : Config) (h : List Entry) (f : ℕ) → 1 ≤ f → f ≤ length config.functions → by_limits config h f (reservation config h f) ≡ by_throttle (throttle (numbers config h) f) (place config h f)
 unfolding throttle

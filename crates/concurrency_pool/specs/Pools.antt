@@ -7,7 +7,7 @@ use Rattle.call_model.specs.declared.answer.Throttle.{Throttle}
 use Rattle.call_model.specs.declared.answer.Throttle.TheVariants.{Function as ByFunction, Account as ByAccount}
 use Rattle.concurrency_pool.specs.declared.pool.Usage.{Usage}
 use Rattle.concurrency_pool.specs.Numbers.{Numbers}
-use Rattle.concurrency_pool.specs.Usages.{no_usage, usage_of, reserved_by, unreserved_by}
+use Rattle.concurrency_pool.specs.Usages.{no_usage, usage_of, reserved_by, unreserved_by, charged_by}
 
 -- the pool of a configuration before any invocation
 abbrev pub opened : Config → Numbers
@@ -32,6 +32,10 @@ remainder pool = pool.account_limit - reserved_in_all pool
 -- what the functions without a reservation have in flight together
 abbrev pub unreserved_in_flight : Numbers → ℕ
 unreserved_in_flight pool = sum_by unreserved_by pool.functions
+
+-- what all functions have in flight together
+abbrev pub in_flight_in_all : Numbers → ℕ
+in_flight_in_all pool = sum_by charged_by pool.functions
 
 -- a function with this reservation and this many in flight
 abbrev pub throttle_by : Numbers → Option ℕ → ℕ → Option Throttle

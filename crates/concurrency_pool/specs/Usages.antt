@@ -19,3 +19,7 @@ reserved_by usage = or_zero usage.reserved
 -- what it has in flight of the remainder
 abbrev pub unreserved_by : Usage → ℕ
 unreserved_by usage = if is_none usage.reserved then usage.in_flight else 0
+
+-- what it has in flight
+abbrev pub charged_by : Usage → ℕ
+charged_by usage = usage.in_flight

@@ -4,8 +4,9 @@ ghost use Rattle.std.specs.Prelude.{◌≡◌, ◌≤◌, ℕ, List, [], length,
 ghost use Rattle.arn_ids.specs.declared.config.Config.{Config};
 ghost use Rattle.call_model.specs.Answers.{reserve_answer};
 ghost use Rattle.call_model.specs.declared.call.Entry.{Entry};
+ghost use Rattle.call_model.specs.Counts.{all_in_flight};
 ghost use Rattle.call_model.specs.Limits as model;
-ghost use Rattle.concurrency_pool.specs.Pools.{opened, usage_at, remainder, unreserved_in_flight, throttle, may_reserve};
+ghost use Rattle.concurrency_pool.specs.Pools.{opened, usage_at, remainder, unreserved_in_flight, in_flight_in_all, throttle, may_reserve};
 ghost use Rattle.concurrency_pool.specs.Meets.{numbers, usage, by_throttle, by_reserve};
 
 /// The numbers meet the history.
@@ -17,6 +18,8 @@ pub fn meets()
     // The remainder and what is in flight of it are the history's.
     ensures remainder { (config : Config) (h : List Entry) → remainder (numbers config h) ≡ model.remainder config h }
     ensures unreserved { (config : Config) (h : List Entry) → unreserved_in_flight (numbers config h) ≡ model.unreserved_in_flight config h }
+    // All functions together have in flight what the history gives them.
+    ensures in_flight { (config : Config) (h : List Entry) → in_flight_in_all (numbers config h) ≡ all_in_flight config h }
     // Where a limit refuses an Invoke, its verdict has that reason; where none does, it goes to a free environment.
     ensures verdict { (config : Config) (h : List Entry) (f : ℕ) → 1 ≤ f → f ≤ length config.functions → model.by_limits config h f (model.reservation config h f) ≡ by_throttle (throttle (numbers config h) f) (model.place config h f) }
     // A Reserve is refused where the numbers don't allow it.

@@ -2,9 +2,9 @@
 
 ghost use Rattle.std.specs.Prelude.{◌≡◌, ◌+◌, ◌-◌, ◌<◌, ◌≤◌, length, MatchResult, IfOk, None, Some, true};
 ghost use Rattle.concurrency_pool.specs.Usages.{usage_of};
-ghost use Rattle.concurrency_pool.specs.Pools.{usage_at, opened, remainder, throttle, may_reserve, with_in_flight, with_reserved};
+ghost use Rattle.concurrency_pool.specs.Pools.{usage_at, opened, remainder, in_flight_in_all, throttle, may_reserve, with_in_flight, with_reserved};
 
-use crate::limits::{reserved_in_all, unreserved_in_flight};
+use crate::limits::{in_flight_in_all, reserved_in_all, unreserved_in_flight};
 use arn_ids::{Checked, FnNo, Function};
 use call_model::Throttle;
 use std::alloc::{AllocError, Global};
@@ -140,6 +140,13 @@ impl Pool {
         ensures { result ≡ (usage_at self.now function).in_flight }
     {
         self.usage(function).in_flight
+    }
+
+    /// How many invocations are in flight of all functions together.
+    pub fn in_flight_in_all(&self) -> u64
+        ensures { result ≡ in_flight_in_all self.now }
+    {
+        in_flight_in_all(&self.functions)
     }
 
     /// A function's reservation in force.

@@ -1,9 +1,6 @@
 -- The first stage of each call, as the code makes it.
-pub mod Quiet
-pub mod FirstNext
-pub mod FirstResponse
-pub mod FirstInvoke
-pub mod FirstExpiry
+pub mod Turns
+pub mod Welcome
 -- What comes after each entry.
 pub mod NoneServed
 -- How many answers and extensions there are.

@@ -1,10 +1,11 @@
 -- What an environment is when it is opened, and after a call.
-use Rattle.std.specs.Prelude.{ℕ, ◌*◌, false, List, [], None}
+use Rattle.std.specs.Prelude.{ℕ, ◌*◌, Bool, true, false, List, [], Option, Some, None}
 use Rattle.arn_ids.specs.declared.config.Function.{Function}
 use Rattle.call_model.specs.declared.answer.Answer.{Answer}
-use Rattle.call_model.specs.declared.answer.Phase.TheVariants.{Starting}
+use Rattle.call_model.specs.declared.answer.Phase.{Phase}
+use Rattle.call_model.specs.declared.answer.Phase.TheVariants.{Starting, Off}
 use Rattle.call_model.specs.declared.call.Call.{Call}
-use Rattle.call_model.specs.declared.call.Call.TheVariants.{Invoke, RuntimeNext, Response, Expire}
+use Rattle.call_model.specs.declared.call.Call.TheVariants.{Register}
 use Rattle.call_model.specs.Stand.{Stand}
 use Rattle.call_model.specs.After.{Known, Step, stand_after, moves_of}
 use Rattle.env_phase.specs.declared.step.Step.{Step as TheStep}
@@ -21,6 +22,11 @@ opened function = record { fixed = record { timeout = 1000 * function.timeout_s;
 abbrev pub step_of : TheStep → Step
 step_of step = record { ticket = step.ticket; now = step.now; count = step.count }
 
+-- the name that a Register brings
+abbrev pub registered_name : Call → Option (List ℕ)
+registered_name (Register e name invoke shutdown account) = Some name
+registered_name _ = None
+
 -- an environment after a call
 abbrev pub taken : Known → Step → Call → Known
 taken known step call = record { fixed = known.fixed; stand = stand_after known.fixed step known.stand call }
@@ -29,10 +35,7 @@ taken known step call = record { fixed = known.fixed; stand = stand_after known.
 abbrev pub given : Known → Step → Call → List (ℕ × Answer)
 given known step call = moves_of known.fixed step known.stand call
 
--- the calls that an environment takes so far
-abbrev pub IsServed : Call → Type 0
-IsServed (Invoke f qualified trace body) = Unit {0}
-IsServed (RuntimeNext e) = Unit {0}
-IsServed (Response e id body) = Unit {0}
-IsServed (Expire e) = Unit {0}
-IsServed _ = ⊥
+-- whether a phase is the last one
+abbrev pub is_off : Phase → Bool
+is_off Off = true
+is_off _ = false

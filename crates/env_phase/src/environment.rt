@@ -1,14 +1,19 @@
 //! One execution environment, and the calls that concern it.
 
 mod after;
-mod cells;
+mod answers;
+mod first;
+mod table;
 
 ghost use Rattle.std.specs.Prelude.{◌≡◌, ◌+◌, ◌*◌, ◌<◌, ◌≤◌, ◌^◌, length, [], IfOk};
+ghost use Rattle.call_model.specs.Laws.{is_taken};
 ghost use Rattle.call_model.specs.Next.{deadline_of};
+ghost use Rattle.call_model.specs.Stand.{bound_of};
 ghost use Rattle.call_model.specs.After.{expires_now};
-ghost use Rattle.env_phase.specs.Taking.{opened, step_of, taken, given, IsServed};
+ghost use Rattle.env_phase.specs.Taking.{opened, is_off, registered_name, step_of, taken, given};
 
 use crate::Step;
+use crate::phases::{at_hand, bound_of, is_closing};
 use arn_ids::{Function, Row, Text};
 use call_model::{Call, Phase, Ticket};
 use extension_set::{ExtensionSet, Moves};
@@ -74,7 +79,7 @@ impl Environment {
                 bound: None,
             },
             runtime: None,
-            extensions: ExtensionSet::new(alloc),
+            extensions: ExtensionSet::open(alloc)?,
             request: None,
             stopped: false,
             registrations: 0,
@@ -82,38 +87,44 @@ impl Environment {
         })
     }
 
-    /// Takes a call that concerns this environment: an Invoke that is placed here, or a call that
-    /// names it. The moves are the entry's answers to this environment's tickets. It never fails and
-    /// takes no memory.
-    pub fn take(&mut self, step: Step, call: &Call, moves: &mut Moves)
+    /// Takes a call that concerns this environment: an Invoke that is placed here, a call that names
+    /// it or one of its tickets, or a Stop. The name is that which a Register brings, none for any
+    /// other call; the moves are the entry's answers to this environment's tickets, in rising ticket
+    /// order. It never fails and takes no memory.
+    pub fn take(&mut self, step: Step, call: &Call, name: Option<Text>, moves: &mut Moves)
         requires moment { step.now < 2 ^ 53 }
         requires empty { moves.old ≡ [] }
         requires few { self.old.stand.events < 2 ^ 52 }
-        requires served { IsServed call.now }
+        requires few_registered { self.old.stand.registrations < 2 ^ 52 }
+        requires named { name ≡ registered_name call.now }
         ensures stand { self.new ≡ taken self.old (step_of step) call.now }
         ensures given { moves.new ≡ given self.old (step_of step) call.now }
-        // No extension comes with these calls, and the answers are few.
-        ensures members { length self.new.stand.members ≤ length self.old.stand.members }
+        // At most two answers to each extension, and one each to the waiting call, to the runtime
+        // before and where a Busy begins, and to the call itself.
         ensures answers { length moves.new ≤ 2 * length self.old.stand.members + 4 }
+        ensures members { length self.new.stand.members ≤ 10 }
         ensures events { self.new.stand.events ≤ self.old.stand.events + 24 }
+        ensures registrations { self.new.stand.registrations ≤ self.old.stand.registrations + 1 }
     {
-        self.take_in_stages(step, call, moves);
+        self.take_in_stages(step, call, name, moves);
     }
 
     /// The table's cell for the call, and then what comes after each entry.
     #[tactic(auto, unfolding(call_model::specs::After::stand_after, call_model::specs::After::moves_of))]
-    fn take_in_stages(&mut self, step: Step, call: &Call, moves: &mut Moves)
+    fn take_in_stages(&mut self, step: Step, call: &Call, name: Option<Text>, moves: &mut Moves)
         requires moment { step.now < 2 ^ 53 }
         requires empty { moves.old ≡ [] }
         requires few { self.old.stand.events < 2 ^ 52 }
-        requires served { IsServed call.now }
+        requires few_registered { self.old.stand.registrations < 2 ^ 52 }
+        requires named { name ≡ registered_name call.now }
         ensures stand { self.new ≡ taken self.old (step_of step) call.now }
         ensures given { moves.new ≡ given self.old (step_of step) call.now }
-        ensures ten_extensions { length self.old.stand.members ≤ 10 }
+        ensures ten_before { length self.old.stand.members ≤ 10 }
+        ensures ten_after { length self.new.stand.members ≤ 10 }
     {
         let before = self.phase;
         let expires = self.expires(call);
-        self.first(step, call, moves);
+        self.first(step, call, name, moves);
         self.finish(step.now, expires, before, moves);
     }
 
@@ -121,15 +132,7 @@ impl Environment {
     fn expires(&self, call: &Call) -> bool
         ensures { result ≡ expires_now self.now.stand call.now }
     {
-        matches!(call, Call::Expire { env: _ })
-            && matches!(
-                self.phase,
-                Phase::Closing {
-                    reason: _,
-                    until: _,
-                    bound: _,
-                },
-            )
+        matches!(call, Call::Expire { .. }) && is_closing(self.phase)
     }
 
     /// The moment, in milliseconds, at which a Busy ends by itself that begins now.
@@ -138,6 +141,35 @@ impl Environment {
         ensures { result ≡ now + self.now.fixed.timeout }
     {
         now + self.timeout
+    }
+
+    /// The invocation that it is to serve next, where it starts or closes.
+    pub fn bound(&self) -> Option<Ticket>
+        ensures { result ≡ bound_of self.now.stand.phase }
+    {
+        bound_of(self.phase)
+    }
+
+    /// How many extensions are registered in the present generation: at most ten.
+    pub fn members(&self) -> usize
+        ensures count { result ≡ length self.now.stand.members }
+        ensures few { result ≤ 10 }
+    {
+        self.extensions.len()
+    }
+
+    /// Whether it serves an invocation, or has one bound.
+    pub fn is_taken(&self) -> bool
+        ensures { result ≡ is_taken self.now.stand.phase }
+    {
+        at_hand(self.phase).is_some()
+    }
+
+    /// Whether it is shut down for good.
+    pub fn is_off(&self) -> bool
+        ensures { result ≡ is_off self.now.stand.phase }
+    {
+        matches!(self.phase, Phase::Off)
     }
 
     /// The phase.

@@ -1,36 +1,83 @@
 //! Functions of phases: what a phase has at hand, and which phase comes after it.
 //! (Lambda Developer Guide: Understanding the Lambda execution environment lifecycle)
 
-ghost use Rattle.std.specs.Prelude.{◌≡◌, ◌+◌, ◌<◌, ◌^◌};
+ghost use Rattle.std.specs.Prelude.{◌≡◌, ◌+◌, ◌<◌, ◌^◌, ◌||◌};
 ghost use Rattle.call_model.specs.Polls.{begun};
-ghost use Rattle.call_model.specs.Stand.{at_hand, bound_of};
-ghost use Rattle.call_model.specs.Table.{settled, reborn, clock_started, placed};
+ghost use Rattle.call_model.specs.Stand.{at_hand, bound_of, is_starting, is_idle, is_busy, is_closing};
+ghost use Rattle.call_model.specs.Table.{settled, reborn, clock_started, placed, timed_out, unbound};
 
-use call_model::{Phase, Ticket};
+use call_model::{Answer, Phase, Ticket};
 
 /// How long an Init lasts at most, in milliseconds. (life cycle: Init phase)
 const INIT_LIMIT: u64 = 10000;
 
-/// How long a Closing lasts at most, in milliseconds. (life cycle: Shutdown phase)
-pub(crate) const CLOSING_LIMIT: u64 = 2000;
+/// Whether its Init is not over.
+pub(crate) fn is_starting(phase: Phase) -> bool
+    ensures { result ≡ is_starting phase }
+{
+    matches!(phase, Phase::Starting { .. })
+}
+
+/// Whether it waits for an invocation.
+pub(crate) fn is_idle(phase: Phase) -> bool
+    ensures { result ≡ is_idle phase }
+{
+    matches!(phase, Phase::Idle)
+}
+
+/// Whether it serves an invocation.
+pub(crate) fn is_busy(phase: Phase) -> bool
+    ensures { result ≡ is_busy phase }
+{
+    matches!(phase, Phase::Busy { .. })
+}
+
+/// Whether it shuts down.
+pub(crate) fn is_closing(phase: Phase) -> bool
+    ensures { result ≡ is_closing phase }
+{
+    matches!(phase, Phase::Closing { .. })
+}
+
+/// Whether it neither shuts down nor is shut down.
+pub(crate) fn is_open(phase: Phase) -> bool
+    ensures { result ≡ (is_starting phase || is_idle phase || is_busy phase) }
+{
+    is_starting(phase) || is_idle(phase) || is_busy(phase)
+}
+
+/// What the waiting call gets where the phase expires.
+pub(crate) fn timed_out(phase: Phase) -> Answer
+    ensures { result ≡ timed_out phase }
+{
+    if is_starting(phase) {
+        Answer::InitTimedOut
+    } else {
+        Answer::TimedOut
+    }
+}
+
+/// A Closing that nothing waits for any more.
+pub(crate) fn unbind(phase: Phase) -> Phase
+    ensures { result ≡ unbound phase }
+{
+    match phase {
+        Phase::Closing { reason, until, .. } => Phase::Closing {
+            reason,
+            until,
+            bound: None,
+        },
+        _ => phase,
+    }
+}
 
 /// The invocation that a Starting or Closing environment is to serve next.
 pub(crate) fn bound_of(phase: Phase) -> Option<Ticket>
     ensures { result ≡ bound_of phase }
 {
     match phase {
-        Phase::Starting { deadline: _, bound }
-        | Phase::Closing {
-            reason: _,
-            until: _,
-            bound,
-        } => bound,
-        Phase::Idle
-        | Phase::Off
-        | Phase::Busy {
-            invoke: _,
-            deadline: _,
-        } => None,
+        Phase::Starting { bound, .. } | Phase::Closing { bound, .. } => bound,
+        Phase::Idle | Phase::Off | Phase::Busy { .. } => None,
     }
 }
 
@@ -39,10 +86,7 @@ pub(crate) fn at_hand(phase: Phase) -> Option<Ticket>
     ensures { result ≡ at_hand phase }
 {
     match phase {
-        Phase::Busy {
-            invoke,
-            deadline: _,
-        } => Some(invoke),
+        Phase::Busy { invoke, .. } => Some(invoke),
         _ => bound_of(phase),
     }
 }
@@ -52,13 +96,7 @@ pub(crate) fn begun(before: Phase, after: Phase) -> Option<(Ticket, u64)>
     ensures { result ≡ begun before after }
 {
     match (before, after) {
-        (
-            Phase::Busy {
-                invoke: _,
-                deadline: _,
-            },
-            _,
-        ) => None,
+        (Phase::Busy { .. }, _) => None,
         (_, Phase::Busy { invoke, deadline }) => Some((invoke, deadline)),
         _ => None,
     }
@@ -70,23 +108,17 @@ pub(crate) fn settle(phase: Phase, ready: bool, waits: bool, limit: u64) -> Phas
     ensures { result ≡ settled limit ready waits phase }
 {
     match phase {
+        Phase::Starting { bound: None, .. } if ready => Phase::Idle,
         Phase::Starting {
-            deadline: _,
-            bound: None,
-        } if ready => Phase::Idle,
-        Phase::Starting {
-            deadline: _,
             bound: Some(invoke),
+            ..
         } if ready => {
             Phase::Busy {
                 invoke,
                 deadline: limit,
             }
         }
-        Phase::Busy {
-            invoke: _,
-            deadline: _,
-        } if ready && !waits => Phase::Idle,
+        Phase::Busy { .. } if ready && !waits => Phase::Idle,
         Phase::Idle if !ready => Phase::Starting {
             deadline: None,
             bound: None,
@@ -141,11 +173,7 @@ pub(crate) fn place(phase: Phase, now: u64, limit: u64, ticket: Ticket) -> Phase
                 bound: Some(ticket),
             }
         }
-        Phase::Busy {
-            invoke: _,
-            deadline: _,
-        }
-        | Phase::Off => phase,
+        Phase::Busy { .. } | Phase::Off => phase,
     }
 }
 

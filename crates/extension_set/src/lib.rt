@@ -3,9 +3,13 @@
 
 mod member;
 mod moves;
+mod register_fault;
 mod set;
 #[cfg(test)]
 mod tests;
+mod turn;
 
 pub use moves::Moves;
+pub use register_fault::RegisterFault;
 pub use set::ExtensionSet;
+pub use turn::{CLOSING_LIMIT, Turn};

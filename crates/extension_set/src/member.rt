@@ -1,15 +1,17 @@
 //! One extension of an environment.
 
-ghost use Rattle.std.specs.Prelude.{◌≡◌, ◌<◌, ◌&&◌, length, not, bytes_eq, is_none, Some};
-ghost use Rattle.call_model.specs.Generation.{has_count, hears_end};
-ghost use Rattle.call_model.specs.Polls.{delivered};
+ghost use Rattle.std.specs.Prelude.{◌≡◌, ◌<◌, ◌^◌, ◌&&◌, ◌||◌, length, not, bytes_eq, is_none, Some};
+ghost use Rattle.call_model.specs.Generation.{TheExtension, asks, has_count, hears_end, is_ending, reports_exit};
+ghost use Rattle.call_model.specs.Polls.{at_close, delivered, replaced};
 ghost use Rattle.call_model.specs.Stand.{ExtensionPoll};
-ghost use Rattle.call_model.specs.After.{give, member_second};
-ghost use Rattle.extension_set.specs.Closing.{end_of, closed};
+ghost use Rattle.call_model.specs.After.{give, left, member_second};
+ghost use Rattle.extension_set.specs.Registering.{owes_end, registered};
+ghost use Rattle.extension_set.specs.Turns.{poll_gets, member_after};
 
-use crate::Moves;
+use crate::turn::CLOSING_LIMIT;
+use crate::{Moves, Turn};
 use arn_ids::Text;
-use call_model::{Answer, Reason, Refusal, Ticket};
+use call_model::{Answer, Call, Reason, Refusal, Ticket};
 use std::marker::Model;
 
 /// An extension as it stands.
@@ -42,6 +44,22 @@ impl Model for Member {
 }
 
 impl Member {
+    /// An extension that registers now, with the count in its identifier. (Extensions API: Register)
+    pub(crate) fn registered(count: u64, name: Text, invoke: bool, shutdown: bool) -> Member
+        ensures { result ≡ registered (record { count = count; name = name; invoke = invoke; shutdown = shutdown }) }
+    {
+        Member {
+            count,
+            name,
+            invoke,
+            shutdown,
+            next: None,
+            told: false,
+            again: false,
+            exited: false,
+        }
+    }
+
     /// Whether its identifier has this count.
     pub(crate) fn has_count(&self, count: u64) -> bool
         ensures { result ≡ has_count count self.now }
@@ -70,6 +88,14 @@ impl Member {
         self.shutdown && !self.exited
     }
 
+    /// Whether it is told the end of its environment when it asks: where it is to hear that, and was
+    /// not told yet. (Extensions API: Shutdown event)
+    pub(crate) fn is_owed_end(&self) -> bool
+        ensures { result ≡ owes_end (Some self.now) }
+    {
+        self.hears_end() && !self.told
+    }
+
     /// Whether a Closing waits for it. (Lambda execution environment lifecycle: Shutdown phase)
     pub(crate) fn is_awaited(&self) -> bool
         ensures { result ≡ (hears_end self.now && not (self.now.told && self.now.again)) }
@@ -85,42 +111,114 @@ impl Member {
         ensures given { moves.new ≡ give self.old.next (delivered (Some (invoke, deadline)) (ExtensionPoll self.old)) moves.old }
     {
         if self.invoke {
-            if let Some(ticket) = self.next {
-                moves.put(
-                    ticket,
-                    Answer::Told {
-                        invoke,
-                        deadline,
-                        event: 0,
-                    },
-                );
-            }
+            let told = Answer::Told {
+                invoke,
+                deadline,
+                event: 0,
+            };
+            moves.give(self.next, Some(told));
             self.next = None;
         }
     }
 
-    /// Answers its parked Next where its environment closes: with the end, where it is to hear that,
-    /// else with a refusal. (Extensions API: Shutdown event)
-    pub(crate) fn close(&mut self, reason: Reason, until: u64, moves: &mut Moves)
-        requires room { length moves.old < 32 }
-        ensures closed { self.new ≡ closed reason until self.old }
-        ensures given { moves.new ≡ give self.old.next (end_of reason until self.old) moves.old }
+    /// Whether the call is its Next. (Extensions API: Next)
+    fn asks(&self, call: &Call) -> bool
+        ensures { result ≡ asks (TheExtension self.now.extension.count) call.now }
     {
-        if let Some(ticket) = self.next {
-            if self.hears_end() {
-                self.told = true;
-                moves.put(
-                    ticket,
-                    Answer::Ending {
-                        reason,
-                        until,
-                        event: 0,
-                    },
-                );
-            } else {
-                moves.put(ticket, Answer::Refused(Refusal::Container));
-            }
+        matches!(call, Call::ExtNext { ext, .. } if *ext == self.count)
+    }
+
+    /// Whether the call reports that it failed. (Extensions API: Init error, Exit error)
+    fn reports_exit(&self, call: &Call) -> bool
+        ensures { result ≡ reports_exit self.now.extension.count call.now }
+    {
+        match call {
+            Call::ExtInitFailure { ext, .. } | Call::ExtExitFailure { ext, .. } => *ext
+                == self.count,
+            _ => false,
         }
-        self.next = None;
+    }
+
+    /// What its parked Next gets where its environment closes: the end, where it is to hear that
+    /// and is not just reporting its own exit, else a refusal. (Extensions API: Shutdown event)
+    fn at_close(&self, now: u64, reason: Reason, call: &Call) -> Answer
+        requires { now < 2 ^ 53 }
+        ensures { Some result ≡ at_close now (Some reason) call.now (ExtensionPoll self.now) }
+    {
+        if self.hears_end() && !self.reports_exit(call) {
+            Answer::Ending {
+                reason,
+                until: now + CLOSING_LIMIT,
+                event: 0,
+            }
+        } else {
+            Answer::Refused(Refusal::Container)
+        }
+    }
+
+    /// What its parked Next with this ticket gets where it takes a newer Next of it, or a Withdraw
+    /// that names it.
+    fn replaced(&self, ticket: Ticket, call: &Call) -> Option<Answer>
+        ensures { result ≡ replaced ticket call.now (ExtensionPoll self.now) }
+    {
+        match call {
+            Call::ExtNext { ext, .. } => {
+                if self.count == *ext {
+                    Some(Answer::Refused(Refusal::Replaced))
+                } else {
+                    None
+                }
+            }
+            Call::Withdraw { ticket: named } => {
+                if *named == ticket {
+                    Some(Answer::Withdrawn)
+                } else {
+                    None
+                }
+            }
+            _ => None,
+        }
+    }
+
+    /// What its parked Next gets at a call, where it has one.
+    fn poll_gets(&self, turn: Turn, call: &Call) -> Option<Answer>
+        requires { turn.now < 2 ^ 53 }
+        ensures { result ≡ poll_gets turn call.now (ExtensionPoll self.now) self.now.next }
+    {
+        match (self.next, turn.closes) {
+            (None, _) => None,
+            (Some(_), Some(reason)) => Some(self.at_close(turn.now, reason, call)),
+            (Some(ticket), None) => self.replaced(ticket, call),
+        }
+    }
+
+    /// Takes a call: its parked Next is answered, and it notes what the call is to it.
+    pub(crate) fn take(&mut self, turn: Turn, call: &Call, moves: &mut Moves)
+        requires moment { turn.now < 2 ^ 53 }
+        requires room { length moves.old < 32 }
+        ensures after { self.new ≡ member_after turn call.now self.old }
+        ensures given { moves.new ≡ give self.old.next (poll_gets turn call.now (ExtensionPoll self.old) self.old.next) moves.old }
+    {
+        let older = self.poll_gets(turn, call);
+        moves.give(self.next, older);
+        if self.reports_exit(call) && turn.own == Some(Answer::Accepted) {
+            self.exited = true;
+        }
+        if self.asks(call) {
+            self.again = self.again || self.told;
+            self.hear(turn.own, Some(turn.ticket));
+        } else {
+            self.hear(older, self.next);
+        }
+    }
+
+    /// Notes what its last Next gets; it is parked where that is nothing.
+    fn hear(&mut self, gets: Option<Answer>, next: Option<Ticket>)
+        ensures { self.new ≡ record self.old { next = left gets next; told = self.old.told || is_ending gets } }
+    {
+        self.next = if gets.is_none() { next } else { None };
+        if matches!(gets, Some(Answer::Ending { .. })) {
+            self.told = true;
+        }
     }
 }

@@ -1,7 +1,7 @@
 //! The answers that an entry gives to the tickets of one environment.
 
 ghost use Rattle.std.specs.Prelude.{◌≡◌, ◌+◌, ◌<◌, ◌≤◌, ◌^◌, length, [], if◌then◌else◌};
-ghost use Rattle.call_model.specs.After.{put, numbered_from, events_of};
+ghost use Rattle.call_model.specs.After.{give, put, numbered_from, events_of};
 ghost use Rattle.call_model.specs.Answers.{with_event};
 ghost use Rattle.call_model.specs.Life.{is_event};
 
@@ -100,6 +100,18 @@ impl Moves {
         }
         self.pairs[self.count] = carried;
         self.count += 1;
+    }
+
+    /// Puts an answer in its place where there is one, and a ticket that gets it.
+    #[tactic(auto, using(crate::proofs::Lengths::put_length))]
+    pub fn give(&mut self, ticket: Option<Ticket>, answer: Option<Answer>)
+        requires { length self.old < 32 }
+        ensures given { self.new ≡ give ticket answer self.old }
+        ensures few { length self.new ≤ length self.old + 1 }
+    {
+        if let (Some(ticket), Some(answer)) = (ticket, answer) {
+            self.put(ticket, answer);
+        }
     }
 
     /// Numbers the events in ticket order, after the `events` that were told before, and gives the

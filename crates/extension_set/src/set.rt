@@ -1,20 +1,24 @@
 //! The extensions of one generation of an environment.
 
-ghost use Rattle.std.specs.Prelude.{◌≡◌, ◌+◌, ◌<◌, length, [], map, Some, count_by};
-ghost use Rattle.std.specs.List.{list_any};
+ghost use Rattle.std.specs.Prelude.{◌≡◌, ◌+◌, ◌<◌, ◌≤◌, ◌^◌, ◌∷◌, length, [], map, Some, count_by, IfOk, OnOk, OnErr};
+ghost use Rattle.std.specs.List.{list_any, find};
 ghost use Rattle.call_model.specs.Generation.{has_count, awaited, missing};
 ghost use Rattle.call_model.specs.Polls.{delivered};
 ghost use Rattle.call_model.specs.Stand.{ExtensionPoll};
 ghost use Rattle.call_model.specs.After.{give_each, member_second};
-ghost use Rattle.extension_set.specs.Closing.{end_of, closed};
 ghost use Rattle.extension_set.specs.Names.{lacks};
+ghost use Rattle.extension_set.specs.Registering.{admits, owes_end, registered};
+ghost use Rattle.extension_set.specs.Turns.{member_after, poll_gets};
 
-use crate::Moves;
 use crate::member::Member;
+use crate::{Moves, RegisterFault, Turn};
 use arn_ids::Text;
-use call_model::{Reason, Ticket};
-use std::alloc::Global;
+use call_model::{Call, Ticket};
+use std::alloc::{AllocError, Global};
 use std::marker::Model;
+
+/// How many extensions an environment may have. (Lambda quotas)
+const MOST: usize = 10;
 
 /// The extensions of one generation, seen as the list of them, the newest first.
 #[derive(Debug, Drop)]
@@ -24,22 +28,82 @@ pub struct ExtensionSet {
 }
 
 impl Model for ExtensionSet {
-    ghost use Rattle.std.specs.Prelude.{List, reverse};
+    ghost use Rattle.std.specs.Prelude.{List, reverse, ◌≤◌, vec_len, vec_capacity};
     ghost use Rattle.call_model.specs.Generation.{Member as TheMember};
 
     ghost Value = { List TheMember };
 
     ghost view = { λ s. reverse s.members.items };
+
+    ghost invariant = { λ s. (vec_len s.members ≤ 10) × (10 ≤ vec_capacity s.members) };
 }
 
 impl ExtensionSet {
-    /// No extensions. Takes no memory.
-    pub fn new(alloc: Global) -> ExtensionSet
-        ensures { result ≡ [] }
+    /// No extensions, and room for ten, so that no other call takes memory.
+    pub fn open(alloc: Global) -> Result<ExtensionSet, AllocError>
+        ensures { IfOk result (λ s. s ≡ []) }
     {
-        ExtensionSet {
-            members: Vec::new(alloc),
+        Ok(ExtensionSet {
+            members: Vec::with_capacity(alloc, MOST)?,
+        })
+    }
+
+    /// How many extensions there are: at most ten.
+    pub fn len(&self) -> usize
+        ensures count { result ≡ length self.now }
+        ensures few { length self.now ≤ 10 }
+    {
+        self.members.len()
+    }
+
+    /// Whether an extension of this name may be registered. (Extensions API: Register)
+    pub fn admits(&self, name: &Text) -> Result<(), RegisterFault>
+        ensures { result ≡ admits self.now name.now }
+    {
+        if !self.lacks(name) {
+            Err(RegisterFault::NameInUse)
+        } else if self.members.len() >= MOST {
+            Err(RegisterFault::TooMany)
+        } else {
+            Ok(())
         }
+    }
+
+    /// Registers an extension with the count in its identifier, where its name is free and fewer
+    /// than ten are registered; else the set stays as it was. (Extensions API: Register)
+    pub fn register(
+        &mut self,
+        name: Text,
+        invoke: bool,
+        shutdown: bool,
+        count: u64,
+    ) -> Result<(), RegisterFault>
+        ensures verdict { result ≡ admits self.old name }
+        ensures added { OnOk result (self.new ≡ registered (record { count = count; name = name; invoke = invoke; shutdown = shutdown }) ∷ self.old) }
+        ensures kept { OnErr result (self.new ≡ self.old) }
+    {
+        self.admits(&name)?;
+        match self
+            .members
+            .push(Member::registered(count, name, invoke, shutdown))
+        {
+            Ok(()) => Ok(()),
+            Err(_full) => unreachable!(),
+        }
+    }
+
+    /// Whether the extension with this count is told the end of its environment when it asks in a
+    /// Closing. (Extensions API: Shutdown event)
+    pub fn owes_end(&self, count: u64) -> bool
+        ensures { result ≡ owes_end (find (has_count count) self.now) }
+    {
+        let mut owes = false;
+        for member in &self.members {
+            if member.has_count(count) {
+                owes = member.is_owed_end();
+            }
+        }
+        owes
     }
 
     /// Whether an extension is registered whose identifier has this count.
@@ -110,16 +174,17 @@ impl ExtensionSet {
         count
     }
 
-    /// Answers every parked Next where the environment closes: with its end and the moment, in
-    /// milliseconds, at which it is gone in any case, where the extension is registered for SHUTDOWN
-    /// and has not exited; any other with a refusal. (Extensions API: Shutdown event)
-    pub fn take_shutdown(&mut self, reason: Reason, until: u64, moves: &mut Moves)
-        requires { length self.old + length moves.old < 32 }
-        ensures closed { self.new ≡ map (closed reason until) self.old }
-        ensures given { moves.new ≡ give_each (end_of reason until) self.old moves.old }
+    /// Takes a call: the parked Nexts are answered, and each extension notes what the call is to it.
+    /// (Extensions API: Next, Invoke event, Shutdown event)
+    pub fn take(&mut self, turn: Turn, call: &Call, moves: &mut Moves)
+        requires moment { turn.now < 2 ^ 53 }
+        requires room { length self.old + length moves.old < 32 }
+        ensures after { self.new ≡ map (member_after turn call.now) self.old }
+        ensures given { moves.new ≡ give_each (λ x. poll_gets turn call.now (ExtensionPoll x) x.next) self.old moves.old }
+        ensures few { length moves.new ≤ length self.old + length moves.old }
     {
         for member in self.members.iter_mut() {
-            member.close(reason, until, moves);
+            member.take(turn, call, moves);
         }
     }
 

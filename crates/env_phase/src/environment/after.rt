@@ -8,7 +8,7 @@ ghost use Rattle.call_model.specs.Stand.{RuntimePoll};
 ghost use Rattle.call_model.specs.After.{with_events, finished, finished_moves, turned, turned_moves, closing_ends, restarted, settled_stand, settled_phase, served_moves, left, member_second, give};
 
 use super::Environment;
-use crate::phases::{at_hand, begin_again, begun, bound_of, settle};
+use crate::phases::{at_hand, begin_again, begun, bound_of, is_closing, settle};
 use call_model::{Answer, Phase, Ticket};
 use extension_set::Moves;
 
@@ -87,14 +87,7 @@ impl Environment {
     fn ends(&self, expires: bool) -> bool
         ensures { result ≡ closing_ends expires self.now.stand }
     {
-        matches!(
-            self.phase,
-            Phase::Closing {
-                reason: _,
-                until: _,
-                bound: _,
-            },
-        ) && (self.extensions.waiting() == 0 || expires)
+        is_closing(self.phase) && (self.extensions.waiting() == 0 || expires)
     }
 
     /// What comes after each entry, but for the numbers of the events.
@@ -121,6 +114,7 @@ impl Environment {
         requires room { length self.old.stand.members + length moves.old < 31 }
         ensures stand { self.new ≡ record { fixed = self.old.fixed; stand = finished self.old.fixed now expires before self.old.stand moves.old } }
         ensures given { moves.new ≡ finished_moves self.old.fixed now expires before self.old.stand moves.old }
+        ensures ten { length self.new.stand.members ≤ 10 }
     {
         let events = self.events;
         self.turn(now, expires, before, moves);
@@ -130,7 +124,8 @@ impl Environment {
 
     /// Notes how many events were told.
     fn count_events(&mut self, events: u64)
-        ensures { self.new ≡ record { fixed = self.old.fixed; stand = with_events events self.old.stand } }
+        ensures stand { self.new ≡ record { fixed = self.old.fixed; stand = with_events events self.old.stand } }
+        ensures ten { length self.new.stand.members ≤ 10 }
     {
         self.events = events;
     }

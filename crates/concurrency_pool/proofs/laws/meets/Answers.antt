@@ -7,6 +7,7 @@ returns c = record {
   function = history.usage_is;
   remainder = history.remainder_is;
   unreserved = history.unreserved_is;
+  in_flight = history.in_flight_is;
   verdict = history.verdict_is;
   reserve = history.reserve_is;
 }

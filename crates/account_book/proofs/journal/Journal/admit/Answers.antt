@@ -1,11 +1,29 @@
-use Rattle.std.proofs.Common.{sym, reverse}
-use Rattle.arn_ids.proofs.Bounds.{environments_256}
-use Rattle.account_book.proofs.SitesMeet.{sites_length}
-use Rattle.account_book.proofs.VerdictMeets.{verdict_is}
+use Rattle.std.proofs.Common.{◌≡◌, ◌≤◌, length, sym, ap, ◌∙◌}
+use Rattle.call_model.specs.Answers.{verdict_answer}
+use Rattle.call_model.specs.Limits.{admitted_to}
+use Rattle.account_book.specs.declared.journal.Verdict.{Verdict}
+use Rattle.account_book.specs.Pages.{Pages}
+use Rattle.account_book.proofs.InForce.{many_functions}
+use Rattle.account_book.proofs.Verdicts.{verdict_stopped, verdict_open}
 use Rattle.account_book.proofs.journal.Journal.admit.Goals as goal
 
-pub admitted-requires-clause-few : goal.admitted-requires-clause-few
-admitted-requires-clause-few c = rw (c.deref.ensures.value, c.self.invariant.sites_are, sites_length c.self.inside.config (reverse c.self.inside.entries.0)) (environments_256 c.self.inside.config c.self.invariant.sound)
+pub returns-then-is_stopped-clause-placed : goal.returns-then-is_stopped-clause-placed
+returns-then-is_stopped-clause-placed c = rw (sym c.self.view_is) (ap (λ (v : Verdict). v.place) c.own.ensures ∙ sym (ap admitted_to (verdict_stopped c.self.inside.config c.self.inside.ledger.history c.args.function (sym c.if-is_stopped.ensures))))
 
-pub returns : goal.returns
-returns c = rw (sym c.self.view_is, verdict_is c.self.inside.config (reverse c.self.inside.entries.0) c.args.function c.self.invariant.legal c.self.invariant.all_taken, sym c.self.invariant.sites_are, sym c.deref.ensures.value) c.admitted.ensures
+pub returns-then-is_stopped-clause-own : goal.returns-then-is_stopped-clause-own
+returns-then-is_stopped-clause-own c = rw (sym c.self.view_is) (ap (λ (v : Verdict). v.own) c.own.ensures ∙ sym (ap verdict_answer (verdict_stopped c.self.inside.config c.self.inside.ledger.history c.args.function (sym c.if-is_stopped.ensures))))
+
+pub admit-requires-clause-there : goal.admit-requires-clause-there
+admit-requires-clause-there c = rw (c.self.invariant.pool_is, many_functions c.self.inside.config c.self.inside.ledger.history, ap (λ (p : Pages). length p.config.functions) c.self.view_is) c.requires.there
+
+pub returns-in-Ok-clause-placed : goal.returns-in-Ok-clause-placed
+returns-in-Ok-clause-placed c = rw (sym c.self.view_is) (sym (ap admitted_to (verdict_open c.self.inside.config c.self.inside.ledger.history c.args.function c.self.inside.fleet.pool c.self.inside.fleet.sites c.requires.from_one (rw (ap (λ (p : Pages). length p.config.functions) c.self.view_is) c.requires.there) c.self.invariant.pool_is c.self.invariant.sites_are (sym c.if-is_stopped.ensures) ∙ c.in-Ok.ensures)))
+
+pub returns-in-Ok-clause-own : goal.returns-in-Ok-clause-own
+returns-in-Ok-clause-own c = rw (sym c.self.view_is) (sym (ap verdict_answer (verdict_open c.self.inside.config c.self.inside.ledger.history c.args.function c.self.inside.fleet.pool c.self.inside.fleet.sites c.requires.from_one (rw (ap (λ (p : Pages). length p.config.functions) c.self.view_is) c.requires.there) c.self.invariant.pool_is c.self.invariant.sites_are (sym c.if-is_stopped.ensures) ∙ c.in-Ok.ensures)))
+
+pub returns-in-Err-clause-placed : goal.returns-in-Err-clause-placed
+returns-in-Err-clause-placed c = rw (sym c.self.view_is) (ap (λ (v : Verdict). v.place) c.own-in-Err.ensures ∙ sym (ap admitted_to (verdict_open c.self.inside.config c.self.inside.ledger.history c.args.function c.self.inside.fleet.pool c.self.inside.fleet.sites c.requires.from_one (rw (ap (λ (p : Pages). length p.config.functions) c.self.view_is) c.requires.there) c.self.invariant.pool_is c.self.invariant.sites_are (sym c.if-is_stopped.ensures) ∙ c.in-Err.ensures)))
+
+pub returns-in-Err-clause-own : goal.returns-in-Err-clause-own
+returns-in-Err-clause-own c = rw (sym c.self.view_is) (ap (λ (v : Verdict). v.own) c.own-in-Err.ensures ∙ sym (ap verdict_answer (verdict_open c.self.inside.config c.self.inside.ledger.history c.args.function c.self.inside.fleet.pool c.self.inside.fleet.sites c.requires.from_one (rw (ap (λ (p : Pages). length p.config.functions) c.self.view_is) c.requires.there) c.self.invariant.pool_is c.self.invariant.sites_are (sym c.if-is_stopped.ensures) ∙ c.in-Err.ensures)))

@@ -1,5 +1,6 @@
-use Rattle.arn_ids.proofs.Bounds.{environments_256}
+use Rattle.std.proofs.Common.{◌∙◌, sym, ap, length}
+use Rattle.account_book.proofs.FleetMeets.{sites_length}
 use Rattle.account_book.proofs.journal.Journal.environments.Goals as goal
 
-pub returns-clause-few : goal.returns-clause-few
-returns-clause-few c = rw (c.from.ensures, c.environments.ensures) (environments_256 c.self.inside.config c.self.invariant.sound)
+pub returns-clause-value : goal.returns-clause-value
+returns-clause-value c = rw (sym c.self.view_is) (c.from.ensures ∙ c.environments.ensures.value ∙ ap length c.self.invariant.sites_are ∙ sites_length c.self.inside.config c.self.inside.ledger.history)

@@ -1,5 +1,4 @@
-use Rattle.std.proofs.Common.{◌≡◌, ◌≤◌, ◌+◌, length, vec_len, All, []}
-use Rattle.call_model.specs.Next.{IsLegal, due, expired, last_moment}
+use Rattle.std.proofs.Common.{vec_len}
 use Rattle.account_book.proofs.Expiring.{IsExpiring}
 use Rattle.account_book.proofs.journal.Journal.expire_due.Given as goal
 

@@ -11,4 +11,4 @@ finish-requires-clause-few c = rw c.first.ensures.stand (omega arith)
 pub finish-requires-clause-room : goal.finish-requires-clause-room
 finish-requires-clause-room c =
     let few : length c.args.self.now.stand.members ≤ 10 = rw (sym c.self.view_is) (c.self.invariant.1) in
-    rw (c.first.ensures.stand, c.first.ensures.given) (first_room c.args.self.now.fixed (step_of c.args.step) c.args.self.now.stand c.args.call.now c.requires.served few)
+    rw (c.first.ensures.stand, c.first.ensures.given) (first_room c.args.self.now.fixed (step_of c.args.step) c.args.self.now.stand c.args.call.now few)

@@ -1,0 +1,48 @@
+-- A loop in which one environment after the other takes a call.
+use Rattle.std.proofs.Common.{◌≡◌, ℕ, zero, suc, ◌+◌, ◌-◌, ◌*◌, ◌<◌, ◌≤◌, List, [], ◌∷◌, ◌++◌, length, map, take, drop, get_or, set, sym, refl, ap, ap₂, ◌∙◌, arith, drop-cons, add-one, count_by}
+use Rattle.call_model.specs.declared.answer.Answer.{Answer}
+use Rattle.concurrency_pool.specs.Numbers.{Numbers}
+use Rattle.concurrency_pool.specs.declared.pool.Usage.{Usage}
+use Rattle.account_book.specs.Crew.{Crew}
+use Rattle.account_book.specs.declared.site.Site.{Site}
+use Rattle.account_book.specs.Fleets.{no_site, put_all, merged, flown, flown_from, serves_function}
+
+-- The first so many environments have taken the call: their answers are among the answers.
+pub record IsVisited (move : Site → Site) (moves : Site → List (ℕ × Answer)) (n : ℕ) (first now : Crew) (old new : List (ℕ × Answer) × ℕ) : Type 0 where
+  pub sites : now.sites ≡ map move (take n first.sites) ++ drop n first.sites
+  pub pool : now.pool ≡ flown now.sites first.pool
+  pub widest : now.widest ≡ first.widest
+  pub answers : merged moves (drop n first.sites) new.0 ≡ merged moves first.sites old.0
+  pub room : old.1 ≤ new.1 + 24 * n
+
+-- one that has not taken it is as it was
+pub not_yet : {A : Type 0} (move : A → A) (xs : List A) (n : ℕ) (d : A) → n < length xs → get_or (map move (take n xs) ++ drop n xs) n d ≡ get_or xs n d
+not_yet move [] n d lt = absurd (omega arith)
+not_yet move (x ∷ xs) zero d lt = refl
+not_yet move (x ∷ xs) (suc n) d lt = not_yet move xs n d (omega arith)
+
+-- one more has taken it
+pub one_more : {A : Type 0} (move : A → A) (xs : List A) (n : ℕ) (d : A) → n < length xs → set (map move (take n xs) ++ drop n xs) n (move (get_or xs n d)) ≡ map move (take (suc n) xs) ++ drop (suc n) xs
+one_more move [] n d lt = absurd (omega arith)
+one_more move (x ∷ xs) zero d lt = refl
+one_more move (x ∷ xs) (suc n) d lt = ap (λ ys. move x ∷ ys) (one_more move xs n d (omega arith))
+
+pub as_many : {A : Type 0} (move : A → A) (xs : List A) (n : ℕ) → length (map move (take n xs) ++ drop n xs) ≡ length xs
+as_many move [] zero = refl
+as_many move [] (suc n) = refl
+as_many move (x ∷ xs) zero = refl
+as_many move (x ∷ xs) (suc n) = ap suc (as_many move xs n)
+
+flown_again : (s t : List Site) (a : ℕ) (us : List Usage) → flown_from t a (flown_from s a us) ≡ flown_from t a us
+flown_again s t a [] = refl
+flown_again s t a (u ∷ us) = ap (λ vs. record u { in_flight = count_by (serves_function a) t } ∷ vs) (flown_again s t (suc a) us)
+
+pub visit_one : (move : Site → Site) (moves : Site → List (ℕ × Answer)) (n : ℕ) (first now after : Crew) (old new then : List (ℕ × Answer) × ℕ) (s : Site) → IsVisited move moves n first now old new → n < length first.sites
+    → s ≡ get_or first.sites n no_site → after.sites ≡ set now.sites n (move s) → after.pool ≡ flown after.sites now.pool → after.widest ≡ now.widest → then.0 ≡ put_all (moves s) new.0 → then.1 + length (moves s) ≡ new.1 → length (moves s) ≤ 24 → IsVisited move moves (n + 1) first after old then
+visit_one move moves n first now after old new then s k lt is sites pool widest answers room few = record {
+  sites = sites ∙ ap₂ (λ xs x. set xs n (move x)) k.sites is ∙ one_more move first.sites n no_site lt ∙ ap (λ m. map move (take m first.sites) ++ drop m first.sites) (sym (add-one n));
+  pool = pool ∙ ap (flown after.sites) k.pool ∙ ap (λ (us : List Usage). record first.pool { functions = us }) (flown_again now.sites after.sites 1 first.pool.functions);
+  widest = widest ∙ k.widest;
+  answers = ap₂ (λ m a. merged moves (drop m first.sites) a) (add-one n) (answers ∙ ap (λ x. put_all (moves x) new.0) is) ∙ ap (λ xs. merged moves xs new.0) (sym (drop-cons first.sites n no_site lt)) ∙ k.answers;
+  room = omega (arith, k.room, room, few);
+}

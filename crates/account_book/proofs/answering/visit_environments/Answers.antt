@@ -1,0 +1,113 @@
+use Rattle.std.proofs.Common.{◌≡◌, ◌<◌, ◌≤◌, ◌+◌, ◌-◌, ◌*◌, ℕ, suc, arith, sym, ap, ap₂, ◌∙◌, length, reverse, refl, List, All, [], ◌∷◌, Option, None, true, set, map}
+use Rattle.std.proofs.lemmas.List.{length-reverse}
+use Rattle.arn_ids.specs.declared.config.Config.{Config}
+use Rattle.arn_ids.specs.Environments.{owners, function_of}
+use Rattle.call_model.specs.declared.answer.Answer.{Answer}
+use Rattle.call_model.specs.declared.call.Call.{Call}
+use Rattle.call_model.specs.declared.call.Entry.{Entry}
+use Rattle.call_model.specs.Limits.{place_for}
+use Rattle.call_model.specs.Next.{IsLegal, Follows, entry_of}
+use Rattle.call_model.proofs.AtHand.{is_invoke}
+use Rattle.concurrency_pool.specs.Meets.{numbers}
+use Rattle.concurrency_pool.specs.Numbers.{Numbers}
+use Rattle.concurrency_pool.specs.Pools.{throttle}
+use Rattle.account_book.specs.Answering.{most_answers}
+use Rattle.account_book.specs.Crew.{Crew}
+use Rattle.account_book.specs.declared.reach.Reach.TheVariants.{Nowhere, At, Everywhere}
+use Rattle.account_book.specs.declared.site.Site.{Site}
+use Rattle.account_book.specs.Fleets.{site_at, moved, moves_at, put_all, merged, flown, IsFew}
+use Rattle.account_book.specs.Reaches.{reach, homed}
+use Rattle.account_book.specs.Taking.{site, sites, request_counts, IsKnown, AllKnown}
+use Rattle.account_book.proofs.Concerned.{sites_nowhere, sites_at, sites_everywhere}
+use Rattle.account_book.proofs.EntryMoves.{homed_nowhere, homed_at, homed_everywhere}
+use Rattle.account_book.proofs.Extent.{few_site, few_sites}
+use Rattle.account_book.proofs.FleetMeets.{sites_length, numbers_flown}
+use Rattle.account_book.proofs.Visiting.{reach_within, site_of, room_there, admitted_there, all_stop}
+use Rattle.account_book.proofs.answering.visit_environments.Goals as goal
+
+-- what a history is before a call is taken
+record IsReady (config : Config) (h : List Entry) (now : ℕ) (call : Call) (place : Option ℕ) (all : List Site) (pool : Numbers) (requests : List ℕ) : Type 0 where
+  legal : IsLegal config h
+  all_known : AllKnown config h
+  follows : Follows config h (entry_of config h now call)
+  known : IsKnown config call
+  placed : place ≡ place_for config h call
+  is : all ≡ sites config h
+  pool_is : pool ≡ numbers config h
+  counts : requests ≡ request_counts config (entry_of config h now call ∷ h)
+
+-- the environment that is reached, in the account's list
+found : (config : Config) (h : List Entry) (now : ℕ) (call : Call) (place : Option ℕ) (all : List Site) (pool : Numbers) (requests : List ℕ) (e : ℕ) → IsReady config h now call place all pool requests → reach h place call ≡ At e → (1 ≤ e) × (e ≤ length (owners config)) × (e ≤ length all) × (site_at all e ≡ site config h e)
+found config h now call place all pool requests e k r =
+    let w = reach_within config h call place e k.all_known k.known k.placed r in
+    (w.0, w.1, rw (k.is, sites_length config h) w.1, rw k.is (site_of config h e w.0 w.1))
+
+sites_then : (config : Config) (h : List Entry) (now : ℕ) (call : Call) (place : Option ℕ) (all : List Site) (pool : Numbers) (requests : List ℕ) (e : ℕ) (after : List Site) → IsReady config h now call place all pool requests → reach h place call ≡ At e
+    → after ≡ set all (e - 1) (moved (length h) now requests call (site_at all e)) → after ≡ sites config (entry_of config h now call ∷ h)
+sites_then config h now call place all pool requests e after k r became =
+    let f = found config h now call place all pool requests e k r in
+    became ∙ rw (k.counts, f.3, k.is) (sym (sites_at config h (entry_of config h now call) e k.legal k.follows (ap (λ (p : Option ℕ). reach h p call) (sym k.placed) ∙ r) f.0 f.1))
+
+answers_then : (config : Config) (h : List Entry) (now : ℕ) (call : Call) (place : Option ℕ) (all : List Site) (pool : Numbers) (requests : List ℕ) (e : ℕ) → IsReady config h now call place all pool requests → reach h place call ≡ At e
+    → put_all (moves_at (length h) now requests call (site_at all e)) [] ≡ homed h (entry_of config h now call)
+answers_then config h now call place all pool requests e k r =
+    let f = found config h now call place all pool requests e k r in
+    rw (k.counts, f.3) (sym (homed_at config h (entry_of config h now call) e k.legal k.follows (ap (λ (p : Option ℕ). reach h p call) (sym k.placed) ∙ r) f.0 f.1))
+
+pub take_at-requires-clause-from_one : goal.take_at-requires-clause-from_one
+take_at-requires-clause-from_one c = (found c.args.config.now (reverse c.args.entries.now) c.args.visit.moment c.args.visit.call.now c.args.place c.args.fleet.now.sites c.args.fleet.now.pool c.args.visit.requests.now c.in-At.env (record { legal = c.requires.legal; all_known = c.requires.all_known; follows = c.requires.follows; known = c.requires.known; placed = c.requires.placed; is = c.requires.sites; pool_is = c.requires.pool; counts = c.requires.counts }) (sym c.of.ensures ∙ c.in-At.is)).0
+
+pub take_at-requires-clause-there : goal.take_at-requires-clause-there
+take_at-requires-clause-there c = (found c.args.config.now (reverse c.args.entries.now) c.args.visit.moment c.args.visit.call.now c.args.place c.args.fleet.now.sites c.args.fleet.now.pool c.args.visit.requests.now c.in-At.env (record { legal = c.requires.legal; all_known = c.requires.all_known; follows = c.requires.follows; known = c.requires.known; placed = c.requires.placed; is = c.requires.sites; pool_is = c.requires.pool; counts = c.requires.counts }) (sym c.of.ensures ∙ c.in-At.is)).2
+
+pub take_at-requires-clause-few : goal.take_at-requires-clause-few
+take_at-requires-clause-few c = rw ((found c.args.config.now (reverse c.args.entries.now) c.args.visit.moment c.args.visit.call.now c.args.place c.args.fleet.now.sites c.args.fleet.now.pool c.args.visit.requests.now c.in-At.env (record { legal = c.requires.legal; all_known = c.requires.all_known; follows = c.requires.follows; known = c.requires.known; placed = c.requires.placed; is = c.requires.sites; pool_is = c.requires.pool; counts = c.requires.counts }) (sym c.of.ensures ∙ c.in-At.is)).3) (few_site c.args.config.now (reverse c.args.entries.now) c.in-At.env c.requires.legal (rw (length-reverse c.args.entries.now) c.requires.short))
+
+pub take_at-requires-clause-room : goal.take_at-requires-clause-room
+take_at-requires-clause-room c =
+    let f = found c.args.config.now (reverse c.args.entries.now) c.args.visit.moment c.args.visit.call.now c.args.place c.args.fleet.now.sites c.args.fleet.now.pool c.args.visit.requests.now c.in-At.env (record { legal = c.requires.legal; all_known = c.requires.all_known; follows = c.requires.follows; known = c.requires.known; placed = c.requires.placed; is = c.requires.sites; pool_is = c.requires.pool; counts = c.requires.counts }) (sym c.of.ensures ∙ c.in-At.is) in
+    omega (arith, room_there (reverse c.args.entries.now) c.args.place c.args.visit.call.now c.in-At.env c.args.visit.ticket c.args.visit.moment c.args.fleet.now.widest (length (owners c.args.config.now)) c.args.visit.requests.now c.args.fleet.now.sites (sym c.of.ensures ∙ c.in-At.is) f.0 f.2 c.facts.ensures.narrow, c.requires.room)
+
+pub take_at-requires-clause-admitted : goal.take_at-requires-clause-admitted
+take_at-requires-clause-admitted c = λ invoke.
+    ap₂ throttle c.requires.pool (ap (λ (s : Site). s.function) ((found c.args.config.now (reverse c.args.entries.now) c.args.visit.moment c.args.visit.call.now c.args.place c.args.fleet.now.sites c.args.fleet.now.pool c.args.visit.requests.now c.in-At.env (record { legal = c.requires.legal; all_known = c.requires.all_known; follows = c.requires.follows; known = c.requires.known; placed = c.requires.placed; is = c.requires.sites; pool_is = c.requires.pool; counts = c.requires.counts }) (sym c.of.ensures ∙ c.in-At.is)).3)) ∙ admitted_there c.args.config.now (reverse c.args.entries.now) c.args.visit.call.now c.args.place c.in-At.env c.requires.known c.requires.placed (sym c.of.ensures ∙ c.in-At.is) invoke
+
+pub take_all-requires-clause-few : goal.take_all-requires-clause-few
+take_all-requires-clause-few c = rw c.requires.sites (few_sites c.args.config.now (reverse c.args.entries.now) c.requires.legal (rw (length-reverse c.args.entries.now) c.requires.short))
+
+pub take_all-requires-clause-room : goal.take_all-requires-clause-room
+take_all-requires-clause-room c =
+    let room = rw (all_stop (reverse c.args.entries.now) c.args.place c.args.visit.call.now (sym c.of.ensures ∙ c.in-Everywhere.is)) at c.requires.room in
+    rw (c.requires.sites, sites_length c.args.config.now (reverse c.args.entries.now)) (omega (arith, room))
+
+pub returns-in-Nowhere-clause-sites : goal.returns-in-Nowhere-clause-sites
+returns-in-Nowhere-clause-sites c = c.requires.sites ∙ sym (sites_nowhere c.args.config.now (reverse c.args.entries.now) (entry_of c.args.config.now (reverse c.args.entries.now) c.args.visit.moment c.args.visit.call.now) c.requires.legal c.requires.follows (ap (λ (p : Option ℕ). reach (reverse c.args.entries.now) p c.args.visit.call.now) (sym c.requires.placed) ∙ sym c.of.ensures ∙ c.in-Nowhere.is))
+
+pub returns-in-Nowhere-clause-pool : goal.returns-in-Nowhere-clause-pool
+returns-in-Nowhere-clause-pool c = rw (c.requires.sites, c.requires.pool) (numbers_flown c.args.config.now (reverse c.args.entries.now) c.requires.legal)
+
+pub returns-in-Nowhere-clause-answers : goal.returns-in-Nowhere-clause-answers
+returns-in-Nowhere-clause-answers c = c.requires.empty ∙ sym (homed_nowhere c.args.config.now (reverse c.args.entries.now) (entry_of c.args.config.now (reverse c.args.entries.now) c.args.visit.moment c.args.visit.call.now) c.requires.follows (ap (λ (p : Option ℕ). reach (reverse c.args.entries.now) p c.args.visit.call.now) (sym c.requires.placed) ∙ sym c.of.ensures ∙ c.in-Nowhere.is))
+
+pub returns-in-At-clause-sites : goal.returns-in-At-clause-sites
+returns-in-At-clause-sites c = sites_then c.args.config.now (reverse c.args.entries.now) c.args.visit.moment c.args.visit.call.now c.args.place c.args.fleet.now.sites c.args.fleet.now.pool c.args.visit.requests.now c.in-At.env c.take_at.new.self.sites (record { legal = c.requires.legal; all_known = c.requires.all_known; follows = c.requires.follows; known = c.requires.known; placed = c.requires.placed; is = c.requires.sites; pool_is = c.requires.pool; counts = c.requires.counts }) (sym c.of.ensures ∙ c.in-At.is) (rw (sym (c.requires.ticket ∙ sym (length-reverse c.args.entries.now))) c.take_at.ensures.sites)
+
+pub returns-in-At-clause-answers : goal.returns-in-At-clause-answers
+returns-in-At-clause-answers c = rw ((c.requires.ticket ∙ sym (length-reverse c.args.entries.now)), c.requires.empty) at c.take_at.ensures.answers ∙ answers_then c.args.config.now (reverse c.args.entries.now) c.args.visit.moment c.args.visit.call.now c.args.place c.args.fleet.now.sites c.args.fleet.now.pool c.args.visit.requests.now c.in-At.env (record { legal = c.requires.legal; all_known = c.requires.all_known; follows = c.requires.follows; known = c.requires.known; placed = c.requires.placed; is = c.requires.sites; pool_is = c.requires.pool; counts = c.requires.counts }) (sym c.of.ensures ∙ c.in-At.is)
+
+pub returns-in-At-clause-room : goal.returns-in-At-clause-room
+returns-in-At-clause-room c =
+    let f = found c.args.config.now (reverse c.args.entries.now) c.args.visit.moment c.args.visit.call.now c.args.place c.args.fleet.now.sites c.args.fleet.now.pool c.args.visit.requests.now c.in-At.env (record { legal = c.requires.legal; all_known = c.requires.all_known; follows = c.requires.follows; known = c.requires.known; placed = c.requires.placed; is = c.requires.sites; pool_is = c.requires.pool; counts = c.requires.counts }) (sym c.of.ensures ∙ c.in-At.is) in
+    omega (arith, room_there (reverse c.args.entries.now) c.args.place c.args.visit.call.now c.in-At.env c.args.visit.ticket c.args.visit.moment c.args.fleet.now.widest (length (owners c.args.config.now)) c.args.visit.requests.now c.args.fleet.now.sites (sym c.of.ensures ∙ c.in-At.is) f.0 f.2 c.facts.ensures.narrow, c.requires.room, c.take_at.ensures.room)
+
+pub returns-in-Everywhere-clause-sites : goal.returns-in-Everywhere-clause-sites
+returns-in-Everywhere-clause-sites c = rw ((c.requires.ticket ∙ sym (length-reverse c.args.entries.now)), c.requires.sites, c.requires.counts) at c.take_all.ensures.sites ∙ sym (sites_everywhere c.args.config.now (reverse c.args.entries.now) (entry_of c.args.config.now (reverse c.args.entries.now) c.args.visit.moment c.args.visit.call.now) c.requires.legal c.requires.follows (ap (λ (p : Option ℕ). reach (reverse c.args.entries.now) p c.args.visit.call.now) (sym c.requires.placed) ∙ sym c.of.ensures ∙ c.in-Everywhere.is))
+
+pub returns-in-Everywhere-clause-answers : goal.returns-in-Everywhere-clause-answers
+returns-in-Everywhere-clause-answers c = rw ((c.requires.ticket ∙ sym (length-reverse c.args.entries.now)), c.requires.sites, c.requires.counts, c.requires.empty) at c.take_all.ensures.answers ∙ sym (homed_everywhere c.args.config.now (reverse c.args.entries.now) (entry_of c.args.config.now (reverse c.args.entries.now) c.args.visit.moment c.args.visit.call.now) c.requires.legal c.requires.follows c.requires.all_known c.requires.known (ap (λ (p : Option ℕ). reach (reverse c.args.entries.now) p c.args.visit.call.now) (sym c.requires.placed) ∙ sym c.of.ensures ∙ c.in-Everywhere.is))
+
+pub returns-in-Everywhere-clause-room : goal.returns-in-Everywhere-clause-room
+returns-in-Everywhere-clause-room c =
+    let room = rw (all_stop (reverse c.args.entries.now) c.args.place c.args.visit.call.now (sym c.of.ensures ∙ c.in-Everywhere.is)) at c.requires.room in
+    let many : length c.args.fleet.now.sites ≡ length (owners c.args.config.now) = ap length c.requires.sites ∙ sites_length c.args.config.now (reverse c.args.entries.now) in
+    omega (arith, room, many, c.take_all.ensures.room)

@@ -1,0 +1,34 @@
+-- The entries of an account with what is read off them.
+use Rattle.std.specs.Prelude.{◌≡◌, ℕ, ◌+◌, ◌*◌, ◌≤◌, ◌^◌, List, length, reverse}
+use Rattle.call_model.specs.declared.call.Entry.{Entry}
+use Rattle.call_model.specs.Counts.{admitted, throttled, failed}
+use Rattle.call_model.specs.History.{stopped}
+use Rattle.script.specs.CallCounts.{call_counts}
+use Rattle.account_book.specs.declared.ledger.Ledger.TheInside.{Inside}
+use Rattle.account_book.specs.declared.totals.Totals.{Totals}
+use Rattle.account_book.specs.Indexes.{answered}
+use Rattle.account_book.specs.Shelf.{Shelf}
+
+abbrev pub shelf : Inside → Shelf
+shelf l = record { history = reverse l.entries.0; room = l.entries.1 }
+
+-- what a history has admitted, throttled and failed
+abbrev pub totals : List Entry → Totals
+totals h = record { admitted = admitted h; throttled = throttled h; failed = failed h }
+
+-- how many answers an entry has at most: 24 at each of 256 environments, and the call's own
+abbrev pub answer_limit : ℕ
+answer_limit = 6145
+
+-- what is kept beside the entries is what they say
+pub record IsLedger (l : Inside) : Type 0 where
+  pub counts_are : reverse l.counts.0 ≡ call_counts (reverse l.entries.0)
+  pub given_is : l.given.0 ≡ answered (reverse l.entries.0)
+  pub totals_are : l.totals ≡ totals (reverse l.entries.0)
+  pub few_admitted : l.totals.admitted ≤ length l.entries.0
+  pub few_throttled : l.totals.throttled ≤ answer_limit * length l.entries.0
+  pub few_failed : l.totals.failed ≤ answer_limit * length l.entries.0
+  pub stopped_is : l.stopped ≡ stopped (reverse l.entries.0)
+  pub counts_room : l.counts.1 ≡ l.entries.1
+  pub given_room : l.given.1 ≡ l.entries.1
+  pub few : length l.entries.0 + l.entries.1 ≤ 2 ^ 32

@@ -1,0 +1,180 @@
+//! The entries of an account, with what is read off them.
+
+ghost use Rattle.std.specs.Prelude.{◌≡◌, ◌+◌, ◌-◌, ◌∷◌, ◌<◌, ◌≤◌, ◌^◌, ◌||◌, [], ℕ, length, reverse, None, All, OnOk, slice_get, option_map};
+ghost use Rattle.call_model.specs.Counts.{admitted, throttled, failed};
+ghost use Rattle.call_model.specs.History.{answer_of, is_stop, stopped};
+ghost use Rattle.script.specs.CallCounts.{call_counts, request_count};
+ghost use Rattle.account_book.specs.Indexes.{noted};
+ghost use Rattle.account_book.specs.Ledgers.{answer_limit, totals};
+
+use crate::room::Roomy;
+use crate::totals::Totals;
+use arn_ids::EnvNo;
+use call_model::{Answer, Answers, Call, Entry, Ticket};
+use std::alloc::{AllocError, Global};
+use std::marker::Model;
+
+/// The entries, the oldest first, with what is read off them. Room for an entry is made beforehand.
+#[derive(Debug, Drop)]
+pub struct Ledger {
+    entries: Roomy<Entry>,
+    /// For each entry the count in its request identifier, 0 where its call is no Invoke.
+    counts: Roomy<u64>,
+    /// For each ticket what it was answered.
+    given: Roomy<Option<Answer>>,
+    totals: Totals,
+    /// Whether a Stop stands among the entries.
+    stopped: bool,
+}
+
+impl Model for Ledger {
+    ghost use Rattle.account_book.specs.Shelf.{Shelf};
+    ghost use Rattle.account_book.specs.Ledgers.{shelf, IsLedger};
+
+    ghost Value = { Shelf };
+
+    ghost view = { shelf };
+
+    ghost invariant = { IsLedger };
+}
+
+/// Notes the answers of an entry.
+fn note(given: &mut Roomy<Option<Answer>>, answers: &[(Ticket, Answer)])
+    requires { All (λ a. a.0 < length given.old.0) answers.now }
+    ensures { given.new ≡ (noted answers.now given.old.0, given.old.1) }
+{
+    let mut index = answers.len();
+    while index > 0 {
+        index -= 1;
+        let (ticket, answer) = answers[index];
+        given.set(ticket as usize, Some(answer));
+    }
+}
+
+/// Whether the service is stopped after a call, where it was or wasn't before.
+fn stops(stopped: bool, call: &Call) -> bool
+    ensures { result ≡ (is_stop call.now || stopped) }
+{
+    matches!(call, Call::Stop) || stopped
+}
+
+/// Makes room for so many in each of the lists.
+fn make_rooms(
+    entries: &mut Roomy<Entry>,
+    counts: &mut Roomy<u64>,
+    given: &mut Roomy<Option<Answer>>,
+    room: usize,
+) -> Result<(), AllocError>
+    ensures values { (entries.new.0 ≡ entries.old.0) × (counts.new.0 ≡ counts.old.0) × (given.new.0 ≡ given.old.0) }
+    ensures made { OnOk result ((entries.new.1 ≡ room) × (counts.new.1 ≡ room) × (given.new.1 ≡ room)) }
+{
+    entries.make_room(room)?;
+    counts.make_room(room)?;
+    given.make_room(room)
+}
+
+impl Ledger {
+    /// No entries and no room.
+    pub fn new(alloc: Global) -> Ledger
+        ensures { result ≡ record { history = []; room = 0 } }
+    {
+        Ledger {
+            entries: Roomy::new(alloc),
+            counts: Roomy::new(alloc),
+            given: Roomy::new(alloc),
+            totals: Totals::new(),
+            stopped: false,
+        }
+    }
+
+    /// Makes room for this many entries; a refusal leaves them.
+    pub fn make_room(&mut self, entries: usize) -> Result<(), AllocError>
+        requires { length self.old.history + entries ≤ 2 ^ 32 }
+        ensures same { self.new.history ≡ self.old.history }
+        ensures made { OnOk result (self.new.room ≡ entries) }
+    {
+        let made = make_rooms(
+            &mut self.entries,
+            &mut self.counts,
+            &mut self.given,
+            entries,
+        );
+        if made.is_err() {
+            self.entries.give_up_room();
+            self.counts.give_up_room();
+            self.given.give_up_room();
+        }
+        made
+    }
+
+    /// Adds an entry whose call has this count in its request identifier.
+    pub fn add(
+        &mut self,
+        moment: u64,
+        call: Call,
+        answers: Vec<(Ticket, Answer)>,
+        place: Option<EnvNo>,
+        count: u64,
+    )
+        requires room { 0 < self.old.room }
+        requires count { count ≡ request_count (record { moment = moment; call = call; answers = answers.items; place = place } ∷ self.old.history) call }
+        requires tickets { All (λ a. a.0 ≤ length self.old.history) answers.items }
+        requires few { length answers.items ≤ answer_limit }
+        requires fresh { answer_of self.old.history (length self.old.history) ≡ None }
+        ensures { self.new ≡ record { history = record { moment = moment; call = call; answers = answers.items; place = place } ∷ self.old.history; room = self.old.room - 1 } }
+    {
+        self.given.push(None);
+        note(&mut self.given, &answers);
+        self.totals.count(place, &answers);
+        self.stopped = stops(self.stopped, &call);
+        self.counts.push(count);
+        self.entries.push(Entry {
+            moment,
+            call,
+            answers: Answers::new(answers),
+            place,
+        });
+    }
+
+    /// The entries, the oldest first.
+    pub fn entries(&self) -> &[Entry]
+        ensures value { result.now ≡ reverse self.now.history }
+        ensures few { length self.now.history ≤ 2 ^ 32 }
+        ensures room { length self.now.history + self.now.room ≤ 2 ^ 32 }
+    {
+        self.entries.as_slice()
+    }
+
+    /// For each entry the count in its request identifier, 0 where its call is no Invoke.
+    pub fn counts(&self) -> &[u64]
+        ensures { reverse result.now ≡ call_counts self.now.history }
+    {
+        self.counts.as_slice()
+    }
+
+    /// The answer to a ticket; none where nothing was answered.
+    #[tactic(auto, using(crate::proofs::Indexed::given_some, crate::proofs::Indexed::given_none))]
+    pub fn answer(&self, ticket: Ticket) -> Option<Answer>
+        requires { (t : ℕ) → length self.now.history ≤ t → answer_of self.now.history t ≡ None }
+        ensures { result ≡ answer_of self.now.history ticket }
+    {
+        match self.given.as_slice().get(ticket as usize) {
+            None => None,
+            Some(answer) => *answer,
+        }
+    }
+
+    /// What was admitted, throttled and failed.
+    pub fn totals(&self) -> Totals
+        ensures { result ≡ totals self.now.history }
+    {
+        self.totals
+    }
+
+    /// Whether the service was stopped.
+    pub fn is_stopped(&self) -> bool
+        ensures { result ≡ stopped self.now.history }
+    {
+        self.stopped
+    }
+}

@@ -1,0 +1,84 @@
+//! Which environments a call reaches.
+
+ghost use Rattle.std.specs.Prelude.{◌≡◌, reverse};
+ghost use Rattle.account_book.specs.Reaches.{at_most, poll_env, reach};
+ghost use Rattle.call_model.specs.History.{call_of, env_of};
+
+use arn_ids::EnvNo;
+use call_model::{Call, Entry, Ticket};
+
+/// The environments that a call concerns.
+#[derive(Clone, Copy, Debug, PartialEq, Eq)]
+pub enum Reach {
+    /// None: the account alone answers it.
+    Nowhere,
+    /// One: where it is placed, or that it names.
+    At(EnvNo),
+    /// All of them.
+    Everywhere,
+}
+
+impl Reach {
+    /// One environment, where there is one.
+    fn at_most(env: Option<EnvNo>) -> Reach
+        ensures { result ≡ at_most env }
+    {
+        match env {
+            None => Reach::Nowhere,
+            Some(env) => Reach::At(env),
+        }
+    }
+
+    /// What a call reaches that is placed here, or nowhere.
+    pub fn of(entries: &[Entry], place: Option<EnvNo>, call: &Call) -> Reach
+        ensures { result ≡ reach (reverse entries.now) place call.now }
+    {
+        match call {
+            Call::Stop => Reach::Everywhere,
+            Call::Withdraw { ticket } => Reach::at_most(poll_env_at(entries, *ticket)),
+            _ => Reach::at_most(place.or(env_of(call))),
+        }
+    }
+}
+
+/// The environment of the Next with a ticket, where it is one.
+#[tactic(auto, using(script::proofs::PastLemmas::call_here, script::proofs::PastLemmas::no_call_here))]
+fn poll_env_at(entries: &[Entry], ticket: Ticket) -> Option<EnvNo>
+    ensures { result ≡ poll_env (call_of (reverse entries.now) ticket) }
+{
+    match entries.get(ticket as usize) {
+        None => None,
+        Some(entry) => poll_env(&entry.call),
+    }
+}
+
+/// The environment of a Next.
+fn poll_env(call: &Call) -> Option<EnvNo>
+    ensures { result ≡ poll_env call.now }
+{
+    match call {
+        Call::RuntimeNext { env } => Some(*env),
+        Call::ExtNext { env, .. } => Some(*env),
+        _ => None,
+    }
+}
+
+/// The environment that a call names.
+fn env_of(call: &Call) -> Option<EnvNo>
+    ensures { result ≡ env_of call.now }
+{
+    match call {
+        Call::RuntimeNext { env } => Some(*env),
+        Call::Response { env, .. } => Some(*env),
+        Call::ResponseTooLarge { env, .. } => Some(*env),
+        Call::Failure { env, .. } => Some(*env),
+        Call::InitFailure { env, .. } => Some(*env),
+        Call::Register { env, .. } => Some(*env),
+        Call::ExtNext { env, .. } => Some(*env),
+        Call::ExtInitFailure { env, .. } => Some(*env),
+        Call::ExtExitFailure { env, .. } => Some(*env),
+        Call::Spindown { env } => Some(*env),
+        Call::Expire { env } => Some(*env),
+        _ => None,
+    }
+}

@@ -1,0 +1,178 @@
+//! The answer to a call itself: the rows of the table of phases.
+//! A row's cells are, in this order, those of Starting, Idle, Busy with its invocation unanswered,
+//! Busy with its invocation answered, Closing and Off.
+//! (Runtime API; Extensions API)
+
+ghost use Rattle.std.specs.Prelude.{◌≡◌, ◌<◌, ◌^◌};
+ghost use Rattle.call_model.specs.declared.answer.Refusal.TheVariants.{State, Container};
+ghost use Rattle.call_model.specs.Table.{own_answer, row, ext_row, reports_on, registers, told_in_closing, is_registered, refused};
+
+use super::Environment;
+use arn_ids::Text;
+use call_model::{Answer, Call, Phase, Refusal};
+use extension_set::RegisterFault;
+
+/// A Next that parks.
+const PARKS: Option<Answer> = None;
+
+const ACCEPTED: Option<Answer> = Some(Answer::Accepted);
+
+const STATE: Option<Answer> = Some(Answer::Refused(Refusal::State));
+
+const CONTAINER: Option<Answer> = Some(Answer::Refused(Refusal::Container));
+
+const NOT_IDLE: Option<Answer> = Some(Answer::Refused(Refusal::NotIdle));
+
+const UNKNOWN: Option<Answer> = Some(Answer::Refused(Refusal::Unknown));
+
+/// Whether the answer is that to an extension which is registered.
+pub(super) fn is_registered(own: Option<Answer>) -> bool
+    ensures { result ≡ is_registered own }
+{
+    matches!(own, Some(Answer::Registered { .. }))
+}
+
+impl Environment {
+    /// The answer to a call itself: none where it is a Next that parks, or a call that another part
+    /// of the service answers.
+    #[tactic(auto, unfolding(call_model::specs::Table::own_answer))]
+    pub(super) fn own_answer(&self, call: &Call) -> Option<Answer>
+        requires { self.now.stand.registrations < 2 ^ 52 }
+        ensures { result ≡ own_answer self.now.stand call.now }
+    {
+        match call {
+            Call::RuntimeNext { .. } => self.row(PARKS, PARKS, STATE, PARKS, CONTAINER, CONTAINER),
+            Call::Response { id, .. } | Call::Failure { id, .. } => {
+                self.report_row(*id, Answer::Accepted)
+            }
+            Call::ResponseTooLarge { id, .. } => {
+                self.report_row(*id, Answer::Refused(Refusal::TooLarge))
+            }
+            Call::InitFailure { .. } => self.row(ACCEPTED, STATE, STATE, STATE, STATE, CONTAINER),
+            Call::Register { name, .. } => {
+                self.row(self.registers(name), STATE, STATE, STATE, STATE, CONTAINER)
+            }
+            Call::ExtNext { ext, .. } => {
+                self.extension_row(*ext, PARKS, PARKS, PARKS, PARKS, self.told_in_closing(*ext))
+            }
+            Call::ExtInitFailure { ext, .. } => {
+                self.extension_row(*ext, ACCEPTED, STATE, STATE, STATE, STATE)
+            }
+            Call::ExtExitFailure { ext, .. } => {
+                self.extension_row(*ext, ACCEPTED, ACCEPTED, ACCEPTED, ACCEPTED, ACCEPTED)
+            }
+            Call::Spindown { .. } => {
+                self.row(NOT_IDLE, ACCEPTED, NOT_IDLE, NOT_IDLE, NOT_IDLE, NOT_IDLE)
+            }
+            _ => None,
+        }
+    }
+
+    /// The cell of a row for the phase.
+    fn row(
+        &self,
+        starting: Option<Answer>,
+        idle: Option<Answer>,
+        unanswered: Option<Answer>,
+        answered: Option<Answer>,
+        closing: Option<Answer>,
+        off: Option<Answer>,
+    ) -> Option<Answer>
+        ensures { result ≡ row self.now.stand starting idle unanswered answered closing off }
+    {
+        match self.phase {
+            Phase::Starting { .. } => starting,
+            Phase::Idle => idle,
+            Phase::Busy { .. } => {
+                if self.request.is_some() {
+                    unanswered
+                } else {
+                    answered
+                }
+            }
+            Phase::Closing { .. } => closing,
+            Phase::Off => off,
+        }
+    }
+
+    /// The cell of the row of a call by an extension. One that is not registered in the present
+    /// generation is unknown; in Off none is known, and it is the container that refuses.
+    fn extension_row(
+        &self,
+        ext: u64,
+        starting: Option<Answer>,
+        idle: Option<Answer>,
+        unanswered: Option<Answer>,
+        answered: Option<Answer>,
+        closing: Option<Answer>,
+    ) -> Option<Answer>
+        ensures { result ≡ ext_row self.now.stand ext starting idle unanswered answered closing }
+    {
+        if self.knows(ext) {
+            self.row(starting, idle, unanswered, answered, closing, CONTAINER)
+        } else {
+            self.row(UNKNOWN, UNKNOWN, UNKNOWN, UNKNOWN, UNKNOWN, CONTAINER)
+        }
+    }
+
+    /// The cell of the row of a report on the invocation with this request count.
+    /// (Runtime API: Invocation response, Invocation error)
+    fn report_row(&self, id: u64, answer: Answer) -> Option<Answer>
+        ensures { result ≡ row self.now.stand (refused State) (refused State) (reports_on self.now.stand id answer) (refused State) (refused State) (refused Container) }
+    {
+        self.row(
+            STATE,
+            STATE,
+            self.reports_on(id, answer),
+            STATE,
+            STATE,
+            CONTAINER,
+        )
+    }
+
+    /// The answer to a report on the open invocation, by the request count that it names.
+    fn reports_on(&self, id: u64, answer: Answer) -> Option<Answer>
+        ensures { result ≡ reports_on self.now.stand id answer }
+    {
+        if self.request == Some(id) {
+            Some(answer)
+        } else {
+            Some(Answer::Refused(Refusal::BadId))
+        }
+    }
+
+    /// The answer to a Register in Starting. (Extensions API: Register)
+    fn registers(&self, name: &Text) -> Option<Answer>
+        requires { self.now.stand.registrations < 2 ^ 52 }
+        ensures { result ≡ registers self.now.stand name.now }
+    {
+        Some(match self.extensions.admits(name) {
+            Ok(()) => Answer::Registered {
+                count: self.registrations + 1,
+            },
+            Err(RegisterFault::NameInUse) => Answer::Refused(Refusal::NameInUse),
+            Err(RegisterFault::TooMany) => Answer::Refused(Refusal::TooMany),
+        })
+    }
+
+    /// The answer to a Next of an extension in Closing, which hears the end once.
+    /// (Extensions API: Shutdown event)
+    fn told_in_closing(&self, ext: u64) -> Option<Answer>
+        ensures { result ≡ told_in_closing self.now.stand ext }
+    {
+        match self.phase {
+            Phase::Closing { reason, until, .. } => {
+                if self.extensions.owes_end(ext) {
+                    Some(Answer::Ending {
+                        reason,
+                        until,
+                        event: 0,
+                    })
+                } else {
+                    CONTAINER
+                }
+            }
+            _ => CONTAINER,
+        }
+    }
+}

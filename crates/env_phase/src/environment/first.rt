@@ -1,0 +1,158 @@
+//! The first stage of a call: the table's cell for it, and its first answers.
+
+ghost use Rattle.std.specs.Prelude.{◌≡◌, ◌<◌, ◌^◌, []};
+ghost use Rattle.call_model.specs.Generation.{TheRuntime, as_registered};
+ghost use Rattle.call_model.specs.Stand.{at_hand, RuntimePoll};
+ghost use Rattle.call_model.specs.After.{first_stand, first_moves, over_now};
+ghost use Rattle.call_model.specs.Polls.{replaced};
+ghost use Rattle.extension_set.specs.Turns.{next_after, poll_gets};
+ghost use Rattle.env_phase.specs.First.{polled, answers, joined, request_kept, IsWelcome};
+ghost use Rattle.env_phase.specs.Taking.{registered_name, step_of};
+
+use super::Environment;
+use super::answers::is_registered;
+use crate::Step;
+use crate::phases::at_hand;
+use arn_ids::Text;
+use call_model::{Answer, Call, Phase, Refusal, Ticket};
+use extension_set::{Moves, Turn};
+
+/// What the runtime's parked Next gets where its newer Next replaces it, or a Withdraw names it.
+fn replaced(ticket: Ticket, call: &Call) -> Option<Answer>
+    ensures { result ≡ replaced ticket call.now RuntimePoll }
+{
+    match call {
+        Call::RuntimeNext { .. } => Some(Answer::Refused(Refusal::Replaced)),
+        Call::Withdraw { ticket: named } => {
+            if *named == ticket {
+                Some(Answer::Withdrawn)
+            } else {
+                None
+            }
+        }
+        _ => None,
+    }
+}
+
+impl Environment {
+    /// The table's cell for a call, with its first answers. The name is that of the extension which
+    /// it registers.
+    pub(super) fn first(&mut self, step: Step, call: &Call, name: Option<Text>, moves: &mut Moves)
+        requires moment { step.now < 2 ^ 53 }
+        requires empty { moves.old ≡ [] }
+        requires named { name ≡ registered_name call.now }
+        requires few { self.old.stand.registrations < 2 ^ 52 }
+        ensures stand { self.new ≡ record { fixed = self.old.fixed; stand = first_stand self.old.fixed (step_of step) self.old.stand call.now } }
+        ensures given { moves.new ≡ first_moves (step_of step) self.old.stand call.now }
+    {
+        let turn = self.turn_of(step, call);
+        let caller = self.to_waiting(step.ticket, call, turn.closes);
+        let phase = self.cell(step, call, turn);
+        let request = self.request_after(step, phase, caller.is_some());
+        let stopped = self.is_over(call);
+        self.answer(turn, caller, call, moves);
+        self.add_extension(call, name, turn.own);
+        self.enter(phase, request, stopped);
+    }
+
+    /// The request count of the invocation that the phase has at hand: that of an Invoke which is
+    /// placed now, and none once the waiting call was answered.
+    fn request_after(&self, step: Step, phase: Phase, answered: bool) -> Option<u64>
+        ensures { result ≡ request_kept (step_of step) answered self.now.stand.request (at_hand phase) }
+    {
+        match at_hand(phase) {
+            None => None,
+            Some(invoke) => {
+                if invoke == step.ticket {
+                    Some(step.count)
+                } else if answered {
+                    None
+                } else {
+                    self.request
+                }
+            }
+        }
+    }
+
+    /// Whether the service is stopped after the call.
+    fn is_over(&self, call: &Call) -> bool
+        ensures { result ≡ over_now self.now.stand call.now }
+    {
+        matches!(call, Call::Stop) || self.stopped
+    }
+
+    /// Enters the phase, with the request count of the invocation that it has at hand.
+    fn enter(&mut self, phase: Phase, request: Option<u64>, stopped: bool)
+        ensures { self.new ≡ record { fixed = self.old.fixed; stand = record self.old.stand { phase = phase; request = request; stopped = stopped } } }
+    {
+        self.phase = phase;
+        self.request = request;
+        self.stopped = stopped;
+    }
+
+    /// Gives the call's first answers: to the waiting call, to the parked Nexts and to itself.
+    fn answer(&mut self, turn: Turn, caller: Option<Answer>, call: &Call, moves: &mut Moves)
+        requires moment { turn.now < 2 ^ 53 }
+        requires empty { moves.old ≡ [] }
+        ensures stand { self.new ≡ record { fixed = self.old.fixed; stand = polled turn call.now self.old.stand } }
+        ensures given { moves.new ≡ answers turn caller call.now self.old.stand }
+    {
+        moves.give(self.waiting_call(), caller);
+        moves.give(self.runtime, self.runtime_gets(turn, call));
+        self.runtime = self.runtime_after(turn, call);
+        self.extensions.take(turn, call, moves);
+        moves.give(Some(turn.ticket), turn.own);
+    }
+
+    /// What the runtime's parked Next gets, where it has one. (Runtime API: Next invocation)
+    fn runtime_gets(&self, turn: Turn, call: &Call) -> Option<Answer>
+        ensures { result ≡ poll_gets turn call.now RuntimePoll self.now.stand.runtime }
+    {
+        match (self.runtime, turn.closes) {
+            (None, _) => None,
+            (Some(_), Some(_)) => Some(Answer::Refused(Refusal::Container)),
+            (Some(ticket), None) => replaced(ticket, call),
+        }
+    }
+
+    /// The runtime's parked Next after the call. (Runtime API: Next invocation)
+    fn runtime_after(&self, turn: Turn, call: &Call) -> Option<Ticket>
+        ensures { result ≡ next_after TheRuntime turn call.now RuntimePoll self.now.stand.runtime }
+    {
+        if matches!(call, Call::RuntimeNext { .. }) {
+            if turn.own.is_none() {
+                Some(turn.ticket)
+            } else {
+                None
+            }
+        } else if self.runtime_gets(turn, call).is_none() {
+            self.runtime
+        } else {
+            None
+        }
+    }
+
+    /// Adds the extension that the call brings, where it is answered Registered. (Extensions API:
+    /// Register)
+    fn add_extension(&mut self, call: &Call, name: Option<Text>, own: Option<Answer>)
+        requires named { name ≡ registered_name call.now }
+        requires welcome { IsWelcome self.old.stand.members (as_registered call.now own) }
+        requires few { self.old.stand.registrations < 2 ^ 52 }
+        ensures { self.new ≡ record { fixed = self.old.fixed; stand = joined call.now own self.old.stand } }
+    {
+        self.registrations += u64::from(is_registered(own));
+        if let Call::Register {
+            invoke,
+            shutdown,
+            ..
+        } = call
+        {
+            if let (Some(Answer::Registered { count }), Some(name)) = (own, name) {
+                match self.extensions.register(name, *invoke, *shutdown, count) {
+                    Ok(()) => {}
+                    Err(_) => unreachable!(),
+                }
+            }
+        }
+    }
+}

@@ -1,0 +1,37 @@
+-- What a call makes of the parked Nexts of an environment, by what it comes to there.
+use Rattle.std.specs.Prelude.{ℕ, ◌||◌, ◌&&◌, if◌then◌else◌, Option, Some, None}
+use Rattle.call_model.specs.declared.answer.Answer.{Answer}
+use Rattle.call_model.specs.declared.call.Call.{Call}
+use Rattle.call_model.specs.History.{or_else}
+use Rattle.call_model.specs.Generation.{Member, Actor, TheExtension, asks, is_ending, is_accepted, reports_exit}
+use Rattle.call_model.specs.Stand.{Role, ExtensionPoll}
+use Rattle.call_model.specs.Polls.{at_close, replaced}
+use Rattle.call_model.specs.After.{left, asked_now}
+use Rattle.extension_set.specs.declared.turn.Turn.{Turn}
+
+-- what an actor's parked Next gets, where there is one
+abbrev pub poll_gets : Turn → Call → Role → Option ℕ → Option Answer
+poll_gets turn call role None = None
+poll_gets turn call role (Some u) = or_else (at_close turn.now turn.closes call role) (replaced u call role)
+
+-- what an actor's last Next gets, that of the call included
+abbrev pub actor_gets : Actor → Turn → Call → Role → Option ℕ → Option Answer
+actor_gets actor turn call role next = if asks actor call then turn.own else poll_gets turn call role next
+
+-- the actor's parked Next after the call
+abbrev pub next_after : Actor → Turn → Call → Role → Option ℕ → Option ℕ
+next_after actor turn call role next = left (actor_gets actor turn call role next) (asked_now actor call turn.ticket next)
+
+-- what an extension's last Next gets
+abbrev pub member_gets : Turn → Call → Member → Option Answer
+member_gets turn call x = actor_gets (TheExtension x.extension.count) turn call (ExtensionPoll x) x.next
+
+-- an extension after the call
+abbrev pub member_after : Turn → Call → Member → Member
+member_after turn call x = record {
+  extension = x.extension;
+  next = next_after (TheExtension x.extension.count) turn call (ExtensionPoll x) x.next;
+  told = x.told || is_ending (member_gets turn call x);
+  again = x.again || (x.told && asks (TheExtension x.extension.count) call);
+  exited = (reports_exit x.extension.count call && is_accepted turn.own) || x.exited;
+}

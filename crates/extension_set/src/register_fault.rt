@@ -1,0 +1,14 @@
+//! Why an extension is not registered.
+
+use thiserror::Error;
+
+/// Why an extension is not registered: the first that holds. (Extensions API: Register)
+#[derive(Clone, Copy, Debug, PartialEq, Eq, Error)]
+pub enum RegisterFault {
+    /// An extension of this name is registered in the present generation.
+    #[error("NameInUse")]
+    NameInUse,
+    /// Ten extensions are registered (Lambda quotas).
+    #[error("TooMany")]
+    TooMany,
+}
