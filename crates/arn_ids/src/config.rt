@@ -17,34 +17,50 @@ pub type EnvNo = u32;
 /// Where this service stands.
 #[derive(Debug, Drop)]
 pub struct Home {
+    /// The account: 12 digits.
     pub account: Text,
+    /// The region: 1 to 32 of lower case letters, digits and `-`.
     pub region: Text,
 }
 
 /// An execution environment's place: the loopback port that it has of its own.
 #[derive(Clone, Copy, Debug, PartialEq, Eq)]
 pub struct Slot {
+    /// 1 to 65,535, none of them twice in a configuration.
     pub port: u16,
 }
 
 /// A function and its environments.
 #[derive(Debug, Drop)]
 pub struct Function {
+    /// 1 to 64 of ASCII letters, digits, `-` and `_`.
     pub name: Text,
+    /// What the registered body tells extensions: 1 to 128 bytes of 0x20 to 0x7E.
     pub handler: Text,
+    /// The timeout in seconds, 1 to 900. (Lambda Developer Guide: Configure Lambda function timeout)
     pub timeout_s: u32,
+    /// Its reserved concurrency, at most its environments, if it has one.
+    /// (Lambda Developer Guide: Configuring reserved concurrency for a function)
     pub reserved: Option<u32>,
+    /// The names of the extensions without which an environment is not ready: at most ten.
     pub extensions: Row<Text>,
+    /// Its environments: one or more, at most 256 in the account.
     pub slots: Row<Slot>,
 }
 
 /// What an account is configured with, before any of it was looked at.
 #[derive(Debug, Drop)]
 pub struct Config {
+    /// Where the service stands.
     pub home: Home,
+    /// How many invocations may be in flight at once: 1 to 1,000,000.
     pub account_limit: u32,
+    /// How many of them no reservation may take: 0 to the account limit.
+    /// (PutFunctionConcurrency: at least 100 stay unreserved)
     pub least_remainder: u32,
+    /// The port of callers and operators, 1 to 65,535.
     pub invoke_port: u16,
+    /// The functions, at most 64; their numbers are their places, from 1.
     pub functions: Row<Function>,
 }
 

@@ -26,6 +26,7 @@ pub enum IdKind {
 pub struct IdParts {
     /// The high 64 bits as they stand.
     pub salt_word: u64,
+    /// What it identifies.
     pub kind: IdKind,
     /// The function's or the environment's number, below 2^12.
     pub number: u32,

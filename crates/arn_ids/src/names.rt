@@ -21,6 +21,7 @@ const LONGEST_FUNCTION_NAME: usize = 170;
 /// A function that a text names, whether it is configured or not.
 #[derive(Debug, Drop)]
 pub struct Named {
+    /// 1 to 64 of ASCII letters, digits, `-` and `_`.
     pub name: Text,
     /// Whether `$LATEST` was written.
     pub qualified: bool,
@@ -56,7 +57,11 @@ impl From<AllocError> for NameFault {
 pub struct FunctionName;
 
 impl FunctionName {
-    /// The function that a text names at this home.
+    /// The function that a text of at most 170 bytes names at this home, in one of three forms: its
+    /// name, `ACCOUNT:function:NAME`, or `arn:aws:lambda:REGION:ACCOUNT:function:NAME`, each of which
+    /// may end in `:QUALIFIER`, where `$LATEST` alone is known. (Invoke: FunctionName)
+    ///
+    /// The first fault that holds is given; want of memory comes last.
     #[tactic(auto, unfolding(crate::specs::Grammar::named_in))]
     pub fn parse(alloc: Global, home: &Home, text: &str) -> Result<Named, NameFault>
         ensures { grammar.Gives result (grammar.named_in home.now text.now) }

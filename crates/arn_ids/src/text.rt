@@ -32,13 +32,6 @@ impl Text {
     {
         &self.text
     }
-
-    /// Gives the text back, with its memory.
-    pub fn into_string(self) -> String
-        ensures { string_bytes result ≡ self }
-    {
-        self.text
-    }
 }
 
 /// Bytes, seen as the list of them.

@@ -146,6 +146,7 @@ impl Answers {
 pub struct Entry {
     /// When it was taken, in milliseconds, at most 2^53 - 1; never before the entry before it.
     pub moment: u64,
+    /// The call, an expiry's among them.
     pub call: Call,
     /// The answers that it gave, to its own ticket and to older ones that waited.
     pub answers: Answers,

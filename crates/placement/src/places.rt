@@ -12,7 +12,9 @@ use std::marker::Model;
 /// An environment: the function that it belongs to, and the class that was last noted of it.
 #[derive(Clone, Copy, Debug)]
 pub struct Place {
+    /// The number of its function, from 1.
     pub function: FnNo,
+    /// What its phase means for the next invocation.
     pub class: Class,
 }
 
