@@ -1,7 +1,6 @@
 -- What holds of the environment that a call reaches.
 use Rattle.std.proofs.Common.{◌≡◌, ℕ, zero, suc, ◌+◌, ◌-◌, ◌*◌, ◌<◌, ◌≤◌, Bool, true, false, List, [], ◌∷◌, length, get_or, All, Option, Some, None, sym, refl, ap, ◌∙◌, arith, inl, inr, true≢false, subst, if◌then◌else◌, ◌==◌}
 use Rattle.std.proofs.lemmas.Bool.{cases_lt, eqb-true}
-use Rattle.std.proofs.lemmas.List.Elements.{All-get_or}
 use Rattle.arn_ids.specs.declared.config.Config.{Config}
 use Rattle.arn_ids.specs.Environments.{owners, function_of}
 use Rattle.call_model.specs.declared.answer.Throttle.{Throttle}
@@ -12,7 +11,12 @@ use Rattle.call_model.specs.declared.call.Entry.{Entry}
 use Rattle.call_model.specs.History.{call_of, env_of, or_else, is_stop, stopped}
 use Rattle.call_model.specs.Limits.{Verdict, AfterStop, Refuses, Admits, admitted_to, verdict, place_for, by_limits, reservation}
 use Rattle.call_model.specs.Limits as limits
-use Rattle.call_model.specs.Next.{IsLegal}
+use Rattle.call_model.specs.After.{fixed_of}
+use Rattle.call_model.specs.Answers.{home}
+use Rattle.call_model.specs.Life.{stand}
+use Rattle.call_model.specs.Next.{IsLegal, Follows}
+use Rattle.call_model.specs.Stand.{is_number}
+use Rattle.call_model.proofs.Rising.{IsRising}
 use Rattle.call_model.proofs.AtHand.{is_invoke}
 use Rattle.call_model.proofs.Basics.{some-none, none-some, eqb-self}
 use Rattle.call_model.proofs.Flight.{place_for_between}
@@ -20,21 +24,21 @@ use Rattle.call_model.proofs.OwnTickets.{placed_function}
 use Rattle.concurrency_pool.specs.Meets.{numbers, by_throttle}
 use Rattle.concurrency_pool.specs.Pools.{throttle}
 use Rattle.concurrency_pool.proofs.History as pool
-use Rattle.env_phase.proofs.Room.{moves_few}
 use Rattle.script.proofs.PastLemmas.{no_call}
 use Rattle.script.specs.Limits.{IsEnv}
 use Rattle.account_book.specs.Answering.{most_answers}
 use Rattle.account_book.specs.declared.reach.Reach.{Reach}
 use Rattle.account_book.specs.declared.reach.Reach.TheVariants.{Nowhere, At, Everywhere}
 use Rattle.account_book.specs.declared.site.Site.{Site}
-use Rattle.account_book.specs.Fleets.{no_site, site_at, step_at, moves_at, IsFew}
-use Rattle.account_book.specs.Reaches.{reach, at_most, poll_env}
-use Rattle.account_book.specs.Taking.{site, sites, IsKnown, AllKnown}
-use Rattle.account_book.proofs.EntryMoves.{env_within, known_call}
-use Rattle.account_book.proofs.Extent.{few_site}
+use Rattle.account_book.specs.Fleets.{no_site, site_at, step_at, moves_at}
+use Rattle.account_book.specs.Reaches.{reach, reaches, at_most, poll_env}
+use Rattle.account_book.specs.Taking.{site, sites, request_counts, IsKnown, AllKnown}
+use Rattle.account_book.proofs.EntryMoves.{env_within, known_call, moves_there}
+use Rattle.account_book.proofs.EntryAnswers.{part_rising}
 use Rattle.account_book.proofs.FleetMeets.{sites_length}
 use Rattle.account_book.proofs.RequestCounts.{numbered_at}
 use Rattle.account_book.proofs.Visits.{site_is_at}
+use Rattle.account_book.proofs.Waiting.{rising_few, moves_in, tickets, few_tickets}
 
 one_env : (o : Option ℕ) (e : ℕ) → at_most o ≡ At e → o ≡ Some e
 one_env None e q = absurd (nowhere q)
@@ -108,14 +112,22 @@ all_stop h place call q = absurd (one (or_else place (env_of call)) q)
     one None k = cc
     one (Some d) k = cc
 
--- there is room for what the environment answers, and one more
-pub room_there : (h : List Entry) (place : Option ℕ) (call : Call) (e ticket now widest environments : ℕ) (requests : List ℕ) (all : List Site) → reach h place call ≡ At e → 1 ≤ e → e ≤ length all → All (λ s. length s.environment.stand.members ≤ widest) all
-    → length (moves_at ticket now requests call (site_at all e)) + 1 ≤ most_answers widest environments call
-room_there h place call e ticket now widest environments requests all r low high narrow =
-    rw (no_stop h place call e r) (bound (site_at all e) (rw (site_is_at all e no_site low high) (All-get_or (λ s. length s.environment.stand.members ≤ widest) all (e - 1) no_site (omega (arith, low, high)) narrow)))
+-- it answers each of its waiting tickets once at most
+pub few_there : (config : Config) (h : List Entry) (entry : Entry) (e : ℕ) → IsLegal config h → Follows config h entry → reach h entry.place entry.call ≡ At e → 1 ≤ e → e ≤ length (owners config)
+    → length (moves_at (length h) entry.moment (request_counts config (entry ∷ h)) entry.call (site config h e)) ≤ length (stand config h e).members + 3
+few_there config h entry e l w r low high =
+    let here : reaches (reach h entry.place entry.call) e ≡ true = ap (λ (x : Reach). reaches x e) r ∙ eqb-self e in
+    let rising = part_rising config h entry (λ t. is_number (home (entry ∷ h) t) e) w in
+    omega (arith,
+      rising_few 0 (tickets (length h) (stand config h e)) moves (subst (IsRising 0) (sym (moves_there config h entry e l w low high here)) rising) (moves_in (fixed_of config e) (step_at (length h) entry.moment (request_counts config (entry ∷ h)) (site config h e)) (stand config h e) entry.call),
+      few_tickets (length h) (stand config h e))
   where
-    bound : (s : Site) → length s.environment.stand.members ≤ widest → length (moves_at ticket now requests call s) + 1 ≤ 2 * widest + 5
-    bound s le = omega (arith, moves_few s.environment.fixed (step_at ticket now requests s) s.environment.stand call, le)
+    moves : List (ℕ × Answer)
+    moves = moves_at (length h) entry.moment (request_counts config (entry ∷ h)) entry.call (site config h e)
+
+-- so there is room for its answers, and for one more
+pub room_there : (h : List Entry) (place : Option ℕ) (call : Call) (e widest environments moves members : ℕ) → reach h place call ≡ At e → moves ≤ members + 3 → members ≤ widest → moves + 1 ≤ most_answers widest environments call
+room_there h place call e widest environments moves members r few narrow = rw (no_stop h place call e r) (omega (arith, few, narrow))
 
 -- an Invoke that reaches an environment is admitted there
 pub admitted_there : (config : Config) (h : List Entry) (call : Call) (place : Option ℕ) (e : ℕ) → IsKnown config call → place ≡ place_for config h call → reach h place call ≡ At e → is_invoke call ≡ true → throttle (numbers config h) (function_of config e) ≡ None

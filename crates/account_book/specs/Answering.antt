@@ -9,9 +9,9 @@ use Rattle.concurrency_pool.specs.Numbers.{Numbers}
 use Rattle.concurrency_pool.specs.Pools.{may_reserve, with_reserved}
 
 -- For how many answers a call wants room: a Stop at every environment, any other call at one, where the call itself, the
--- waiting call, the runtime's Next and that of each extension may get one.
+-- waiting call, the runtime's Next and that of each extension may get one; and for the book's own.
 abbrev pub most_answers : ℕ → ℕ → Call → ℕ
-most_answers widest environments call = if is_stop call then 24 * environments + 1 else 2 * widest + 5
+most_answers widest environments call = if is_stop call then 24 * environments + 1 else widest + 4
 
 -- the pool after a call and its own answer: a Reserve that is taken puts its reservation in force
 abbrev pub in_force : Call → Option Answer → Numbers → Numbers
@@ -31,7 +31,7 @@ IsInOrder pool _ _ = Unit {0}
 
 -- room for what an expiry is answered, with nothing in it yet
 abbrev pub IsRoom : ℕ → List (ℕ × Answer) × ℕ → Type 0
-IsRoom widest answers = (answers.0 ≡ []) × (2 * widest + 5 ≤ answers.1)
+IsRoom widest answers = (answers.0 ≡ []) × (widest + 4 ≤ answers.1)
 
 abbrev pub first_or_0 : List ℕ → ℕ
 first_or_0 [] = 0

@@ -127,7 +127,7 @@ fn answers_wanted(widest: usize, environments: u64, call: &Call) -> usize
     if matches!(call, Call::Stop) {
         24 * environments as usize + 1
     } else {
-        2 * widest + 5
+        widest + 4
     }
 }
 
@@ -229,7 +229,7 @@ impl Book {
         body_fits(&call);
         let moment = now.max(self.journal.last_moment());
         let widest = self.journal.widest();
-        let rooms = make_rooms(self.alloc, self.journal.count_due(moment), 2 * widest + 5)?;
+        let rooms = make_rooms(self.alloc, self.journal.count_due(moment), widest + 4)?;
         let wanted = answers_wanted(widest, self.journal.environments(), &call);
         let answers = Roomy::with_room(self.alloc, wanted)?;
         let name = copied_name(self.alloc, &call)?;

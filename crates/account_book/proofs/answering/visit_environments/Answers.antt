@@ -15,14 +15,16 @@ use Rattle.account_book.specs.Answering.{most_answers}
 use Rattle.account_book.specs.Crew.{Crew}
 use Rattle.account_book.specs.declared.reach.Reach.TheVariants.{Nowhere, At, Everywhere}
 use Rattle.account_book.specs.declared.site.Site.{Site}
-use Rattle.account_book.specs.Fleets.{site_at, moved, moves_at, put_all, merged, flown, IsFew}
+use Rattle.account_book.specs.Fleets.{no_site, site_at, moved, moves_at, put_all, merged, flown, IsFew}
 use Rattle.account_book.specs.Reaches.{reach, homed}
 use Rattle.account_book.specs.Taking.{site, sites, request_counts, IsKnown, AllKnown}
 use Rattle.account_book.proofs.Concerned.{sites_nowhere, sites_at, sites_everywhere}
 use Rattle.account_book.proofs.EntryMoves.{homed_nowhere, homed_at, homed_everywhere}
 use Rattle.account_book.proofs.Extent.{few_site, few_sites}
 use Rattle.account_book.proofs.FleetMeets.{sites_length, numbers_flown}
-use Rattle.account_book.proofs.Visiting.{reach_within, site_of, room_there, admitted_there, all_stop}
+use Rattle.account_book.proofs.Visiting.{reach_within, site_of, few_there, room_there, admitted_there, all_stop}
+use Rattle.account_book.proofs.Visits.{site_is_at}
+use Rattle.std.proofs.lemmas.List.Elements.{All-get_or}
 use Rattle.account_book.proofs.answering.visit_environments.Goals as goal
 
 -- what a history is before a call is taken
@@ -54,6 +56,14 @@ answers_then config h now call place all pool requests e k r =
     let f = found config h now call place all pool requests e k r in
     rw (k.counts, f.3) (sym (homed_at config h (entry_of config h now call) e k.legal k.follows (ap (λ (p : Option ℕ). reach h p call) (sym k.placed) ∙ r) f.0 f.1))
 
+room_then : (config : Config) (h : List Entry) (now : ℕ) (call : Call) (place : Option ℕ) (all : List Site) (pool : Numbers) (requests : List ℕ) (e widest : ℕ) → IsReady config h now call place all pool requests → reach h place call ≡ At e
+    → All (λ s. length s.environment.stand.members ≤ widest) all → length (moves_at (length h) now requests call (site_at all e)) + 1 ≤ most_answers widest (length (owners config)) call
+room_then config h now call place all pool requests e widest k r narrow =
+    let f = found config h now call place all pool requests e k r in
+    room_there h place call e widest (length (owners config)) (length (moves_at (length h) now requests call (site_at all e))) (length (site_at all e).environment.stand.members) r
+    (rw (f.3, k.counts) (few_there config h (entry_of config h now call) e k.legal k.follows (ap (λ (p : Option ℕ). reach h p call) (sym k.placed) ∙ r) f.0 f.1))
+    (rw (site_is_at all e no_site f.0 f.2) (All-get_or (λ (s : Site). length s.environment.stand.members ≤ widest) all (e - 1) no_site (omega (arith, f.0, f.2)) narrow))
+
 pub take_at-requires-clause-from_one : goal.take_at-requires-clause-from_one
 take_at-requires-clause-from_one c = (found c.args.config.now (reverse c.args.entries.now) c.args.visit.moment c.args.visit.call.now c.args.place c.args.fleet.now.sites c.args.fleet.now.pool c.args.visit.requests.now c.in-At.env (record { legal = c.requires.legal; all_known = c.requires.all_known; follows = c.requires.follows; known = c.requires.known; placed = c.requires.placed; is = c.requires.sites; pool_is = c.requires.pool; counts = c.requires.counts }) (sym c.of.ensures ∙ c.in-At.is)).0
 
@@ -64,9 +74,7 @@ pub take_at-requires-clause-few : goal.take_at-requires-clause-few
 take_at-requires-clause-few c = rw ((found c.args.config.now (reverse c.args.entries.now) c.args.visit.moment c.args.visit.call.now c.args.place c.args.fleet.now.sites c.args.fleet.now.pool c.args.visit.requests.now c.in-At.env (record { legal = c.requires.legal; all_known = c.requires.all_known; follows = c.requires.follows; known = c.requires.known; placed = c.requires.placed; is = c.requires.sites; pool_is = c.requires.pool; counts = c.requires.counts }) (sym c.of.ensures ∙ c.in-At.is)).3) (few_site c.args.config.now (reverse c.args.entries.now) c.in-At.env c.requires.legal (rw (length-reverse c.args.entries.now) c.requires.short))
 
 pub take_at-requires-clause-room : goal.take_at-requires-clause-room
-take_at-requires-clause-room c =
-    let f = found c.args.config.now (reverse c.args.entries.now) c.args.visit.moment c.args.visit.call.now c.args.place c.args.fleet.now.sites c.args.fleet.now.pool c.args.visit.requests.now c.in-At.env (record { legal = c.requires.legal; all_known = c.requires.all_known; follows = c.requires.follows; known = c.requires.known; placed = c.requires.placed; is = c.requires.sites; pool_is = c.requires.pool; counts = c.requires.counts }) (sym c.of.ensures ∙ c.in-At.is) in
-    omega (arith, room_there (reverse c.args.entries.now) c.args.place c.args.visit.call.now c.in-At.env c.args.visit.ticket c.args.visit.moment c.args.fleet.now.widest (length (owners c.args.config.now)) c.args.visit.requests.now c.args.fleet.now.sites (sym c.of.ensures ∙ c.in-At.is) f.0 f.2 c.facts.ensures.narrow, c.requires.room)
+take_at-requires-clause-room c = rw (c.requires.ticket ∙ sym (length-reverse c.args.entries.now)) (omega (arith, room_then c.args.config.now (reverse c.args.entries.now) c.args.visit.moment c.args.visit.call.now c.args.place c.args.fleet.now.sites c.args.fleet.now.pool c.args.visit.requests.now c.in-At.env c.args.fleet.now.widest (record { legal = c.requires.legal; all_known = c.requires.all_known; follows = c.requires.follows; known = c.requires.known; placed = c.requires.placed; is = c.requires.sites; pool_is = c.requires.pool; counts = c.requires.counts }) (sym c.of.ensures ∙ c.in-At.is) c.facts.ensures.narrow, c.requires.room))
 
 pub take_at-requires-clause-admitted : goal.take_at-requires-clause-admitted
 take_at-requires-clause-admitted c = λ invoke.
@@ -97,8 +105,8 @@ returns-in-At-clause-answers c = rw ((c.requires.ticket ∙ sym (length-reverse 
 
 pub returns-in-At-clause-room : goal.returns-in-At-clause-room
 returns-in-At-clause-room c =
-    let f = found c.args.config.now (reverse c.args.entries.now) c.args.visit.moment c.args.visit.call.now c.args.place c.args.fleet.now.sites c.args.fleet.now.pool c.args.visit.requests.now c.in-At.env (record { legal = c.requires.legal; all_known = c.requires.all_known; follows = c.requires.follows; known = c.requires.known; placed = c.requires.placed; is = c.requires.sites; pool_is = c.requires.pool; counts = c.requires.counts }) (sym c.of.ensures ∙ c.in-At.is) in
-    omega (arith, room_there (reverse c.args.entries.now) c.args.place c.args.visit.call.now c.in-At.env c.args.visit.ticket c.args.visit.moment c.args.fleet.now.widest (length (owners c.args.config.now)) c.args.visit.requests.now c.args.fleet.now.sites (sym c.of.ensures ∙ c.in-At.is) f.0 f.2 c.facts.ensures.narrow, c.requires.room, c.take_at.ensures.room)
+    let room = rw (c.requires.ticket ∙ sym (length-reverse c.args.entries.now)) at c.take_at.ensures.room in
+    omega (arith, room_then c.args.config.now (reverse c.args.entries.now) c.args.visit.moment c.args.visit.call.now c.args.place c.args.fleet.now.sites c.args.fleet.now.pool c.args.visit.requests.now c.in-At.env c.args.fleet.now.widest (record { legal = c.requires.legal; all_known = c.requires.all_known; follows = c.requires.follows; known = c.requires.known; placed = c.requires.placed; is = c.requires.sites; pool_is = c.requires.pool; counts = c.requires.counts }) (sym c.of.ensures ∙ c.in-At.is) c.facts.ensures.narrow, c.requires.room, room)
 
 pub returns-in-Everywhere-clause-sites : goal.returns-in-Everywhere-clause-sites
 returns-in-Everywhere-clause-sites c = rw ((c.requires.ticket ∙ sym (length-reverse c.args.entries.now)), c.requires.sites, c.requires.counts) at c.take_all.ensures.sites ∙ sym (sites_everywhere c.args.config.now (reverse c.args.entries.now) (entry_of c.args.config.now (reverse c.args.entries.now) c.args.visit.moment c.args.visit.call.now) c.requires.legal c.requires.follows (ap (λ (p : Option ℕ). reach (reverse c.args.entries.now) p c.args.visit.call.now) (sym c.requires.placed) ∙ sym c.of.ensures ∙ c.in-Everywhere.is))
