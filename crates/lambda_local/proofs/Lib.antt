@@ -4,5 +4,4 @@ pub mod LineEnds
 pub mod LongLines
 pub mod Feeding
 pub mod ReadingOn
-pub mod CallBounds
 pub mod AddedEntries

@@ -1,9 +1,8 @@
 //! The book of a script: how its configuration opens it, and what it answers to a call.
 
-ghost use Rattle.std.specs.Prelude.{◌≡◌, ◌<◌, ◌≤◌, ◌^◌, ◌++◌, true, length, reverse, drop, OnOk, IfOk, IfErr, Ok, Err};
-ghost use Rattle.call_model.specs.declared.call.Call.{Call};
-ghost use Rattle.account_book.specs.Taking.{IsWithin};
-ghost use Rattle.account_book.specs.Run.{is_taken as takes, opened, answered, lines_from};
+ghost use Rattle.std.specs.Prelude.{◌≡◌, ◌<◌, ◌≤◌, ◌^◌, ◌++◌, length, reverse, drop, OnOk, IfOk, IfErr, Ok, Err};
+ghost use Rattle.script.specs.Limits.{IsWithin};
+ghost use Rattle.account_book.specs.Run.{opened, answered, lines_from};
 ghost use Rattle.lambda_local.specs.Faults.{HasFault};
 
 use crate::fault::ReplayFault;
@@ -35,19 +34,6 @@ pub fn open_book(alloc: Global, line: &[u8]) -> Result<Book, ReplayFault>
     }
 }
 
-/// Whether a replay takes this call.
-pub fn is_taken(call: &Call) -> bool
-    ensures { result ≡ takes call.now }
-{
-    match call {
-        Call::Invoke { .. } => true,
-        Call::RuntimeNext { .. } => true,
-        Call::Response { .. } => true,
-        Call::Tick => true,
-        _ => false,
-    }
-}
-
 /// Adds the answer lines of the entries from this number on.
 fn push_from(book: &Book, from: usize, out: &mut Vec<u8>) -> Result<(), AllocError>
     requires there { from ≤ length book.now.history }
@@ -68,7 +54,6 @@ fn push_from(book: &Book, from: usize, out: &mut Vec<u8>) -> Result<(), AllocErr
 #[tactic(auto, unfolding(account_book::specs::Run::answered))]
 pub fn answer(book: &mut Book, now: u64, call: Call, out: &mut Vec<u8>) -> Result<(), AllocError>
     requires moment { now < 2 ^ 53 }
-    requires taken { takes call ≡ true }
     requires within { IsWithin book.old.config call }
     ensures book { OnOk result (book.new ≡ (answered book.old now call).0) }
     ensures text { OnOk result (out.new.items ≡ out.old.items ++ (answered book.old now call).1) }

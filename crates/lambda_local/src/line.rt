@@ -7,7 +7,7 @@ ghost use Rattle.lambda_local.specs.Faults.{HasFault};
 ghost use Rattle.lambda_local.specs.Steps.{Took};
 ghost use Rattle.lambda_local.specs.Views.{seen};
 
-use crate::book::{answer, is_taken, open_book};
+use crate::book::{answer, open_book};
 use crate::fault::ReplayFault;
 use account_book::Book;
 use lambda_wire::WireFault;
@@ -74,9 +74,6 @@ fn answer_line(
     }
     match script::read_call(alloc, book.config(), reserves, line)? {
         Some((now, call)) => {
-            if !is_taken(&call) {
-                return Err(ReplayFault::Script { line: number });
-            }
             answer(book, now, call, out)?;
             Ok(())
         }

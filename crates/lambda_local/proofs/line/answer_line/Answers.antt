@@ -1,5 +1,4 @@
 use Rattle.std.proofs.Common.{arith}
-use Rattle.lambda_local.proofs.CallBounds.{within}
 use Rattle.lambda_local.proofs.line.answer_line.Goals as goal
 
 pub answer-requires-clause-moment : goal.answer-requires-clause-moment
@@ -10,4 +9,4 @@ answer-requires-clause-moment c =
 pub answer-requires-clause-within : goal.answer-requires-clause-within
 answer-requires-clause-within c =
     let timed = rw (c.in-Some.is, c.config.ensures) at c.in_ok-now.ensures.within in
-    within c.args.book.now.config c.in-Some.call timed.1
+    timed.1
