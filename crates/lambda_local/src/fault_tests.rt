@@ -142,9 +142,9 @@ const FAULTY: &[Faulty] = &[
         answers: "0 0 done\n",
     },
     Faulty {
-        name: "a call that is not taken yet",
+        name: "an expiry, which no script makes",
         config: C,
-        script: "\n0 tick\n0 stop\n0 tick",
+        script: "\n0 tick\n0 expire 1\n0 tick",
         fault: ReplayFault::Script { line: 3 },
         answers: "0 0 done\n",
     },

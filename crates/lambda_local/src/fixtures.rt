@@ -12,14 +12,27 @@ use std::process::Abort;
 pub const C: &str =
     r#"{"account":"123456789012","region":"us-east-2","functions":[{"name":"f","ports":[9001]}]}"#;
 
-/// The same, as a line.
+/// One function with two environments.
+pub const TWO: &str = r#"{"account":"123456789012","region":"us-east-2","functions":[{"name":"f","ports":[9001,9002]}]}"#;
+
+/// The first one, as a line.
 pub const CONFIG_LINE: &str =
     "{\"account\":\"123456789012\",\"region\":\"us-east-2\",\"functions\":[{\"name\":\"f\",\"ports\":[9001]}]}\n";
 
-/// Gives a configuration and then the rest of a script, at most so many bytes at once; then it
-/// ends, or fails.
+/// A script, and what it is answered.
+pub struct Row {
+    pub name: &'static str,
+    /// The configuration; in form 2 behind the line of the form.
+    pub config: &'static str,
+    pub script: &'static str,
+    pub answers: &'static str,
+}
+
+/// Gives a first line, a configuration and then the rest of a script, at most so many bytes at
+/// once; then it ends, or fails.
 #[derive(Drop)]
 pub struct Pieces<'a> {
+    first: &'a [u8],
     config: &'a [u8],
     script: &'a [u8],
     at_once: usize,
@@ -38,6 +51,9 @@ pub fn give(from: &mut &[u8], at_once: usize, buf: &mut [u8]) -> usize
 
 impl<'a> Read for Pieces<'a> {
     fn read(&mut self, buf: &mut [u8]) -> io::Result<usize> {
+        if !self.first.is_empty() {
+            return Ok(give(&mut self.first, self.at_once, buf));
+        }
         if !self.config.is_empty() {
             return Ok(give(&mut self.config, self.at_once, buf));
         }
@@ -48,17 +64,20 @@ impl<'a> Read for Pieces<'a> {
     }
 }
 
+/// The greatest number of bytes that a page takes.
+const PAGE: usize = 16384;
+
 /// Takes so many bytes, three at most in a call, and then fails; it takes no memory.
 #[derive(Drop)]
 pub struct Page {
-    bytes: [u8; 1024],
+    bytes: [u8; PAGE],
     len: usize,
     room: usize,
 }
 
 impl Write for Page {
     fn write(&mut self, buf: &[u8]) -> io::Result<usize> {
-        let n = (self.room.min(1024) - self.len.min(self.room.min(1024)))
+        let n = (self.room.min(PAGE) - self.len.min(self.room.min(PAGE)))
             .min(buf.len())
             .min(3);
         if n == 0 {
@@ -78,20 +97,23 @@ impl Page {
     /// A page that takes so many bytes.
     pub fn new(room: usize) -> Page {
         Page {
-            bytes: [0; 1024],
+            bytes: [0; PAGE],
             len: 0,
             room,
         }
     }
 
-    fn written(&self) -> &[u8] {
-        &self.bytes[..self.len.min(1024)]
+    /// What was written.
+    pub fn written(&self) -> &[u8] {
+        &self.bytes[..self.len.min(PAGE)]
     }
 }
 
 /// A replay that a test makes.
 #[derive(Clone, Copy)]
 pub struct Try<'a> {
+    /// What stands before the configuration.
+    pub first: &'a str,
     config: &'a str,
     script: &'a str,
     pub at_once: usize,
@@ -102,6 +124,7 @@ pub struct Try<'a> {
 impl<'a> Try<'a> {
     pub fn new(config: &'a str, script: &'a str) -> Try<'a> {
         Try {
+            first: "",
             config,
             script,
             at_once: usize::MAX,
@@ -121,6 +144,7 @@ impl<'a> Try<'a> {
     ) {
         for _ in 0..2 {
             let mut input = Pieces {
+                first: self.first.as_bytes(),
                 config: self.config.as_bytes(),
                 script: self.script.as_bytes(),
                 at_once: self.at_once,
@@ -129,6 +153,7 @@ impl<'a> Try<'a> {
             let mut page = Page::new(self.room);
             let ended = replay(rt.alloc(), &mut input, &mut page);
             if ended == Err(ReplayFault::OutOfMemory) {
+                assert_eq!(rt; ReplayFault::OutOfMemory.status(), 4, "{name}");
                 assert!(rt; answers.as_bytes().starts_with(page.written()), "{name}");
                 assert!(rt;
                     matches!(page.written().last(), None | Some(b'\n')),
