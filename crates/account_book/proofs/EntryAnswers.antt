@@ -71,12 +71,12 @@ unanswered (Some a) q r = some-none r
 
 pub answered_is : (config : Config) (h : List Entry) (entry : Entry) (t : ℕ) → Follows config h entry → is_some (answer_in entry.answers t) ≡ true → Answered config h entry t
 answered_is config h entry t w q = elim (cases_lt t (length h)) [
-    | inl lt ↦ older lt (home h t) refl
-    | inr ge ↦ elim (cases_lt (length h) t) [
-      | inl gt ↦ absurd (unanswered (answer_in entry.answers t) q (past config h entry t w gt))
-      | inr le ↦ Own (omega (arith, ge, le))
-    ]
+  | inl lt ↦ older lt (home h t) refl
+  | inr ge ↦ elim (cases_lt (length h) t) [
+    | inl gt ↦ absurd (unanswered (answer_in entry.answers t) q (past config h entry t w gt))
+    | inr le ↦ Own (omega (arith, ge, le))
   ]
+]
   where
     older : t < length h → (o : Option ℕ) → home h t ≡ o → Answered config h entry t
     older lt None r = absurd (unanswered (answer_in entry.answers t) q (homeless config h entry t w lt r))
@@ -241,9 +241,9 @@ answers_parts config h entry w = by_home (home (entry ∷ h) (length h)) refl
 
         none_later : (u : ℕ) → length h ≤ u → answer_in (part (has_home h entry) entry) u ≡ None
         none_later u ge = elim (cases_lt (length h) u) [
-            | inl gt ↦ filter_answer (has_home h entry) entry.answers u ∙ empty (has_home h entry u) (past config h entry u w gt)
-            | inr le ↦ let same : length h ≡ u = omega (arith, ge, le) in ap (answer_in (part (has_home h entry) entry)) (sym same) ∙ no_own
-          ]
+          | inl gt ↦ filter_answer (has_home h entry) entry.answers u ∙ empty (has_home h entry u) (past config h entry u w gt)
+          | inr le ↦ let same : length h ≡ u = omega (arith, ge, le) in ap (answer_in (part (has_home h entry) entry)) (sym same) ∙ no_own
+        ]
           where
             empty : (b : Bool) → answer_in entry.answers u ≡ None → (if b then answer_in entry.answers u else None) ≡ None
             empty true e = e
@@ -267,9 +267,9 @@ answers_parts config h entry w = by_home (home (entry ∷ h) (length h)) refl
           where
             each : (u : ℕ) → answer_in entry.answers u ≡ answer_in (part (has_home h entry) entry ++ (length h, a) ∷ []) u
             each u = elim (cases_lt u (length h)) [
-                | inl lt ↦ sym (older_same u lt) ∙ sym (behind (answer_in (part (has_home h entry) entry) u)) ∙ ap (or_else (answer_in (part (has_home h entry) entry) u)) (sym (skipped u (λ same. before u lt same))) ∙ sym (last_answer (length h) a (part (has_home h entry) entry) u no_own)
-                | inr ge ↦ later u ge ∙ ap (λ (o : Option Answer). or_else o (answer_in ((length h, a) ∷ []) u)) (sym (none_later u ge)) ∙ sym (last_answer (length h) a (part (has_home h entry) entry) u no_own)
-              ]
+              | inl lt ↦ sym (older_same u lt) ∙ sym (behind (answer_in (part (has_home h entry) entry) u)) ∙ ap (or_else (answer_in (part (has_home h entry) entry) u)) (sym (skipped u (λ same. before u lt same))) ∙ sym (last_answer (length h) a (part (has_home h entry) entry) u no_own)
+              | inr ge ↦ later u ge ∙ ap (λ (o : Option Answer). or_else o (answer_in ((length h, a) ∷ []) u)) (sym (none_later u ge)) ∙ sym (last_answer (length h) a (part (has_home h entry) entry) u no_own)
+            ]
               where
                 behind : (o : Option Answer) → or_else o None ≡ o
                 behind None = refl

@@ -40,9 +40,9 @@ some_in (x ∷ xs) (suc i) d lt = go (eqb x.0 (get_or xs i d).0) (some_in xs i d
 -- every ticket that is answered is one of the history or the entry's own
 pub tickets_within : (config : Config) (h : List Entry) (entry : Entry) → Follows config h entry → All (λ a. a.0 ≤ length h) entry.answers
 tickets_within config h entry w i d lt = elim (cases_lt (length h) (get_or entry.answers i d).0) [
-    | inl gt ↦ absurd (true≢false (sym (some_in entry.answers i d lt) ∙ ap is_some (past config h entry (get_or entry.answers i d).0 w gt)))
-    | inr le ↦ le
-  ]
+  | inl gt ↦ absurd (true≢false (sym (some_in entry.answers i d lt) ∙ ap is_some (past config h entry (get_or entry.answers i d).0 w gt)))
+  | inr le ↦ le
+]
 
 few_moves : (config : Config) (h : List Entry) (e ticket now : ℕ) (requests : List ℕ) (call : Call) → IsLegal config h → length (moves_at ticket now requests call (site config h e)) ≤ 24
 few_moves config h e ticket now requests call l = omega (arith, moves_few (site config h e).environment.fixed (step_at ticket now requests (site config h e)) (stand config h e) call, (little config h e l).ten)
@@ -57,9 +57,13 @@ few_homed config h entry sound l w k known = go (reach h entry.place entry.call)
         rw (homed_at config h entry e l w q within.0 within.1) (omega (arith, put_all_length (moves_at (length h) entry.moment (request_counts config (entry ∷ h)) entry.call (site config h e)) [], few_moves config h e (length h) entry.moment (request_counts config (entry ∷ h)) entry.call l))
     go Everywhere q =
         rw (homed_everywhere config h entry l w k known q)
-        (omega (arith, merged_few (moves_at (length h) entry.moment (request_counts config (entry ∷ h)) entry.call) (sites config h) []
-            (All-map (λ s. length (moves_at (length h) entry.moment (request_counts config (entry ∷ h)) entry.call s) ≤ 24) (site config h) (environments config) (λ i d lt. few_moves config h (get_or (environments config) i d) (length h) entry.moment (request_counts config (entry ∷ h)) entry.call l)),
-          sites_length config h, environments_256 config sound))
+        (omega (
+          arith,
+          merged_few (moves_at (length h) entry.moment (request_counts config (entry ∷ h)) entry.call) (sites config h) []
+              (All-map (λ s. length (moves_at (length h) entry.moment (request_counts config (entry ∷ h)) entry.call s) ≤ 24) (site config h) (environments config) (λ i d lt. few_moves config h (get_or (environments config) i d) (length h) entry.moment (request_counts config (entry ∷ h)) entry.call l)),
+          sites_length config h,
+          environments_256 config sound,
+        ))
 
 pub few_answers : (config : Config) (h : List Entry) (entry : Entry) → first_fault config ≡ None → IsLegal config h → Follows config h entry → AllKnown config h → IsKnown config entry.call → length entry.answers ≤ answer_limit
 few_answers config h entry sound l w k known = rw (answers_parts config h entry w) (one (book_answer config h entry.call) (few_homed config h entry sound l w k known))

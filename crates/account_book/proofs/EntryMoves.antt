@@ -204,11 +204,11 @@ merged_from config h entry l w r a (suc n) low high =
     one =
         ap (λ ms. put_all ms (part before entry)) (moves_there config h entry a l w low (omega (arith, high)) (ap (λ (x : Reach). reaches x a) r))
         ∙ rising_same 0 (put_all (part here entry) (part before entry)) (part after entry)
-          (merge_rising 0 (part here entry) (part before entry) (part_rising config h entry here w) (part_rising config h entry before w) apart) (part_rising config h entry after w)
-          (λ u. merge_answer 0 (part here entry) (part before entry) u (part_rising config h entry here w) (part_rising config h entry before w) apart
-            ∙ ap₂ or_else (filter_answer here entry.answers u) (filter_answer before entry.answers u)
-            ∙ either (home (entry ∷ h) u) (answer_in entry.answers u)
-            ∙ sym (filter_answer after entry.answers u))
+        (merge_rising 0 (part here entry) (part before entry) (part_rising config h entry here w) (part_rising config h entry before w) apart) (part_rising config h entry after w)
+        (λ u. merge_answer 0 (part here entry) (part before entry) u (part_rising config h entry here w) (part_rising config h entry before w) apart
+        ∙ ap₂ or_else (filter_answer here entry.answers u) (filter_answer before entry.answers u)
+        ∙ either (home (entry ∷ h) u) (answer_in entry.answers u)
+        ∙ sym (filter_answer after entry.answers u))
 
 -- one that reaches all gives the moves at each.
 pub homed_everywhere : (config : Config) (h : List Entry) (entry : Entry) → IsLegal config h → Follows config h entry → AllKnown config h → IsKnown config entry.call → reach h entry.place entry.call ≡ Everywhere

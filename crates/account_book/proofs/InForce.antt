@@ -157,8 +157,8 @@ pool_after config h entry own l w known is = go entry.call refl known is
         set_in_force f count a (flown (sites config (entry ∷ h)) (numbers config h)) s
         ∙ ap (λ (p : Numbers). with_reserved p f count) (pool_same config h entry f count l w q)
         ∙ numbers_reserved config h entry f count (l, w) low high (same_sites config h entry f count l w q)
-          (λ g ne. next_reservation config h entry f count a w q given g ∙ ap (λ (b : Bool). if b then reserved_by (Some a) (reservation config h g) else reservation config h g) (eqb-other f g (λ e. ne (sym e))))
-          (next_reservation config h entry f count a w q given f ∙ ap (λ (b : Bool). if b then reserved_by (Some a) (reservation config h f) else reservation config h f) (eqb-self f) ∙ r (reservation config h f))
+        (λ g ne. next_reservation config h entry f count a w q given g ∙ ap (λ (b : Bool). if b then reserved_by (Some a) (reservation config h g) else reservation config h g) (eqb-other f g (λ e. ne (sym e))))
+        (next_reservation config h entry f count a w q given f ∙ ap (λ (b : Bool). if b then reserved_by (Some a) (reservation config h f) else reservation config h f) (eqb-self f) ∙ r (reservation config h f))
     reserve f count a low high q given (Left s r) =
         left_in_force f count a (flown (sites config (entry ∷ h)) (numbers config h)) s
         ∙ numbers_next config h entry (l, w) (λ g. next_reservation config h entry f count a w q given g ∙ either (f == g) (reserved_by (Some a) (reservation config h g)) (reservation config h g) (r (reservation config h g)))

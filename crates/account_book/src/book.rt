@@ -326,7 +326,12 @@ impl Book {
     pub fn opening(&self) -> Result<Vec<u8>, AllocError>
         ensures { IfOk result (λ text. text.items ≡ opening_text self.now.config self.now.salt self.now.max_entries) }
     {
-        opening_text(self.alloc, self.journal.config(), self.salt, self.max_entries)
+        opening_text(
+            self.alloc,
+            self.journal.config(),
+            self.salt,
+            self.max_entries,
+        )
     }
 
     /// The history text of the entry with a ticket: its call's line, and its answer lines behind

@@ -339,7 +339,8 @@ impl Journal {
             name,
             &mut answers,
         );
-        self.ledger.add(moment, call, answers.into_vec(), verdict.place, count);
+        self.ledger
+            .add(moment, call, answers.into_vec(), verdict.place, count);
     }
 
     /// Lets the environments expire that are due, one entry each, by deadline and number.

@@ -16,5 +16,5 @@ mod totals;
 
 pub use book::{Book, Life, OpenFault, Refusal};
 
-
-
+#[cfg(test)]
+mod tests;

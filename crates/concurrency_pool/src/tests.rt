@@ -140,6 +140,7 @@ fn unreserved_remainder(rt: HostRuntime) {
     for (f, want) in [(1, 0), (2, 1), (3, 2)] {
         assert_eq!(rt; in_flight(&rt, &pool, f), want, "function {f}");
     }
+    assert_eq!(rt; pool.in_flight_in_all(), 3);
 }
 
 #[test]

@@ -46,9 +46,10 @@ stepped : (c : goal.After-entries) → (c.take.new.self.config ≡ c.self.inside
 stepped c =
     let j = c.self.inside.journal in
     let moment : c.max-moment.result ≡ moment_at j.history c.args.now = c.max-moment.ensures ∙ ap (max c.args.now) c.last_moment.ensures.value in
-    let config : c.expire_due.new.self.config ≡ j.config = ap (λ (p : Pages). p.config) c.expire_due.ensures ∙ c.in_ok-make_room.ensures.same.0 in
-    (c.take.ensures.config ∙ config,
-    c.take.ensures.history ∙ rw (c.expire_due.ensures, c.in_ok-make_room.ensures.same.0, c.in_ok-make_room.ensures.same.1, moment) (sym (next_entered j.config j.history c.args.now c.args.call)))
+    let config : c.expire_due.new.self.config ≡ j.config = ap (λ (p : Pages). p.config) c.expire_due.ensures ∙ c.in_ok-make_room.ensures.same.0 in (
+      c.take.ensures.config ∙ config,
+      c.take.ensures.history ∙ rw (c.expire_due.ensures, c.in_ok-make_room.ensures.same.0, c.in_ok-make_room.ensures.same.1, moment) (sym (next_entered j.config j.history c.args.now c.args.call)),
+    )
 
 pub returns-clause-step : goal.returns-clause-step
 returns-clause-step c = rw (sym c.self.view_is, (stepped c).0, (stepped c).1) refl
