@@ -4,6 +4,7 @@ use crate::fault::ReplayFault;
 use crate::fixtures::{C, Try};
 use arn_ids::ConfigFault;
 use lambda_wire::WireFault;
+use std::alloc::{AllocError, Global};
 
 /// A script at fault, how its replay ends, and what is answered before.
 struct Faulty {
@@ -154,5 +155,45 @@ const FAULTY: &[Faulty] = &[
 fn faulty_lines(rt: HostRuntime) {
     for row in FAULTY {
         Try::new(row.config, row.script).ends(&rt, Err(row.fault), row.answers, row.name);
+    }
+}
+
+/// The lines that the program writes on standard error, and its statuses.
+const PRINTED: [(ReplayFault, &str, u8); 7] = [
+    (ReplayFault::Script { line: 2 }, "script: line 2", 2),
+    (
+        ReplayFault::Config(ConfigFault::BadTimeout),
+        "configuration: BadTimeout",
+        2,
+    ),
+    (
+        ReplayFault::Config(ConfigFault::BadEntries),
+        "configuration: EntriesOutOfRange",
+        2,
+    ),
+    (
+        ReplayFault::Wire(WireFault::NotJson),
+        "configuration: NotJson",
+        2,
+    ),
+    (ReplayFault::Read, "input: failed", 4),
+    (ReplayFault::Write, "output: failed", 4),
+    (ReplayFault::OutOfMemory, "out of memory", 4),
+];
+
+/// Whether a fault is printed so; once more where memory ran out.
+fn prints(alloc: Global, fault: ReplayFault, wanted: &str) -> Result<bool, AllocError> {
+    let mut printed = format!(in alloc; "{fault}");
+    if printed.is_err() {
+        printed = format!(in alloc; "{fault}");
+    }
+    Ok(printed?.as_str() == wanted)
+}
+
+#[test]
+fn printed_faults(rt: HostRuntime) {
+    for (fault, wanted, status) in PRINTED {
+        assert_eq!(rt; prints(rt.alloc(), fault, wanted), Ok(true), "{wanted}");
+        assert_eq!(rt; fault.status(), status, "{wanted}");
     }
 }

@@ -13,7 +13,8 @@ pub const C: &str =
     r#"{"account":"123456789012","region":"us-east-2","functions":[{"name":"f","ports":[9001]}]}"#;
 
 /// One function with two environments.
-pub const TWO: &str = r#"{"account":"123456789012","region":"us-east-2","functions":[{"name":"f","ports":[9001,9002]}]}"#;
+pub const TWO: &str =
+    r#"{"account":"123456789012","region":"us-east-2","functions":[{"name":"f","ports":[9001,9002]}]}"#;
 
 /// The first one, as a line.
 pub const CONFIG_LINE: &str =

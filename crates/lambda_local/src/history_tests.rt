@@ -18,13 +18,7 @@ fn progress_behind(alloc: Global, script: &[u8]) -> Result<Progress, ReplayFault
     let mut answers = Vec::new(alloc);
     for (place, line) in script.split(|b| *b == b'\n').enumerate() {
         let line = line.strip_suffix(b"\r").unwrap_or(line);
-        take_line(
-            alloc,
-            place as u64 + 1,
-            &mut progress,
-            line,
-            &mut answers,
-        )?;
+        take_line(alloc, place as u64 + 1, &mut progress, line, &mut answers)?;
     }
     Ok(progress)
 }

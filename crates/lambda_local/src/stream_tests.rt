@@ -6,17 +6,24 @@ use crate::replay::replay;
 use lambda_wire::WireFault;
 use std::io::{self, Read};
 
-const FIRST_CALL: &str = r#"
+/// The front of the first script that a failing reader gives: three lines, the configuration's among
+/// them.
+const THREE_LINES: &str = r#"
 500 next 1
 1000 invoke f - - ={"a":1}
 "#;
+
+const FIRST_CALL: &str = r#"
+500 next 1
+1000 invoke f - - ={"a":1}
+1200 response 1 1 ="ok""#;
 
 const DELIVERED: &str = r#"1 0 deliver 00000000-0000-8000-8001-000000000001 4000 ={"a":1}
 "#;
 
 #[test]
 fn reader_fails(rt: HostRuntime) {
-    let mut row = Try::new(C, FIRST_CALL);
+    let mut row = Try::new(C, THREE_LINES);
     row.fails = true;
     row.ends(&rt, Err(ReplayFault::Read), DELIVERED, "reader_fails");
 }
