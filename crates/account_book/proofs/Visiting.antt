@@ -118,9 +118,11 @@ pub few_there : (config : Config) (h : List Entry) (entry : Entry) (e : ℕ) →
 few_there config h entry e l w r low high =
     let here : reaches (reach h entry.place entry.call) e ≡ true = ap (λ (x : Reach). reaches x e) r ∙ eqb-self e in
     let rising = part_rising config h entry (λ t. is_number (home (entry ∷ h) t) e) w in
-    omega (arith,
+    omega (
+      arith,
       rising_few 0 (tickets (length h) (stand config h e)) moves (subst (IsRising 0) (sym (moves_there config h entry e l w low high here)) rising) (moves_in (fixed_of config e) (step_at (length h) entry.moment (request_counts config (entry ∷ h)) (site config h e)) (stand config h e) entry.call),
-      few_tickets (length h) (stand config h e))
+      few_tickets (length h) (stand config h e),
+    )
   where
     moves : List (ℕ × Answer)
     moves = moves_at (length h) entry.moment (request_counts config (entry ∷ h)) entry.call (site config h e)

@@ -34,9 +34,9 @@ one_less t (u ∷ us) q = go (eqb u t) (one_less t us) q
 still : (t v : ℕ) (us : List ℕ) → t ≢ v → has v us ≡ true → has v (without t us) ≡ true
 still t v [] ne q = absurd (true≢false (sym q))
 still t v (u ∷ us) ne q = elim (eqb_tells u t) [
-    | inl same ↦ rw same.0 (later (eqb-other u v (λ e. ne (sym same.1 ∙ e))) q)
-    | inr other ↦ rw other.0 (go (eqb u v) (still t v us ne) q)
-  ]
+  | inl same ↦ rw same.0 (later (eqb-other u v (λ e. ne (sym same.1 ∙ e))) q)
+  | inr other ↦ rw other.0 (go (eqb u v) (still t v us ne) q)
+]
   where
     later : eqb u v ≡ false → (eqb u v || has v us) ≡ true → has v us ≡ true
     later r s = rw r at s
