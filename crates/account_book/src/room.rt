@@ -71,11 +71,13 @@ impl<T> Roomy<T> {
         &self.items
     }
 
-    /// Gives the values back, with their memory.
+    /// Gives the values, and the memory of the room back.
     pub fn into_vec(self) -> Vec<T>
         ensures { result.items ≡ self.0 }
     {
-        self.items
+        let mut items = self.items;
+        items.shrink_to(items.len());
+        items
     }
 }
 
