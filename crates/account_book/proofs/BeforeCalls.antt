@@ -1,5 +1,5 @@
 -- What a journal keeps before any call.
-use Rattle.std.proofs.Common.{◌≡◌, ℕ, zero, suc, ◌+◌, ◌≤◌, List, [], ◌∷◌, ◌++◌, length, map, sym, refl, ap, ap₂, ◌∙◌, arith, ◌<◌, None, All, get_or}
+use Rattle.std.proofs.Common.{◌≡◌, ℕ, zero, suc, ◌+◌, ◌≤◌, [], ◌∷◌, ◌++◌, length, map, sym, refl, ap, ap₂, ◌∙◌, arith, ◌<◌, None, All, get_or}
 use Rattle.arn_ids.specs.declared.config.Config.{Config}
 use Rattle.arn_ids.specs.Environments.{function_of, function_at, owners, count_from}
 use Rattle.arn_ids.proofs.Bounds.{owner_is_function}

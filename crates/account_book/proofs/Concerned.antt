@@ -1,28 +1,24 @@
 -- The environments that an entry concerns are those that its call reaches.
-use Rattle.std.proofs.Common.{◌≡◌, ◌≢◌, ℕ, zero, suc, ◌+◌, ◌-◌, ◌<◌, ◌≤◌, Bool, true, false, List, [], ◌∷◌, length, map, set, get_or, Option, Some, None, sym, refl, ap, ap₂, ◌∙◌, arith, ◌||◌, ◌==◌}
+use Rattle.std.proofs.Common.{◌≡◌, ◌≢◌, ℕ, zero, suc, ◌+◌, ◌-◌, ◌≤◌, Bool, true, false, List, ◌∷◌, length, map, set, Option, Some, None, sym, refl, ap, ap₂, ◌∙◌, arith, ◌||◌, ◌==◌}
 use Rattle.std.proofs.lemmas.Bool.Decides.{nat_tests}
 use Rattle.arn_ids.specs.declared.config.Config.{Config}
-use Rattle.arn_ids.specs.Environments.{environments, count_from, owners, function_of, function_numbers, numbered}
+use Rattle.arn_ids.specs.Environments.{environments, count_from, owners, function_of, numbered}
 use Rattle.arn_ids.proofs.Bounds.{owner_is_function}
-use Rattle.call_model.proofs.Basics.{eqb-self, map_same, map_map}
+use Rattle.call_model.proofs.Basics.{eqb-self, map_map}
 use Rattle.call_model.proofs.Frame.{stand_elsewhere}
 use Rattle.call_model.proofs.Stands.{all_same, one_changes}
 use Rattle.call_model.proofs.StepLaws.{stand_is}
 use Rattle.call_model.specs.declared.call.Call.{Call}
 use Rattle.call_model.specs.declared.call.Call.TheVariants.{Invoke, RuntimeNext, Response, ResponseTooLarge, Failure, InitFailure, Register, ExtNext, ExtInitFailure, ExtExitFailure, Tick, Withdraw, Spindown, Stop, Expire, Reserve}
 use Rattle.call_model.specs.declared.call.Entry.{Entry}
-use Rattle.call_model.specs.After.{fixed_of, step_at, count_at}
-use Rattle.call_model.specs.History.{call_of, env_of, or_else, requests, is_poll_at}
+use Rattle.call_model.specs.History.{call_of, requests, is_poll_at}
 use Rattle.call_model.specs.Life.{concerns, names}
 use Rattle.call_model.specs.Limits.{place_for}
 use Rattle.call_model.specs.Next.{IsLegal, Follows}
 use Rattle.call_model.specs.Stand.{is_number}
 use Rattle.concurrency_pool.proofs.Numbered.{numbered_is}
-use Rattle.env_phase.specs.Taking.{taken}
 use Rattle.account_book.specs.declared.reach.Reach.{Reach}
 use Rattle.account_book.specs.declared.reach.Reach.TheVariants.{Nowhere, At, Everywhere}
-use Rattle.account_book.specs.declared.site.Site.{Site}
-use Rattle.account_book.specs.Fleets as fleet
 use Rattle.account_book.specs.Fleets.{moved}
 use Rattle.account_book.specs.Reaches.{at_most, poll_env, reach, reaches}
 use Rattle.account_book.specs.Taking.{site, sites, request_counts}

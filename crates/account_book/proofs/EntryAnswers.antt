@@ -1,41 +1,29 @@
 -- The answers of an entry: those that the environments give which it reaches, and its own.
-use Rattle.std.proofs.Common.{◌≡◌, ◌≢◌, ℕ, zero, suc, ◌+◌, ◌<◌, ◌≤◌, Bool, true, false, eqb, List, [], ◌∷◌, ◌++◌, length, map, filter, Option, Some, None, is_some, sym, refl, ap, ap₂, ◌∙◌, arith, inl, inr, if◌then◌else◌, ◌==◌, nat_lt, ◌||◌, true≢false, le_refl}
+use Rattle.std.proofs.Common.{◌≡◌, ◌≢◌, ℕ, suc, ◌<◌, ◌≤◌, Bool, true, false, List, [], ◌∷◌, ◌++◌, length, filter, Option, Some, None, is_some, sym, refl, ap, ◌∙◌, arith, inl, inr, if◌then◌else◌, true≢false, le_refl}
 use Rattle.std.proofs.lemmas.Bool.{cases_lt}
-use Rattle.std.proofs.lemmas.Bool.Decides.{nat_tests}
 use Rattle.arn_ids.specs.declared.config.Config.{Config}
-use Rattle.arn_ids.specs.Environments.{owners, count_from, environments}
 use Rattle.call_model.specs.declared.answer.Answer.{Answer}
 use Rattle.call_model.specs.declared.answer.Answer.TheVariants.{Told, Ending, Stopped, Refused, Reserved}
 use Rattle.call_model.specs.declared.answer.Refusal.TheVariants.{BadReservation}
 use Rattle.call_model.specs.declared.call.Call.{Call}
 use Rattle.call_model.specs.declared.call.Call.TheVariants.{Invoke, RuntimeNext, Response, ResponseTooLarge, Failure, InitFailure, Register, ExtNext, ExtInitFailure, ExtExitFailure, Tick, Withdraw, Spindown, Stop, Expire, Reserve}
 use Rattle.call_model.specs.declared.call.Entry.{Entry}
-use Rattle.call_model.specs.After.{fixed_of, step_at, count_at, moves_of}
-use Rattle.call_model.specs.Answers.{answers, answer_to, first_answer, first_entry, second_answer, second_at, own_first, own_at, home, verdict_answer, with_event, reserve_answer}
-use Rattle.call_model.specs.History.{answer_in, call_of, env_of, or_else, stopped}
-use Rattle.call_model.specs.Life.{is_event, stand}
+use Rattle.call_model.specs.Answers.{answers, answer_to, first_answer, first_entry, second_answer, own_first, home, verdict_answer, with_event, reserve_answer}
+use Rattle.call_model.specs.History.{answer_in, env_of, or_else, stopped}
+use Rattle.call_model.specs.Life.{is_event}
 use Rattle.call_model.specs.Limits.{place_for, Verdict, verdict, AfterStop, Refuses, Admits, admitted_to}
-use Rattle.call_model.specs.Next.{IsLegal, Follows}
-use Rattle.call_model.specs.Stand.{is_number}
+use Rattle.call_model.specs.Next.{Follows}
 use Rattle.call_model.proofs.AfterEntry.{call_of_new, call_of_old, place_of_new, place_of_old}
 use Rattle.call_model.proofs.AnswerValues.{plain, valued}
-use Rattle.call_model.proofs.Basics.{eqb-self, some-none, none-some, number_some}
+use Rattle.call_model.proofs.Basics.{eqb-self, some-none, none-some}
 use Rattle.call_model.proofs.Frame.{quiet_here}
-use Rattle.call_model.proofs.Flight.{placed_between}
 use Rattle.call_model.proofs.Once.{answers_at, answers_past}
 use Rattle.call_model.proofs.Pairs.{eqb-other, is_some_none}
 use Rattle.call_model.proofs.Puts.{filter_rising, filter_answer}
 use Rattle.call_model.proofs.Rising.{IsRising, each_rising, numbered_rising, rising_same}
-use Rattle.call_model.proofs.StepLaws.{moves_are}
-use Rattle.script.specs.Limits.{IsEnv, IsWithin}
-use Rattle.account_book.specs.declared.reach.Reach.{Reach}
-use Rattle.account_book.specs.declared.reach.Reach.TheVariants.{Nowhere, At, Everywhere}
-use Rattle.account_book.specs.declared.site.Site.{Site}
-use Rattle.account_book.specs.Fleets.{moves_at, put_all, merged}
-use Rattle.account_book.specs.Reaches.{reach, reaches, at_most, book_answer, unless_named, with_own}
-use Rattle.account_book.specs.Taking.{site, sites, request_counts, IsKnown, AllKnown}
-use Rattle.account_book.proofs.Concerned.{concerns_reach, count_here}
-use Rattle.account_book.proofs.Merging.{merge_rising, merge_answer, last_rising, last_answer, AreApart}
+use Rattle.account_book.specs.Reaches.{reach, reaches, book_answer, unless_named, with_own}
+use Rattle.account_book.proofs.Concerned.{concerns_reach}
+use Rattle.account_book.proofs.Merging.{last_rising, last_answer}
 
 -- the environment of a ticket, older or the entry's own
 pub home_old : (entry : Entry) (h : List Entry) (t : ℕ) → t < length h → home (entry ∷ h) t ≡ home h t

@@ -1,9 +1,9 @@
 -- How many answers an entry has, and to which tickets.
-use Rattle.std.proofs.Common.{◌≡◌, ℕ, zero, suc, ◌+◌, ◌*◌, ◌<◌, ◌≤◌, Bool, true, false, eqb, List, [], ◌∷◌, ◌++◌, length, map, get_or, All, Option, Some, None, is_some, sym, refl, ap, ◌∙◌, arith, inl, inr, if◌then◌else◌, length-append, true≢false}
+use Rattle.std.proofs.Common.{◌≡◌, ℕ, zero, suc, ◌<◌, ◌≤◌, Bool, true, false, eqb, List, [], ◌∷◌, length, get_or, All, Option, Some, None, is_some, sym, refl, ap, ◌∙◌, arith, inl, inr, if◌then◌else◌, length-append, true≢false}
 use Rattle.std.proofs.lemmas.Bool.{cases_lt}
 use Rattle.std.proofs.lemmas.List.Elements.{All-map}
 use Rattle.arn_ids.specs.declared.config.Config.{Config}
-use Rattle.arn_ids.specs.Environments.{environments, owners}
+use Rattle.arn_ids.specs.Environments.{environments}
 use Rattle.arn_ids.specs.Faults.{first_fault}
 use Rattle.arn_ids.proofs.Bounds.{environments_256}
 use Rattle.call_model.specs.declared.answer.Answer.{Answer}
@@ -12,13 +12,11 @@ use Rattle.call_model.specs.declared.call.Entry.{Entry}
 use Rattle.call_model.specs.History.{answer_in}
 use Rattle.call_model.specs.Life.{stand}
 use Rattle.call_model.specs.Next.{IsLegal, Follows}
-use Rattle.call_model.proofs.Basics.{eqb-self}
 use Rattle.call_model.proofs.Rising.{some_at}
 use Rattle.env_phase.proofs.Room.{moves_few}
 use Rattle.account_book.specs.declared.reach.Reach.{Reach}
 use Rattle.account_book.specs.declared.reach.Reach.TheVariants.{Nowhere, At, Everywhere}
-use Rattle.account_book.specs.declared.site.Site.{Site}
-use Rattle.account_book.specs.Fleets.{moves_at, put_all, merged, step_at}
+use Rattle.account_book.specs.Fleets.{moves_at, step_at}
 use Rattle.account_book.specs.Ledgers.{answer_limit}
 use Rattle.account_book.specs.Reaches.{reach, book_answer, with_own, homed}
 use Rattle.account_book.specs.Taking.{site, sites, request_counts, IsKnown, AllKnown}

@@ -1,31 +1,28 @@
 -- The answers that an entry gives at the environments that it reaches.
-use Rattle.std.proofs.Common.{◌≡◌, ◌≢◌, ℕ, zero, suc, ◌+◌, ◌-◌, ◌<◌, ◌≤◌, Bool, true, false, List, [], ◌∷◌, length, map, get_or, Option, Some, None, is_some, sym, refl, ap, ap₂, ◌∙◌, arith, inl, inr, if◌then◌else◌, ◌==◌, nat_lt, true≢false}
+use Rattle.std.proofs.Common.{◌≡◌, ℕ, zero, suc, ◌+◌, ◌<◌, ◌≤◌, Bool, true, false, List, [], ◌∷◌, length, map, Option, Some, None, is_some, sym, refl, ap, ap₂, ◌∙◌, arith, if◌then◌else◌, ◌==◌, nat_lt, true≢false}
 use Rattle.std.proofs.lemmas.Bool.Decides.{nat_tests}
 use Rattle.std.proofs.lemmas.Bool.{eqb-true}
 use Rattle.arn_ids.specs.declared.config.Config.{Config}
-use Rattle.arn_ids.specs.Environments.{owners, count_from, environments}
+use Rattle.arn_ids.specs.Environments.{owners, count_from}
 use Rattle.call_model.specs.declared.answer.Answer.{Answer}
 use Rattle.call_model.specs.declared.call.Call.{Call}
 use Rattle.call_model.specs.declared.call.Call.TheVariants.{Invoke, RuntimeNext, Response, ResponseTooLarge, Failure, InitFailure, Register, ExtNext, ExtInitFailure, ExtExitFailure, Tick, Withdraw, Spindown, Stop, Expire, Reserve}
 use Rattle.call_model.specs.declared.call.Entry.{Entry}
-use Rattle.call_model.specs.After.{fixed_of, step_at, count_at, moves_of}
 use Rattle.call_model.specs.Answers.{home}
 use Rattle.call_model.specs.History.{answer_in, call_of, env_of, or_else, place_of}
-use Rattle.call_model.specs.Life.{stand}
 use Rattle.call_model.specs.Limits.{place_for}
 use Rattle.call_model.specs.Next.{IsLegal, Follows}
 use Rattle.call_model.specs.Stand.{is_number}
-use Rattle.call_model.proofs.Basics.{eqb-self, some-none, none-some, number_some}
-use Rattle.call_model.proofs.Flight.{placed_between, place_for_between}
+use Rattle.call_model.proofs.Basics.{eqb-self, none-some}
+use Rattle.call_model.proofs.Flight.{placed_between}
 use Rattle.call_model.proofs.Puts.{filter_answer}
 use Rattle.call_model.proofs.Rising.{IsRising, rising_same}
 use Rattle.call_model.proofs.StepLaws.{moves_are}
 use Rattle.script.specs.Limits.{IsEnv}
 use Rattle.account_book.specs.declared.reach.Reach.{Reach}
 use Rattle.account_book.specs.declared.reach.Reach.TheVariants.{Nowhere, At, Everywhere}
-use Rattle.account_book.specs.declared.site.Site.{Site}
 use Rattle.account_book.specs.Fleets.{moves_at, put_all, merged}
-use Rattle.account_book.specs.Reaches.{reach, reaches, at_most, poll_env}
+use Rattle.account_book.specs.Reaches.{reach, reaches, at_most}
 use Rattle.account_book.specs.Taking.{site, sites, request_counts, IsKnown, AllKnown}
 use Rattle.account_book.proofs.Concerned.{concerns_reach, count_here}
 use Rattle.account_book.proofs.EntryAnswers.{Answered, Own, Older, part, part_same, part_rising, has_home, home_old, home_new}

@@ -1,5 +1,5 @@
 -- A loop in which the environments that are due expire, one after the other.
-use Rattle.std.proofs.Common.{◌≡◌, ℕ, zero, suc, ◌+◌, ◌<◌, ◌≤◌, Bool, true, false, List, [], ◌∷◌, ◌-◌, ◌++◌, length, map, filter_map, All, Option, Some, None, sym, refl, ap, ◌∙◌, arith, nat_le, if◌then◌else◌}
+use Rattle.std.proofs.Common.{◌≡◌, ℕ, zero, suc, ◌+◌, ◌<◌, ◌≤◌, Bool, true, false, List, [], ◌∷◌, ◌-◌, length, map, filter_map, All, Option, Some, None, sym, refl, ap, ◌∙◌, arith, nat_le, if◌then◌else◌}
 use Rattle.std.specs.List.{cons_option}
 use Rattle.arn_ids.specs.declared.config.Config.{Config}
 use Rattle.arn_ids.specs.Environments.{environments, count_from, owners}

@@ -1,27 +1,26 @@
 -- How many extensions, events and answers there are.
-use Rattle.std.proofs.Common.{◌≡◌, ℕ, zero, suc, ◌+◌, ◌*◌, ◌<◌, ◌≤◌, ◌^◌, Bool, true, false, List, [], ◌∷◌, ◌++◌, length, map, get_or, All, Option, Some, None, Ok, Err, sym, refl, ap, ap₂, ◌∙◌, arith, if◌then◌else◌, nat_le, length-append, true≢false}
+use Rattle.std.proofs.Common.{◌≡◌, ℕ, suc, ◌+◌, ◌*◌, ◌<◌, ◌≤◌, ◌^◌, Bool, true, false, List, [], ◌∷◌, length, map, get_or, All, Option, Some, None, Ok, Err, refl, ap, ◌∙◌, arith, if◌then◌else◌, nat_le, length-append}
 use Rattle.std.proofs.lemmas.Bool.Decides.{nat_tests}
 use Rattle.std.specs.List.{list_any}
 use Rattle.std.specs.Prelude.{bytes_eq}
 use Rattle.std.proofs.lemmas.List.{length-map}
 use Rattle.std.proofs.lemmas.List.Elements.{All-map}
 use Rattle.arn_ids.specs.declared.config.Config.{Config}
-use Rattle.arn_ids.specs.Environments.{environments, count_from, owners}
+use Rattle.arn_ids.specs.Environments.{environments}
 use Rattle.call_model.specs.declared.answer.Answer.{Answer}
-use Rattle.call_model.specs.declared.answer.Answer.TheVariants.{Registered}
 use Rattle.call_model.specs.declared.call.Call.{Call}
 use Rattle.call_model.specs.declared.call.Call.TheVariants.{Register}
 use Rattle.call_model.specs.declared.call.Entry.{Entry}
 use Rattle.call_model.specs.After.{Fixed, Step, stand_after, turned, closing_ends, expires_now, first_stand, members_first, fresh_members, finished, restarted, settled_stand, settled_phase, member_second, fixed_of, step_at, count_at, member_first, put}
 use Rattle.call_model.specs.Generation.{Extension, as_registered, Member, members}
 use Rattle.call_model.specs.Life.{stand, concerns, seen, life}
-use Rattle.call_model.specs.Next.{IsLegal, Follows}
+use Rattle.call_model.specs.Next.{IsLegal}
 use Rattle.call_model.specs.Polls.{begun}
 use Rattle.call_model.specs.Stand.{Stand}
 use Rattle.call_model.specs.Table.{own_answer}
 use Rattle.call_model.proofs.Frame.{stand_elsewhere}
 use Rattle.call_model.proofs.StepLaws.{stand_is}
-use Rattle.env_phase.proofs.Room.{moves_few, events_more, registrations_more}
+use Rattle.env_phase.proofs.Room.{events_more, registrations_more}
 use Rattle.env_phase.proofs.Welcome.{welcome}
 use Rattle.env_phase.specs.First.{IsWelcome, turn_of}
 use Rattle.env_phase.specs.Taking.{registered_name}
@@ -30,11 +29,8 @@ use Rattle.extension_set.specs.declared.register_fault.RegisterFault.{RegisterFa
 use Rattle.extension_set.specs.declared.register_fault.RegisterFault.TheVariants.{NameInUse, TooMany}
 use Rattle.extension_set.specs.Registering.{admits}
 use Rattle.extension_set.specs.Turns.{member_after}
-use Rattle.account_book.specs.declared.reach.Reach.{Reach}
-use Rattle.account_book.specs.declared.reach.Reach.TheVariants.{Nowhere, At, Everywhere}
 use Rattle.account_book.specs.declared.site.Site.{Site}
-use Rattle.account_book.specs.Fleets.{put_all, merged, moves_at, IsFew}
-use Rattle.account_book.specs.Reaches.{with_own}
+use Rattle.account_book.specs.Fleets.{put_all, merged, IsFew}
 use Rattle.account_book.specs.Taking.{site, sites}
 
 -- an extension is admitted where there are fewer than ten

@@ -1,20 +1,19 @@
 -- What is kept beside the environments of a history is what the history says.
-use Rattle.std.proofs.Common.{◌≡◌, ℕ, zero, suc, ◌+◌, ◌-◌, ◌<◌, ◌≤◌, Bool, true, false, cond, not, List, [], ◌∷◌, length, map, filter_map, Option, Some, None, sym, refl, ap, ap₂, ◌∙◌, arith, ◌&&◌, ◌==◌, nat_le, count_by, if◌then◌else◌, All, option_map}
+use Rattle.std.proofs.Common.{◌≡◌, ℕ, zero, suc, ◌+◌, ◌≤◌, Bool, true, false, cond, List, [], ◌∷◌, length, map, filter_map, Option, Some, None, sym, refl, ap, ap₂, ◌∙◌, arith, ◌&&◌, ◌==◌, nat_le, count_by, if◌then◌else◌, option_map}
 use Rattle.std.specs.List.{cons_option}
 use Rattle.std.proofs.lemmas.List.Sums.{sum_by-cons}
 use Rattle.std.proofs.lemmas.List.{length-map}
 use Rattle.arn_ids.specs.declared.config.Config.{Config}
-use Rattle.arn_ids.specs.Environments.{environments, function_of, count_from, owners, function_numbers}
+use Rattle.arn_ids.specs.Environments.{environments, function_of, count_from, owners}
 use Rattle.call_model.proofs.Basics.{map_map, none-some}
 use Rattle.call_model.specs.declared.answer.Phase.{Phase}
 use Rattle.call_model.specs.declared.call.Entry.{Entry}
 use Rattle.call_model.specs.Laws.{is_taken}
 use Rattle.call_model.specs.Life.{phase, seen}
-use Rattle.call_model.specs.Limits.{in_flight, Verdict, by_limits, reservation, place}
+use Rattle.call_model.specs.Limits.{in_flight, by_limits, reservation}
 use Rattle.call_model.specs.Next.{IsLegal, due, due_at, deadline_of, in_order, by_deadline}
 use Rattle.call_model.proofs.Flight.{flight}
 use Rattle.concurrency_pool.specs.declared.pool.Usage.{Usage}
-use Rattle.concurrency_pool.specs.Numbers.{Numbers}
 use Rattle.concurrency_pool.specs.Meets.{numbers, usage, by_throttle}
 use Rattle.concurrency_pool.specs.Pools.{throttle}
 use Rattle.concurrency_pool.proofs.History as pool

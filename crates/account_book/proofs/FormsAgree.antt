@@ -2,13 +2,12 @@
 use Rattle.std.proofs.Common.{◌≡◌, ℕ, ◌+◌, Bool, true, false, nat_lt, List, [], ◌∷◌, ◌++◌, length, codes, Option, Some, None, Result, Ok, Err, if◌then◌else◌, refl, sym, ap, ◌∙◌, append_assoc}
 use Rattle.std.proofs.lemmas.List.{append-nil}
 use Rattle.std.specs.Str.Lines.{lines}
-use Rattle.arn_ids.specs.declared.config.Config.{Config}
 use Rattle.call_model.specs.declared.call.Call.{Call}
 use Rattle.script.specs.Lines.{call_in}
 use Rattle.script.proofs.FormsAgree.{call_same}
 use Rattle.script.proofs.WordBounds.{fits_word}
 use Rattle.account_book.specs.Book.{Kept}
-use Rattle.account_book.specs.Run.{ScriptFault, InLine, Progress, AtStart, AfterForm, Taking, is_form_2, is_skipped, line_limit, answered, begins_form_2, is_of_form_2, opened, answered_if, line_answered, going_on, begun, Replayed, before, and_then, replay_from, run}
+use Rattle.account_book.specs.Run.{ScriptFault, InLine, AtStart, AfterForm, Taking, is_skipped, line_limit, begins_form_2, is_of_form_2, opened, answered_if, line_answered, going_on, begun, Replayed, before, and_then, replay_from, run}
 use Rattle.account_book.proofs.LineEnds.{lines_again}
 
 -- what the second replay comes to, where the first has no fault; and before a fault of the first, what that writes

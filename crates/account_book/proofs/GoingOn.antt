@@ -1,10 +1,9 @@
 -- How a replay goes on over lines, from one book to the next.
-use Rattle.std.proofs.Common.{◌≡◌, ℕ, ◌+◌, ◌<◌, ◌≤◌, Bool, true, false, nat_lt, List, [], ◌∷◌, ◌++◌, length, Result, Ok, refl, sym, ap, ◌∙◌, arith, append_assoc, length-append}
-use Rattle.std.proofs.lemmas.List.{append-nil}
+use Rattle.std.proofs.Common.{◌≡◌, ℕ, ◌+◌, Bool, true, false, nat_lt, List, [], ◌∷◌, ◌++◌, length, Result, Ok, refl, sym, ap, ◌∙◌, arith, append_assoc, length-append}
 use Rattle.std.proofs.lemmas.Bool.Decides.{nat_tests}
 use Rattle.script.proofs.WordBounds.{Fits}
 use Rattle.account_book.specs.Book.{Kept}
-use Rattle.account_book.specs.Run.{ScriptFault, Progress, Taking, Replayed, before, and_then, going_on, line_limit, is_skipped, line_answered, line_taken, replay_from}
+use Rattle.account_book.specs.Run.{ScriptFault, Progress, Taking, Replayed, before, and_then, line_limit, is_skipped, line_answered, line_taken, replay_from}
 use Rattle.account_book.proofs.HistoryLines.{AreSkipped}
 
 -- lines lead a replay from one place to the next, and write a text, whatever comes after them

@@ -1,16 +1,15 @@
 -- The pool after a call: what is in flight, and the reservation that a Reserve puts in force.
-use Rattle.std.proofs.Common.{◌≡◌, ◌≢◌, ℕ, zero, suc, ◌+◌, ◌-◌, ◌<◌, ◌≤◌, Bool, true, false, List, [], ◌∷◌, length, map, set, Option, Some, None, sym, refl, ap, ap₂, ◌∙◌, arith, if◌then◌else◌, true≢false, ◌==◌, count_by, subst}
-use Rattle.std.proofs.lemmas.Bool.Decides.{nat_tests}
+use Rattle.std.proofs.Common.{◌≡◌, ◌≢◌, ℕ, ◌+◌, ◌-◌, ◌≤◌, Bool, true, false, List, ◌∷◌, length, set, Option, Some, None, sym, refl, ap, ap₂, ◌∙◌, arith, if◌then◌else◌, true≢false, ◌==◌, count_by, subst}
 use Rattle.std.proofs.lemmas.List.{length-map}
 use Rattle.arn_ids.specs.declared.config.Config.{Config}
 use Rattle.arn_ids.specs.Environments.{function_numbers}
 use Rattle.call_model.specs.declared.answer.Answer.{Answer}
-use Rattle.call_model.specs.declared.answer.Answer.TheVariants.{Delivered, Told, Ending, Registered, Accepted, Done, Output, Error, TimedOut, InitTimedOut, OutputTooLarge, Throttled, Stopped, Withdrawn, Refused, Reserved, Unreserved}
+use Rattle.call_model.specs.declared.answer.Answer.TheVariants.{Stopped, Reserved, Unreserved}
 use Rattle.call_model.specs.declared.call.Call.{Call}
-use Rattle.call_model.specs.declared.call.Call.TheVariants.{Invoke, RuntimeNext, Response, ResponseTooLarge, Failure, InitFailure, Register, ExtNext, ExtInitFailure, ExtExitFailure, Tick, Withdraw, Spindown, Stop, Expire, Reserve}
+use Rattle.call_model.specs.declared.call.Call.TheVariants.{Reserve}
 use Rattle.call_model.specs.declared.call.Entry.{Entry}
 use Rattle.call_model.specs.Answers.{own_first, reserve_answer}
-use Rattle.call_model.specs.History.{answer_in, stopped, env_of, or_else}
+use Rattle.call_model.specs.History.{answer_in, stopped}
 use Rattle.call_model.specs.Limits.{reservation, reserves, reserved_by, in_flight}
 use Rattle.call_model.specs.Next.{IsLegal, Follows}
 use Rattle.call_model.proofs.Basics.{eqb-self}
@@ -19,7 +18,7 @@ use Rattle.call_model.proofs.Stands.{one_changes}
 use Rattle.concurrency_pool.specs.declared.pool.Usage.{Usage}
 use Rattle.concurrency_pool.specs.Meets.{numbers, usage, by_reserve}
 use Rattle.concurrency_pool.specs.Numbers.{Numbers}
-use Rattle.concurrency_pool.specs.Pools.{may_reserve, with_reserved, usage_at}
+use Rattle.concurrency_pool.specs.Pools.{may_reserve, with_reserved}
 use Rattle.concurrency_pool.proofs.History as pool
 use Rattle.account_book.specs.Answering.{in_force, IsInOrder, IsAllowed}
 use Rattle.account_book.specs.declared.site.Site.{Site}

@@ -1,16 +1,16 @@
 -- What is kept beside the entries, after one more.
-use Rattle.std.proofs.Common.{◌≡◌, ℕ, suc, ◌+◌, ◌-◌, ◌*◌, ◌<◌, ◌≤◌, ◌^◌, Bool, true, false, List, [], ◌∷◌, ◌++◌, length, reverse, All, Option, Some, None, sym, refl, ap, ap₂, ◌∙◌, arith, cond, count_by, is_some, length-append, ◌||◌}
-use Rattle.std.proofs.lemmas.List.{reverse-append, length-reverse}
+use Rattle.std.proofs.Common.{◌≡◌, ℕ, ◌+◌, ◌-◌, ◌<◌, ◌≤◌, Bool, true, false, List, [], ◌∷◌, ◌++◌, length, reverse, All, None, sym, refl, ap, ◌∙◌, arith, cond, count_by, is_some, length-append, ◌||◌}
+use Rattle.std.proofs.lemmas.List.{reverse-append}
 use Rattle.std.proofs.lemmas.List.Sums.{count_by-le-length}
 use Rattle.call_model.specs.declared.answer.Answer.{Answer}
 use Rattle.call_model.specs.declared.call.Entry.{Entry}
 use Rattle.call_model.specs.Counts.{admitted, throttled, failed, is_throttle, is_failure}
-use Rattle.call_model.specs.History.{answer_of, is_stop, stopped}
+use Rattle.call_model.specs.History.{answer_of, is_stop}
 use Rattle.call_model.proofs.AfterEntry.{admitted_cons, answers_that_cons}
-use Rattle.script.specs.CallCounts.{call_counts, request_count}
+use Rattle.script.specs.CallCounts.{request_count}
 use Rattle.account_book.specs.declared.ledger.Ledger.TheInside.{Inside}
 use Rattle.account_book.specs.declared.totals.Totals.{Totals}
-use Rattle.account_book.specs.Indexes.{answered, noted}
+use Rattle.account_book.specs.Indexes.{noted}
 use Rattle.account_book.specs.Ledgers.{IsLedger, totals, answer_limit}
 use Rattle.account_book.proofs.Indexed.{answered_next}
 

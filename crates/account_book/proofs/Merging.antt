@@ -1,14 +1,13 @@
 -- Answers put in their places among others.
-use Rattle.std.proofs.Common.{◌≡◌, ◌≢◌, ℕ, zero, suc, ◌<◌, ◌≤◌, Bool, true, false, List, [], ◌∷◌, ◌++◌, length, Option, Some, None, is_some, sym, refl, ap, ◌∙◌, arith, inl, inr, if◌then◌else◌, true≢false}
+use Rattle.std.proofs.Common.{◌≡◌, ◌≢◌, ℕ, suc, ◌<◌, ◌≤◌, true, List, [], ◌∷◌, ◌++◌, Option, None, is_some, sym, refl, ap, ◌∙◌, arith, inl, inr, true≢false}
 use Rattle.std.proofs.lemmas.Bool.{cases_lt}
 use Rattle.std.proofs.lemmas.Bool.Decides.{eqb_tells}
 use Rattle.call_model.specs.declared.answer.Answer.{Answer}
 use Rattle.call_model.specs.History.{answer_in, or_else}
 use Rattle.call_model.specs.After.{put}
-use Rattle.call_model.proofs.Basics.{none-some, some-none}
-use Rattle.call_model.proofs.Pairs.{is_some_none}
+use Rattle.call_model.proofs.Basics.{some-none}
 use Rattle.call_model.proofs.Puts.{put_rising, put_answer}
-use Rattle.call_model.proofs.Rising.{IsRising, weaker, rising_none, some_at, skip_at}
+use Rattle.call_model.proofs.Rising.{IsRising, rising_none, some_at, skip_at}
 use Rattle.account_book.specs.Fleets.{put_all}
 
 -- no ticket has an answer in both

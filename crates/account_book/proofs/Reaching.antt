@@ -1,5 +1,5 @@
 -- What is true of a history that calls led to.
-use Rattle.std.proofs.Common.{◌≡◌, ℕ, ◌+◌, ◌<◌, ◌≤◌, ◌^◌, max, Bool, true, false, nat_le, if◌then◌else◌, List, [], ◌∷◌, ◌++◌, length, refl, sym, ap, subst, ◌∙◌, arith}
+use Rattle.std.proofs.Common.{◌≡◌, ℕ, ◌≤◌, max, true, false, List, [], ◌∷◌, ◌++◌, refl, sym, ap, subst, arith}
 use Rattle.std.proofs.Math.Nat.{max-le, max-eq_left, le-max_right}
 use Rattle.arn_ids.specs.declared.config.Config.{Config}
 use Rattle.call_model.specs.declared.call.Call.{Call}
@@ -8,10 +8,10 @@ use Rattle.call_model.specs.declared.call.Entry.{Entry}
 use Rattle.call_model.specs.History.{is_expiry}
 use Rattle.call_model.specs.Next.{IsLegal, due, entry_of, expiries, entered, moment_at, last_moment, added, next}
 use Rattle.call_model.proofs.NextLegal.{legal_next}
-use Rattle.script.specs.Limits.{IsWithin, IsTimed}
+use Rattle.script.specs.Limits.{IsWithin}
 use Rattle.script.specs.Numbers.{greatest_moment}
 use Rattle.account_book.specs.Reached.{IsTakenAfter, led_to, AreTaken, IsReached}
-use Rattle.account_book.proofs.HistoryLines.{IsHandedIn, AreHandedIn}
+use Rattle.account_book.proofs.HistoryLines.{AreHandedIn}
 
 -- an account without calls
 pub reached_first : (config : Config) (max_entries : ℕ) → IsReached config max_entries []

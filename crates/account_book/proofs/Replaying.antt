@@ -1,6 +1,5 @@
 -- A replay of the text of a history makes that history again.
-use Rattle.std.proofs.Common.{◌≡◌, ℕ, ◌+◌, ◌%◌, ◌<◌, ◌≤◌, ◌^◌, Bool, true, false, ◌==◌, List, [], ◌∷◌, ◌++◌, length, codes, decimal, None, Result, Ok, All, refl, sym, ap, subst, ◌∙◌, arith, append_assoc}
-use Rattle.std.specs.Str.Lines.{lines}
+use Rattle.std.proofs.Common.{◌≡◌, ℕ, ◌+◌, ◌%◌, ◌<◌, ◌≤◌, ◌^◌, true, false, ◌==◌, List, [], ◌∷◌, ◌++◌, length, decimal, None, Ok, sym, ap, subst, ◌∙◌, arith}
 use Rattle.std.proofs.lemmas.Bool.Decides.{nat_tests}
 use Rattle.std.proofs.lemmas.Fmt.{decimal_by_steps}
 use Rattle.std.proofs.lemmas.List.{append-nil}
@@ -8,19 +7,18 @@ use Rattle.std.proofs.Math.Nat.{max-le}
 use Rattle.arn_ids.specs.Faults.{first_fault}
 use Rattle.arn_ids.specs.declared.config.Config.{Config}
 use Rattle.call_model.specs.declared.call.Call.{Call}
-use Rattle.call_model.specs.declared.call.Call.TheVariants.{Expire}
 use Rattle.call_model.specs.declared.call.Entry.{Entry}
 use Rattle.call_model.specs.Counts.{full}
 use Rattle.call_model.specs.Next.{IsLegal, due, entry_of, expiries, moment_at, last_moment, added, next}
-use Rattle.script.specs.CallText.{call_words, call_text, line_of}
+use Rattle.script.specs.CallText.{call_text}
 use Rattle.script.specs.Limits.{IsWithin}
 use Rattle.script.specs.Numbers.{greatest_moment}
 use Rattle.script.proofs.LineBounds.{HasShortBodies, call_line_fits}
 use Rattle.script.proofs.ReadAgain.{no_mark, read_again}
 use Rattle.account_book.specs.Book.{Kept}
 use Rattle.account_book.specs.HistoryText.{answers_text}
-use Rattle.account_book.specs.Reached.{IsTakenAfter, led_to, AreTaken, IsReached}
-use Rattle.account_book.specs.Run.{ScriptFault, Progress, Taking, is_skipped, added_lines, answered, going_on, line_answered, line_taken}
+use Rattle.account_book.specs.Reached.{IsTakenAfter, led_to, AreTaken}
+use Rattle.account_book.specs.Run.{Progress, Taking, is_skipped, added_lines, answered, going_on, line_answered, line_taken}
 use Rattle.account_book.proofs.AnswersStay.{answers_added}
 use Rattle.account_book.proofs.GoingOn.{Leads, leads_nowhere, leads_on, leads_line, leads_past, within_limit}
 use Rattle.account_book.proofs.HistoryLines.{comments, entry_lines, entries_lines, comments_skipped, expiry_skipped}

@@ -1,5 +1,5 @@
 -- How many Invokes each function has had, after one more entry.
-use Rattle.std.proofs.Common.{◌≡◌, ◌≢◌, ℕ, zero, suc, ◌+◌, ◌-◌, ◌<◌, ◌≤◌, Bool, true, false, List, [], ◌∷◌, length, map, Option, set, get_or, sym, refl, ap, ◌∙◌, arith, ◌==◌}
+use Rattle.std.proofs.Common.{◌≡◌, ◌≢◌, ℕ, zero, suc, ◌+◌, ◌-◌, ◌<◌, ◌≤◌, Bool, false, List, ◌∷◌, length, map, Option, set, get_or, sym, ap, ◌∙◌, arith, ◌==◌}
 use Rattle.std.proofs.lemmas.Bool.Decides.{nat_tests}
 use Rattle.std.proofs.lemmas.List.{length-map}
 use Rattle.std.proofs.lemmas.List.Sums.{count_by-le-length}
@@ -38,10 +38,6 @@ counts_after_invoke config h entry f qualified trace body same low high =
   where
     other : (g : ℕ) → g ≢ f → (f == g) ≡ false
     other g ne = grind (arith, nat_tests, ne)
-
--- no other call is
-pub counts_after_other : (config : Config) (h : List Entry) (entry : Entry) → ((f : ℕ) → is_invoke_of f entry.call ≡ false) → request_counts config (entry ∷ h) ≡ request_counts config h
-counts_after_other config h entry none = all_same (requests (entry ∷ h)) (requests h) 1 (length config.functions) (λ f le. requests_cons entry h f ∙ rw (none f) (omega arith))
 
 pub one_more : (h : List Entry) (entry : Entry) (f : ℕ) (qualified : Bool) (trace : Option (List ℕ)) (body : List ℕ) → entry.call ≡ Invoke f qualified trace body → requests (entry ∷ h) f ≡ requests h f + 1
 one_more h entry f qualified trace body same = requests_cons entry h f ∙ rw (same, eqb-self f) (omega arith)

@@ -1,12 +1,11 @@
 -- What an account says to an Invoke and to a Reserve.
-use Rattle.std.proofs.Common.{◌≡◌, ℕ, ◌≤◌, true, false, Bool, List, length, map, Option, sym, ap, ap₂, ◌∙◌, refl, if◌then◌else◌}
+use Rattle.std.proofs.Common.{◌≡◌, ℕ, ◌≤◌, true, false, Bool, List, length, map, Option, sym, ap, ap₂, ◌∙◌, if◌then◌else◌}
 use Rattle.arn_ids.specs.declared.config.Config.{Config}
-use Rattle.call_model.specs.declared.answer.Answer.{Answer}
 use Rattle.call_model.specs.declared.answer.Answer.TheVariants.{Stopped}
 use Rattle.call_model.specs.declared.call.Entry.{Entry}
 use Rattle.call_model.specs.Answers.{reserve_answer}
 use Rattle.call_model.specs.History.{stopped}
-use Rattle.call_model.specs.Limits.{Verdict, AfterStop, verdict, by_limits, reservation}
+use Rattle.call_model.specs.Limits.{AfterStop, verdict, by_limits, reservation}
 use Rattle.concurrency_pool.specs.Meets.{numbers, by_throttle, by_reserve}
 use Rattle.concurrency_pool.specs.Numbers.{Numbers}
 use Rattle.concurrency_pool.specs.Pools.{throttle, may_reserve}

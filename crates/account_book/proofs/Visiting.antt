@@ -1,5 +1,5 @@
 -- What holds of the environment that a call reaches.
-use Rattle.std.proofs.Common.{◌≡◌, ℕ, zero, suc, ◌+◌, ◌-◌, ◌*◌, ◌<◌, ◌≤◌, Bool, true, false, List, [], ◌∷◌, length, get_or, All, Option, Some, None, sym, refl, ap, ◌∙◌, arith, inl, inr, true≢false, subst, if◌then◌else◌, ◌==◌}
+use Rattle.std.proofs.Common.{◌≡◌, ℕ, ◌+◌, ◌-◌, ◌≤◌, Bool, true, false, List, ◌∷◌, length, Option, Some, None, sym, refl, ap, ◌∙◌, arith, inl, inr, true≢false, subst, if◌then◌else◌, ◌==◌}
 use Rattle.std.proofs.lemmas.Bool.{cases_lt, eqb-true}
 use Rattle.arn_ids.specs.declared.config.Config.{Config}
 use Rattle.arn_ids.specs.Environments.{owners, function_of}
@@ -18,7 +18,7 @@ use Rattle.call_model.specs.Next.{IsLegal, Follows}
 use Rattle.call_model.specs.Stand.{is_number}
 use Rattle.call_model.proofs.Rising.{IsRising}
 use Rattle.call_model.proofs.AtHand.{is_invoke}
-use Rattle.call_model.proofs.Basics.{some-none, none-some, eqb-self}
+use Rattle.call_model.proofs.Basics.{none-some, eqb-self}
 use Rattle.call_model.proofs.Flight.{place_for_between}
 use Rattle.call_model.proofs.OwnTickets.{placed_function}
 use Rattle.concurrency_pool.specs.Meets.{numbers, by_throttle}
@@ -29,7 +29,6 @@ use Rattle.script.specs.Limits.{IsEnv}
 use Rattle.account_book.specs.Answering.{most_answers}
 use Rattle.account_book.specs.declared.reach.Reach.{Reach}
 use Rattle.account_book.specs.declared.reach.Reach.TheVariants.{Nowhere, At, Everywhere}
-use Rattle.account_book.specs.declared.site.Site.{Site}
 use Rattle.account_book.specs.Fleets.{no_site, site_at, step_at, moves_at}
 use Rattle.account_book.specs.Reaches.{reach, reaches, at_most, poll_env}
 use Rattle.account_book.specs.Taking.{site, sites, request_counts, IsKnown, AllKnown}

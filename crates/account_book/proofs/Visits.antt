@@ -1,6 +1,6 @@
 -- What is kept beside the environments, after one of them changed.
-use Rattle.std.proofs.Common.{◌≡◌, ℕ, zero, suc, ◌+◌, ◌-◌, ◌<◌, ◌≤◌, Bool, true, false, cond, List, [], ◌∷◌, length, map, get_or, set, slice_set, count_by, All, sym, refl, ap, ap₂, ◌∙◌, arith, subst, true≢false, ◌==◌}
-use Rattle.std.proofs.lemmas.List.{map-set, get_or-map, length-set, length-map, set-get_or}
+use Rattle.std.proofs.Common.{◌≡◌, ℕ, zero, suc, ◌+◌, ◌-◌, ◌<◌, ◌≤◌, Bool, true, false, cond, List, [], ◌∷◌, length, map, get_or, set, count_by, All, sym, refl, ap, ap₂, ◌∙◌, arith, subst, true≢false, ◌==◌}
+use Rattle.std.proofs.lemmas.List.{map-set, get_or-map, length-set, length-map}
 use Rattle.std.proofs.lemmas.List.Elements.{All-set, All-get_or}
 use Rattle.std.proofs.lemmas.List.Sums.{sum_by-set}
 use Rattle.arn_ids.proofs.Counting.{numbered_at, at_get_or}

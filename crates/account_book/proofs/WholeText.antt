@@ -1,5 +1,5 @@
 -- The text of a history is a script that is replayed to that history.
-use Rattle.std.proofs.Common.{◌≡◌, ℕ, ◌+◌, ◌^◌, ◌<◌, ◌≤◌, Bool, true, false, nat_le, nat_lt, if◌then◌else◌, List, [], ◌∷◌, ◌++◌, length, codes, None, Result, Ok, Err, refl, sym, ap, subst, ◌∙◌, arith, append_assoc}
+use Rattle.std.proofs.Common.{◌≡◌, ℕ, ◌+◌, ◌^◌, ◌≤◌, Bool, true, false, nat_le, nat_lt, if◌then◌else◌, List, [], ◌∷◌, ◌++◌, length, codes, None, Ok, Err, refl, sym, ap, subst, ◌∙◌, arith, append_assoc}
 use Rattle.std.specs.Str.Lines.{lines}
 use Rattle.std.proofs.lemmas.List.{append-nil}
 use Rattle.std.proofs.lemmas.Bool.{leb-true}
@@ -10,20 +10,19 @@ use Rattle.arn_ids.specs.declared.config.Config.{Config}
 use Rattle.lambda_wire.specs.Configuration.{read_setup, said_by}
 use Rattle.lambda_wire.specs.ConfigurationText.{setup_text}
 use Rattle.lambda_wire.specs.declared.setup.Setup.{Setup}
-use Rattle.lambda_wire.specs.declared.fault.WireFault.{WireFault}
 use Rattle.lambda_wire.specs.declared.fault.WireFault.TheVariants.{TooLong}
 use Rattle.lambda_wire.proofs.PlainText.{setup_plain}
 use Rattle.lambda_wire.proofs.SetupAgain.{setup_read_again}
 use Rattle.call_model.specs.declared.call.Entry.{Entry}
 use Rattle.script.proofs.TextFieldLemmas.{both}
-use Rattle.script.proofs.WordBounds.{Fits, fits_word}
+use Rattle.script.proofs.WordBounds.{fits_word}
 use Rattle.script.proofs.LineBounds.{HasShortBodies}
-use Rattle.account_book.specs.HistoryText.{opening_text, history_text, entries_text, answers_text}
+use Rattle.account_book.specs.HistoryText.{opening_text, history_text, answers_text}
 use Rattle.account_book.specs.Reached.{IsBooked, led_to, IsReached}
-use Rattle.account_book.specs.Run.{ScriptFault, Progress, AtStart, AfterForm, Taking, Replayed, before, begun, opened, line_taken, replay_from, run}
+use Rattle.account_book.specs.Run.{AtStart, AfterForm, Taking, before, begun, opened, replay_from, run}
 use Rattle.account_book.proofs.LineEnds.{ended, AreLines, lines_again}
 use Rattle.account_book.proofs.HistoryLines.{entries_lines, AreHandedIn, entries_are, entries_lines_are, short_bodies}
-use Rattle.account_book.proofs.GoingOn.{Leads, leads_nowhere, leads_on, leads_line}
+use Rattle.account_book.proofs.GoingOn.{Leads, leads_on, leads_line}
 use Rattle.account_book.proofs.Reaching.{handed_in}
 use Rattle.account_book.proofs.Replaying.{book_with, leads_again}
 

@@ -1,5 +1,5 @@
 -- What a call makes of the environments that it visits, and what is kept beside them.
-use Rattle.std.specs.Prelude.{◌≡◌, ℕ, suc, ◌<◌, ◌≤◌, ◌^◌, Bool, ◌==◌, ◌&&◌, List, [], ◌∷◌, length, map, count_by, Option, Some, None, All, true, false, nat_le}
+use Rattle.std.specs.Prelude.{◌≡◌, ℕ, suc, ◌<◌, ◌≤◌, ◌^◌, Bool, ◌==◌, ◌&&◌, List, [], ◌∷◌, length, map, count_by, Option, Some, None, All, false, nat_le}
 use Rattle.arn_ids.specs.Environments.{numbered}
 use Rattle.call_model.specs.declared.answer.Answer.{Answer}
 use Rattle.call_model.specs.declared.call.Call.{Call}

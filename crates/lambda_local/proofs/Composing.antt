@@ -21,14 +21,6 @@ played_none number progress old = record {
   wrote = appends_nothing old;
 }
 
-pub played_one : (number : ℕ) (progress : Progress) (next : Progress) (line text : List ℕ) (old new : Option (List ℕ)) → line_taken number progress line ≡ Ok (next, text) → Appends old new text
-    → Played number progress next (line ∷ []) old new
-played_one number progress next line text old new e wrote = record {
-  text = text;
-  played = λ more. ap (λ (r : Result (Progress × List ℕ) ScriptFault). and_then r (λ (b : Progress). replay_from (number + 1) b more)) e;
-  wrote = wrote;
-}
-
 pub played_more : (number then : ℕ) (a b c : Progress) (xs ys : List (List ℕ)) (old mid new : Option (List ℕ)) → Played number a b xs old mid → Played then b c ys mid new → then ≡ number + length xs
     → Played number a c (xs ++ ys) old new
 played_more number then a b c xs ys old mid new p q is = record {

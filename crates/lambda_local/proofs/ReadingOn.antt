@@ -25,21 +25,12 @@ ReadSoFar None left now old new = IsOpen now.pending
 ReadSoFar (Some input) None now old new = ⊥
 ReadSoFar (Some input) (Some rest) now old new = Reading input rest now old new
 
-pub read_open : (first left : Option (List ℕ)) (now : Stand) (old new : Option (List ℕ)) → ReadSoFar first left now old new → IsOpen now.pending
-read_open None left now old new r = r
-read_open (Some input) None now old new r = absurd r
-read_open (Some input) (Some rest) now old new r = r.free
-
 -- before anything was read
 abbrev pub no_stand : Stand
 no_stand = record { progress = AtStart; line = 0; pending = [] }
 
 no_stand_open : IsOpen no_stand.pending
 no_stand_open = λ k d h. absurd (omega arith)
-
-pub read_start : (left : Option (List ℕ)) (old : Option (List ℕ)) → ReadSoFar left left no_stand old old
-read_start None old = no_stand_open
-read_start (Some input) old = record { taken = []; cut = refl; done = played_none 1 AtStart old; counted = refl; free = no_stand_open }
 
 pub read_kept : (first left after : Option (List ℕ)) (now : Stand) (old new : Option (List ℕ)) → ReadSoFar first left now old new → Keeps left after → ReadSoFar first after now old new
 read_kept None left after now old new r kept = r
@@ -72,10 +63,6 @@ pub read_failed : (first left : Option (List ℕ)) (s : Stand) (old new : Option
 read_failed None left s old new r = tt
 read_failed (Some input) None s old new r = absurd r
 read_failed (Some input) (Some rest) s old new r = record { first = r.taken; rest = lines (s.pending ++ rest); split = r.cut; wrote = all_played 1 AtStart s.progress r.taken old new r.done }
-
-pub nothing_yet : (first : Option (List ℕ)) (old : Option (List ℕ)) → IfSome first (λ input. Stops input old old faults.OutOfMemory)
-nothing_yet None old = tt
-nothing_yet (Some input) old = nothing_played 1 AtStart (lines input) old
 
 -- the last line may lack its line feed
 last_cut : (pending : List ℕ) → IsOpen pending → lines pending ≡ last_lines pending

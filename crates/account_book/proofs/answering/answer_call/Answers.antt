@@ -1,4 +1,4 @@
-use Rattle.std.proofs.Common.{◌≡◌, sym, ap, ap₂, ◌∙◌, reverse, length, List, ℕ, ◌++◌, ◌∷◌, [], Option, None, Some}
+use Rattle.std.proofs.Common.{sym, ap, ap₂, ◌∙◌, reverse, length, List, ℕ, ◌++◌, ◌∷◌, [], Option}
 use Rattle.std.proofs.lemmas.List.{length-reverse}
 use Rattle.call_model.specs.Next.{entry_of}
 use Rattle.call_model.specs.declared.answer.Answer.{Answer}

@@ -1,9 +1,7 @@
-use Rattle.std.proofs.Common.{◌≡◌, ◌<◌, ◌≤◌, ℕ, length, reverse, sym, ap, arith, ◌∙◌, get_or, ◌+◌, ◌-◌, refl}
+use Rattle.std.proofs.Common.{reverse, sym, arith, refl}
 use Rattle.std.proofs.lemmas.List.{length-reverse}
 use Rattle.call_model.specs.declared.call.Call.TheVariants.{Invoke}
 use Rattle.call_model.specs.Next.{entry_of}
-use Rattle.call_model.specs.History.{requests}
-use Rattle.call_model.proofs.AfterEntry.{requests_cons}
 use Rattle.account_book.proofs.RequestCounts.{counts_length, request_at, requests_few, counts_after_invoke, one_more}
 use Rattle.account_book.proofs.answering.count_call.Goals as goal
 

@@ -1,21 +1,18 @@
-use Rattle.std.proofs.Common.{◌≡◌, ◌<◌, ◌≤◌, ◌+◌, ◌-◌, ◌*◌, ℕ, suc, arith, sym, ap, ap₂, ◌∙◌, length, reverse, refl, List, All, [], ◌∷◌, Option, None, true, set, map}
+use Rattle.std.proofs.Common.{◌≡◌, ◌≤◌, ◌+◌, ◌-◌, ℕ, arith, sym, ap, ap₂, ◌∙◌, length, reverse, List, All, [], ◌∷◌, Option, set}
 use Rattle.std.proofs.lemmas.List.{length-reverse}
 use Rattle.arn_ids.specs.declared.config.Config.{Config}
-use Rattle.arn_ids.specs.Environments.{owners, function_of}
-use Rattle.call_model.specs.declared.answer.Answer.{Answer}
+use Rattle.arn_ids.specs.Environments.{owners}
 use Rattle.call_model.specs.declared.call.Call.{Call}
 use Rattle.call_model.specs.declared.call.Entry.{Entry}
 use Rattle.call_model.specs.Limits.{place_for}
 use Rattle.call_model.specs.Next.{IsLegal, Follows, entry_of}
-use Rattle.call_model.proofs.AtHand.{is_invoke}
 use Rattle.concurrency_pool.specs.Meets.{numbers}
 use Rattle.concurrency_pool.specs.Numbers.{Numbers}
 use Rattle.concurrency_pool.specs.Pools.{throttle}
 use Rattle.account_book.specs.Answering.{most_answers}
-use Rattle.account_book.specs.Crew.{Crew}
-use Rattle.account_book.specs.declared.reach.Reach.TheVariants.{Nowhere, At, Everywhere}
+use Rattle.account_book.specs.declared.reach.Reach.TheVariants.{At}
 use Rattle.account_book.specs.declared.site.Site.{Site}
-use Rattle.account_book.specs.Fleets.{no_site, site_at, moved, moves_at, put_all, merged, flown, IsFew}
+use Rattle.account_book.specs.Fleets.{no_site, site_at, moved, moves_at, put_all}
 use Rattle.account_book.specs.Reaches.{reach, homed}
 use Rattle.account_book.specs.Taking.{site, sites, request_counts, IsKnown, AllKnown}
 use Rattle.account_book.proofs.Concerned.{sites_nowhere, sites_at, sites_everywhere}

@@ -1,4 +1,4 @@
-use Rattle.std.proofs.Common.{◌≡◌, ◌∙◌, ◌++◌, ◌∷◌, [], sym, ap}
+use Rattle.std.proofs.Common.{◌∙◌, ◌++◌, ◌∷◌, [], sym, ap}
 use Rattle.call_model.specs.History.{requests}
 use Rattle.account_book.proofs.BeforeCalls.{count_more}
 use Rattle.account_book.proofs.opening.open_counts.Goals as goal

@@ -1,4 +1,3 @@
-use Rattle.std.proofs.Common.{◌≡◌, ◌∙◌, sym, ap}
 use Rattle.arn_ids.proofs.Bounds.{owner_is_function, timeout_between}
 use Rattle.account_book.proofs.BeforeCalls.{site_unused}
 use Rattle.account_book.proofs.opening.open_site.Goals as goal

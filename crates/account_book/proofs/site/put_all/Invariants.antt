@@ -1,4 +1,4 @@
-use Rattle.std.proofs.Common.{◌≡◌, ◌+◌, drop, length}
+use Rattle.std.proofs.Common.{◌≡◌, ◌+◌, drop}
 use Rattle.account_book.specs.Fleets.{put_all}
 use Rattle.account_book.proofs.site.put_all.Given as goal
 

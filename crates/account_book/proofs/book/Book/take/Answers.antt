@@ -1,11 +1,10 @@
-use Rattle.std.proofs.Common.{◌≡◌, ◌≤◌, ◌<◌, ◌+◌, ◌∙◌, ℕ, List, [], sym, ap, ap₂, refl, arith, max, length, All, Bool, true, false, true≢false, ◌||◌, ◌^◌}
+use Rattle.std.proofs.Common.{◌≡◌, ◌≤◌, ◌<◌, ◌∙◌, ℕ, List, sym, ap, refl, arith, max, All, Bool, true, false, true≢false, ◌||◌, ◌^◌}
 use Rattle.call_model.specs.declared.call.Call.{Call}
-use Rattle.call_model.specs.declared.call.Call.TheVariants.{Stop}
 use Rattle.call_model.specs.declared.call.Entry.{Entry}
 use Rattle.arn_ids.specs.declared.config.Config.{Config}
 use Rattle.call_model.specs.Counts.{full}
 use Rattle.call_model.specs.History.{stopped, is_stop}
-use Rattle.call_model.specs.Next.{IsLegal, due, expired, last_moment, next, moment_at}
+use Rattle.call_model.specs.Next.{due, expired, last_moment, next, moment_at}
 use Rattle.call_model.proofs.NextLegal.{legal_expired, next_entered}
 use Rattle.account_book.specs.declared.book.Book.TheInside.{Inside}
 use Rattle.account_book.specs.Book.{Kept}

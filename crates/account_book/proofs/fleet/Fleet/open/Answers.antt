@@ -1,4 +1,4 @@
-use Rattle.std.proofs.Common.{◌∙◌, refl, ap}
+use Rattle.std.proofs.Common.{◌∙◌, refl}
 use Rattle.concurrency_pool.proofs.History as pool
 use Rattle.deadlines.proofs.Order as due
 use Rattle.placement.proofs.Lowest as placement

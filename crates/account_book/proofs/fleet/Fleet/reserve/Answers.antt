@@ -1,7 +1,6 @@
-use Rattle.std.proofs.Common.{◌≡◌, ◌≤◌, ◌-◌, length, sym, ap, ◌∙◌}
+use Rattle.std.proofs.Common.{◌≤◌, ◌-◌, length, ap}
 use Rattle.std.proofs.lemmas.List.{length-set}
 use Rattle.account_book.specs.Crew.{Crew}
-use Rattle.account_book.specs.Fleets.{flown}
 use Rattle.account_book.proofs.Flown.{flown_reserved}
 use Rattle.account_book.proofs.Visits.{in_flight_at}
 use Rattle.account_book.proofs.fleet.Fleet.reserve.Goals as goal

@@ -1,4 +1,4 @@
-use Rattle.std.proofs.Common.{◌≡◌, ◌<◌, ◌≤◌, ◌+◌, ◌-◌, ◌*◌, ◌++◌, ℕ, arith, sym, ap, ◌∙◌, length, get_or, refl, List, map, take, drop, set}
+use Rattle.std.proofs.Common.{◌≡◌, ◌<◌, ◌≤◌, ◌+◌, ◌-◌, ◌++◌, ℕ, arith, sym, ap, ◌∙◌, length, get_or, List, map, take, drop, set}
 use Rattle.std.proofs.lemmas.List.Elements.{All-get_or}
 use Rattle.env_phase.proofs.Room.{moves_few}
 use Rattle.account_book.specs.declared.site.Site.{Site}
@@ -7,7 +7,7 @@ use Rattle.account_book.specs.Fleets.{no_site, site_at, step_at, moves_at, moved
 use Rattle.account_book.specs.declared.fleet.Fleet.TheInside.{Inside}
 use Rattle.call_model.specs.declared.call.Call.{Call}
 use Rattle.concurrency_pool.specs.Numbers.{Numbers}
-use Rattle.account_book.proofs.Loops.{IsVisited, visit_one, not_yet, as_many}
+use Rattle.account_book.proofs.Loops.{visit_one, not_yet, as_many}
 use Rattle.account_book.proofs.Visits.{site_is_at, flown_length}
 use Rattle.account_book.proofs.fleet.Fleet.take_all.Goals as goal
 

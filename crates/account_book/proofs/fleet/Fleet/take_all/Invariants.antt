@@ -1,5 +1,4 @@
-use Rattle.std.proofs.Common.{◌≡◌, ◌≤◌, ◌+◌, ◌*◌, ◌-◌, ◌++◌, map, take, drop, length}
-use Rattle.account_book.specs.Fleets.{moved, moves_at, merged, flown}
+use Rattle.account_book.specs.Fleets.{moved, moves_at}
 use Rattle.account_book.proofs.Loops.{IsVisited}
 use Rattle.account_book.proofs.fleet.Fleet.take_all.Given as goal
 

@@ -1,4 +1,4 @@
-use Rattle.std.proofs.Common.{◌≡◌, ◌<◌, ◌≤◌, ◌+◌, ◌-◌, ℕ, arith, sym, ap, ◌∙◌, length, get_or, refl, List, max, ap₂, true, set, cond, Bool}
+use Rattle.std.proofs.Common.{◌≡◌, ◌<◌, ◌≤◌, ◌+◌, ◌-◌, ℕ, arith, sym, ap, ◌∙◌, length, get_or, refl, List, ap₂, true, set, cond, Bool}
 use Rattle.arn_ids.proofs.Counting.{numbered_at, at_get_or}
 use Rattle.arn_ids.specs.Environments.{numbered}
 use Rattle.account_book.specs.declared.fleet.Fleet.TheInside.{Inside}

@@ -1,4 +1,4 @@
-use Rattle.std.proofs.Common.{◌≡◌, ◌≤◌, length, sym, ap, ◌∙◌}
+use Rattle.std.proofs.Common.{length, sym, ap, ◌∙◌}
 use Rattle.call_model.specs.Answers.{verdict_answer}
 use Rattle.call_model.specs.Limits.{admitted_to}
 use Rattle.account_book.specs.declared.journal.Verdict.{Verdict}

@@ -1,11 +1,9 @@
-use Rattle.std.proofs.Common.{◌≡◌, ◌≤◌, ℕ, length, reverse, sym, ap, ◌∙◌, List, le_refl}
+use Rattle.std.proofs.Common.{◌≡◌, length, reverse, sym, ap, ◌∙◌, List, le_refl}
 use Rattle.std.proofs.lemmas.List.{reverse-reverse}
-use Rattle.call_model.specs.declared.answer.Answer.{Answer}
 use Rattle.call_model.specs.declared.call.Entry.{Entry}
 use Rattle.call_model.specs.Answers.{answers}
 use Rattle.call_model.specs.Next.{entry_of}
 use Rattle.call_model.proofs.Once.{fresh}
-use Rattle.account_book.specs.Ledgers.{answer_limit}
 use Rattle.account_book.proofs.EntryExtent.{tickets_within, few_answers}
 use Rattle.account_book.proofs.journal.Journal.enter.Goals as goal
 

@@ -1,6 +1,5 @@
 use Rattle.std.proofs.Common.{◌∙◌, sym, ap, map}
 use Rattle.deadlines.specs.Due.{first_due}
-use Rattle.account_book.specs.declared.site.Site.{Site}
 use Rattle.account_book.specs.Fleets.{deadline_at}
 use Rattle.account_book.proofs.FleetMeets.{first_due_is}
 use Rattle.account_book.proofs.journal.Journal.first_due.Goals as goal

@@ -1,4 +1,4 @@
-use Rattle.std.proofs.Common.{◌≡◌, ◌≤◌, length, sym, ap, ◌∙◌}
+use Rattle.std.proofs.Common.{◌≤◌, length, sym, ap, ◌∙◌}
 use Rattle.concurrency_pool.specs.declared.pool.Usage.{Usage}
 use Rattle.concurrency_pool.specs.Numbers.{Numbers}
 use Rattle.concurrency_pool.specs.Pools.{usage_at}

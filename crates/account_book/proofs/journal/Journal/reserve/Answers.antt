@@ -1,4 +1,4 @@
-use Rattle.std.proofs.Common.{◌≡◌, ◌≤◌, length, sym, ap, ◌∙◌, true, false, Option, ℕ}
+use Rattle.std.proofs.Common.{length, sym, ap, ◌∙◌, true, false}
 use Rattle.concurrency_pool.specs.Meets.{by_reserve}
 use Rattle.account_book.specs.Pages.{Pages}
 use Rattle.account_book.proofs.InForce.{many_functions}

@@ -1,13 +1,12 @@
-use Rattle.std.proofs.Common.{◌≡◌, ◌<◌, ◌≤◌, ◌+◌, ◌*◌, ◌∙◌, ◌++◌, ◌∷◌, [], sym, ap, ap₂, arith, length, reverse, All, ℕ, length-append, refl, List, Option, None, ◌-◌, count_by}
+use Rattle.std.proofs.Common.{◌≡◌, ◌<◌, ◌≤◌, ◌+◌, ◌∙◌, ◌++◌, ◌∷◌, [], ap, ap₂, arith, length, reverse, All, ℕ, length-append, List, Option, None, ◌-◌, count_by}
 use Rattle.call_model.specs.declared.answer.Answer.{Answer}
 use Rattle.call_model.specs.Counts.{is_throttle, is_failure}
-use Rattle.call_model.specs.declared.call.Entry.{Entry}
 use Rattle.account_book.specs.declared.ledger.Ledger.TheInside.{Inside}
 use Rattle.account_book.specs.Indexes.{noted}
 use Rattle.account_book.specs.Ledgers.{shelf, IsLedger}
 use Rattle.account_book.specs.Shelf.{Shelf}
 use Rattle.account_book.proofs.Indexed.{answered_length}
-use Rattle.account_book.proofs.LedgerKept.{IsAdded, ledger_kept, behind}
+use Rattle.account_book.proofs.LedgerKept.{ledger_kept}
 use Rattle.account_book.proofs.ledger.Ledger.add.Goals as goal
 
 -- each ticket of the answers has a place in the index
