@@ -10,7 +10,7 @@ use Rattle.lambda_local.specs.Steps.{IsOpen, Played, Stand, Going, StoppedIn, la
 use Rattle.lambda_local.specs.declared.fault.ReplayFault.{ReplayFault}
 use Rattle.lambda_local.specs.declared.fault.ReplayFault.TheVariants as faults
 use Rattle.lambda_local.proofs.LineEnds.{one_line}
-use Rattle.lambda_local.proofs.Composing.{played_none, played_more, stopped_after, nothing_played, all_played, ended_after}
+use Rattle.lambda_local.proofs.Composing.{played_more, stopped_after, all_played, ended_after}
 
 -- what was read of the input, all but the rest, is the lines that were taken and what is pending
 pub record Reading (input rest : List ℕ) (now : Stand) (old new : Option (List ℕ)) : Type 0 where
@@ -24,13 +24,6 @@ abbrev pub ReadSoFar : Option (List ℕ) → Option (List ℕ) → Stand → Opt
 ReadSoFar None left now old new = IsOpen now.pending
 ReadSoFar (Some input) None now old new = ⊥
 ReadSoFar (Some input) (Some rest) now old new = Reading input rest now old new
-
--- before anything was read
-abbrev pub no_stand : Stand
-no_stand = record { progress = AtStart; line = 0; pending = [] }
-
-no_stand_open : IsOpen no_stand.pending
-no_stand_open = λ k d h. absurd (omega arith)
 
 pub read_kept : (first left after : Option (List ℕ)) (now : Stand) (old new : Option (List ℕ)) → ReadSoFar first left now old new → Keeps left after → ReadSoFar first after now old new
 read_kept None left after now old new r kept = r
