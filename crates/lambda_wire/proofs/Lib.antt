@@ -6,3 +6,5 @@ pub mod Again
 pub mod PlainText
 pub mod TextAgain
 pub mod SetupAgain
+pub mod BodyTexts
+pub mod FieldValues

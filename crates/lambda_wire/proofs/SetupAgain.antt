@@ -1,12 +1,12 @@
 -- The text of a configuration without a fault is read as that configuration.
-use Rattle.std.proofs.Common.{◌≡◌, ℕ, zero, suc, ◌+◌, ◌*◌, ◌-◌, ◌^◌, ◌<◌, ◌≤◌, Bool, true, false, not, ◌&&◌, ◌||◌, ◌==◌, nat_le, nat_lt, List, [], ◌∷◌, ◌++◌, length, map, codes, Option, Some, None, Result, Ok, All, refl, sym, ap, ◌∙◌, arith, length-append}
+use Rattle.std.proofs.Common.{◌≡◌, ℕ, suc, ◌+◌, ◌*◌, ◌^◌, ◌<◌, ◌≤◌, Bool, true, false, not, ◌&&◌, ◌==◌, nat_le, nat_lt, List, [], ◌∷◌, length, map, codes, Option, Some, None, Ok, All, refl, ap, ◌∙◌, arith, length-append}
 use Rattle.std.proofs.lemmas.List.{length-map}
 use Rattle.std.specs.List.{list_all, list_any}
 use Rattle.std.proofs.lemmas.Bool.{leb-true, ltb-false, eqb-true, or_parts}
 use Rattle.std.proofs.lemmas.Bool.Decides.{nat_tests}
 use Rattle.std.proofs.lemmas.List.Elements.{All-nil, All-cons, All-head, All-tail}
 use Rattle.json.specs.Print.{escape_byte}
-use Rattle.serde_json.specs.Data.{Data, number, unsigned, string, array, object, Members, no_members, member}
+use Rattle.serde_json.specs.Data.{Data, string, Members, no_members, member}
 use Rattle.serde_json.specs.Read.{of_members}
 use Rattle.serde_json.specs.Written.{members_outline, compact_text}
 use Rattle.arn_ids.specs.Words.{is_digit, is_name_byte, is_region_byte, is_word, is_printable, is_name, is_label, is_account}
@@ -16,7 +16,7 @@ use Rattle.arn_ids.proofs.Bounds.{sound, functions_64, environments_256, account
 use Rattle.arn_ids.specs.declared.config.Slot.{Slot}
 use Rattle.arn_ids.specs.declared.config.Function.{Function}
 use Rattle.arn_ids.specs.declared.config.Config.{Config}
-use Rattle.lambda_wire.specs.Configuration.{read_setup, said_by}
+use Rattle.lambda_wire.specs.Configuration.{read_setup}
 use Rattle.lambda_wire.specs.ConfigurationText.{slot_data, number_data, list_data, with_reserved, function_data, setup_data, setup_text}
 use Rattle.lambda_wire.specs.Ranges.{IsSlotInRange, IsReservedInRange, IsFunctionInRange, IsConfigInRange}
 use Rattle.lambda_wire.proofs.Again.{setup_again, setup_flat, short_again}

@@ -1,7 +1,7 @@
 -- The text of a value is read as the value: what is known of each part of a text.
-use Rattle.std.proofs.Common.{◌≡◌, ℕ, zero, suc, ◌+◌, ◌*◌, ◌%◌, ◌^◌, ◌<◌, ◌≤◌, Bool, true, false, ◌&&◌, ◌==◌, max, nat_le, nat_lt, List, [], ◌∷◌, ◌++◌, length, map, codes, decimal, Option, Some, option_map, option_and_then, All, IsUtf8, refl, sym, ap, ap₂, ◌∙◌, arith, length-append, append-nil, if◌then◌else◌}
+use Rattle.std.proofs.Common.{◌≡◌, ℕ, suc, ◌+◌, ◌*◌, ◌%◌, ◌^◌, ◌<◌, ◌≤◌, Bool, true, false, ◌&&◌, max, nat_le, nat_lt, List, [], ◌∷◌, ◌++◌, length, map, decimal, Some, option_map, option_and_then, All, IsUtf8, refl, sym, ap, ap₂, ◌∙◌, arith, length-append, append-nil}
 use Rattle.std.specs.List.{list_all}
-use Rattle.std.proofs.lemmas.Bool.{le-leb, leb-true, agree_below, agree_below_at}
+use Rattle.std.proofs.lemmas.Bool.{leb-true, agree_below, agree_below_at}
 use Rattle.std.proofs.lemmas.Bool.Decides.{nat_tests}
 use Rattle.std.proofs.lemmas.Fmt.{length-decimal-le, decimal_by_steps}
 use Rattle.std.proofs.lemmas.List.Elements.{All-nil, All-cons, All-head, All-tail}

@@ -2,3 +2,8 @@ pub mod Reading
 pub mod Configuration
 pub mod ConfigurationText
 pub mod Ranges
+pub mod Requests
+pub mod Bodies
+pub mod Headers
+pub mod Replies
+pub mod BodyValues

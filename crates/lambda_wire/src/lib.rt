@@ -1,16 +1,40 @@
-//! The JSON bodies of this service: what is read from bytes, and the bytes that are written.
+//! The bodies and headers of this service: what is read from bytes, and the bytes that are written.
 #![tactic(auto)]
 
+mod body_writer;
 mod config_reader;
 mod config_writer;
 mod fault;
+mod header_writer;
 mod members;
+mod reply;
+mod request_reader;
 mod setup;
 
+pub use body_writer::{
+    InvokeFault, write_fault, write_invoke_event, write_invoke_fault, write_registered,
+    write_reservation, write_shutdown_event, write_status, write_throttle,
+};
 pub use config_reader::read_config;
 pub use config_writer::write_config;
 pub use fault::WireFault;
+pub use header_writer::{
+    Headers, error_headers, event_headers, invoke_headers, json_headers, next_headers,
+    registered_headers,
+};
+pub use reply::{Reply, fault_reply, invoke_fault_reply};
+pub use request_reader::{Events, read_invoke_body, read_register, read_reservation};
 pub use setup::Setup;
 
+#[cfg(test)]
+mod body_tests;
+#[cfg(test)]
+mod fixtures;
+#[cfg(test)]
+mod header_tests;
+#[cfg(test)]
+mod reply_tests;
+#[cfg(test)]
+mod request_tests;
 #[cfg(test)]
 mod tests;
