@@ -13,6 +13,7 @@ mod words;
 
 pub use answer_writer::{push_answers, push_entry};
 pub use call_reader::read_call;
+pub use past::Past;
 
 #[cfg(test)]
 mod fixtures;

@@ -1,4 +1,4 @@
-//! What a line of an answer tells of the calls before it.
+//! What an answer tells of the calls before it.
 
 ghost use Rattle.std.specs.Prelude.{◌≡◌, reverse, unwrap_or, MatchOption};
 ghost use Rattle.call_model.specs.declared.call.Call.TheVariants.{Expire as NoCall};
@@ -14,10 +14,13 @@ use call_model::{Call, Entry, Ticket};
 /// The entries of a history, the oldest first, with the count in the request identifier of each
 /// Invoke.
 #[derive(Clone, Copy)]
-pub(crate) struct Past<'a> {
-    pub(crate) salt: u64,
-    pub(crate) entries: &'a [Entry],
-    pub(crate) counts: &'a [u64],
+pub struct Past<'a> {
+    /// What every identifier is made with.
+    pub salt: u64,
+    /// The entries, the oldest first.
+    pub entries: &'a [Entry],
+    /// For each entry the count in its request identifier, 0 where its call is no Invoke.
+    pub counts: &'a [u64],
     ghost counted: { reverse counts.now ≡ call_counts (reverse entries.now) },
 }
 
@@ -99,7 +102,7 @@ impl<'a> Past<'a> {
 
     /// The count in the request identifier of the Invoke with a ticket; 0 where there is none.
     #[tactic(auto, using(crate::proofs::PastLemmas::count_here, crate::proofs::PastLemmas::no_count_here))]
-    fn count(&self, ticket: Ticket) -> u64
+    pub fn count(&self, ticket: Ticket) -> u64
         ensures { let h = reverse self.now.entries.now in result ≡ request_count (upto h ticket) (call_of h ticket) }
     {
         let place = ticket as usize;

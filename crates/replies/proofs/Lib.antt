@@ -1,0 +1,2 @@
+pub mod FieldValues
+pub mod NoFunction

@@ -1,0 +1,22 @@
+-- What a caller hands in, as the definitions see it.
+use Rattle.std.specs.Prelude.{Some}
+use Rattle.call_model.specs.declared.call.Call.{Call}
+use Rattle.call_model.specs.declared.call.Call.TheVariants.{Invoke}
+use Rattle.call_model.specs.Isolation.{Gist as GistOfTicket}
+use Rattle.script.specs.Limits.{IsTrace}
+use Rattle.replies.specs.declared.gist.Gist.{Gist}
+
+-- the gist of an answered ticket
+abbrev pub gist_of : Gist → GistOfTicket
+gist_of g = record {
+  answer = Some g.answer;
+  call = g.call.now;
+  count = g.count;
+  source = g.source.now;
+  source_count = g.source_count;
+}
+
+-- A call brings no trace, or one of 1 to 256 printing characters: so each call that a script can make, and each expiry.
+abbrev pub IsTraced : Call → Type 0
+IsTraced (Invoke f qualified trace body) = IsTrace trace
+IsTraced _ = Unit {0}

@@ -1,0 +1,59 @@
+-- What a reply says of the invocation, the environment and the extension that it is about.
+use Rattle.std.specs.Prelude.{ℕ, Bool, false, if◌then◌else◌, List, codes, Option, Some, None, unwrap_or}
+use Rattle.arn_ids.specs.Environments.{function_of, function_at}
+use Rattle.arn_ids.specs.Grammar.{arn}
+use Rattle.arn_ids.specs.declared.config.Config.{Config}
+use Rattle.arn_ids.specs.declared.config.Function.{Function}
+use Rattle.arn_ids.specs.declared.identifiers.IdKind.{IdKind}
+use Rattle.arn_ids.specs.declared.identifiers.IdKind.TheVariants.{Request}
+use Rattle.call_model.specs.declared.call.Call.{Call}
+use Rattle.call_model.specs.declared.call.Call.TheVariants.{Invoke, Register}
+use Rattle.call_model.specs.History.{env_of}
+use Rattle.script.specs.AnswerText.{id_word, invoked}
+
+-- the request identifier of an Invoke, by its number among its function's (Runtime API: Lambda-Runtime-Aws-Request-Id)
+abbrev pub request_text : ℕ → Call → ℕ → List ℕ
+request_text salt call count = id_word salt Request (invoked call) count
+
+-- the environment that a call names; 0 for a call that names none
+abbrev pub env_at : Call → ℕ
+env_at call = unwrap_or (env_of call) 0
+
+-- the identifier of an event or an extension of the environment that a call names
+abbrev pub env_text : ℕ → IdKind → Call → ℕ → List ℕ
+env_text salt kind call count = id_word salt kind (env_at call) count
+
+-- the function that a call invokes
+abbrev pub invoked_function : Config → Call → Function
+invoked_function config call = function_at config (invoked call)
+
+-- the function of the environment that a call names
+abbrev pub env_function : Config → Call → Function
+env_function config call = function_at config (function_of config (env_at call))
+
+-- whether an Invoke names the version $LATEST
+abbrev pub is_qualified : Call → Bool
+is_qualified (Invoke f qualified trace body) = qualified
+is_qualified _ = false
+
+-- the ARN under which an Invoke names its function (Runtime API: Lambda-Runtime-Invoked-Function-Arn)
+abbrev pub arn_text : Config → Call → List ℕ
+arn_text config call = arn config.home (invoked_function config call).name (is_qualified call)
+
+-- what stands for the trace of a caller that gave none
+abbrev pub no_trace : List ℕ
+no_trace = codes "Root=1-00000000-000000000000000000000000;Sampled=0"
+
+-- the trace of an Invoke (Runtime API: Lambda-Runtime-Trace-Id)
+abbrev pub trace_text : Call → List ℕ
+trace_text (Invoke f qualified trace body) = unwrap_or trace no_trace
+trace_text _ = no_trace
+
+-- whether an extension asked for the account's number (Extensions API, Register: feature accountId)
+abbrev pub wants_account : Call → Bool
+wants_account (Register e name invoke shutdown account) = account
+wants_account _ = false
+
+-- the account's number, where it was asked for
+abbrev pub account_text : Config → Call → Option (List ℕ)
+account_text config call = if wants_account call then Some config.home.account else None

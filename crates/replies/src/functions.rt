@@ -1,0 +1,83 @@
+//! What the configuration says of a function, none of it where there is no such function.
+
+ghost use Rattle.std.specs.Prelude.{◌≡◌, IfOk, MatchOption, None, string_bytes};
+ghost use Rattle.arn_ids.specs.Faults.{first_fault};
+ghost use Rattle.arn_ids.specs.Environments.{function_at, function_of as function_of_env, no_function};
+ghost use Rattle.http_header.specs.FieldValue.{IsFieldValue};
+ghost use Rattle.replies.specs.Words as spec;
+
+use crate::calls::{env_of, invoked, is_qualified};
+use arn_ids::{Checked, EnvNo, FnNo, Function};
+use call_model::Call;
+use std::alloc::{AllocError, Global};
+
+/// The function with a number.
+#[tactic(auto, using(crate::proofs::NoFunction::beyond))]
+fn function_in(config: &Checked, number: FnNo) -> Option<&Function>
+    ensures there { MatchOption result (function_at config.now number ≡ no_function) (λ f. f.now ≡ function_at config.now number) }
+    ensures sound { first_fault config.now ≡ None }
+{
+    let functions = config.functions();
+    if number == 0 {
+        return None;
+    }
+    if number as usize > functions.len() {
+        return None;
+    }
+    Some(config.function(number))
+}
+
+/// The number of an environment's function.
+#[tactic(auto, using(crate::proofs::NoFunction::no_owner))]
+fn function_of(config: &Checked, env: EnvNo) -> FnNo
+    ensures { result ≡ function_of_env config.now env }
+{
+    if env == 0 {
+        return 0;
+    }
+    if env > config.environments() {
+        return 0;
+    }
+    config.function_of(env)
+}
+
+/// The name of the function with a number.
+fn name_of(config: &Checked, number: FnNo) -> &str
+    ensures value { result.now ≡ (function_at config.now number).name }
+    ensures sound { first_fault config.now ≡ None }
+{
+    match function_in(config, number) {
+        Some(function) => function.name.as_str(),
+        None => "",
+    }
+}
+
+/// The timeout of the function that a call invokes, in seconds.
+pub(crate) fn timeout_s(config: &Checked, call: &Call) -> u32
+    ensures { result ≡ (spec.invoked_function config.now call.now).timeout_s }
+{
+    match function_in(config, invoked(call)) {
+        Some(function) => function.timeout_s,
+        None => 0,
+    }
+}
+
+/// The ARN under which an Invoke names its function.
+pub(crate) fn arn_text(alloc: Global, config: &Checked, call: &Call) -> Result<String, AllocError>
+    ensures value { IfOk result (λ text. string_bytes text ≡ spec.arn_text config.now call.now) }
+    ensures fits { IsFieldValue (spec.arn_text config.now call.now) }
+{
+    let name = name_of(config, invoked(call));
+    arn_ids::arn_text(alloc, config.home(), name, is_qualified(call))
+}
+
+/// The name and the handler of the function of the environment that a call names.
+pub(crate) fn env_function<'a>(config: &'a Checked, call: &Call) -> (&'a str, &'a str)
+    ensures name { result.0.now ≡ (spec.env_function config.now call.now).name }
+    ensures handler { result.1.now ≡ (spec.env_function config.now call.now).handler }
+{
+    match function_in(config, function_of(config, env_of(call))) {
+        Some(function) => (function.name.as_str(), function.handler.as_str()),
+        None => ("", ""),
+    }
+}

@@ -1,0 +1,79 @@
+//! Identifiers, and the words of reasons.
+
+ghost use Rattle.std.specs.Prelude.{◌≡◌, ◌≤◌, length};
+ghost use Rattle.arn_ids.specs.declared.identifiers.IdKind.TheVariants.{Request};
+ghost use Rattle.http_header.specs.FieldValue.{IsFieldValue};
+ghost use Rattle.script.specs.AnswerText as answers;
+ghost use Rattle.replies.specs.Words as spec;
+
+use crate::calls::{env_of, invoked};
+use arn_ids::{IdKind, event_id, extension_id, request_id};
+use call_model::{Call, Reason, Throttle};
+
+/// An identifier; a dash for a number or a count that no identifier has.
+#[tactic(auto, unfolding(script::specs::AnswerText::id_word), using(crate::proofs::FieldValues::id_fits))]
+fn id_word<'b>(buffer: &'b mut [u8], salt: u64, kind: IdKind, number: u32, count: u64) -> &'b str
+    requires { 36 ≤ length buffer.old }
+    ensures { result.now ≡ answers.id_word salt kind number count }
+{
+    if number >= 4096 {
+        return "-";
+    }
+    if count >= 1 << 48 {
+        return "-";
+    }
+    let id = match kind {
+        IdKind::Request => request_id(salt, number, count),
+        IdKind::Extension => extension_id(salt, number, count),
+        IdKind::Event => event_id(salt, number, count),
+    };
+    id.hyphenated().encode_lower(buffer)
+}
+
+/// The request identifier of an Invoke, by its number among its function's.
+#[tactic(auto, using(crate::proofs::FieldValues::id_fits))]
+pub(crate) fn request_text<'b>(buffer: &'b mut [u8], salt: u64, call: &Call, count: u64) -> &'b str
+    requires { 36 ≤ length buffer.old }
+    ensures value { result.now ≡ spec.request_text salt call.now count }
+    ensures fits { IsFieldValue result.now }
+{
+    id_word(buffer, salt, IdKind::Request, invoked(call), count)
+}
+
+/// The identifier of an event or an extension of the environment that a call names.
+#[tactic(auto, using(crate::proofs::FieldValues::id_fits))]
+pub(crate) fn env_text<'b>(
+    buffer: &'b mut [u8],
+    salt: u64,
+    kind: IdKind,
+    call: &Call,
+    count: u64,
+) -> &'b str
+    requires { 36 ≤ length buffer.old }
+    ensures value { result.now ≡ spec.env_text salt kind call.now count }
+    ensures fits { IsFieldValue result.now }
+{
+    id_word(buffer, salt, kind, env_of(call), count)
+}
+
+/// Why an environment ends.
+pub(crate) fn reason_word(reason: Reason) -> &'static str
+    ensures { result.now ≡ answers.reason_word reason }
+{
+    match reason {
+        Reason::Timeout => "TIMEOUT",
+        Reason::Failure => "FAILURE",
+        Reason::Spindown => "SPINDOWN",
+    }
+}
+
+/// Why an invocation isn't admitted.
+pub(crate) fn throttle_word(throttle: Throttle) -> &'static str
+    ensures { result.now ≡ answers.throttle_word throttle }
+{
+    match throttle {
+        Throttle::Function => "ReservedFunctionConcurrentInvocationLimitExceeded",
+        Throttle::Account => "ConcurrentInvocationLimitExceeded",
+        Throttle::Environments => "LocalEnvironmentLimitExceeded",
+    }
+}
