@@ -29,3 +29,5 @@ pub mod AnswersStay
 pub mod Reaching
 pub mod Replaying
 pub mod WholeText
+-- What a reply is made of.
+pub mod Rendered

@@ -14,3 +14,4 @@ pub mod Room
 pub mod Run
 pub mod Reached
 pub mod HistoryText
+pub mod ReplyText

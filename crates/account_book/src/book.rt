@@ -18,16 +18,19 @@ ghost use Rattle.account_book.specs.Answering.{most_answers};
 ghost use Rattle.account_book.specs.Books.{life};
 ghost use Rattle.account_book.specs.HistoryText.{opening_text};
 ghost use Rattle.account_book.specs.Reached.{IsReached};
+ghost use Rattle.account_book.specs.ReplyText.{reply_text};
 ghost use Rattle.account_book.specs.Room.{wanted};
 ghost use Rattle.account_book.specs.declared.book.OpenFault.TheVariants.{EntriesOutOfRange, OutOfMemory as NoMemory};
 ghost use Rattle.account_book.specs.declared.book.Refusal.TheVariants.{JournalFull, OutOfMemory};
 
 use crate::history_text::opening_text;
 use crate::journal::Journal;
+use crate::rendering::render;
 use crate::room::Roomy;
 use arn_ids::{Checked, FnNo, Text};
 use call_model::{Answer, Call, Entry, Stats, Ticket};
-use script::push_entry;
+use lambda_wire::Reply;
+use script::{Past, push_entry};
 use std::alloc::{AllocError, Global};
 use std::marker::Model;
 use thiserror::Error;
@@ -354,6 +357,28 @@ impl Book {
             ticket as usize,
         )?;
         Ok(Some(text))
+    }
+
+    /// What the client of the call with a ticket gets: the status, the headers and the body of its
+    /// answer; none while it has none. A body is copied once, into the reply.
+    ///
+    /// The only error is want of memory.
+    #[tactic(auto, unfolding(crate::specs::ReplyText::reply_text))]
+    pub fn render(&self, ticket: Ticket) -> Result<Option<Reply>, AllocError>
+        ensures text { IfOk result (λ reply. reply ≡ reply_text self.now.config self.now.salt self.now.history ticket) }
+        ensures answered { IfOk result (λ reply. is_some reply ≡ is_some (answer_of self.now.history ticket)) }
+    {
+        let Some(answer) = self.answer(ticket) else {
+            return Ok(None);
+        };
+        self.journal.facts();
+        let past = Past {
+            salt: self.salt,
+            entries: self.journal.entries(),
+            counts: self.journal.counts(),
+        };
+        let config = self.journal.config();
+        Ok(Some(render(self.alloc, config, &past, ticket, answer)?))
     }
 
     /// The configuration.

@@ -10,6 +10,7 @@ pub mod laws;
 mod ledger;
 mod opening;
 mod reach;
+mod rendering;
 mod room;
 mod site;
 mod totals;

@@ -2,8 +2,10 @@
 //! are worked by hand from the table of phases: an Init lasts 10 seconds at most, a Closing 2, and
 //! an invocation of a function 3, where its plan names no other timeout.
 
+mod accounts;
 mod limits;
 mod readings;
+mod rendered;
 mod scripts;
 
 ghost use Rattle.std.specs.Prelude.{◌≡◌, true};
@@ -11,79 +13,12 @@ ghost use Rattle.arn_ids.specs.Words.{is_label};
 ghost use Rattle.script.specs.Limits.{IsWithin};
 ghost use Rattle.script.specs.TextFields.{is_body};
 
+use self::accounts::{Account, ONE, THREE, TWO, checked};
 use crate::{Book, OpenFault, Refusal};
-use arn_ids::{Bytes, Checked, Config, EnvNo, FnNo, Function, Home, Row, Slot, Text};
+use arn_ids::{Bytes, Checked, EnvNo, FnNo, Text};
 use call_model::{Answer, Call, Reason, Refusal as Refused, Ticket};
 use std::alloc::{AllocError, Global};
 use std::process::Abort;
-
-/// A function of an account: its environments have the ports from this one on.
-#[derive(Clone, Copy)]
-struct Plan<'a> {
-    name: &'a str,
-    first: u16,
-    environments: u16,
-    reserved: Option<u32>,
-}
-
-/// An account: its limit, what of it stays unreserved, and its functions.
-#[derive(Clone, Copy)]
-struct Account<'a> {
-    limit: u32,
-    least: u32,
-    plans: &'a [Plan<'a>],
-}
-
-/// The function `f` of one environment.
-const ONE: Account = Account {
-    limit: 1000,
-    least: 100,
-    plans: &[Plan {
-        name: "f",
-        first: 9001,
-        environments: 1,
-        reserved: None,
-    }],
-};
-
-/// The function `f` of two environments.
-const TWO: Account = Account {
-    limit: 1000,
-    least: 100,
-    plans: &[Plan {
-        name: "f",
-        first: 9001,
-        environments: 2,
-        reserved: None,
-    }],
-};
-
-/// Three at once, of which one stays unreserved: `f` and `g` with an environment each, and `h` with
-/// two, both reserved.
-const THREE: Account = Account {
-    limit: 3,
-    least: 1,
-    plans: &[
-        Plan {
-            name: "f",
-            first: 9001,
-            environments: 1,
-            reserved: None,
-        },
-        Plan {
-            name: "g",
-            first: 9002,
-            environments: 1,
-            reserved: None,
-        },
-        Plan {
-            name: "h",
-            first: 9003,
-            environments: 2,
-            reserved: Some(2),
-        },
-    ],
-};
 
 /// The default of the greatest number of entries.
 const MANY: u64 = 1_000_000;
@@ -108,56 +43,6 @@ enum Line<'a> {
 
 /// An answer of an entry: which entry gave it, which ticket got it, and the answer.
 type Given = (Ticket, Ticket, Answer);
-
-fn text(alloc: Global, text: &str) -> Result<Text, AllocError> {
-    Ok(Text::new(String::from_str(alloc, text)?))
-}
-
-fn function(alloc: Global, plan: &Plan) -> Result<Function, AllocError> {
-    let mut slots = Vec::new(alloc);
-    for slot in 0..plan.environments {
-        slots.push(Slot {
-            port: plan.first.saturating_add(slot),
-        })?;
-    }
-    Ok(Function {
-        name: text(alloc, plan.name)?,
-        handler: text(alloc, "index.handler")?,
-        timeout_s: 3,
-        reserved: plan.reserved,
-        extensions: Row::new(Vec::new(alloc)),
-        slots: Row::new(slots),
-    })
-}
-
-fn config(alloc: Global, account: &Account) -> Result<Config, AllocError> {
-    let mut functions = Vec::new(alloc);
-    for plan in account.plans {
-        functions.push(function(alloc, plan)?)?;
-    }
-    Ok(Config {
-        home: Home {
-            account: text(alloc, "123456789012")?,
-            region: text(alloc, "us-east-2")?,
-        },
-        account_limit: account.limit,
-        least_remainder: account.least,
-        invoke_port: 9000,
-        functions: Row::new(functions),
-    })
-}
-
-/// The configuration of an account, made again where memory was refused once.
-fn checked(rt: &impl Abort, alloc: Global, account: &Account) -> Checked {
-    let config = match config(alloc, account) {
-        Ok(config) => config,
-        Err(_) => config(alloc, account).expect(rt, "memory was refused twice"),
-    };
-    match config.check() {
-        Ok(checked) => checked,
-        Err(fault) => panic!(rt; "{fault}"),
-    }
-}
 
 /// An empty book, opened again where memory was refused once.
 fn opened(rt: &impl Abort, alloc: Global, account: &Account, salt: u64, max_entries: u64) -> Book {

@@ -1,5 +1,6 @@
 //! Reservations, the remainder, and a full journal.
 
+use super::accounts::Plan;
 use super::*;
 use call_model::Throttle;
 

@@ -1,0 +1,58 @@
+//! The reply that the client of a call gets.
+
+ghost use Rattle.std.specs.Prelude.{◌≡◌, ◌<◌, Some, IfOk, length, reverse};
+ghost use Rattle.call_model.specs.History.{answer_of, call_of};
+ghost use Rattle.call_model.specs.Isolation as spec;
+ghost use Rattle.call_model.specs.Next.{IsLegal};
+ghost use Rattle.account_book.specs.ReplyText.{reply_text};
+ghost use Rattle.account_book.specs.Taking.{AllKnown};
+
+use arn_ids::Checked;
+use call_model::{Answer, Call, Ticket};
+use lambda_wire::Reply;
+use replies::{Gist, reply};
+use script::Past;
+use std::alloc::{AllocError, Global};
+
+/// The ticket whose call an answer is made of, else the answered one itself.
+fn source_of(ticket: Ticket, answer: Answer) -> Ticket
+    ensures { result ≡ spec.source_of ticket (spec.named answer) }
+{
+    match answer {
+        Answer::Delivered { invoke, .. } | Answer::Told { invoke, .. } => invoke,
+        Answer::Output { source } | Answer::Error { source } => source,
+        _ => ticket,
+    }
+}
+
+/// The call with a ticket.
+fn call_at<'a>(past: &Past<'a>, ticket: Ticket) -> &'a Call
+    requires { ticket < length past.now.entries.now }
+    ensures { result.now ≡ call_of (reverse past.now.entries.now) ticket }
+{
+    &past.entries[ticket as usize].call
+}
+
+/// The reply to a ticket with its answer. The only error is want of memory.
+pub(crate) fn render(
+    alloc: Global,
+    config: &Checked,
+    past: &Past<'_>,
+    ticket: Ticket,
+    answer: Answer,
+) -> Result<Reply, AllocError>
+    requires answered { answer_of (reverse past.now.entries.now) ticket ≡ Some answer }
+    requires legal { IsLegal config.now (reverse past.now.entries.now) }
+    requires known { AllKnown config.now (reverse past.now.entries.now) }
+    ensures { IfOk result (λ reply. Some reply ≡ reply_text config.now past.now.salt (reverse past.now.entries.now) ticket) }
+{
+    let source = source_of(ticket, answer);
+    let gist = Gist {
+        answer,
+        call: call_at(past, ticket),
+        count: past.count(ticket),
+        source: call_at(past, source),
+        source_count: past.count(source),
+    };
+    reply(alloc, config, past.salt, &gist)
+}
