@@ -1,0 +1,5 @@
+pub mod PathLemmas
+pub mod RouteLemmas
+pub mod HeadLemmas
+pub mod Within
+pub mod Allowed

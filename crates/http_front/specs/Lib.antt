@@ -1,0 +1,11 @@
+pub mod Routes
+pub mod Paths
+pub mod Heads
+pub mod Names
+pub mod Identifiers
+pub mod Refusals
+pub mod EnvironmentDecisions
+pub mod AccountDecisions
+pub mod Decisions
+pub mod Sides
+pub mod Views

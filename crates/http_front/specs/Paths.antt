@@ -1,0 +1,38 @@
+-- Parts of a path and of a query.
+use Rattle.std.specs.Prelude.{ℕ, List, [], ◌∷◌, codes, bytes_eq, ◌==◌, Option, Some, None, option_and_then, if◌then◌else◌, slice_get}
+use Rattle.std.specs.List.{slice_split}
+use Rattle.std.specs.Str.{is_utf8}
+use Rattle.std.specs.Str.Lossy.{utf8_lossy}
+use Rattle.percent_encoding.specs.Percent.{percent_decode}
+use Rattle.form_urlencoded.specs.Form.{decode, raw_pairs}
+use Rattle.http.specs.Uri.{uri_path, uri_query}
+use Rattle.http.specs.declared.request.Parts.{Parts}
+
+-- the part of a path behind this many slashes, as it stands
+abbrev pub path_part : ℕ → List ℕ → Option (List ℕ)
+path_part n path = slice_get (slice_split (λ b. b == 47) path) n
+
+-- the text that a part of a path stands for, where it is UTF-8 (RFC 3986, section 2.1)
+abbrev pub path_text : List ℕ → Option (List ℕ)
+path_text part = if is_utf8 (percent_decode part) then Some (percent_decode part) else None
+
+-- a name or a value of a query as text (URL Standard, section 5.1)
+abbrev pub text_of : List ℕ → List ℕ
+text_of raw = utf8_lossy (decode raw)
+
+-- the value of the first pair of this name
+abbrev pub first_named : List ℕ → List (List ℕ × List ℕ) → Option (List ℕ)
+first_named name [] = None
+first_named name (p ∷ ps) = if bytes_eq (text_of p.0) name then Some (text_of p.1) else first_named name ps
+
+-- the first `Qualifier` of a query
+abbrev pub qualifier_in : List ℕ → Option (List ℕ)
+qualifier_in query = first_named (codes "Qualifier") (raw_pairs query)
+
+-- the first `Qualifier` of a request (Lambda API, Invoke: URI Request Parameters)
+abbrev pub qualifier_of : Parts → Option (List ℕ)
+qualifier_of p = option_and_then qualifier_in (uri_query p.uri)
+
+-- the name of a function in a path of the Lambda API, which stands behind three slashes
+abbrev pub name_of : Parts → Option (List ℕ)
+name_of p = option_and_then path_text (path_part 3 (uri_path p.uri))

@@ -1,0 +1,30 @@
+//! What is done with an HTTP request: the routes of each port, and the decision on a request by its
+//! head and its body.
+#![tactic(auto)]
+
+mod account_port;
+mod environment_port;
+mod heads;
+mod identifiers;
+mod names;
+mod numbers;
+mod path;
+mod refusals;
+mod routes;
+mod side;
+
+pub use long_poll::{Decision, Shown};
+pub use side::{Port, Side};
+
+#[cfg(test)]
+mod account_rows;
+#[cfg(test)]
+mod environment_rows;
+#[cfg(test)]
+mod fixtures;
+#[cfg(test)]
+mod request_maker;
+#[cfg(test)]
+mod route_tests;
+#[cfg(test)]
+mod tests;

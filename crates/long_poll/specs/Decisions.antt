@@ -1,0 +1,19 @@
+-- Which decisions an account can carry out.
+use Rattle.arn_ids.specs.declared.config.Config.{Config}
+use Rattle.script.specs.Limits.{IsWithin, IsFunction}
+use Rattle.long_poll.specs.declared.decide.Shown.{Shown}
+use Rattle.long_poll.specs.declared.decide.Shown.TheVariants.{Stats, History, Reservation}
+use Rattle.long_poll.specs.declared.decide.Decision.{Decision}
+use Rattle.long_poll.specs.declared.decide.Decision.TheVariants.{Submit, Reply, Show}
+
+-- what is shown is there
+abbrev pub IsThere : Config → Shown → Type 0
+IsThere config Stats = Unit {0}
+IsThere config History = Unit {0}
+IsThere config (Reservation f) = IsFunction config f
+
+-- A call is within the limits of the configuration, as a book requires it of each call; what is shown is there.
+abbrev pub IsAllowed : Config → Decision → Type 0
+IsAllowed config (Submit call) = IsWithin config call
+IsAllowed config (Reply reply) = Unit {0}
+IsAllowed config (Show shown) = IsThere config shown

@@ -1,0 +1,53 @@
+//! What is done with a request, and who decides it.
+
+ghost use Rattle.std.specs.Prelude.{ℕ, List, IfOk};
+ghost use Rattle.http.specs.declared.request.Parts.{Parts as Head};
+ghost use Rattle.arn_ids.specs.declared.config.Config.{Config};
+ghost use Rattle.long_poll.specs.declared.decide.Decision.{Decision as Decided};
+ghost use Rattle.long_poll.specs.Decisions.{IsAllowed};
+
+use arn_ids::FnNo;
+use call_model::Call;
+use http::request::Parts;
+use lambda_wire::Reply;
+use std::alloc::{AllocError, Global};
+
+/// What is shown of an account without a call.
+#[derive(Clone, Copy, Debug, PartialEq, Eq)]
+pub enum Shown {
+    /// The counts of the account.
+    Stats,
+    /// The text of its history.
+    History,
+    /// A function's reservation in force (Lambda API, GetFunctionConcurrency).
+    Reservation {
+        /// The function's number, from 1.
+        function: FnNo,
+    },
+}
+
+/// What is done with a request.
+#[derive(Debug, Drop)]
+pub enum Decision {
+    /// The call is submitted, and its answer is the reply.
+    Submit(Call),
+    /// The request is refused before there is a call.
+    Reply(Reply),
+    /// Nothing is called.
+    Show(Shown),
+}
+
+/// Who decides requests: for one configuration, by a relation of its own.
+pub trait Decide {
+    /// The decider, the head of a request, its body, and what is done with it.
+    ghost decides: { Self → Head → List ℕ → Decided → Type 0 };
+
+    /// The configuration that it decides for.
+    ghost decides_for: { Self → Config };
+
+    /// What is done with a request of this head and body. The only error is want of memory.
+    fn decide(&self, alloc: Global, parts: &Parts, body: &[u8]) -> Result<Decision, AllocError>
+        ensures decision { IfOk result (λ decision. decides self.now parts.now body.now decision) }
+        // A call is one that the account's book takes, and a function that is shown is there.
+        ensures allowed { IfOk result (IsAllowed (decides_for self.now)) };
+}
