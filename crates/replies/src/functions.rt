@@ -6,9 +6,10 @@ ghost use Rattle.arn_ids.specs.Environments.{function_at, function_of as functio
 ghost use Rattle.http_header.specs.FieldValue.{IsFieldValue};
 ghost use Rattle.replies.specs.Words as spec;
 
-use crate::calls::{env_of, invoked, is_qualified};
+use crate::calls::is_qualified;
 use arn_ids::{Checked, EnvNo, FnNo, Function};
 use call_model::Call;
+use script::{env_of, invoked};
 use std::alloc::{AllocError, Global};
 
 /// The function with a number.

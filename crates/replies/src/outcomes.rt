@@ -6,7 +6,6 @@ ghost use Rattle.replies.specs.Gists.{gist_of};
 ghost use Rattle.replies.specs.Outcomes as spec;
 
 use crate::Gist;
-use crate::calls::body_of;
 use crate::functions::timeout_s;
 use crate::words::{request_text, throttle_word};
 use arn_ids::{Bytes, Checked, Row};
@@ -15,6 +14,7 @@ use lambda_wire::{
     InvokeFault, Reply, error_headers, invoke_headers, json_headers, write_fault,
     write_invoke_fault, write_reservation, write_status, write_throttle,
 };
+use script::body_of;
 use std::alloc::{AllocError, Global};
 use uuid::Uuid;
 

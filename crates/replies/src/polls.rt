@@ -5,7 +5,7 @@ ghost use Rattle.replies.specs.Gists.{gist_of, IsTraced};
 ghost use Rattle.replies.specs.Polls as spec;
 
 use crate::Gist;
-use crate::calls::{body_of, trace_of, wants_account};
+use crate::calls::{trace_of, wants_account};
 use crate::functions::{arn_text, env_function};
 use crate::words::{env_text, reason_word, request_text};
 use arn_ids::{Bytes, Checked, IdKind};
@@ -14,6 +14,7 @@ use lambda_wire::{
     Reply, event_headers, next_headers, registered_headers, write_invoke_event, write_registered,
     write_shutdown_event,
 };
+use script::body_of;
 use std::alloc::{AllocError, Global};
 use uuid::Uuid;
 

@@ -6,9 +6,9 @@ ghost use Rattle.http_header.specs.FieldValue.{IsFieldValue};
 ghost use Rattle.script.specs.AnswerText as answers;
 ghost use Rattle.replies.specs.Words as spec;
 
-use crate::calls::{env_of, invoked};
 use arn_ids::{IdKind, event_id, extension_id, request_id};
 use call_model::{Call, Reason, Throttle};
+use script::{env_of, invoked};
 
 /// An identifier; a dash for a number or a count that no identifier has.
 #[tactic(auto, unfolding(script::specs::AnswerText::id_word), using(crate::proofs::FieldValues::id_fits))]

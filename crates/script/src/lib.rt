@@ -4,6 +4,7 @@
 mod answer_writer;
 mod call_reader;
 mod call_writer;
+mod calls;
 mod fields;
 pub mod laws;
 mod numbers;
@@ -13,6 +14,7 @@ mod words;
 
 pub use answer_writer::{push_answers, push_entry};
 pub use call_reader::read_call;
+pub use calls::{body_of, env_of, invoked};
 pub use past::Past;
 
 #[cfg(test)]

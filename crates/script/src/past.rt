@@ -1,14 +1,15 @@
 //! What an answer tells of the calls before it.
 
-ghost use Rattle.std.specs.Prelude.{◌≡◌, reverse, unwrap_or, MatchOption};
+ghost use Rattle.std.specs.Prelude.{◌≡◌, reverse, MatchOption};
 ghost use Rattle.call_model.specs.declared.call.Call.TheVariants.{Expire as NoCall};
-ghost use Rattle.call_model.specs.History.{call_of, upto, env_of as env_name};
+ghost use Rattle.call_model.specs.History.{call_of, upto};
 ghost use Rattle.script.specs.CallCounts.{call_counts, request_count};
 ghost use Rattle.script.specs.AnswerText as spec;
 ghost use Rattle.script.specs.Writing.{word_text};
 
+use crate::calls::{body_of, env_of, invoked};
 use crate::words::Word;
-use arn_ids::{EnvNo, FnNo, IdKind, event_id, extension_id, request_id};
+use arn_ids::{IdKind, event_id, extension_id, request_id};
 use call_model::{Call, Entry, Ticket};
 
 /// The entries of a history, the oldest first, with the count in the request identifier of each
@@ -40,51 +41,6 @@ fn id_word(salt: u64, kind: IdKind, number: u32, count: u64) -> Word<'static>
         IdKind::Extension => extension_id(salt, number, count),
         IdKind::Event => event_id(salt, number, count),
     })
-}
-
-/// The function that a call invokes, 0 where it is no Invoke.
-fn invoked(call: &Call) -> FnNo
-    ensures { result ≡ spec.invoked call.now }
-{
-    match call {
-        Call::Invoke { function, .. } => *function,
-        _ => 0,
-    }
-}
-
-/// The environment that a call names, 0 where it names none.
-fn env_of(call: &Call) -> EnvNo
-    ensures { result ≡ unwrap_or (env_name call.now) 0 }
-{
-    match call {
-        Call::RuntimeNext { env } => *env,
-        Call::Response { env, .. } => *env,
-        Call::ResponseTooLarge { env, .. } => *env,
-        Call::Failure { env, .. } => *env,
-        Call::InitFailure { env, .. } => *env,
-        Call::Register { env, .. } => *env,
-        Call::ExtNext { env, .. } => *env,
-        Call::ExtInitFailure { env, .. } => *env,
-        Call::ExtExitFailure { env, .. } => *env,
-        Call::Spindown { env } => *env,
-        Call::Expire { env } => *env,
-        _ => 0,
-    }
-}
-
-/// The bytes of a call, none where it has none.
-fn body_of(call: &Call) -> &[u8]
-    ensures { result.now ≡ spec.body_of call.now }
-{
-    match call {
-        Call::Invoke { body, .. } => body.as_slice(),
-        Call::Response { body, .. } => body.as_slice(),
-        Call::Failure { body, .. } => body.as_slice(),
-        Call::InitFailure { body, .. } => body.as_slice(),
-        Call::ExtInitFailure { body, .. } => body.as_slice(),
-        Call::ExtExitFailure { body, .. } => body.as_slice(),
-        _ => &[],
-    }
 }
 
 impl<'a> Past<'a> {
