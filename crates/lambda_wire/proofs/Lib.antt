@@ -8,3 +8,4 @@ pub mod TextAgain
 pub mod SetupAgain
 pub mod BodyTexts
 pub mod FieldValues
+pub mod JsonPartsLemmas

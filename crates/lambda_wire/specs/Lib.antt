@@ -7,3 +7,4 @@ pub mod Bodies
 pub mod Headers
 pub mod Replies
 pub mod BodyValues
+pub mod JsonParts

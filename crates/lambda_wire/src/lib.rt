@@ -6,6 +6,7 @@ mod config_reader;
 mod config_writer;
 mod fault;
 mod header_writer;
+mod json_check;
 mod members;
 mod reply;
 mod request_reader;

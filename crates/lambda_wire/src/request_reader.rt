@@ -7,6 +7,7 @@ ghost use Rattle.lambda_wire.specs.Reading as spec;
 ghost use Rattle.lambda_wire.specs.Requests.{is_event, events_of, registration_of, reservation_of, read_payload, read_events, read_count};
 
 use crate::fault::WireFault;
+use crate::json_check::check_json;
 use crate::members::{json_of, number_u32, texts_or_none};
 use arn_ids::{Bytes, Text};
 use serde_json::Value;
@@ -49,7 +50,7 @@ pub fn read_invoke_body(alloc: Global, bytes: &[u8]) -> Result<Bytes, WireFault>
     if bytes.is_empty() {
         return Ok(copied(alloc, b"{}")?);
     }
-    json_of(alloc, bytes)?;
+    check_json(alloc, bytes)?;
     Ok(copied(alloc, bytes)?)
 }
 
