@@ -6,6 +6,7 @@ mod account_port;
 mod environment_port;
 mod heads;
 mod identifiers;
+pub mod laws;
 mod names;
 mod numbers;
 mod path;
