@@ -1,0 +1,4 @@
+pub mod Counts
+pub mod Keeping
+pub mod Tallies
+pub mod Joining

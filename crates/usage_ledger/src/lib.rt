@@ -1,0 +1,24 @@
+//! What each thread of an account counted and was told: shares of four counts, whose sum is the
+//! total, and beside them the answers that were given and the calls that were made.
+#![tactic(auto)]
+
+mod counts;
+mod join_fault;
+mod keep;
+mod keepers;
+pub mod laws;
+mod shares;
+mod tally;
+mod totals;
+
+pub use counts::Counts;
+pub use join_fault::JoinFault;
+pub use keep::Keep;
+pub use keepers::{KeepAll, KeepNone};
+pub use tally::Tally;
+pub use totals::{Totals, root};
+
+#[cfg(test)]
+mod grudging;
+#[cfg(test)]
+mod tests;
