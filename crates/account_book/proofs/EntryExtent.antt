@@ -42,7 +42,7 @@ tickets_within config h entry w i d lt = elim (cases_lt (length h) (get_or entry
   | inr le ↦ le
 ]
 
-few_moves : (config : Config) (h : List Entry) (e ticket now : ℕ) (requests : List ℕ) (call : Call) → IsLegal config h → length (moves_at ticket now requests call (site config h e)) ≤ 24
+pub few_moves : (config : Config) (h : List Entry) (e ticket now : ℕ) (requests : List ℕ) (call : Call) → IsLegal config h → length (moves_at ticket now requests call (site config h e)) ≤ 24
 few_moves config h e ticket now requests call l = omega (arith, moves_few (site config h e).environment.fixed (step_at ticket now requests (site config h e)) (stand config h e) call, (little config h e l).ten)
 
 few_homed : (config : Config) (h : List Entry) (entry : Entry) → first_fault config ≡ None → IsLegal config h → Follows config h entry → AllKnown config h → IsKnown config entry.call → length (homed h entry) ≤ 6144

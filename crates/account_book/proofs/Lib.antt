@@ -6,6 +6,7 @@ pub mod EntryExtent
 pub mod Expiring
 pub mod Extent
 pub mod FleetMeets
+pub mod GivenAnswers
 pub mod Flown
 pub mod InForce
 pub mod Indexed
@@ -31,3 +32,5 @@ pub mod Replaying
 pub mod WholeText
 -- What a reply is made of.
 pub mod Rendered
+-- A reserved function gets the replies that it would get alone.
+pub mod Isolating

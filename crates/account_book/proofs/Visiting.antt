@@ -93,7 +93,7 @@ site_of config h e low high =
     site_is_at (sites config h) e no_site low (rw (sites_length config h) high) ∙ numbered_at (site config h) 1 (length (owners config)) (e - 1) no_site (omega (arith, low, high)) ∙ ap (site config h) back
 
 -- no Stop reaches one environment alone
-no_stop : (h : List Entry) (place : Option ℕ) (call : Call) (e : ℕ) → reach h place call ≡ At e → is_stop call ≡ false
+pub no_stop : (h : List Entry) (place : Option ℕ) (call : Call) (e : ℕ) → reach h place call ≡ At e → is_stop call ≡ false
 no_stop h place Stop e q = absurd (everywhere e q)
 no_stop h place call e q = refl
 

@@ -8,13 +8,13 @@ ghost use Rattle.call_model.specs.declared.call.Entry.{Entry};
 ghost use Rattle.call_model.specs.Counts.{full, stats};
 ghost use Rattle.call_model.specs.History.{answer_of, stopped};
 ghost use Rattle.call_model.specs.Limits.{reservation};
-ghost use Rattle.call_model.specs.Next.{IsLegal, next, due};
+ghost use Rattle.call_model.specs.Next.{IsLegal, added, next, due};
 ghost use Rattle.deadlines.specs.Due.{first};
 ghost use Rattle.env_phase.specs.Taking.{registered_name};
 ghost use Rattle.script.specs.AnswerText.{body_of, entry_text};
 ghost use Rattle.script.specs.CallCounts.{call_counts};
 ghost use Rattle.script.specs.Limits.{IsWithin};
-ghost use Rattle.account_book.specs.Answering.{most_answers};
+ghost use Rattle.account_book.specs.Answering.{most_answers, answers_in};
 ghost use Rattle.account_book.specs.Books.{life};
 ghost use Rattle.account_book.specs.HistoryText.{opening_text};
 ghost use Rattle.account_book.specs.Reached.{IsReached};
@@ -240,6 +240,20 @@ impl Book {
         self.journal.expire_due(moment, rooms);
         self.journal.take(moment, call, name, answers);
         Ok(self.journal.entries().len() as u64 - 1)
+    }
+
+    /// How many answers a call gives at most that is handed in at a moment: those of its own entry, and
+    /// of the expiries before it. Who notes answers makes room for so many.
+    pub fn most_given(&self, now: u64, call: &Call) -> usize
+        requires within { IsWithin self.now.config call.now }
+        ensures { answers_in (added self.now.config self.now.history now call.now) ≤ result }
+    {
+        self.journal.facts();
+        let last = self.journal.last_moment();
+        let expiries = self.journal.count_due(now.max(last));
+        let widest = self.journal.widest();
+        let own = answers_wanted(widest, self.journal.environments(), call);
+        expiries * (widest + 4) + own
     }
 
     /// Whether the journal is full for a call: all environments may expire before it, and as many

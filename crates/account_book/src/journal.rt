@@ -16,7 +16,7 @@ ghost use Rattle.deadlines.specs.Due.{first};
 ghost use Rattle.env_phase.specs.Taking.{registered_name, is_off};
 ghost use Rattle.script.specs.CallCounts.{call_counts};
 ghost use Rattle.script.specs.Limits.{IsWithin};
-ghost use Rattle.account_book.specs.Answering.{most_answers, first_or_0, IsRoom};
+ghost use Rattle.account_book.specs.Answering.{most_answers, first_or_0, IsRoom, IsNarrow};
 ghost use Rattle.account_book.specs.Reaches.{book_answer};
 ghost use Rattle.account_book.specs.Taking.{IsKnown, AllKnown};
 
@@ -186,7 +186,9 @@ impl Journal {
         ensures sound { first_fault self.now.config ≡ None }
         ensures legal { IsLegal self.now.config self.now.history }
         ensures all_known { AllKnown self.now.config self.now.history }
+        ensures narrow { IsNarrow self.now.config self.now.history self.now.widest }
     {
+        self.fleet.facts();
         let _known = &self.requests;
     }
 

@@ -1,13 +1,17 @@
 //! Laws of histories and their texts: functions with no work in them, whose contracts are proved.
 
-ghost use Rattle.std.specs.Prelude.{◌≡◌, ◌+◌, ℕ, true, false, List, [], ◌++◌, length, codes, None};
+ghost use Rattle.std.specs.Prelude.{◌≡◌, ◌+◌, ℕ, true, false, List, [], ◌++◌, length, codes, None, Some};
 ghost use Rattle.std.specs.Str.Lines.{lines};
+ghost use Rattle.arn_ids.specs.Environments.{function_at};
 ghost use Rattle.arn_ids.specs.declared.config.Config.{Config};
 ghost use Rattle.call_model.specs.declared.call.Call.{Call};
 ghost use Rattle.call_model.specs.declared.call.Entry.{Entry};
+ghost use Rattle.call_model.specs.Isolation.{IsUnnamed, IsLegalSave};
 ghost use Rattle.call_model.specs.Next.{IsLegal, next};
+ghost use Rattle.call_model.specs.Own.{own, own_ticket};
 ghost use Rattle.account_book.specs.HistoryText.{answers_text, history_text};
 ghost use Rattle.account_book.specs.Reached.{IsBooked, IsReached, IsTakenAfter};
+ghost use Rattle.account_book.specs.ReplyText.{reply_text};
 ghost use Rattle.account_book.specs.Run.{Taking, before, is_of_form_2, replay_from, run};
 
 /// The history of a new book is reached; each call that a book takes reaches the next one; and
@@ -16,6 +20,16 @@ pub fn reached()
     ensures first { (config : Config) (max_entries : ℕ) → IsReached config max_entries [] }
     ensures next { (config : Config) (max_entries : ℕ) (h : List Entry) (now : ℕ) (call : Call) → IsReached config max_entries h → IsTakenAfter config max_entries h now call → IsReached config max_entries (next config h now call) }
     ensures legal { (config : Config) (max_entries : ℕ) (h : List Entry) → IsReached config max_entries h → IsLegal config h }
+{}
+
+/// Isolation by reservation, for every history that calls led to: a function that is reserved in the
+/// configuration and named by no Reserve gets what it would get in an account where nobody else
+/// calls and the clock ticks at the same moments. (Lambda Developer Guide: reserved concurrency)
+pub fn isolated()
+    // Its own history is a legal one, save that at a Tick something may be due;
+    ensures legal { (config : Config) (max_entries : ℕ) (h : List Entry) (f limit : ℕ) → IsReached config max_entries h → (function_at config f).reserved ≡ Some limit → IsUnnamed f h → IsLegalSave config (own config h f) }
+    // there each of its tickets has the same reply: status, headers and body, with all identifiers.
+    ensures replies { (config : Config) (salt max_entries : ℕ) (h : List Entry) (f t : ℕ) → IsReached config max_entries h → own_ticket config h f t ≡ true → reply_text config salt (own config h f) t ≡ reply_text config salt h t }
 {}
 
 /// A history replays to its own answers: the text of a history that calls led to is a script

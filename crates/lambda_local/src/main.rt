@@ -2,36 +2,7 @@
 //! standard input and writes what each is answered to standard output.
 #![tactic(auto)]
 
-mod book;
-#[cfg(test)]
-mod call_rows;
-#[cfg(test)]
-mod extension_rows;
-mod fault;
-#[cfg(test)]
-mod fault_tests;
-#[cfg(test)]
-mod fixtures;
-#[cfg(test)]
-mod history_tests;
-#[cfg(test)]
-mod limit_rows;
-mod line;
-#[cfg(test)]
-mod long_tests;
-#[cfg(test)]
-mod memory_tests;
-mod replay;
-#[cfg(test)]
-mod row_tests;
-#[cfg(test)]
-mod stream_tests;
-#[cfg(test)]
-mod time_rows;
-mod whole;
-
-use crate::fault::ReplayFault;
-use crate::replay::replay;
+use script_replay::{ReplayFault, replay};
 use std::env::{self, Env};
 use std::io;
 use std::process::ExitCode;

@@ -1,1 +1,11 @@
+pub mod Answers
+pub mod Bodies
 pub mod Decisions
+pub mod Exchanges
+pub mod Moments
+pub mod Pieces
+pub mod Refusals
+pub mod Ringing
+pub mod Stages
+pub mod Submits
+pub mod Views

@@ -1,6 +1,29 @@
-//! What is done with a request, and who decides it.
+//! From a request to its reply: what is done with it, who decides it, and the futures that collect
+//! its body, submit its call to an account, and wait for the answer.
 #![tactic(auto)]
 
+mod bell;
+mod clock;
+mod collecting;
+mod connection;
 mod decide;
+mod exchange;
+mod fault;
+mod first_bytes;
+mod of_account;
+mod open_poll;
+mod poll;
+mod refusal;
+mod service;
+mod views;
 
+pub use bell::{Heard, OneShotBell};
+pub use clock::Clock;
+pub use connection::Connection;
 pub use decide::{Decide, Decision, Shown};
+pub use exchange::Exchange;
+pub use fault::ExchangeFault;
+pub use open_poll::OpenPoll;
+pub use poll::{BellLost, Poll};
+pub use service::Service;
+pub use views::{history_reply, reservation_reply, stats_reply};

@@ -1,0 +1,18 @@
+-- Answers and bells, one entry more at a time.
+pub mod Turns
+-- What a step counts, and which entries it adds.
+pub mod Stepping
+-- The bells that stay are those of tickets that wait.
+pub mod Waiting
+-- What a call that was taken leaves of a desk.
+pub mod AfterCall
+-- The least ticket at which one of several properties fails.
+pub mod FirstFailures
+-- What tallies have together, one tally more or less at a time.
+pub mod Gathering
+-- Which tickets stand behind greater ones.
+pub mod Rising
+-- What is kept of calls, and the history.
+pub mod Agreeing
+-- How many answers a step gives.
+pub mod Noting

@@ -1,0 +1,38 @@
+-- The bells of those who wait, and which of them ring.
+use Rattle.std.specs.Prelude.{ℕ, ◌==◌, if◌then◌else◌, List, [], ◌∷◌, ◌++◌, Option, Some, None, flat_map, reverse}
+use Rattle.call_model.specs.declared.answer.Answer.{Answer}
+use Rattle.call_model.specs.declared.call.Entry.{Entry}
+
+-- the bells of a ticket
+abbrev pub of_ticket : {B : Type 0} → ℕ → List (ℕ × B) → List B
+of_ticket t [] = []
+of_ticket t (bell ∷ bells) = if bell.0 == t then bell.1 ∷ of_ticket t bells else of_ticket t bells
+
+-- the bells of the other tickets
+abbrev pub other_bells : {B : Type 0} → ℕ → List (ℕ × B) → List (ℕ × B)
+other_bells t [] = []
+other_bells t (bell ∷ bells) = if bell.0 == t then other_bells t bells else bell ∷ other_bells t bells
+
+-- The bells that answers ring: those of the tickets that are answered, in the order of the answers.
+abbrev pub rings_of : {B : Type 0} → List (ℕ × Answer) → List (ℕ × B) → List B
+rings_of [] bells = []
+rings_of (a ∷ answers) bells = of_ticket a.0 bells ++ rings_of answers (other_bells a.0 bells)
+
+-- The bells that stay: those of tickets that are not answered.
+abbrev pub bells_after : {B : Type 0} → List (ℕ × Answer) → List (ℕ × B) → List (ℕ × B)
+bells_after [] bells = bells
+bells_after (a ∷ answers) bells = bells_after answers (other_bells a.0 bells)
+
+-- the bell that a caller brings, at the ticket of the call
+abbrev pub own_bell : {B : Type 0} → ℕ → Option B → List (ℕ × B)
+own_bell t None = []
+own_bell t (Some bell) = (t, bell) ∷ []
+
+-- the answers of entries, the oldest entry first
+abbrev pub answers_of : List Entry → List (ℕ × Answer)
+answers_of entries = flat_map (λ entry. entry.answers) entries
+
+-- The answers that a step's entries give, in the order in which they are given. (The entries of a history stand
+-- newest first.)
+abbrev pub given : List Entry → List (ℕ × Answer)
+given entries = answers_of (reverse entries)

@@ -1,0 +1,46 @@
+-- A desk as contracts see it, what is always true of it, and what one call makes of it.
+use Rattle.std.specs.Prelude.{◌≡◌, ℕ, ◌++◌, true, List, Option}
+use Rattle.std.specs.List.{list_all}
+use Rattle.account_book.specs.Book.{Kept as Booked}
+use Rattle.call_model.specs.declared.call.Call.{Call}
+use Rattle.call_model.specs.declared.call.Entry.{Entry}
+use Rattle.call_model.specs.History.{pending}
+use Rattle.call_model.specs.Next.{IsLegal, added, next}
+use Rattle.usage_ledger.specs.Counts.{plus}
+use Rattle.usage_ledger.specs.declared.counts.Counts.{Counts}
+use Rattle.account_lock.specs.Bells.{bells_after, own_bell, given}
+use Rattle.account_lock.specs.Counting.{counts_of}
+
+-- Its book, the bells of those who wait, each with the ticket whose answer it waits for, and the totals of its ledgers.
+pub record Opened (B : Type 0) : Type 0 where
+  pub book : Booked
+  pub bells : List (ℕ × B)
+  pub totals : Counts
+
+-- these three
+abbrev pub opened : {B : Type 0} → Booked → List (ℕ × B) → Counts → Opened B
+opened book bells totals = record { book = book; bells = bells; totals = totals }
+
+-- What the type of a desk keeps: its history is legal, each bell belongs to a pending ticket, and the totals are what
+-- the history counts.
+pub record IsDesk {B : Type 0} (desk : Opened B) : Type 0 where
+  pub legal : IsLegal desk.book.config desk.book.history
+  pub waiting : list_all (λ bell. pending desk.book.history bell.0) desk.bells ≡ true
+  pub counted : desk.totals ≡ counts_of desk.book.history
+
+-- the entries that a call adds to a book, the newest first
+abbrev pub added_to : Booked → ℕ → Call → List Entry
+added_to book now call = added book.config book.history now call
+
+-- the book with them
+abbrev pub next_book : Booked → ℕ → Call → Booked
+next_book book now call = record book { history = next book.config book.history now call }
+
+-- all bells once a call has this ticket, before any of them rings
+abbrev pub all_bells : {B : Type 0} → Opened B → ℕ → Option B → List (ℕ × B)
+all_bells desk ticket bell = desk.bells ++ own_bell ticket bell
+
+-- The desk after a call that was taken with this ticket and this bell.
+abbrev pub after_step : {B : Type 0} → Opened B → ℕ → Call → ℕ → Option B → Opened B
+after_step desk now call ticket bell =
+    opened (next_book desk.book now call) (bells_after (given (added_to desk.book now call)) (all_bells desk ticket bell)) (plus desk.totals (counts_of (added_to desk.book now call)))

@@ -1,0 +1,27 @@
+-- What tallies have together.
+use Rattle.std.specs.Prelude.{ℕ, ◌==◌, List, count_by, sum_by}
+use Rattle.usage_ledger.specs.Counts.{counts}
+use Rattle.usage_ledger.specs.Tallies.{Tallied}
+use Rattle.usage_ledger.specs.declared.counts.Counts.{Counts}
+
+-- their parts of each ledger
+abbrev pub parts_in : List Tallied → ℕ
+parts_in tallies = sum_by (λ tally. tally.held.parts) tallies
+
+-- their counts, added up one by one
+abbrev pub counts_in : List Tallied → Counts
+counts_in tallies = counts
+    (sum_by (λ tally. tally.held.counts.calls) tallies) (sum_by (λ tally. tally.held.counts.admitted) tallies)
+    (sum_by (λ tally. tally.held.counts.throttled) tallies) (sum_by (λ tally. tally.held.counts.failed) tallies)
+
+-- how often a ticket stands in pairs
+abbrev pub times : {X : Type 0} → ℕ → List (ℕ × X) → ℕ
+times t pairs = count_by (λ pair. pair.0 == t) pairs
+
+-- how many receipts they keep of a ticket
+abbrev pub receipts_of : ℕ → List Tallied → ℕ
+receipts_of t tallies = sum_by (λ tally. times t tally.held.kept.receipts) tallies
+
+-- how many calls they keep with a ticket
+abbrev pub calls_of : ℕ → List Tallied → ℕ
+calls_of t tallies = sum_by (λ tally. times t tally.held.kept.calls) tallies

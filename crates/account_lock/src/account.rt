@@ -1,0 +1,237 @@
+//! The account: a desk that threads share.
+
+ghost use Rattle.std.specs.Prelude.{◌≡◌, ◌+◌, ◌<◌, ◌≤◌, ◌^◌, ◌↔◌, ℕ, List, length, IfOk, IfErr, OnOk, IsErrOf};
+ghost use Rattle.arn_ids.specs.Environments.{owners};
+ghost use Rattle.account_book.specs.declared.book.OpenFault.TheVariants.{EntriesOutOfRange};
+ghost use Rattle.call_model.specs.declared.answer.Answer.{Answer as Told};
+ghost use Rattle.call_model.specs.declared.call.Entry.{Entry};
+ghost use Rattle.call_model.specs.Counts.{stats};
+ghost use Rattle.call_model.specs.Heads.{head_of};
+ghost use Rattle.call_model.specs.Next.{IsLegal};
+ghost use Rattle.script.specs.Limits.{IsWithin};
+ghost use Rattle.usage_ledger.specs.Keeping.{Steps, Kept};
+ghost use Rattle.usage_ledger.specs.Tallies.{fresh};
+ghost use Rattle.account_lock.specs.Settlement.{IsSettled, IsFault};
+
+use crate::{Bell, Desk, Look, Refused, SettleFault, Settled, Step};
+use account_book::{Book, Life, OpenFault};
+use arn_ids::{Checked, FnNo};
+use call_model::{Call, Stats, Ticket};
+use lambda_wire::Reply;
+use std::alloc::{AllocError, Global};
+use std::marker::{Brand, PhantomData};
+use std::sync::ledger::{Blank, Ledger};
+use std::sync::{Mutex, Wait};
+use usage_ledger::{Keep, Tally, root};
+
+/// Stands for the configuration of an account in its type, so that callers know it without the lock.
+pub trait Setup {
+    ghost use Rattle.arn_ids.specs.declared.config.Config.{Config};
+
+    /// The configuration.
+    ghost config: { Config };
+}
+
+/// A caller that names `Brand` picks the configuration in its proof; this one stands where none is
+/// picked.
+impl Setup for Brand {
+    ghost use Rattle.call_model.specs.Sample.{one};
+
+    ghost config = { one };
+}
+
+/// A desk whose configuration is the one that its type names.
+#[derive(Drop)]
+struct Locked<S: Setup, B, C: Ledger, A: Ledger, T: Ledger, F: Ledger> {
+    desk: Desk<B, C, A, T, F>,
+    of: PhantomData<S>,
+    ghost configured: { desk.book.config ≡ S.config },
+}
+
+/// One account, which threads share: its desk, of which one thread at a time makes a step or reads.
+#[derive(Drop)]
+pub struct Account<S: Setup, B, C: Ledger, A: Ledger, T: Ledger, F: Ledger> {
+    locked: Mutex<Locked<S, B, C, A, T, F>>,
+}
+
+impl<S: Setup, B: Bell, C: Ledger, A: Ledger, T: Ledger, F: Ledger> Locked<S, B, C, A, T, F> {
+    /// One step of the desk.
+    #[tactic(auto, using(crate::proofs::Stepping::one_call_within))]
+    fn apply<K: Keep>(
+        &mut self,
+        tally: &mut Tally<K, C, A, T, F>,
+        now: u64,
+        call: Call,
+        bell: Option<B>,
+    ) -> Result<Step<B>, Refused<B>>
+        requires moment { now < 2 ^ 53 }
+        requires within { IsWithin S.config call }
+        ensures counted { OnOk result (tally.new.held.counts.calls ≡ tally.old.held.counts.calls + 1) }
+        ensures parts { (tally.new.held.parts ≡ tally.old.held.parts) × (tally.new.held.joined ≡ tally.old.held.joined) }
+        ensures made { IfOk result (λ step. (answers : List (ℕ × Told)) × (between : Kept) × Steps K.notes tally.old.held.kept answers between × K.makes between step.ticket (head_of call) tally.new.held.kept) }
+        ensures refused { IfErr result (λ refused. (refused.bell ≡ bell) × (tally.new.held ≡ tally.old.held)) }
+    {
+        self.desk.apply(tally, now, call, bell)
+    }
+
+    /// A function's reservation in force.
+    fn reservation(&self, function: FnNo) -> Option<u32>
+        requires from_one { 1 ≤ function }
+        requires there { function ≤ length S.config.functions }
+    {
+        self.desk.reservation(function)
+    }
+}
+
+impl<S: Setup, B: Bell, C: Ledger, A: Ledger, T: Ledger, F: Ledger> Account<S, B, C, A, T, F> {
+    /// A new account, of at most so many entries: from the environments and one to 2^32. Its
+    /// history is empty, and the tally has all parts of its four ledgers. Each blank becomes the
+    /// ledger that its type parameter names.
+    ///
+    /// # Errors
+    /// As `Book::open`: `EntriesOutOfRange`, else `OutOfMemory`.
+    pub fn open<K: Keep>(
+        alloc: Global,
+        config: Checked,
+        salt: u64,
+        max_entries: u64,
+        calls: Blank,
+        admitted: Blank,
+        throttled: Blank,
+        failed: Blank,
+    ) -> Result<(Account<S, B, C, A, T, F>, Tally<K, C, A, T, F>), OpenFault>
+        requires configured { config ≡ S.config }
+        requires calls { (calls.name ≡ C.name) × (calls.parts ≡ C.parts) × (C.parts ≡ 2 ^ 32) }
+        requires admitted { (admitted.name ≡ A.name) × (admitted.parts ≡ A.parts) × (A.parts ≡ 2 ^ 32) }
+        requires throttled { (throttled.name ≡ T.name) × (throttled.parts ≡ T.parts) × (T.parts ≡ 2 ^ 32) }
+        requires failed { (failed.name ≡ F.name) × (failed.parts ≡ F.parts) × (F.parts ≡ 2 ^ 32) }
+        ensures range { IsErrOf result EntriesOutOfRange ↔ ((length (owners config) + 1 ≤ max_entries) × (max_entries ≤ 2 ^ 32) → ⊥) }
+        ensures tally { IfOk result (λ opened. opened.1.held ≡ fresh (2 ^ 32)) }
+    {
+        let book = match Book::open(alloc, config, salt, max_entries) {
+            Ok(book) => book,
+            Err(fault) => return Err(fault),
+        };
+        let (totals, tally) = root(alloc, calls, admitted, throttled, failed);
+        Ok((Account::share(Desk::open(alloc, book, totals)), tally))
+    }
+
+    /// Puts a desk behind a lock.
+    pub fn share(desk: Desk<B, C, A, T, F>) -> Account<S, B, C, A, T, F>
+        requires { desk.book.config ≡ S.config }
+    {
+        Account {
+            locked: Mutex::new(Locked {
+                desk,
+                of: PhantomData,
+            }),
+        }
+    }
+
+    /// One step of the desk under the lock; then its bells are rung, with the lock free. The tally
+    /// counts the call, and notes its head at the ticket that is given back.
+    ///
+    /// # Errors
+    /// As `Desk::apply`; the tally is then as it was, and the bell comes back.
+    pub fn submit<K: Keep>(
+        &self,
+        rt: &impl Wait,
+        tally: &mut Tally<K, C, A, T, F>,
+        now: u64,
+        call: Call,
+        bell: Option<B>,
+    ) -> Result<Ticket, Refused<B>>
+        requires moment { now < 2 ^ 53 }
+        requires within { IsWithin S.config call }
+        ensures counted { OnOk result (tally.new.held.counts.calls ≡ tally.old.held.counts.calls + 1) }
+        ensures parts { (tally.new.held.parts ≡ tally.old.held.parts) × (tally.new.held.joined ≡ tally.old.held.joined) }
+        ensures made { IfOk result (λ ticket. (answers : List (ℕ × Told)) × (between : Kept) × Steps K.notes tally.old.held.kept answers between × K.makes between ticket (head_of call) tally.new.held.kept) }
+        ensures refused { IfErr result (λ refused. (refused.bell ≡ bell) × (tally.new.held ≡ tally.old.held)) }
+    {
+        let step = self.locked.lock(rt).apply(tally, now, call, bell);
+        match step {
+            Ok(step) => {
+                let Step { ticket, rings } = step;
+                for bell in rings {
+                    bell.ring();
+                }
+                Ok(ticket)
+            }
+            Err(refused) => Err(refused),
+        }
+    }
+
+    /// What a ticket was answered.
+    pub fn look(&self, rt: &impl Wait, ticket: Ticket) -> Look {
+        self.locked.lock(rt).desk.look(ticket)
+    }
+
+    /// Whether an environment is due at a moment in milliseconds: a `Tick` then expires it.
+    pub fn due(&self, rt: &impl Wait, now: u64) -> bool {
+        self.locked.lock(rt).desk.due(now)
+    }
+
+    /// The counts of the account.
+    pub fn stats(&self, rt: &impl Wait) -> Stats {
+        self.locked.lock(rt).desk.stats()
+    }
+
+    /// How far the service has come to its end.
+    pub fn life(&self, rt: &impl Wait) -> Life {
+        self.locked.lock(rt).desk.life()
+    }
+
+    /// A function's reservation in force, none where it has none.
+    /// (GetFunctionConcurrency)
+    pub fn reservation(&self, rt: &impl Wait, function: FnNo) -> Option<u32>
+        requires from_one { 1 ≤ function }
+        requires there { function ≤ length S.config.functions }
+    {
+        self.locked.lock(rt).reservation(function)
+    }
+
+    /// What the client of the call with a ticket gets: the status, the headers and the body of its
+    /// answer; none while it has none.
+    ///
+    /// The only error is want of memory.
+    pub fn render(&self, rt: &impl Wait, ticket: Ticket) -> Result<Option<Reply>, AllocError> {
+        self.locked.lock(rt).desk.render(ticket)
+    }
+
+    /// The text of the history before its first entry.
+    ///
+    /// The only error is want of memory.
+    pub fn opening(&self, rt: &impl Wait) -> Result<Vec<u8>, AllocError> {
+        self.locked.lock(rt).desk.opening()
+    }
+
+    /// The history text of the entry with a ticket; none past the end.
+    ///
+    /// The only error is want of memory.
+    pub fn history(&self, rt: &impl Wait, ticket: Ticket) -> Result<Option<Vec<u8>>, AllocError> {
+        self.locked.lock(rt).desk.history(ticket)
+    }
+
+    /// Adds the shares of all tallies up, and compares what they keep with the history, once no
+    /// thread shares the account.
+    ///
+    /// # Errors
+    /// As `Desk::settle`; account and tallies are then gone.
+    pub fn settle<K: Keep>(self, tallies: Vec<Tally<K, C, A, T, F>>) -> Result<Settled, SettleFault>
+        ensures book { IfOk result (λ settled. (settled.book.config ≡ S.config) × (settled.stats ≡ stats S.config settled.book.history)) }
+        ensures settled { IfOk result (λ settled. IsSettled K.ALL settled.book.history tallies.items) }
+        ensures fault { IfErr result (λ fault. (h : List Entry) × IsLegal S.config h × IsFault K.ALL fault h tallies.items) }
+    {
+        let desk = self.into_desk();
+        desk.facts();
+        desk.settle(tallies)
+    }
+
+    /// The desk, once no thread shares the account.
+    pub fn into_desk(self) -> Desk<B, C, A, T, F>
+        ensures { result.book.config ≡ S.config }
+    {
+        let Locked { desk, .. } = self.locked.into_inner();
+        desk
+    }
+}

@@ -1,0 +1,26 @@
+//! One account behind a lock: its book, the bells of those who wait for an answer, and the totals
+//! of what its threads counted.
+#![tactic(auto)]
+
+mod account;
+mod bells;
+mod calls;
+mod desk;
+mod fault;
+pub mod laws;
+mod least;
+mod marks;
+mod receipts;
+mod rises;
+mod room;
+mod serving;
+mod settle;
+
+pub use account::{Account, Setup};
+pub use bells::Bell;
+pub use desk::{Desk, Look, Refused, Step};
+pub use fault::SettleFault;
+pub use settle::Settled;
+
+#[cfg(test)]
+mod tests;

@@ -1,0 +1,39 @@
+//! The room that a step wants, made before its first change.
+
+ghost use Rattle.std.specs.Prelude.{◌≡◌, ◌+◌, ◌≤◌, [], length, vec_len, vec_capacity, IfOk, OnOk};
+ghost use Rattle.script.specs.Limits.{IsWithin};
+ghost use Rattle.account_lock.specs.Bells.{given};
+ghost use Rattle.account_lock.specs.Desks.{added_to};
+
+use account_book::Book;
+use call_model::{Call, Ticket};
+use std::alloc::{AllocError, Global};
+use std::sync::ledger::Ledger;
+use usage_ledger::{Keep, Tally};
+
+/// For how many answers a step wants room.
+pub(crate) fn most_given(book: &Book, now: u64, call: &Call) -> usize
+    requires { IsWithin book.now.config call.now }
+    ensures { length (given (added_to book.now now call.now)) ≤ result }
+{
+    book.most_given(now, call)
+}
+
+/// Makes room for a bell among those that wait, for so many answers in the tally and for one call,
+/// and for all bells that may ring. What is held is as before in any case.
+pub(crate) fn make_room<B, K: Keep, C: Ledger, A: Ledger, T: Ledger, F: Ledger>(
+    alloc: Global,
+    bells: &mut Vec<(Ticket, B)>,
+    tally: &mut Tally<K, C, A, T, F>,
+    most: usize,
+) -> Result<Vec<B>, AllocError>
+    ensures same { (bells.new.items ≡ bells.old.items) × (tally.new.held ≡ tally.old.held) }
+    ensures rings { IfOk result (λ rings. (rings.items ≡ []) × (vec_len bells.new + 1 ≤ vec_capacity rings)) }
+    ensures bells { OnOk result (vec_len bells.new + 1 ≤ vec_capacity bells.new) }
+    ensures tally { OnOk result ((most ≤ tally.new.spare_notes) × (1 ≤ tally.new.spare_calls)) }
+{
+    bells.reserve(1)?;
+    tally.room(most.max(1))?;
+    let waiting = bells.len();
+    Vec::with_capacity(alloc, waiting + 1)
+}

@@ -1,0 +1,84 @@
+//! What the answers of a step's entries do: they ring bells, and the tally notes them.
+
+ghost use Rattle.std.specs.Prelude.{◌≡◌, ◌+◌, ◌-◌, ◌≤◌, ◌++◌, drop, reverse, length, vec_len, vec_capacity};
+ghost use Rattle.call_model.specs.Counts.{admitted, throttled, failed};
+ghost use Rattle.usage_ledger.specs.Counts.{counts, plus};
+ghost use Rattle.usage_ledger.specs.Keeping.{Steps};
+ghost use Rattle.account_lock.specs.Bells.{rings_of, bells_after, answers_of};
+
+use crate::bells::take_bells;
+use crate::rises::rises;
+use account_book::Book;
+use call_model::{Answer, Entry, Stats, Ticket};
+use std::sync::ledger::Ledger;
+use usage_ledger::{Keep, Tally, Totals};
+
+/// Takes the bells of answered tickets, and notes each answer.
+fn serve_answers<B, K: Keep, C: Ledger, A: Ledger, T: Ledger, F: Ledger>(
+    answers: &[(Ticket, Answer)],
+    bells: &mut Vec<(Ticket, B)>,
+    rings: &mut Vec<B>,
+    tally: &mut Tally<K, C, A, T, F>,
+)
+    requires bells { vec_len rings.old + vec_len bells.old ≤ vec_capacity rings.old }
+    requires notes { length answers.now ≤ tally.old.spare_notes }
+    ensures rings { rings.new.items ≡ rings.old.items ++ rings_of answers.now bells.old.items }
+    ensures bells { bells.new.items ≡ bells_after answers.now bells.old.items }
+    ensures kept { Steps K.notes tally.old.held.kept answers.now tally.new.held.kept }
+    ensures same { tally.new.held ≡ record tally.old.held { kept = tally.new.held.kept } }
+    ensures calls { tally.old.spare_calls ≤ tally.new.spare_calls }
+    ensures notes { tally.old.spare_notes ≤ tally.new.spare_notes + length answers.now }
+    ensures room { vec_len rings.new + vec_len bells.new ≤ vec_capacity rings.new }
+{
+    for pair in answers {
+        take_bells(bells, pair.0, rings);
+        tally.note(pair.0, pair.1);
+    }
+}
+
+/// The same for the answers of these entries, the oldest first.
+pub(crate) fn serve_entries<B, K: Keep, C: Ledger, A: Ledger, T: Ledger, F: Ledger>(
+    entries: &[Entry],
+    bells: &mut Vec<(Ticket, B)>,
+    rings: &mut Vec<B>,
+    tally: &mut Tally<K, C, A, T, F>,
+)
+    requires bells { vec_len rings.old + vec_len bells.old ≤ vec_capacity rings.old }
+    requires notes { length (answers_of entries.now) ≤ tally.old.spare_notes }
+    ensures rings { rings.new.items ≡ rings.old.items ++ rings_of (answers_of entries.now) bells.old.items }
+    ensures bells { bells.new.items ≡ bells_after (answers_of entries.now) bells.old.items }
+    ensures kept { Steps K.notes tally.old.held.kept (answers_of entries.now) tally.new.held.kept }
+    ensures same { tally.new.held ≡ record tally.old.held { kept = tally.new.held.kept } }
+    ensures calls { tally.old.spare_calls ≤ tally.new.spare_calls }
+{
+    for entry in entries {
+        serve_answers(entry.answers.as_slice(), bells, rings, tally);
+    }
+}
+
+/// What a call has added is counted and noted, and its bells are taken: the entries from a place on,
+/// where the account showed these counts before.
+pub(crate) fn serve_step<B, K: Keep, C: Ledger, A: Ledger, T: Ledger, F: Ledger>(
+    book: &Book,
+    start: u64,
+    before: Stats,
+    bells: &mut Vec<(Ticket, B)>,
+    rings: &mut Vec<B>,
+    totals: &mut Totals<C, A, T, F>,
+    tally: &mut Tally<K, C, A, T, F>,
+)
+    requires start { start ≤ length book.now.history }
+    requires bells { vec_len rings.old + vec_len bells.old ≤ vec_capacity rings.old }
+    requires notes { length (answers_of (drop start (reverse book.now.history))) ≤ tally.old.spare_notes }
+    requires risen { (before.admitted ≤ admitted book.now.history) × (before.throttled ≤ throttled book.now.history) × (before.failed ≤ failed book.now.history) }
+    ensures rings { rings.new.items ≡ rings.old.items ++ rings_of (answers_of (drop start (reverse book.now.history))) bells.old.items }
+    ensures bells { bells.new.items ≡ bells_after (answers_of (drop start (reverse book.now.history))) bells.old.items }
+    ensures kept { Steps K.notes tally.old.held.kept (answers_of (drop start (reverse book.now.history))) tally.new.held.kept }
+    ensures totals { totals.new ≡ plus totals.old (counts 1 (admitted book.now.history - before.admitted) (throttled book.now.history - before.throttled) (failed book.now.history - before.failed)) }
+    ensures held { tally.new.held ≡ record tally.old.held { counts = plus tally.old.held.counts (counts 1 (admitted book.now.history - before.admitted) (throttled book.now.history - before.throttled) (failed book.now.history - before.failed)); kept = tally.new.held.kept } }
+    ensures calls { tally.old.spare_calls ≤ tally.new.spare_calls }
+{
+    let entries = book.entries();
+    serve_entries(&entries[start as usize..], bells, rings, tally);
+    totals.count(tally, rises(before, book.stats()));
+}

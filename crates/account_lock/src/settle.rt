@@ -1,0 +1,129 @@
+//! The end of an account: its tallies against its book.
+
+ghost use Rattle.std.specs.Prelude.{◌≡◌, ◌==◌, ◌^◌, ℕ, length, vec_len, IfOk, IfErr, IfSome, IfNone};
+ghost use Rattle.call_model.specs.Counts.{stats};
+ghost use Rattle.account_lock.specs.Gathered.{parts_in, counts_in};
+ghost use Rattle.account_lock.specs.Marking.{marked};
+ghost use Rattle.account_lock.specs.Settlement.{IsKept, IsSettled, IsFault};
+
+use crate::calls::call_differs;
+use crate::marks::blank_marks;
+use crate::receipts::{receipt_differs, receipt_missing};
+use crate::{Bell, Desk, SettleFault};
+use account_book::Book;
+use call_model::Stats;
+use std::alloc::Global;
+use std::sync::ledger::Ledger;
+use usage_ledger::{Keep, Tally};
+
+/// A settled account: what was counted is what its book says.
+#[derive(Debug, Drop)]
+pub struct Settled {
+    /// The book, with its history.
+    pub book: Book,
+    /// The counts of the book.
+    pub stats: Stats,
+}
+
+/// Whether the tallies have all parts.
+fn all_parts<K: Keep, C: Ledger, A: Ledger, T: Ledger, F: Ledger>(
+    tallies: &[Tally<K, C, A, T, F>],
+) -> bool
+    ensures { result ≡ (parts_in tallies.now == 2 ^ 32) }
+{
+    let mut sum: u64 = 0;
+    for tally in tallies {
+        sum = sum.saturating_add(tally.parts());
+    }
+    sum == 1 << 32
+}
+
+/// All shares in one tally; none where there is no tally.
+fn gather<K: Keep, C: Ledger, A: Ledger, T: Ledger, F: Ledger>(
+    tallies: Vec<Tally<K, C, A, T, F>>,
+) -> Option<Tally<K, C, A, T, F>>
+    ensures some { IfSome result (λ tally. (tally.held.parts ≡ parts_in tallies.items) × (tally.held.counts ≡ counts_in tallies.items)) }
+    ensures none { IfNone result (parts_in tallies.items ≡ 0) }
+{
+    let mut tallies = tallies;
+    let mut all = tallies.pop()?;
+    while let Some(tally) = tallies.pop() {
+        all.absorb(tally);
+    }
+    Some(all)
+}
+
+/// The first fault of the receipts and calls, in the order in which the faults are declared. All
+/// marks are blank.
+fn compare<K: Keep, C: Ledger, A: Ledger, T: Ledger, F: Ledger>(
+    book: &Book,
+    tallies: &[Tally<K, C, A, T, F>],
+    receipts: Vec<bool>,
+    calls: Vec<bool>,
+) -> Option<SettleFault>
+    requires parts { parts_in tallies.now ≡ 2 ^ 32 }
+    requires receipts { (vec_len receipts ≡ length book.now.history) × ((t : ℕ) → marked t receipts.items ≡ 0) }
+    requires calls { (vec_len calls ≡ length book.now.history) × ((t : ℕ) → marked t calls.items ≡ 0) }
+    ensures none { IfNone result (IsKept K.ALL book.now.history tallies.now) }
+    ensures some { IfSome result (λ fault. IsFault K.ALL fault book.now.history tallies.now) }
+{
+    if let Some(ticket) = receipt_differs(book, tallies) {
+        return Some(SettleFault::ReceiptDiffers { ticket });
+    }
+    if let Some(ticket) = receipt_missing(book, receipts, tallies, K::ALL) {
+        return Some(SettleFault::ReceiptMissing { ticket });
+    }
+    if let Some(ticket) = call_differs(book, calls, tallies, K::ALL) {
+        return Some(SettleFault::CallDiffers { ticket });
+    }
+    None
+}
+
+/// The first fault of a settlement. All memory is asked for before the first comparison.
+fn first_fault<K: Keep, C: Ledger, A: Ledger, T: Ledger, F: Ledger>(
+    alloc: Global,
+    book: &Book,
+    tallies: &[Tally<K, C, A, T, F>],
+) -> Option<SettleFault>
+    ensures none { IfNone result ((parts_in tallies.now ≡ 2 ^ 32) × IsKept K.ALL book.now.history tallies.now) }
+    ensures some { IfSome result (λ fault. IsFault K.ALL fault book.now.history tallies.now) }
+{
+    if !all_parts(tallies) {
+        return Some(SettleFault::TallyMissing);
+    }
+    let entries = book.len() as usize;
+    let Ok(receipts) = blank_marks(alloc, entries) else {
+        return Some(SettleFault::OutOfMemory);
+    };
+    let Ok(calls) = blank_marks(alloc, entries) else {
+        return Some(SettleFault::OutOfMemory);
+    };
+    compare(book, tallies, receipts, calls)
+}
+
+impl<B: Bell, C: Ledger, A: Ledger, T: Ledger, F: Ledger> Desk<B, C, A, T, F> {
+    /// Adds the shares of all tallies up, and compares what they keep with the history. The time is
+    /// that of one look at each receipt, call and entry.
+    ///
+    /// # Errors
+    /// The first `SettleFault` that holds, in the order in which they are declared; desk and tallies
+    /// are then gone.
+    pub fn settle<K: Keep>(self, tallies: Vec<Tally<K, C, A, T, F>>) -> Result<Settled, SettleFault>
+        ensures book { IfOk result (λ settled. (settled.book ≡ self.book) × (settled.stats ≡ stats self.book.config self.book.history)) }
+        ensures settled { IfOk result (λ settled. IsSettled K.ALL self.book.history tallies.items) }
+        ensures fault { IfErr result (λ fault. IsFault K.ALL fault self.book.history tallies.items) }
+    {
+        if let Some(fault) = first_fault(self.alloc, &self.book, &tallies) {
+            return Err(fault);
+        }
+        let Some(all) = gather(tallies) else {
+            return Err(SettleFault::TallyMissing);
+        };
+        let mut all = all;
+        let stats = self.book.stats();
+        let Desk { book, totals, .. } = self;
+        let mut totals = totals;
+        totals.audit(&mut all);
+        Ok(Settled { book, stats })
+    }
+}

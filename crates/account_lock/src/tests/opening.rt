@@ -1,0 +1,77 @@
+//! A new account, from its configuration on.
+
+ghost use Rattle.std.specs.Prelude.{◌≡◌, ◌^◌};
+
+use super::ALL_PARTS;
+use super::calls::{Numbered, checked};
+use super::desks::only;
+use super::rows::ONE;
+use crate::{Account, SettleFault, Setup};
+use account_book::{Life, OpenFault};
+use arn_ids::Checked;
+use std::alloc::Global;
+use std::marker::Brand;
+use std::process::Abort;
+use std::sync::Wait;
+use std::sync::ledger::{Blank, Ledger};
+use usage_ledger::KeepAll;
+
+/// Opens an account, and settles it at once.
+fn open<S: Setup, C: Ledger, A: Ledger, T: Ledger, F: Ledger>(
+    rt: &(impl Wait + Abort),
+    alloc: Global,
+    config: Checked,
+    max_entries: u64,
+    calls: Blank,
+    admitted: Blank,
+    throttled: Blank,
+    failed: Blank,
+) -> Result<(), OpenFault>
+    requires configured { config ≡ S.config }
+    requires calls { (calls.name ≡ C.name) × (calls.parts ≡ C.parts) × (C.parts ≡ 2 ^ 32) }
+    requires admitted { (admitted.name ≡ A.name) × (admitted.parts ≡ A.parts) × (A.parts ≡ 2 ^ 32) }
+    requires throttled { (throttled.name ≡ T.name) × (throttled.parts ≡ T.parts) × (T.parts ≡ 2 ^ 32) }
+    requires failed { (failed.name ≡ F.name) × (failed.parts ≡ F.parts) × (F.parts ≡ 2 ^ 32) }
+{
+    let (account, tally) = Account::<S, Numbered, C, A, T, F>::open::<KeepAll>(
+        alloc,
+        config,
+        0,
+        max_entries,
+        calls,
+        admitted,
+        throttled,
+        failed,
+    )?;
+    assert_eq!(rt; tally.parts(), ALL_PARTS);
+    assert_eq!(rt; account.stats(rt).entries, 0);
+    assert_eq!(rt; account.life(rt), Life::Open);
+    match account.settle(only(rt, alloc, tally)) {
+        Ok(settled) => {
+            assert_eq!(rt; settled.book.len(), 0);
+            Ok(())
+        }
+        Err(fault) => {
+            assert_eq!(rt; fault, SettleFault::OutOfMemory);
+            Err(OpenFault::OutOfMemory)
+        }
+    }
+}
+
+/// The same with the function `f` of one environment.
+pub(super) fn opens(
+    rt: &(impl Wait + Abort),
+    alloc: Global,
+    max_entries: u64,
+) -> Result<(), OpenFault> {
+    open::<Brand, Brand, Brand, Brand, Brand>(
+        rt,
+        alloc,
+        checked(rt, alloc, ONE),
+        max_entries,
+        Blank::new(ALL_PARTS),
+        Blank::new(ALL_PARTS),
+        Blank::new(ALL_PARTS),
+        Blank::new(ALL_PARTS),
+    )
+}

@@ -1,7 +1,0 @@
-use Rattle.http_front.specs.Routes.{with_route}
-use Rattle.http_front.proofs.RouteLemmas.{inserted}
-use Rattle.http_front.proofs.routes.add.Goals as goal
-
-pub returns : goal.returns
-unfolding with_route
-returns g c = inserted _ _ _ _ _ c.insert.ensures

@@ -1,0 +1,245 @@
+-- A call that is decided on is within the limits of the configuration, and a function that is shown is there.
+use Rattle.std.proofs.Common.{◌≡◌, ℕ, ◌≤◌, Bool, true, false, cond, nat_lt, List, length, codes, Option, Some, None, Result, Ok, Err, refl}
+use Rattle.std.specs.Result.{IfOk}
+use Rattle.http.specs.Uri.{uri_path}
+use Rattle.http.specs.declared.request.Parts.{Parts}
+use Rattle.arn_ids.specs.Words.{is_label}
+use Rattle.arn_ids.specs.Environments.{function_of}
+use Rattle.arn_ids.specs.declared.config.Config.{Config}
+use Rattle.call_model.specs.declared.call.Call.{Call}
+use Rattle.call_model.specs.declared.call.Call.TheVariants as call
+use Rattle.lambda_wire.specs.Requests.{read_payload, read_count, read_events}
+use Rattle.lambda_wire.specs.declared.request_reader.Events.{Events}
+use Rattle.lambda_wire.specs.declared.fault.WireFault.{WireFault}
+use Rattle.lambda_wire.specs.declared.fault.WireFault.TheVariants as wire
+use Rattle.script.specs.Numbers.{greatest_reservation}
+use Rattle.script.specs.TextFields.{is_body}
+use Rattle.script.specs.Limits.{IsEnv, IsFunction, IsCount, IsTrace, IsWithin}
+use Rattle.long_poll.specs.Decisions.{IsAllowed}
+use Rattle.long_poll.specs.declared.decide.Decision.{Decision}
+use Rattle.long_poll.specs.declared.decide.Decision.TheVariants.{Submit, Show}
+use Rattle.long_poll.specs.declared.decide.Shown.TheVariants as shown
+use Rattle.http_routes.specs.Routes.{environment_rows, account_rows, route_in, is_environment_method, is_account_method, is_put}
+use Rattle.http_routes.specs.Paths.{name_of, qualifier_of}
+use Rattle.http_routes.specs.Heads.{header, extension_name, trace_of, asks_for_account, is_synchronous}
+use Rattle.http_routes.specs.Identifiers.{request_of, extension_of}
+use Rattle.http_routes.specs.Names.{invoked, reserved}
+use Rattle.http_routes.specs.Refusals.{not_found, wrong_method, wrong_request, unknown_extension, missing_header, too_large, unreadable_registration, wrong_event, malformed_name, unknown_function, wrong_invocation_type, payload_too_large, unreadable_payload, unreadable_reservation}
+use Rattle.http_routes.specs.EnvironmentDecisions.{submitted, response, failure, registered, register, ext_next, ext_report, has_error_type, on_environment_route, at_environment, environment_decision}
+use Rattle.http_routes.specs.AccountDecisions.{about, by_payload, invoke, reserve, set_reservation, show_reservation, environment_of, with_method, spindown, at_account, account_decision}
+use Rattle.http_routes.specs.Decisions.{Served, IsPortOf, decision_on, decision}
+use Rattle.http_routes.specs.declared.names.Target.{Target}
+use Rattle.http_routes.specs.declared.names.Target.TheVariants as target
+use Rattle.http_routes.specs.declared.routes.EnvironmentRoute.{EnvironmentRoute}
+use Rattle.http_routes.specs.declared.routes.EnvironmentRoute.TheVariants as environment
+use Rattle.http_routes.specs.declared.routes.AccountRoute.{AccountRoute}
+use Rattle.http_routes.specs.declared.routes.AccountRoute.TheVariants as account
+use Rattle.http_routes.specs.declared.side.Port.{Port}
+use Rattle.http_routes.specs.declared.side.Port.TheVariants as port
+use Rattle.http_routes.proofs.Within.{Gives, Reads, environment_within, IsTarget, invoked_within, reserved_within, request_within, extension_within, that_passes, trace_within, short, payload_within, reservation_within}
+
+-- refusals need nothing
+
+not_found-allowed : (config : Config) → IsAllowed config not_found
+unfolding not_found
+not_found-allowed config = tt
+
+wrong_method-allowed : (config : Config) → IsAllowed config wrong_method
+unfolding wrong_method
+wrong_method-allowed config = tt
+
+wrong_request-allowed : (config : Config) → IsAllowed config wrong_request
+unfolding wrong_request
+wrong_request-allowed config = tt
+
+unknown_extension-allowed : (config : Config) → IsAllowed config unknown_extension
+unfolding unknown_extension
+unknown_extension-allowed config = tt
+
+missing_header-allowed : (config : Config) → IsAllowed config missing_header
+unfolding missing_header
+missing_header-allowed config = tt
+
+too_large-allowed : (config : Config) → IsAllowed config too_large
+unfolding too_large
+too_large-allowed config = tt
+
+unreadable_registration-allowed : (config : Config) → IsAllowed config unreadable_registration
+unfolding unreadable_registration
+unreadable_registration-allowed config = tt
+
+wrong_event-allowed : (config : Config) → IsAllowed config wrong_event
+unfolding wrong_event
+wrong_event-allowed config = tt
+
+malformed_name-allowed : (config : Config) → IsAllowed config malformed_name
+unfolding malformed_name
+malformed_name-allowed config = tt
+
+unknown_function-allowed : (config : Config) → IsAllowed config unknown_function
+unfolding unknown_function
+unknown_function-allowed config = tt
+
+wrong_invocation_type-allowed : (config : Config) → IsAllowed config wrong_invocation_type
+unfolding wrong_invocation_type
+wrong_invocation_type-allowed config = tt
+
+payload_too_large-allowed : (config : Config) → IsAllowed config payload_too_large
+unfolding payload_too_large
+payload_too_large-allowed config = tt
+
+unreadable_payload-allowed : (config : Config) → IsAllowed config unreadable_payload
+unfolding unreadable_payload
+unreadable_payload-allowed config = tt
+
+unreadable_reservation-allowed : (config : Config) → IsAllowed config unreadable_reservation
+unfolding unreadable_reservation
+unreadable_reservation-allowed config = tt
+
+-- a decision by a test
+decided : (config : Config) (b : Bool) (x y : Decision) → IsAllowed config x → IsAllowed config y → IsAllowed config (cond b x y)
+decided config true x y h k = h
+decided config false x y h k = k
+
+-- by whether the body is too long
+by_length : (config : Config) (body : List ℕ) (x y : Decision) → IsAllowed config x → (is_body body ≡ true → IsAllowed config y) → IsAllowed config (cond (nat_lt 6291456 (length body)) x y)
+by_length config body x y h k = go (nat_lt 6291456 (length body)) refl
+  where
+    go : (b : Bool) → nat_lt 6291456 (length body) ≡ b → IsAllowed config (cond b x y)
+    go true e = h
+    go false e = k (short (length body) e)
+
+-- the environments' ports
+
+submitted-allowed : (config : Config) (body : List ℕ) (made : Call) → (is_body body ≡ true → IsWithin config made) → IsAllowed config (submitted body made)
+submitted-allowed config body made h = by_length config body too_large (Submit made) (too_large-allowed config) h
+
+response-allowed : (config : Config) (e : ℕ) (body : List ℕ) (o : Option ℕ) → IsEnv config e → Gives o IsCount → IsAllowed config (response e body o)
+response-allowed config e body None env h = wrong_request-allowed config
+response-allowed config e body (Some id) env h = go (nat_lt 6291456 (length body)) refl
+  where
+    go : (b : Bool) → nat_lt 6291456 (length body) ≡ b → IsAllowed config (Submit (cond b (call.ResponseTooLarge e id) (call.Response e id body)))
+    go true l = (env, h.holds)
+    go false l = (env, h.holds, short (length body) l)
+
+failure-allowed : (config : Config) (e : ℕ) (body : List ℕ) (o : Option ℕ) → IsEnv config e → Gives o IsCount → IsAllowed config (failure e body o)
+failure-allowed config e body None env h = wrong_request-allowed config
+failure-allowed config e body (Some id) env h = submitted-allowed config body (call.Failure e id body) (λ b. (env, h.holds, b))
+
+registered-allowed : (config : Config) (e : ℕ) (name : List ℕ) (account : Bool) (r : Result Events WireFault) → IsEnv config e → is_label name ≡ true → IsAllowed config (registered e name account r)
+registered-allowed config e name account (Ok events) env h = (env, h)
+registered-allowed config e name account (Err wire.TooLong) env h = too_large-allowed config
+registered-allowed config e name account (Err wire.NotJson) env h = unreadable_registration-allowed config
+registered-allowed config e name account (Err wire.BadShape) env h = unreadable_registration-allowed config
+registered-allowed config e name account (Err wire.BadEvent) env h = wrong_event-allowed config
+registered-allowed config e name account (Err wire.OutOfMemory) env h = unreadable_registration-allowed config
+
+register-allowed : (config : Config) (e : ℕ) (account : Bool) (body : List ℕ) (o : Option (List ℕ)) → IsEnv config e → Gives o (λ name. is_label name ≡ true) → IsAllowed config (register e account body o)
+register-allowed config e account body None env h = missing_header-allowed config
+register-allowed config e account body (Some name) env h = registered-allowed config e name account (read_events body) env h.holds
+
+ext_next-allowed : (config : Config) (e : ℕ) (body : List ℕ) (o : Option ℕ) → IsEnv config e → Gives o IsCount → IsAllowed config (ext_next e body o)
+ext_next-allowed config e body None env h = unknown_extension-allowed config
+ext_next-allowed config e body (Some x) env h = submitted-allowed config body (call.ExtNext e x) (λ b. (env, h.holds))
+
+ext_report-allowed : (config : Config) (has_type : Bool) (body : List ℕ) (made : ℕ → Call) (o : Option ℕ)
+    → ((x : ℕ) → IsCount x → is_body body ≡ true → IsWithin config (made x)) → Gives o IsCount → IsAllowed config (ext_report has_type body made o)
+ext_report-allowed config has_type body made None within h = unknown_extension-allowed config
+ext_report-allowed config has_type body made (Some x) within h =
+    decided config has_type (submitted body (made x)) missing_header (submitted-allowed config body (made x) (within x h.holds)) (missing_header-allowed config)
+
+on_environment_route-allowed : (config : Config) (salt e : ℕ) (p : Parts) (body : List ℕ) (route : EnvironmentRoute) → IsEnv config e → IsAllowed config (on_environment_route config salt e p body route)
+unfolding on_environment_route
+on_environment_route-allowed config salt e p body environment.Next env = submitted-allowed config body (call.RuntimeNext e) (λ b. env)
+on_environment_route-allowed config salt e p body environment.Response env =
+    response-allowed config e body (request_of salt (function_of config e) p) env (request_within salt (function_of config e) p)
+on_environment_route-allowed config salt e p body environment.Failure env =
+    failure-allowed config e body (request_of salt (function_of config e) p) env (request_within salt (function_of config e) p)
+on_environment_route-allowed config salt e p body environment.InitFailure env = submitted-allowed config body (call.InitFailure e body) (λ b. (env, b))
+on_environment_route-allowed config salt e p body environment.Register env =
+    register-allowed config e (asks_for_account p) body (extension_name p) env (that_passes is_label (header (codes "lambda-extension-name") p))
+on_environment_route-allowed config salt e p body environment.ExtNext env = ext_next-allowed config e body (extension_of salt e p) env (extension_within salt e p)
+on_environment_route-allowed config salt e p body environment.ExtInitFailure env =
+    ext_report-allowed config (has_error_type p) body (λ x. call.ExtInitFailure e x body) (extension_of salt e p) (λ x h b. (env, h, b)) (extension_within salt e p)
+on_environment_route-allowed config salt e p body environment.ExtExitFailure env =
+    ext_report-allowed config (has_error_type p) body (λ x. call.ExtExitFailure e x body) (extension_of salt e p) (λ x h b. (env, h, b)) (extension_within salt e p)
+
+at_environment-allowed : (config : Config) (salt e : ℕ) (p : Parts) (body : List ℕ) (o : Option EnvironmentRoute) → IsEnv config e → IsAllowed config (at_environment config salt e p body o)
+at_environment-allowed config salt e p body None env = not_found-allowed config
+at_environment-allowed config salt e p body (Some route) env =
+    decided config (is_environment_method route p.method) (on_environment_route config salt e p body route) wrong_method
+    (on_environment_route-allowed config salt e p body route env) (wrong_method-allowed config)
+
+environment_decision-allowed : (config : Config) (salt e : ℕ) (p : Parts) (body : List ℕ) → IsEnv config e → IsAllowed config (environment_decision config salt e p body)
+unfolding environment_decision
+environment_decision-allowed config salt e p body env = at_environment-allowed config salt e p body (route_in environment_rows (uri_path p.uri)) env
+
+-- the account's port
+
+by_payload-allowed : (config : Config) (f : ℕ) (qualified : Bool) (trace : Option (List ℕ)) (r : Result (List ℕ) WireFault)
+    → IsFunction config f → IsTrace trace → Reads r (λ payload. is_body payload ≡ true) → IsAllowed config (by_payload f qualified trace r)
+by_payload-allowed config f qualified trace (Ok payload) is_f is_t h = (is_f, is_t, h.holds)
+by_payload-allowed config f qualified trace (Err wire.TooLong) is_f is_t h = payload_too_large-allowed config
+by_payload-allowed config f qualified trace (Err wire.NotJson) is_f is_t h = unreadable_payload-allowed config
+by_payload-allowed config f qualified trace (Err wire.BadShape) is_f is_t h = unreadable_payload-allowed config
+by_payload-allowed config f qualified trace (Err wire.BadEvent) is_f is_t h = unreadable_payload-allowed config
+by_payload-allowed config f qualified trace (Err wire.OutOfMemory) is_f is_t h = unreadable_payload-allowed config
+
+invoke-allowed : (config : Config) (p : Parts) (body : List ℕ) (f : ℕ) (qualified : Bool) → IsFunction config f → IsAllowed config (invoke p body f qualified)
+invoke-allowed config p body f qualified is_f =
+    decided config (is_synchronous p) (by_payload f qualified (trace_of p) (read_payload body)) wrong_invocation_type
+    (by_payload-allowed config f qualified (trace_of p) (read_payload body) is_f (trace_within p) (payload_within body)) (wrong_invocation_type-allowed config)
+
+reserve-allowed : (config : Config) (f : ℕ) (r : Result ℕ WireFault) → IsFunction config f → Reads r (λ n. n ≤ greatest_reservation) → IsAllowed config (reserve f r)
+reserve-allowed config f (Ok count) is_f h = (is_f, h.holds)
+reserve-allowed config f (Err wire.TooLong) is_f h = payload_too_large-allowed config
+reserve-allowed config f (Err wire.NotJson) is_f h = unreadable_reservation-allowed config
+reserve-allowed config f (Err wire.BadShape) is_f h = unreadable_reservation-allowed config
+reserve-allowed config f (Err wire.BadEvent) is_f h = unreadable_reservation-allowed config
+reserve-allowed config f (Err wire.OutOfMemory) is_f h = unreadable_reservation-allowed config
+
+set_reservation-allowed : (config : Config) (puts : Bool) (body : List ℕ) (f : ℕ) (qualified : Bool) → IsFunction config f → IsAllowed config (set_reservation puts body f qualified)
+set_reservation-allowed config puts body f qualified is_f =
+    decided config puts (reserve f (read_count body)) (Submit (call.Reserve f None)) (reserve-allowed config f (read_count body) is_f (reservation_within body)) (is_f, tt)
+
+about-allowed : (config : Config) (t : Target) (then_do : ℕ → Bool → Decision) → IsTarget config t → ((f : ℕ) (q : Bool) → IsFunction config f → IsAllowed config (then_do f q)) → IsAllowed config (about t then_do)
+unfolding IsTarget
+about-allowed config target.Malformed then_do h k = malformed_name-allowed config
+about-allowed config target.Unknown then_do h k = unknown_function-allowed config
+about-allowed config (target.Function f q) then_do h k = k f q h
+
+with_method-allowed : (config : Config) (route : AccountRoute) (p : Parts) (d : Decision) → IsAllowed config d → IsAllowed config (with_method route p d)
+with_method-allowed config route p d h = decided config (is_account_method route p.method) d wrong_method h (wrong_method-allowed config)
+
+spindown-allowed : (config : Config) (p : Parts) (o : Option ℕ) → Gives o (IsEnv config) → IsAllowed config (spindown p o)
+spindown-allowed config p None h = not_found-allowed config
+spindown-allowed config p (Some e) h = with_method-allowed config account.Spindown p (Submit (call.Spindown e)) h.holds
+
+at_account-allowed : (config : Config) (p : Parts) (body : List ℕ) (o : Option AccountRoute) → IsAllowed config (at_account config p body o)
+at_account-allowed config p body None = not_found-allowed config
+at_account-allowed config p body (Some account.Invoke) =
+    with_method-allowed config account.Invoke p _
+    (about-allowed config (invoked config (name_of p) (qualifier_of p)) (invoke p body) (invoked_within config (name_of p) (qualifier_of p)) (invoke-allowed config p body))
+at_account-allowed config p body (Some account.Concurrency) =
+    with_method-allowed config account.Concurrency p _
+    (about-allowed config (reserved config (name_of p)) (set_reservation (is_put p.method) body) (reserved_within config (name_of p)) (set_reservation-allowed config (is_put p.method) body))
+at_account-allowed config p body (Some account.ReadConcurrency) =
+    with_method-allowed config account.ReadConcurrency p _
+    (about-allowed config (reserved config (name_of p)) show_reservation (reserved_within config (name_of p)) (λ f q is_f. is_f))
+at_account-allowed config p body (Some account.Stop) = with_method-allowed config account.Stop p (Submit call.Stop) tt
+at_account-allowed config p body (Some account.Spindown) = spindown-allowed config p (environment_of config p) (environment_within config p)
+at_account-allowed config p body (Some account.Stats) = with_method-allowed config account.Stats p (Show shown.Stats) tt
+at_account-allowed config p body (Some account.History) = with_method-allowed config account.History p (Show shown.History) tt
+
+account_decision-allowed : (config : Config) (p : Parts) (body : List ℕ) → IsAllowed config (account_decision config p body)
+unfolding account_decision
+account_decision-allowed config p body = at_account-allowed config p body (route_in account_rows (uri_path p.uri))
+
+decision_on-allowed : (config : Config) (salt : ℕ) (of : Port) (p : Parts) (body : List ℕ) → IsPortOf config of → IsAllowed config (decision_on config salt of p body)
+decision_on-allowed config salt port.Account p body h = account_decision-allowed config p body
+decision_on-allowed config salt (port.Environment e) p body env = environment_decision-allowed config salt e p body env
+
+-- What is decided on a port of the configuration, its account can carry out.
+pub as_decided : {E : Type 0} (r : Result Decision E) (side : Served) (p : Parts) (body : List ℕ) → IsPortOf side.config side.port → IfOk r (λ d. d ≡ decision side p body) → IfOk r (IsAllowed side.config)
+as_decided (Ok d) side p body h e = rw e (decision_on-allowed side.config side.salt side.port p body h)
+as_decided (Err error) side p body h e = tt

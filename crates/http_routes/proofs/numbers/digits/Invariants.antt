@@ -1,0 +1,12 @@
+use Rattle.std.proofs.Common.{◌≡◌, ◌≤◌, length}
+use Rattle.script.specs.Numbers.{digits_in}
+use Rattle.http_routes.proofs.numbers.digits.Given as goal
+
+abbrev pub invariant-loop-first : goal.invariant-loop-first
+invariant-loop-first l = record {
+  small : l.number ≤ l.fn.most;
+  goes_on : digits_in l.fn.most l.number l.rest ≡ digits_in l.fn.most 0 l.fn.text;
+}
+
+abbrev pub decreases-loop-first : goal.decreases-loop-first
+decreases-loop-first l = length l.rest

@@ -1,0 +1,87 @@
+-- What is done with a request on the account's port (Lambda API, and this service's own routes).
+-- It is refused by the first of these that holds: its path, its method, the function that it names, a header, its body.
+use Rattle.std.specs.Prelude.{ℕ, Bool, if◌then◌else◌, List, Option, Some, None, Result, Ok, Err, option_and_then}
+use Rattle.http.specs.Uri.{uri_path}
+use Rattle.http.specs.declared.request.Parts.{Parts}
+use Rattle.arn_ids.specs.declared.config.Config.{Config}
+use Rattle.script.specs.Lines.{env_in}
+use Rattle.call_model.specs.declared.call.Call.TheVariants as call
+use Rattle.lambda_wire.specs.Requests.{read_payload, read_count}
+use Rattle.lambda_wire.specs.declared.fault.WireFault.{WireFault}
+use Rattle.lambda_wire.specs.declared.fault.WireFault.TheVariants.{TooLong, NotJson, BadShape, BadEvent, OutOfMemory}
+use Rattle.long_poll.specs.declared.decide.Decision.{Decision}
+use Rattle.long_poll.specs.declared.decide.Decision.TheVariants.{Submit, Show}
+use Rattle.long_poll.specs.declared.decide.Shown.TheVariants as shown
+use Rattle.http_routes.specs.Routes.{account_rows, route_in, is_account_method, is_put}
+use Rattle.http_routes.specs.Paths.{path_part, name_of, qualifier_of}
+use Rattle.http_routes.specs.Heads.{trace_of, is_synchronous}
+use Rattle.http_routes.specs.Names.{invoked, reserved}
+use Rattle.http_routes.specs.Refusals.{not_found, wrong_method, malformed_name, unknown_function, wrong_invocation_type, payload_too_large, unreadable_payload, unreadable_reservation}
+use Rattle.http_routes.specs.declared.names.Target.{Target}
+use Rattle.http_routes.specs.declared.names.Target.TheVariants.{Malformed, Unknown, Function}
+use Rattle.http_routes.specs.declared.routes.AccountRoute.{AccountRoute}
+use Rattle.http_routes.specs.declared.routes.AccountRoute.TheVariants.{Invoke, Concurrency, ReadConcurrency, Stop, Spindown, Stats, History}
+
+-- what is done about a function
+abbrev pub about : Target → (ℕ → Bool → Decision) → Decision
+about Malformed then_do = malformed_name
+about Unknown then_do = unknown_function
+about (Function f qualified) then_do = then_do f qualified
+
+-- Invoke, with the payload that its body is; no reading of a body is a want of memory
+abbrev pub by_payload : ℕ → Bool → Option (List ℕ) → Result (List ℕ) WireFault → Decision
+by_payload f qualified trace (Ok payload) = Submit (call.Invoke f qualified trace payload)
+by_payload f qualified trace (Err TooLong) = payload_too_large
+by_payload f qualified trace (Err NotJson) = unreadable_payload
+by_payload f qualified trace (Err BadShape) = unreadable_payload
+by_payload f qualified trace (Err BadEvent) = unreadable_payload
+by_payload f qualified trace (Err OutOfMemory) = unreadable_payload
+
+-- Invoke of a function
+abbrev pub invoke : Parts → List ℕ → ℕ → Bool → Decision
+invoke p body f qualified = if is_synchronous p then by_payload f qualified (trace_of p) (read_payload body) else wrong_invocation_type
+
+-- PutFunctionConcurrency, with the count that its body asks for
+abbrev pub reserve : ℕ → Result ℕ WireFault → Decision
+reserve f (Ok count) = Submit (call.Reserve f (Some count))
+reserve f (Err TooLong) = payload_too_large
+reserve f (Err NotJson) = unreadable_reservation
+reserve f (Err BadShape) = unreadable_reservation
+reserve f (Err BadEvent) = unreadable_reservation
+reserve f (Err OutOfMemory) = unreadable_reservation
+
+-- PutFunctionConcurrency, or else DeleteFunctionConcurrency, whose body isn't looked at
+abbrev pub set_reservation : Bool → List ℕ → ℕ → Bool → Decision
+set_reservation puts body f qualified = if puts then reserve f (read_count body) else Submit (call.Reserve f None)
+
+-- GetFunctionConcurrency, whose body isn't looked at
+abbrev pub show_reservation : ℕ → Bool → Decision
+show_reservation f qualified = Show (shown.Reservation f)
+
+-- the environment that a path names, behind three slashes: a decimal number without leading zeros
+abbrev pub environment_of : Config → Parts → Option ℕ
+environment_of config p = option_and_then (env_in config) (path_part 3 (uri_path p.uri))
+
+-- a request with a method that its route has
+abbrev pub with_method : AccountRoute → Parts → Decision → Decision
+with_method route p decision = if is_account_method route p.method then decision else wrong_method
+
+-- an environment is taken down; one that isn't there is no path
+abbrev pub spindown : Parts → Option ℕ → Decision
+spindown p None = not_found
+spindown p (Some e) = with_method Spindown p (Submit (call.Spindown e))
+
+-- What is done on a route. The bodies of this service's own routes aren't looked at.
+abbrev pub at_account : Config → Parts → List ℕ → Option AccountRoute → Decision
+at_account config p body None = not_found
+at_account config p body (Some Invoke) = with_method Invoke p (about (invoked config (name_of p) (qualifier_of p)) (invoke p body))
+at_account config p body (Some Concurrency) = with_method Concurrency p (about (reserved config (name_of p)) (set_reservation (is_put p.method) body))
+at_account config p body (Some ReadConcurrency) = with_method ReadConcurrency p (about (reserved config (name_of p)) show_reservation)
+at_account config p body (Some Stop) = with_method Stop p (Submit call.Stop)
+at_account config p body (Some Spindown) = spindown p (environment_of config p)
+at_account config p body (Some Stats) = with_method Stats p (Show shown.Stats)
+at_account config p body (Some History) = with_method History p (Show shown.History)
+
+-- What is done with a request on the account's port.
+unfoldable pub account_decision : Config → Parts → List ℕ → Decision
+account_decision config p body = at_account config p body (route_in account_rows (uri_path p.uri))

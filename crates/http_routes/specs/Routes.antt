@@ -1,0 +1,85 @@
+-- The routes of the two kinds of ports, the methods of each, and the one that a path matches.
+use Rattle.std.specs.Prelude.{ℕ, Bool, ◌||◌, List, [], codes, bytes_eq, Option, Result, Ok, Err, option_map}
+use Rattle.matchit.specs.Rows.{RowsOf}
+use Rattle.matchit.specs.Router.{RouteOf, route_from}
+use Rattle.matchit.specs.Order.{placed}
+use Rattle.matchit.specs.Route.{Scan, parse_route}
+use Rattle.matchit.specs.Seek.{first}
+use Rattle.matchit.specs.declared.error.InsertError.{InsertError}
+use Rattle.http_routes.specs.declared.routes.EnvironmentRoute.{EnvironmentRoute}
+use Rattle.http_routes.specs.declared.routes.EnvironmentRoute.TheVariants.{Next, Response, Failure, InitFailure, Register, ExtNext, ExtInitFailure, ExtExitFailure}
+use Rattle.http_routes.specs.declared.routes.AccountRoute.{AccountRoute}
+use Rattle.http_routes.specs.declared.routes.AccountRoute.TheVariants.{Invoke, Concurrency, ReadConcurrency, Stop, Spindown, Stats, History}
+
+-- the rows of a router
+abbrev pub RowsFor : Type 0 → Type 0
+RowsFor R = RowsOf (RouteOf R)
+
+abbrev pub with_read : {R : Type 0} → Result Scan InsertError → R → RowsFor R → RowsFor R
+with_read (Ok s) route rows = placed (s.pattern, route_from s route) rows
+with_read (Err e) route rows = rows
+
+-- the rows with one more route
+unfoldable pub with_route : {R : Type 0} → List ℕ → R → RowsFor R → RowsFor R
+with_route text route rows = with_read (parse_route text) route rows
+
+-- An environment's port (Runtime API 2018-06-01, Extensions API 2020-01-01).
+unfoldable pub environment_rows : RowsFor EnvironmentRoute
+environment_rows =
+    with_route (codes "/2020-01-01/extension/exit/error") ExtExitFailure
+    (with_route (codes "/2020-01-01/extension/init/error") ExtInitFailure
+    (with_route (codes "/2020-01-01/extension/event/next") ExtNext
+    (with_route (codes "/2020-01-01/extension/register") Register
+    (with_route (codes "/2018-06-01/runtime/init/error") InitFailure
+    (with_route (codes "/2018-06-01/runtime/invocation/{id}/error") Failure
+    (with_route (codes "/2018-06-01/runtime/invocation/{id}/response") Response
+    (with_route (codes "/2018-06-01/runtime/invocation/next") Next [])))))))
+
+-- The account's port (Lambda API: Invoke, PutFunctionConcurrency, DeleteFunctionConcurrency, GetFunctionConcurrency), and
+-- under `/_local` what this service adds for its operator.
+unfoldable pub account_rows : RowsFor AccountRoute
+account_rows =
+    with_route (codes "/_local/history") History
+    (with_route (codes "/_local/stats") Stats
+    (with_route (codes "/_local/env/{n}/spindown") Spindown
+    (with_route (codes "/_local/stop") Stop
+    (with_route (codes "/2019-09-30/functions/{name}/concurrency") ReadConcurrency
+    (with_route (codes "/2017-10-31/functions/{name}/concurrency") Concurrency
+    (with_route (codes "/2015-03-31/functions/{name}/invocations") Invoke []))))))
+
+-- the route that a path matches
+abbrev pub route_in : {R : Type 0} → RowsFor R → List ℕ → Option R
+route_in rows path = option_map (λ r. r.value) (first rows path)
+
+abbrev pub is_get : List ℕ → Bool
+is_get method = bytes_eq method (codes "GET")
+
+abbrev pub is_post : List ℕ → Bool
+is_post method = bytes_eq method (codes "POST")
+
+abbrev pub is_put : List ℕ → Bool
+is_put method = bytes_eq method (codes "PUT")
+
+abbrev pub is_delete : List ℕ → Bool
+is_delete method = bytes_eq method (codes "DELETE")
+
+-- The methods of an environment's routes.
+abbrev pub is_environment_method : EnvironmentRoute → List ℕ → Bool
+is_environment_method Next = is_get
+is_environment_method Response = is_post
+is_environment_method Failure = is_post
+is_environment_method InitFailure = is_post
+is_environment_method Register = is_post
+is_environment_method ExtNext = is_get
+is_environment_method ExtInitFailure = is_post
+is_environment_method ExtExitFailure = is_post
+
+-- The methods of the account's routes.
+abbrev pub is_account_method : AccountRoute → List ℕ → Bool
+is_account_method Invoke = is_post
+is_account_method Concurrency = λ method. is_put method || is_delete method
+is_account_method ReadConcurrency = is_get
+is_account_method Stop = is_post
+is_account_method Spindown = is_post
+is_account_method Stats = is_get
+is_account_method History = is_get

@@ -1,0 +1,21 @@
+-- The routes that a side keeps are those of its port.
+use Rattle.std.specs.Prelude.{◌≡◌}
+use Rattle.http_routes.specs.Routes.{environment_rows, account_rows}
+use Rattle.http_routes.specs.declared.side.Port.{Port}
+use Rattle.http_routes.specs.declared.side.Port.TheVariants as port
+use Rattle.http_routes.specs.declared.side.Routes.{Routes}
+use Rattle.http_routes.specs.declared.side.Routes.TheVariants.{Account, Environment}
+
+-- whose port the routes are of
+abbrev pub port_of : Routes → Port
+port_of (Account router) = port.Account
+port_of (Environment e router) = port.Environment e
+
+-- they are the routes of that port
+abbrev pub AreWhole : Routes → Type 0
+AreWhole (Account router) = router ≡ account_rows
+AreWhole (Environment e router) = router ≡ environment_rows
+
+-- they are those of this port
+abbrev pub AreRoutesOf : Port → Routes → Type 0
+AreRoutesOf port routes = (port_of routes ≡ port) × AreWhole routes

@@ -1,0 +1,193 @@
+//! What is done with a request on the account's port.
+
+ghost use Rattle.std.specs.Prelude.{◌≡◌, Some, IfOk};
+ghost use Rattle.lambda_wire.specs.Requests.{read_count};
+ghost use Rattle.http_routes.specs.AccountDecisions as spec;
+ghost use Rattle.http_routes.specs.Names as names;
+ghost use Rattle.http_routes.specs.Paths as paths;
+ghost use Rattle.http_routes.specs.Routes.{account_rows, is_put};
+
+use crate::heads::{is_synchronous, trace};
+use crate::names::{Target, invoked, reserved};
+use crate::numbers::environment;
+use crate::path::path_part;
+use crate::refusals::{
+    malformed_name, not_found, payload_too_large, unknown_function, unreadable_payload,
+    unreadable_reservation, wrong_invocation_type, wrong_method,
+};
+use crate::routes::{AccountRoute, account_route};
+use arn_ids::{Checked, EnvNo, FnNo};
+use call_model::Call;
+use http::request::Parts;
+use lambda_wire::{WireFault, read_invoke_body, read_reservation};
+use long_poll::{Decision, Shown};
+use matchit::Router;
+use std::alloc::{AllocError, Global};
+
+/// Invoke of a function, with the payload that the body is.
+fn invoke(
+    alloc: Global,
+    parts: &Parts,
+    body: &[u8],
+    function: FnNo,
+    qualified: bool,
+) -> Result<Decision, AllocError>
+    ensures { IfOk result (λ d. d ≡ spec.invoke parts.now body.now function qualified) }
+{
+    if !is_synchronous(parts) {
+        return wrong_invocation_type(alloc);
+    }
+    match read_invoke_body(alloc, body) {
+        Ok(body) => Ok(Decision::Submit(Call::Invoke {
+            function,
+            qualified,
+            trace: trace(alloc, parts)?,
+            body,
+        })),
+        Err(WireFault::TooLong) => payload_too_large(alloc),
+        Err(WireFault::NotJson | WireFault::BadShape | WireFault::BadEvent) => {
+            unreadable_payload(alloc)
+        }
+        Err(WireFault::OutOfMemory) => Err(AllocError),
+    }
+}
+
+/// PutFunctionConcurrency, with the count that the body asks for.
+fn reserve(alloc: Global, body: &[u8], function: FnNo) -> Result<Decision, AllocError>
+    ensures { IfOk result (λ d. d ≡ spec.reserve function (read_count body.now)) }
+{
+    match read_reservation(alloc, body) {
+        Ok(count) => Ok(Decision::Submit(Call::Reserve {
+            function,
+            count: Some(count),
+        })),
+        Err(WireFault::TooLong) => payload_too_large(alloc),
+        Err(WireFault::NotJson | WireFault::BadShape | WireFault::BadEvent) => {
+            unreadable_reservation(alloc)
+        }
+        Err(WireFault::OutOfMemory) => Err(AllocError),
+    }
+}
+
+/// An Invoke.
+fn on_invoke(
+    alloc: Global,
+    config: &Checked,
+    parts: &Parts,
+    body: &[u8],
+) -> Result<Decision, AllocError>
+    ensures { IfOk result (λ d. d ≡ spec.about (names.invoked config.now (paths.name_of parts.now) (paths.qualifier_of parts.now)) (spec.invoke parts.now body.now)) }
+{
+    match invoked(alloc, config, parts)? {
+        Target::Malformed => malformed_name(alloc),
+        Target::Unknown => unknown_function(alloc),
+        Target::Function {
+            function,
+            qualified,
+        } => invoke(alloc, parts, body, function, qualified),
+    }
+}
+
+/// PutFunctionConcurrency, or else DeleteFunctionConcurrency, whose body isn't looked at.
+fn on_concurrency(
+    alloc: Global,
+    config: &Checked,
+    parts: &Parts,
+    body: &[u8],
+) -> Result<Decision, AllocError>
+    ensures { IfOk result (λ d. d ≡ spec.about (names.reserved config.now (paths.name_of parts.now)) (spec.set_reservation (is_put parts.now.method) body.now)) }
+{
+    match reserved(alloc, config, parts)? {
+        Target::Malformed => malformed_name(alloc),
+        Target::Unknown => unknown_function(alloc),
+        Target::Function { function, .. } => {
+            if parts.method.as_str() == "PUT" {
+                return reserve(alloc, body, function);
+            }
+            Ok(Decision::Submit(Call::Reserve {
+                function,
+                count: None,
+            }))
+        }
+    }
+}
+
+/// GetFunctionConcurrency, whose body isn't looked at.
+fn on_read_concurrency(
+    alloc: Global,
+    config: &Checked,
+    parts: &Parts,
+) -> Result<Decision, AllocError>
+    ensures { IfOk result (λ d. d ≡ spec.about (names.reserved config.now (paths.name_of parts.now)) spec.show_reservation) }
+{
+    match reserved(alloc, config, parts)? {
+        Target::Malformed => malformed_name(alloc),
+        Target::Unknown => unknown_function(alloc),
+        Target::Function { function, .. } => { Ok(Decision::Show(Shown::Reservation { function })) }
+    }
+}
+
+/// The environment that a path names.
+fn environment_of(config: &Checked, parts: &Parts) -> Option<EnvNo>
+    ensures { result ≡ spec.environment_of config.now parts.now }
+{
+    environment(config, path_part(parts.uri.path(), 3)?)
+}
+
+/// An environment is taken down; one that isn't there is no path.
+fn spindown(alloc: Global, config: &Checked, parts: &Parts) -> Result<Decision, AllocError>
+    ensures { IfOk result (λ d. d ≡ spec.spindown parts.now (spec.environment_of config.now parts.now)) }
+{
+    let Some(env) = environment_of(config, parts) else {
+        return not_found(alloc);
+    };
+    if !AccountRoute::Spindown.allows(parts.method.as_str()) {
+        return wrong_method(alloc);
+    }
+    Ok(Decision::Submit(Call::Spindown { env }))
+}
+
+/// What is done on a route. The bodies of this service's own routes aren't looked at.
+fn on_route(
+    alloc: Global,
+    config: &Checked,
+    parts: &Parts,
+    body: &[u8],
+    route: AccountRoute,
+) -> Result<Decision, AllocError>
+    ensures { IfOk result (λ d. d ≡ spec.at_account config.now parts.now body.now (Some route)) }
+{
+    if let AccountRoute::Spindown = route {
+        return spindown(alloc, config, parts);
+    }
+    if !route.allows(parts.method.as_str()) {
+        return wrong_method(alloc);
+    }
+    match route {
+        AccountRoute::Invoke => on_invoke(alloc, config, parts, body),
+        AccountRoute::Concurrency => on_concurrency(alloc, config, parts, body),
+        AccountRoute::ReadConcurrency => on_read_concurrency(alloc, config, parts),
+        AccountRoute::Stop => Ok(Decision::Submit(Call::Stop)),
+        AccountRoute::Spindown => unreachable!(),
+        AccountRoute::Stats => Ok(Decision::Show(Shown::Stats)),
+        AccountRoute::History => Ok(Decision::Show(Shown::History)),
+    }
+}
+
+/// What is done with a request on the account's port.
+#[tactic(auto, unfolding(crate::specs::AccountDecisions::account_decision))]
+pub(crate) fn account_decision(
+    alloc: Global,
+    router: &Router<AccountRoute>,
+    config: &Checked,
+    parts: &Parts,
+    body: &[u8],
+) -> Result<Decision, AllocError>
+    requires { router.now ≡ account_rows }
+    ensures { IfOk result (λ d. d ≡ spec.account_decision config.now parts.now body.now) }
+{
+    match account_route(router, parts.uri.path()) {
+        Some(route) => on_route(alloc, config, parts, body, route),
+        None => not_found(alloc),
+    }
+}

@@ -1,0 +1,243 @@
+//! What is done with a request on an environment's port.
+
+ghost use Rattle.std.specs.Prelude.{◌≡◌, IfOk};
+ghost use Rattle.script.specs.Limits.{IsEnv};
+ghost use Rattle.call_model.specs.declared.call.Call.TheVariants as calls;
+ghost use Rattle.http_routes.specs.EnvironmentDecisions as spec;
+ghost use Rattle.http_routes.specs.Routes.{environment_rows};
+
+use crate::heads::{asks_for_account, extension_name, has_error_type};
+use crate::identifiers::{extension_of, request_of};
+use crate::refusals::{
+    missing_header, not_found, too_large, unknown_extension, unreadable_registration, wrong_event,
+    wrong_method, wrong_request,
+};
+use crate::routes::{EnvironmentRoute, environment_route};
+use arn_ids::{Bytes, Checked, EnvNo, Text};
+use call_model::Call;
+use http::request::Parts;
+use lambda_wire::{WireFault, read_register};
+use long_poll::Decision;
+use matchit::Router;
+use std::alloc::{AllocError, Global};
+
+/// How many bytes the body of a request may have (Lambda quotas: invocation payload).
+const MAX_BYTES: usize = 6_291_456;
+
+fn is_too_long(body: &[u8]) -> bool
+    ensures { result ≡ spec.is_too_long body.now }
+{
+    body.len() > MAX_BYTES
+}
+
+fn copied(alloc: Global, body: &[u8]) -> Result<Bytes, AllocError>
+    ensures { IfOk result (λ bytes. bytes ≡ body.now) }
+{
+    Ok(Bytes::new(Vec::from_slice(alloc, body)?))
+}
+
+/// A call without bytes.
+fn submitted(alloc: Global, body: &[u8], call: Call) -> Result<Decision, AllocError>
+    ensures { IfOk result (λ d. d ≡ spec.submitted body.now call) }
+{
+    if is_too_long(body) {
+        return too_large(alloc);
+    }
+    Ok(Decision::Submit(call))
+}
+
+/// Invocation response.
+fn response(alloc: Global, env: EnvNo, body: &[u8], id: Option<u64>) -> Result<Decision, AllocError>
+    ensures { IfOk result (λ d. d ≡ spec.response env body.now id) }
+{
+    let Some(id) = id else {
+        return wrong_request(alloc);
+    };
+    if is_too_long(body) {
+        return Ok(Decision::Submit(Call::ResponseTooLarge { env, id }));
+    }
+    let body = copied(alloc, body)?;
+    Ok(Decision::Submit(Call::Response { env, id, body }))
+}
+
+/// Invocation error.
+fn failure(alloc: Global, env: EnvNo, body: &[u8], id: Option<u64>) -> Result<Decision, AllocError>
+    ensures { IfOk result (λ d. d ≡ spec.failure env body.now id) }
+{
+    let Some(id) = id else {
+        return wrong_request(alloc);
+    };
+    if is_too_long(body) {
+        return too_large(alloc);
+    }
+    let body = copied(alloc, body)?;
+    Ok(Decision::Submit(Call::Failure { env, id, body }))
+}
+
+/// Initialization error.
+fn init_failure(alloc: Global, env: EnvNo, body: &[u8]) -> Result<Decision, AllocError>
+    ensures { IfOk result (λ d. d ≡ spec.submitted body.now (calls.InitFailure env body.now)) }
+{
+    if is_too_long(body) {
+        return too_large(alloc);
+    }
+    let body = copied(alloc, body)?;
+    Ok(Decision::Submit(Call::InitFailure { env, body }))
+}
+
+/// An extension registers, with the events that its body asks for.
+fn register(
+    alloc: Global,
+    env: EnvNo,
+    account: bool,
+    body: &[u8],
+    name: Option<Text>,
+) -> Result<Decision, AllocError>
+    ensures { IfOk result (λ d. d ≡ spec.register env account body.now name) }
+{
+    let Some(name) = name else {
+        return missing_header(alloc);
+    };
+    match read_register(alloc, body) {
+        Ok(events) => Ok(Decision::Submit(Call::Register {
+            env,
+            name,
+            invoke: events.invoke,
+            shutdown: events.shutdown,
+            account,
+        })),
+        Err(WireFault::TooLong) => too_large(alloc),
+        Err(WireFault::NotJson | WireFault::BadShape) => unreadable_registration(alloc),
+        Err(WireFault::BadEvent) => wrong_event(alloc),
+        Err(WireFault::OutOfMemory) => Err(AllocError),
+    }
+}
+
+/// An extension's next event.
+fn ext_next(
+    alloc: Global,
+    env: EnvNo,
+    body: &[u8],
+    ext: Option<u64>,
+) -> Result<Decision, AllocError>
+    ensures { IfOk result (λ d. d ≡ spec.ext_next env body.now ext) }
+{
+    match ext {
+        Some(ext) => submitted(alloc, body, Call::ExtNext { env, ext }),
+        None => unknown_extension(alloc),
+    }
+}
+
+/// An extension's Init error.
+fn ext_init_failure(
+    alloc: Global,
+    env: EnvNo,
+    has_type: bool,
+    body: &[u8],
+    ext: Option<u64>,
+) -> Result<Decision, AllocError>
+    ensures { IfOk result (λ d. d ≡ spec.ext_report has_type body.now (λ x. calls.ExtInitFailure env x body.now) ext) }
+{
+    let Some(ext) = ext else {
+        return unknown_extension(alloc);
+    };
+    if !has_type {
+        return missing_header(alloc);
+    }
+    if is_too_long(body) {
+        return too_large(alloc);
+    }
+    let body = copied(alloc, body)?;
+    Ok(Decision::Submit(Call::ExtInitFailure { env, ext, body }))
+}
+
+/// An extension's Exit error.
+fn ext_exit_failure(
+    alloc: Global,
+    env: EnvNo,
+    has_type: bool,
+    body: &[u8],
+    ext: Option<u64>,
+) -> Result<Decision, AllocError>
+    ensures { IfOk result (λ d. d ≡ spec.ext_report has_type body.now (λ x. calls.ExtExitFailure env x body.now) ext) }
+{
+    let Some(ext) = ext else {
+        return unknown_extension(alloc);
+    };
+    if !has_type {
+        return missing_header(alloc);
+    }
+    if is_too_long(body) {
+        return too_large(alloc);
+    }
+    let body = copied(alloc, body)?;
+    Ok(Decision::Submit(Call::ExtExitFailure { env, ext, body }))
+}
+
+/// What is done on a route, with a method that it has.
+#[tactic(auto, unfolding(crate::specs::EnvironmentDecisions::on_environment_route))]
+fn on_route(
+    alloc: Global,
+    config: &Checked,
+    salt: u64,
+    env: EnvNo,
+    parts: &Parts,
+    body: &[u8],
+    route: EnvironmentRoute,
+) -> Result<Decision, AllocError>
+    requires { IsEnv config.now env }
+    ensures { IfOk result (λ d. d ≡ spec.on_environment_route config.now salt env parts.now body.now route) }
+{
+    match route {
+        EnvironmentRoute::Next => submitted(alloc, body, Call::RuntimeNext { env }),
+        EnvironmentRoute::Response => {
+            let id = request_of(salt, config.function_of(env), parts);
+            response(alloc, env, body, id)
+        }
+        EnvironmentRoute::Failure => {
+            let id = request_of(salt, config.function_of(env), parts);
+            failure(alloc, env, body, id)
+        }
+        EnvironmentRoute::InitFailure => init_failure(alloc, env, body),
+        EnvironmentRoute::Register => {
+            let name = extension_name(alloc, parts)?;
+            register(alloc, env, asks_for_account(parts), body, name)
+        }
+        EnvironmentRoute::ExtNext => {
+            let ext = extension_of(salt, env, parts);
+            ext_next(alloc, env, body, ext)
+        }
+        EnvironmentRoute::ExtInitFailure => {
+            let ext = extension_of(salt, env, parts);
+            ext_init_failure(alloc, env, has_error_type(parts), body, ext)
+        }
+        EnvironmentRoute::ExtExitFailure => {
+            let ext = extension_of(salt, env, parts);
+            ext_exit_failure(alloc, env, has_error_type(parts), body, ext)
+        }
+    }
+}
+
+/// What is done with a request on the port of an environment.
+#[tactic(auto, unfolding(crate::specs::EnvironmentDecisions::environment_decision))]
+pub(crate) fn environment_decision(
+    alloc: Global,
+    router: &Router<EnvironmentRoute>,
+    config: &Checked,
+    salt: u64,
+    env: EnvNo,
+    parts: &Parts,
+    body: &[u8],
+) -> Result<Decision, AllocError>
+    requires routes { router.now ≡ environment_rows }
+    requires env { IsEnv config.now env }
+    ensures { IfOk result (λ d. d ≡ spec.environment_decision config.now salt env parts.now body.now) }
+{
+    let Some(route) = environment_route(router, parts.uri.path()) else {
+        return not_found(alloc);
+    };
+    if !route.allows(parts.method.as_str()) {
+        return wrong_method(alloc);
+    }
+    on_route(alloc, config, salt, env, parts, body, route)
+}

@@ -1,0 +1,185 @@
+//! The headers of a request. Of a header that stands more than once, the first counts.
+
+ghost use Rattle.std.specs.Prelude.{◌≡◌, ◌==◌, ◌∷◌, codes, bytes_eq, option_map, IfOk, position, reverse};
+ghost use Rattle.std.specs.List.{list_all};
+ghost use Rattle.http.specs.Token.{lowercase};
+ghost use Rattle.arn_ids.specs.Words.{is_word, is_printable as is_printable_byte};
+ghost use Rattle.http_routes.specs.Heads as spec;
+ghost use Rattle.http_routes.specs.Views.{parts_left};
+
+use arn_ids::Text;
+use http::request::Parts;
+use std::alloc::{AllocError, Global};
+
+const LONGEST_EXTENSION_NAME: usize = 128;
+
+const LONGEST_TRACE: usize = 256;
+
+/// The bytes of the first header of a name.
+fn header<'p>(parts: &'p Parts, name: &str) -> Option<&'p [u8]>
+    ensures { option_map (λ t. t.now) result ≡ spec.header (lowercase name.now) parts.now }
+{
+    let value = parts.headers.get(name)?;
+    Some(value.as_bytes())
+}
+
+/// The text of a header, where it is visible.
+fn header_text<'p>(parts: &'p Parts, name: &str) -> Option<&'p str>
+    ensures { option_map (λ t. t.now) result ≡ spec.header_text (lowercase name.now) parts.now }
+{
+    match parts.headers.get(name) {
+        None => None,
+        Some(value) => match value.to_str() {
+            Ok(text) => Some(text),
+            Err(_) => None,
+        },
+    }
+}
+
+/// The text in which an extension names itself (Extensions API: Lambda-Extension-Identifier).
+pub(crate) fn extension_identifier(parts: &Parts) -> Option<&str>
+    ensures { option_map (λ t. t.now) result ≡ spec.header_text (codes "lambda-extension-identifier") parts.now }
+{
+    header_text(parts, "lambda-extension-identifier")
+}
+
+fn is_printable(bytes: &[u8]) -> bool
+    ensures { result ≡ list_all is_printable_byte bytes.now }
+{
+    bytes.iter().all(|b| b' ' <= *b && *b <= b'~')
+}
+
+/// Whether there are from 1 to `most` bytes, all of which print.
+fn is_within(bytes: &[u8], most: usize) -> bool
+    ensures { result ≡ is_word is_printable_byte most bytes.now }
+{
+    1 <= bytes.len() && bytes.len() <= most && is_printable(bytes)
+}
+
+/// A copy of a text of 1 to `most` characters that print.
+fn printable_text(alloc: Global, bytes: &[u8], most: usize) -> Result<Option<Text>, AllocError>
+    ensures { IfOk result (λ text. text ≡ spec.that (is_word is_printable_byte most) bytes.now) }
+{
+    if !is_within(bytes, most) {
+        return Ok(None);
+    }
+    match String::from_utf8(Vec::from_slice(alloc, bytes)?) {
+        Ok(text) => Ok(Some(Text::new(text))),
+        Err(_) => unreachable!(),
+    }
+}
+
+/// The name that an extension registers under (Extensions API, Register).
+pub(crate) fn extension_name(alloc: Global, parts: &Parts) -> Result<Option<Text>, AllocError>
+    ensures { IfOk result (λ name. name ≡ spec.extension_name parts.now) }
+{
+    match header(parts, "lambda-extension-name") {
+        Some(bytes) => printable_text(alloc, bytes, LONGEST_EXTENSION_NAME),
+        None => Ok(None),
+    }
+}
+
+/// The trace of an invocation; one that is out of its form counts as absent.
+pub(crate) fn trace(alloc: Global, parts: &Parts) -> Result<Option<Text>, AllocError>
+    ensures { IfOk result (λ trace. trace ≡ spec.trace_of parts.now) }
+{
+    match header(parts, "x-amzn-trace-id") {
+        Some(bytes) => printable_text(alloc, bytes, LONGEST_TRACE),
+        None => Ok(None),
+    }
+}
+
+/// Whether an error's type is given, whatever it is (Extensions API, Init error, Exit error).
+pub(crate) fn has_error_type(parts: &Parts) -> bool
+    ensures { result ≡ spec.has_header (codes "lambda-extension-function-error-type") parts.now }
+{
+    header(parts, "lambda-extension-function-error-type").is_some()
+}
+
+/// The bytes without the spaces at their front.
+fn past_spaces(bytes: &[u8]) -> &[u8]
+    ensures { result.now ≡ spec.past_spaces bytes.now }
+{
+    let mut rest = bytes;
+    while let Some((first, others)) = rest.split_first() {
+        if *first != b' ' {
+            return rest;
+        }
+        rest = others;
+    }
+    rest
+}
+
+/// The bytes without the spaces at their end.
+fn before_spaces(bytes: &[u8]) -> &[u8]
+    ensures { result.now ≡ reverse (spec.past_spaces (reverse bytes.now)) }
+{
+    let mut rest = bytes;
+    while let Some((last, others)) = rest.split_last() {
+        if *last != b' ' {
+            return rest;
+        }
+        rest = others;
+    }
+    rest
+}
+
+/// Whether a part is this, freed of the spaces round it.
+fn is_feature(part: &[u8], feature: &[u8]) -> bool
+    ensures { result ≡ bytes_eq (spec.trimmed part.now) feature.now }
+{
+    before_spaces(past_spaces(part)) == feature
+}
+
+/// Where the first comma is.
+fn comma_at(bytes: &[u8]) -> Option<usize>
+    ensures { result ≡ position (λ b. b == 44) bytes.now }
+{
+    bytes.iter().position(|b| *b == b',')
+}
+
+/// The part before the first comma, and what follows it.
+fn cut(bytes: &[u8]) -> (&[u8], Option<&[u8]>)
+    ensures { spec.parts bytes.now ≡ result.0.now ∷ parts_left result.1 }
+{
+    match comma_at(bytes) {
+        Some(at) => (&bytes[..at], Some(&bytes[at + 1..])),
+        None => (bytes, None),
+    }
+}
+
+/// Whether one of the parts between the commas is this, freed of the spaces round it.
+fn lists(bytes: &[u8], feature: &[u8]) -> bool
+    ensures { result ≡ spec.lists feature.now bytes.now }
+{
+    let mut rest = Some(bytes);
+    while let Some(bytes) = rest {
+        let (part, after) = cut(bytes);
+        if is_feature(part, feature) {
+            return true;
+        }
+        rest = after;
+    }
+    false
+}
+
+/// Whether an extension asks for the account's identifier (Extensions API, Register:
+/// Lambda-Extension-Accept-Feature).
+pub(crate) fn asks_for_account(parts: &Parts) -> bool
+    ensures { result ≡ spec.asks_for_account parts.now }
+{
+    match header(parts, "lambda-extension-accept-feature") {
+        Some(bytes) => lists(bytes, b"accountId"),
+        None => false,
+    }
+}
+
+/// Whether the caller waits for the invocation (Lambda API, Invoke: InvocationType).
+pub(crate) fn is_synchronous(parts: &Parts) -> bool
+    ensures { result ≡ spec.is_synchronous parts.now }
+{
+    match header(parts, "x-amz-invocation-type") {
+        Some(kind) => kind == b"RequestResponse".as_slice(),
+        None => true,
+    }
+}

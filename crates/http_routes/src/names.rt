@@ -1,0 +1,169 @@
+//! The function that a request to the Lambda API is about.
+
+ghost use Rattle.std.specs.Prelude.{◌≡◌, ◌&&◌, ◌==◌, nat_le, length, option_map, count_by, IfOk};
+ghost use Rattle.std.specs.List.{list_all};
+ghost use Rattle.std.specs.Cow.{cow_str_bytes};
+ghost use Rattle.arn_ids.specs.Words.{is_word, is_name_byte as is_byte_of_name};
+ghost use Rattle.arn_ids.specs.Grammar as grammar;
+ghost use Rattle.http_routes.specs.Names as spec;
+ghost use Rattle.http_routes.specs.Paths as paths;
+ghost use Rattle.http_routes.specs.Views.{text_of};
+
+use crate::path::{name_of, qualifier_of};
+use arn_ids::{Checked, FnNo, FunctionName, NameFault, Named};
+use http::request::Parts;
+use std::alloc::{AllocError, Global};
+
+/// The one version that each function has.
+const LATEST: &str = "$LATEST";
+
+const LONGEST_QUALIFIER: usize = 128;
+
+/// What a request says of its function.
+#[derive(Clone, Copy, Debug, PartialEq, Eq)]
+pub enum Target {
+    /// Its name or its qualifier is out of its form.
+    Malformed,
+    /// There is no such function here, or no such version of it.
+    Unknown,
+    /// A configured function.
+    Function {
+        /// Its number.
+        function: FnNo,
+        /// Whether `$LATEST` was named.
+        qualified: bool,
+    },
+}
+
+fn is_name_byte(b: u8) -> bool
+    ensures { result ≡ is_byte_of_name b }
+{
+    b.is_ascii_digit() || b.is_ascii_lowercase() || b.is_ascii_uppercase() || b == b'-' || b == b'_'
+}
+
+fn has_name_bytes(text: &str) -> bool
+    ensures { result ≡ list_all is_byte_of_name text.now }
+{
+    text.as_bytes().iter().all(|b| is_name_byte(*b))
+}
+
+/// Whether a text is a version or an alias, known or not.
+fn is_qualifier(text: &str) -> bool
+    ensures { result ≡ grammar.is_qualifier text.now }
+{
+    text == LATEST || 1 <= text.len() && text.len() <= LONGEST_QUALIFIER && has_name_bytes(text)
+}
+
+/// Whether a qualifier is left out, or of its form.
+fn is_none_or_qualifier(qualifier: Option<&str>) -> bool
+    ensures { result ≡ grammar.is_none_or grammar.is_qualifier (option_map text_of qualifier.entry) }
+{
+    match qualifier {
+        None => true,
+        Some(text) => is_qualifier(text),
+    }
+}
+
+/// Whether a qualifier is left out, or the version that there is.
+fn is_none_or_latest(qualifier: Option<&str>) -> bool
+    ensures { result ≡ grammar.is_none_or grammar.is_latest (option_map text_of qualifier.entry) }
+{
+    match qualifier {
+        None => true,
+        Some(text) => text == LATEST,
+    }
+}
+
+/// The configured function of a name, at a version.
+fn at_version(config: &Checked, qualifier: Option<&str>, named: Named) -> Target
+    ensures { result ≡ spec.at_version config.now (option_map text_of qualifier.entry) named }
+{
+    if !is_none_or_latest(qualifier) {
+        return Target::Unknown;
+    }
+    match config.function_named(named.name.as_str().as_bytes()) {
+        Some(function) => Target::Function {
+            function,
+            qualified: named.qualified || qualifier.is_some(),
+        },
+        None => Target::Unknown,
+    }
+}
+
+/// What a name stands for.
+fn by_name(
+    alloc: Global,
+    config: &Checked,
+    qualifier: Option<&str>,
+    name: &str,
+) -> Result<Target, AllocError>
+    ensures { IfOk result (λ target. target ≡ spec.by_name config.now (option_map text_of qualifier.entry) (grammar.named_in config.now.home name.now)) }
+{
+    match FunctionName::parse(alloc, config.home(), name) {
+        Ok(named) => Ok(at_version(config, qualifier, named)),
+        Err(NameFault::Malformed) => Ok(Target::Malformed),
+        Err(NameFault::ForeignAccount) => Ok(Target::Unknown),
+        Err(NameFault::UnknownQualifier) => Ok(Target::Unknown),
+        Err(NameFault::OutOfMemory) => Err(AllocError),
+    }
+}
+
+#[tactic(auto, unfolding(crate::specs::Names::invoked))]
+fn invoked_by(
+    alloc: Global,
+    config: &Checked,
+    name: Option<&str>,
+    qualifier: Option<&str>,
+) -> Result<Target, AllocError>
+    ensures { IfOk result (λ target. target ≡ spec.invoked config.now (option_map text_of name.entry) (option_map text_of qualifier.entry)) }
+{
+    let Some(name) = name else {
+        return Ok(Target::Malformed);
+    };
+    if !is_none_or_qualifier(qualifier) {
+        return Ok(Target::Malformed);
+    }
+    by_name(alloc, config, qualifier, name)
+}
+
+/// The function that an Invoke is about, by the name of its path and the first `Qualifier` of its
+/// query (Lambda API, Invoke).
+pub(crate) fn invoked(alloc: Global, config: &Checked, parts: &Parts) -> Result<Target, AllocError>
+    ensures { IfOk result (λ target. target ≡ spec.invoked config.now (paths.name_of parts.now) (paths.qualifier_of parts.now)) }
+{
+    let name = name_of(alloc, parts)?;
+    let qualifier = qualifier_of(alloc, parts)?;
+    invoked_by(
+        alloc,
+        config,
+        name.as_ref().map(|text| text.as_str()),
+        qualifier.as_ref().map(|text| text.as_str()),
+    )
+}
+
+/// Whether a qualifier stands behind a name: behind its one, three or seven colons.
+fn has_qualifier(name: &str) -> bool
+    ensures { result ≡ spec.has_qualifier name.now }
+{
+    let colons = name.as_bytes().iter().filter(|b| **b == b':').count();
+    colons == 1 || colons == 3 || colons == 7
+}
+
+#[tactic(auto, unfolding(crate::specs::Names::reserved))]
+fn reserved_by(alloc: Global, config: &Checked, name: Option<&str>) -> Result<Target, AllocError>
+    ensures { IfOk result (λ target. target ≡ spec.reserved config.now (option_map text_of name.entry)) }
+{
+    match name {
+        Some(name) if !has_qualifier(name) => by_name(alloc, config, None, name),
+        _ => Ok(Target::Malformed),
+    }
+}
+
+/// The function whose reservation a request is about. Its query isn't looked at, and its name may
+/// have no qualifier (Lambda API, PutFunctionConcurrency).
+pub(crate) fn reserved(alloc: Global, config: &Checked, parts: &Parts) -> Result<Target, AllocError>
+    ensures { IfOk result (λ target. target ≡ spec.reserved config.now (paths.name_of parts.now)) }
+{
+    let name = name_of(alloc, parts)?;
+    reserved_by(alloc, config, name.as_ref().map(|text| text.as_str()))
+}

@@ -1,0 +1,81 @@
+//! Parts of a path and of a query.
+
+ghost use Rattle.std.specs.Prelude.{◌≡◌, ◌==◌, ◌∷◌, [], codes, option_map, IfOk, MatchOption};
+ghost use Rattle.std.specs.List.{slice_split};
+ghost use Rattle.std.specs.Cow.{cow_str_bytes};
+ghost use Rattle.form_urlencoded.specs.Form.{raw_pairs as pairs_of};
+ghost use Rattle.http_routes.specs.Paths as spec;
+
+use form_urlencoded::{decode, raw_pairs};
+use http::request::Parts;
+use percent_encoding::{DecodeError, percent_decode};
+use std::alloc::{AllocError, Global};
+use std::borrow::CowStr;
+
+/// The front part, and what follows its slash.
+fn cut(path: &str) -> (&str, Option<&str>)
+    ensures { MatchOption result.1 (slice_split (λ b. b == 47) path.now ≡ result.0.now ∷ [])
+        (λ rest. slice_split (λ b. b == 47) path.now ≡ result.0.now ∷ slice_split (λ b. b == 47) rest.now) }
+{
+    match path.split_once('/') {
+        Some((front, rest)) => (front, Some(rest)),
+        None => (path, None),
+    }
+}
+
+/// The part of a path behind this many slashes, as it stands.
+pub(crate) fn path_part(path: &str, n: usize) -> Option<&str>
+    ensures { option_map (λ t. t.now) result ≡ spec.path_part n path.now }
+{
+    let mut rest = path;
+    for _ in 0..n {
+        let (_, after) = cut(rest);
+        rest = after?;
+    }
+    let (front, _) = cut(rest);
+    Some(front)
+}
+
+/// The text that a part of a path stands for, where it is UTF-8 (RFC 3986, section 2.1).
+fn path_text(alloc: Global, part: &str) -> Result<Option<CowStr<'_>>, AllocError>
+    ensures { IfOk result (λ text. option_map cow_str_bytes text ≡ spec.path_text part.now) }
+{
+    match percent_decode(part.as_bytes()).decode_utf8(alloc) {
+        Ok(text) => Ok(Some(text)),
+        Err(DecodeError::Utf8(_)) => Ok(None),
+        Err(DecodeError::OutOfMemory) => Err(AllocError),
+    }
+}
+
+/// The name of a function in a path of the Lambda API.
+pub(crate) fn name_of(alloc: Global, parts: &Parts) -> Result<Option<CowStr<'_>>, AllocError>
+    ensures { IfOk result (λ text. option_map cow_str_bytes text ≡ spec.name_of parts.now) }
+{
+    match path_part(parts.uri.path(), 3) {
+        Some(part) => path_text(alloc, part),
+        None => Ok(None),
+    }
+}
+
+/// The first `Qualifier` of a query.
+fn qualifier(alloc: Global, query: &[u8]) -> Result<Option<CowStr<'_>>, AllocError>
+    ensures { IfOk result (λ text. option_map cow_str_bytes text ≡ spec.qualifier_in query.now) }
+{
+    let mut pairs = raw_pairs(query);
+    while let Some((name, value)) = pairs.next() {
+        if decode(alloc, name)?.as_str() == "Qualifier" {
+            return Ok(Some(decode(alloc, value)?));
+        }
+    }
+    Ok(None)
+}
+
+/// The first `Qualifier` of a request (Lambda API, Invoke: URI Request Parameters).
+pub(crate) fn qualifier_of(alloc: Global, parts: &Parts) -> Result<Option<CowStr<'_>>, AllocError>
+    ensures { IfOk result (λ text. option_map cow_str_bytes text ≡ spec.qualifier_of parts.now) }
+{
+    match parts.uri.query() {
+        Some(query) => qualifier(alloc, query.as_bytes()),
+        None => Ok(None),
+    }
+}

@@ -1,0 +1,187 @@
+//! The routes of the two kinds of ports.
+
+ghost use Rattle.std.specs.Prelude.{◌≡◌, IfOk, OnOk};
+ghost use Rattle.http_routes.specs.Routes.{with_route, environment_rows, account_rows, route_in, is_environment_method, is_account_method};
+
+use matchit::{InsertError, Router};
+use std::alloc::Global;
+
+/// A route of an environment's port (Runtime API 2018-06-01, Extensions API 2020-01-01).
+#[derive(Clone, Copy, Debug, PartialEq, Eq)]
+pub enum EnvironmentRoute {
+    /// Next invocation.
+    Next,
+    /// Invocation response.
+    Response,
+    /// Invocation error.
+    Failure,
+    /// Initialization error.
+    InitFailure,
+    /// An extension registers.
+    Register,
+    /// An extension's next event.
+    ExtNext,
+    /// An extension's Init error.
+    ExtInitFailure,
+    /// An extension's Exit error.
+    ExtExitFailure,
+}
+
+/// A route of the account's port.
+#[derive(Clone, Copy, Debug, PartialEq, Eq)]
+pub enum AccountRoute {
+    /// Invoke (Lambda API 2015-03-31).
+    Invoke,
+    /// PutFunctionConcurrency and DeleteFunctionConcurrency (Lambda API 2017-10-31).
+    Concurrency,
+    /// GetFunctionConcurrency (Lambda API 2019-09-30).
+    ReadConcurrency,
+    /// The service stops.
+    Stop,
+    /// An idle environment is taken down.
+    Spindown,
+    /// The account's counts.
+    Stats,
+    /// The text of its history.
+    History,
+}
+
+impl EnvironmentRoute {
+    /// Whether the route has a method.
+    pub(crate) fn allows(self, method: &str) -> bool
+        ensures { result ≡ is_environment_method self method.now }
+    {
+        match self {
+            EnvironmentRoute::Next | EnvironmentRoute::ExtNext => method == "GET",
+            EnvironmentRoute::Response
+            | EnvironmentRoute::Failure
+            | EnvironmentRoute::InitFailure
+            | EnvironmentRoute::Register
+            | EnvironmentRoute::ExtInitFailure
+            | EnvironmentRoute::ExtExitFailure => method == "POST",
+        }
+    }
+}
+
+impl AccountRoute {
+    /// Whether the route has a method.
+    pub(crate) fn allows(self, method: &str) -> bool
+        ensures { result ≡ is_account_method self method.now }
+    {
+        match self {
+            AccountRoute::Invoke | AccountRoute::Stop | AccountRoute::Spindown => method == "POST",
+            AccountRoute::Concurrency => method == "PUT" || method == "DELETE",
+            AccountRoute::ReadConcurrency | AccountRoute::Stats | AccountRoute::History => {
+                method == "GET"
+            }
+        }
+    }
+}
+
+fn add<R: Drop>(router: &mut Router<R>, text: &str, route: R) -> Result<(), InsertError>
+    ensures { OnOk result (router.new ≡ with_route text.now route router.old) }
+{
+    router.insert(text, route)
+}
+
+/// The routes of an environment's port. They don't conflict: the error is want of memory.
+pub(crate) fn environment_routes(alloc: Global) -> Result<Router<EnvironmentRoute>, InsertError>
+    ensures { IfOk result (λ router. router ≡ environment_rows) }
+{
+    let mut router = Router::new(alloc);
+    add(
+        &mut router,
+        "/2018-06-01/runtime/invocation/next",
+        EnvironmentRoute::Next,
+    )?;
+    add(
+        &mut router,
+        "/2018-06-01/runtime/invocation/{id}/response",
+        EnvironmentRoute::Response,
+    )?;
+    add(
+        &mut router,
+        "/2018-06-01/runtime/invocation/{id}/error",
+        EnvironmentRoute::Failure,
+    )?;
+    add(
+        &mut router,
+        "/2018-06-01/runtime/init/error",
+        EnvironmentRoute::InitFailure,
+    )?;
+    add(
+        &mut router,
+        "/2020-01-01/extension/register",
+        EnvironmentRoute::Register,
+    )?;
+    add(
+        &mut router,
+        "/2020-01-01/extension/event/next",
+        EnvironmentRoute::ExtNext,
+    )?;
+    add(
+        &mut router,
+        "/2020-01-01/extension/init/error",
+        EnvironmentRoute::ExtInitFailure,
+    )?;
+    add(
+        &mut router,
+        "/2020-01-01/extension/exit/error",
+        EnvironmentRoute::ExtExitFailure,
+    )?;
+    Ok(router)
+}
+
+/// The routes of the account's port. They don't conflict: the error is want of memory.
+pub(crate) fn account_routes(alloc: Global) -> Result<Router<AccountRoute>, InsertError>
+    ensures { IfOk result (λ router. router ≡ account_rows) }
+{
+    let mut router = Router::new(alloc);
+    add(
+        &mut router,
+        "/2015-03-31/functions/{name}/invocations",
+        AccountRoute::Invoke,
+    )?;
+    add(
+        &mut router,
+        "/2017-10-31/functions/{name}/concurrency",
+        AccountRoute::Concurrency,
+    )?;
+    add(
+        &mut router,
+        "/2019-09-30/functions/{name}/concurrency",
+        AccountRoute::ReadConcurrency,
+    )?;
+    add(&mut router, "/_local/stop", AccountRoute::Stop)?;
+    add(
+        &mut router,
+        "/_local/env/{n}/spindown",
+        AccountRoute::Spindown,
+    )?;
+    add(&mut router, "/_local/stats", AccountRoute::Stats)?;
+    add(&mut router, "/_local/history", AccountRoute::History)?;
+    Ok(router)
+}
+
+/// The route of an environment's port that a path matches.
+pub(crate) fn environment_route(
+    router: &Router<EnvironmentRoute>,
+    path: &str,
+) -> Option<EnvironmentRoute>
+    ensures { result ≡ route_in router.now path.now }
+{
+    match router.at(path) {
+        Ok(found) => Some(*found.value),
+        Err(_) => None,
+    }
+}
+
+/// The route of the account's port that a path matches.
+pub(crate) fn account_route(router: &Router<AccountRoute>, path: &str) -> Option<AccountRoute>
+    ensures { result ≡ route_in router.now path.now }
+{
+    match router.at(path) {
+        Ok(found) => Some(*found.value),
+        Err(_) => None,
+    }
+}

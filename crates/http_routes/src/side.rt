@@ -1,0 +1,126 @@
+//! One port of the service, and the decision on its requests.
+
+ghost use Rattle.std.specs.Prelude.{◌≡◌, IfOk};
+ghost use Rattle.std.specs.Arc.{arc_value};
+ghost use Rattle.http_routes.specs.Decisions.{IsPortOf, decision};
+ghost use Rattle.http_routes.specs.Sides.{AreRoutesOf};
+ghost use Rattle.long_poll.specs.Decisions.{IsAllowed};
+
+use crate::account_port::account_decision;
+use crate::environment_port::environment_decision;
+use crate::routes::{AccountRoute, EnvironmentRoute, account_routes, environment_routes};
+use arn_ids::{Checked, EnvNo};
+use http::request::Parts;
+use long_poll::{Decide, Decision};
+use matchit::Router;
+use std::alloc::{AllocError, Global};
+use std::marker::Model;
+use std::sync::Arc;
+
+/// Whose port it is.
+#[derive(Clone, Copy, Debug, PartialEq, Eq)]
+pub enum Port {
+    /// The account's: callers and operators.
+    Account,
+    /// An environment's: its runtime and its extensions.
+    Environment(EnvNo),
+}
+
+/// The routes of a port.
+#[derive(Drop)]
+enum Routes {
+    Account(Router<AccountRoute>),
+    Environment(EnvNo, Router<EnvironmentRoute>),
+}
+
+fn routes_of(alloc: Global, port: Port) -> Result<Routes, AllocError>
+    ensures { IfOk result (AreRoutesOf port) }
+{
+    match port {
+        Port::Account => match account_routes(alloc) {
+            Ok(router) => Ok(Routes::Account(router)),
+            Err(_) => Err(AllocError),
+        },
+        Port::Environment(env) => match environment_routes(alloc) {
+            Ok(router) => Ok(Routes::Environment(env, router)),
+            Err(_) => Err(AllocError),
+        },
+    }
+}
+
+/// One port of the service: whose it is, in which configuration, with which salt, and its routes.
+#[derive(Drop)]
+pub struct Side {
+    config: Arc<Checked>,
+    salt: u64,
+    routes: Routes,
+}
+
+impl Model for Side {
+    ghost use Rattle.std.specs.Arc.{arc_value};
+    ghost use Rattle.http_routes.specs.Decisions.{Served, IsPortOf};
+    ghost use Rattle.http_routes.specs.Sides.{port_of, AreWhole};
+
+    ghost Value = { Served };
+
+    ghost view = { λ s. record { config = arc_value s.config; salt = s.salt; port = port_of s.routes } };
+
+    ghost invariant = { λ s. IsPortOf (arc_value s.config) (port_of s.routes) × AreWhole s.routes };
+}
+
+impl Side {
+    /// A port of the configuration, with the salt that the identifiers are made with: the account's,
+    /// or that of an environment from 1 to `Checked::environments`. Its routes are made here, once;
+    /// the only error is want of memory.
+    pub fn open(
+        alloc: Global,
+        config: Arc<Checked>,
+        salt: u64,
+        port: Port,
+    ) -> Result<Side, AllocError>
+        requires { IsPortOf (arc_value config) port }
+        ensures { IfOk result (λ side. side ≡ record { config = arc_value config; salt = salt; port = port }) }
+    {
+        let routes = routes_of(alloc, port)?;
+        Ok(Side {
+            config,
+            salt,
+            routes,
+        })
+    }
+
+    /// What is done with a request of this head and body: `Submit` its call, `Reply` with a refusal,
+    /// or `Show` what is asked for. The first refusal that holds is given; the body is copied once,
+    /// into the call. The only error is want of memory.
+    pub fn decide(&self, alloc: Global, parts: &Parts, body: &[u8]) -> Result<Decision, AllocError>
+        ensures decision { IfOk result (λ d. d ≡ decision self.now parts.now body.now) }
+        // A call is one that the account's book takes, and a function that is shown is there.
+        ensures allowed { IfOk result (IsAllowed self.now.config) }
+    {
+        match &self.routes {
+            Routes::Account(router) => account_decision(alloc, router, &self.config, parts, body),
+            Routes::Environment(env, router) => environment_decision(
+                alloc,
+                router,
+                &self.config,
+                self.salt,
+                *env,
+                parts,
+                body,
+            ),
+        }
+    }
+}
+
+impl Decide for Side {
+    ghost use Rattle.std.specs.Prelude.{◌≡◌};
+    ghost use Rattle.http_routes.specs.Decisions.{decision};
+
+    ghost decides = { λ side parts body d. d ≡ decision side parts body };
+
+    ghost decides_for = { λ side. side.config };
+
+    fn decide(&self, alloc: Global, parts: &Parts, body: &[u8]) -> Result<Decision, AllocError> {
+        Side::decide(self, alloc, parts, body)
+    }
+}

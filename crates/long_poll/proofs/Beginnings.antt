@@ -1,0 +1,68 @@
+-- What an exchange gives, from where it stands.
+use Rattle.std.proofs.Common.{ℕ, List, Result, Ok, Err, inl}
+use Rattle.futures.specs.Poll.{IfReady, OnPending}
+use Rattle.futures.specs.Runs.{Runs}
+use Rattle.futures.specs.declared.task.Poll.{Poll}
+use Rattle.futures.specs.declared.task.Poll.TheVariants.{Ready, Pending}
+use Rattle.http_body.specs.declared.frame.Frame.{Frame}
+use Rattle.lambda_wire.specs.declared.reply.Reply.{Reply}
+use Rattle.long_poll.specs.declared.decide.Decision.TheVariants as decision
+use Rattle.http.specs.declared.request.Parts.{Parts}
+use Rattle.long_poll.specs.Bodies.{Collects}
+use Rattle.long_poll.specs.Exchanges.{Awaits, Exchanges}
+use Rattle.long_poll.specs.Stages.{Gives, Starts}
+use Rattle.long_poll.specs.declared.bell.Heard.{Heard}
+use Rattle.long_poll.specs.declared.clock.Clock as Clock
+use Rattle.long_poll.specs.declared.connection.Begun.TheVariants.{Replied, Parked}
+use Rattle.long_poll.specs.declared.decide.Decide as Decide
+use Rattle.long_poll.specs.declared.exchange.Stage.{Stage}
+use Rattle.long_poll.specs.declared.exchange.Stage.TheVariants.{Collecting, Waiting}
+use Rattle.long_poll.specs.declared.fault.ExchangeFault.{ExchangeFault}
+use Rattle.long_poll.specs.declared.fault.ExchangeFault.TheVariants.{BodyFailed, OutOfMemory, BellLost}
+use Rattle.long_poll.specs.declared.service.Service as Service
+
+-- what holds while it is pending gives what else holds then
+pub while_pending : {O X Y : Type 0} (r : Poll O) → (X → Y) → OnPending r X → OnPending r Y
+while_pending (Ready o) f h = tt
+while_pending Pending f h = f h
+
+-- and what it gives once it is ready
+pub once_ready : {O : Type 0} {X Y : O → Type 0} (r : Poll O) → ((o : O) → X o → Y o) → IfReady r X → IfReady r Y
+once_ready (Ready o) f h = f o h
+once_ready Pending f h = tt
+
+module _ {S K C A T F N D B P E : Type 0} (service : Service.Ghosts S K C A T F) (clock : Clock.Ghosts N) (decider : Decide.Ghosts D)
+    (yields : B → Runs (Result (Frame P) E)) (reads : P → List ℕ → Type 0) (s : S) (n : N) (d : D) where
+  -- what comes of a later body may come of this one
+  pub exchanges_later : (parts : Parts) (new old : B) (later held : List ℕ)
+      → ((r : Result (List ℕ) ExchangeFault) → Collects reads (yields new) later r → Collects reads (yields old) held r)
+      → (r : Result Reply ExchangeFault) → Exchanges service clock decider s n d reads (yields new) parts later r
+      → Exchanges service clock decider s n d reads (yields old) parts held r
+  exchanges_later parts new old later held same (Ok reply) h = (h.0, same (Ok h.0) h.1, h.2)
+  exchanges_later parts new old later held same (Err BellLost) h = (h.0, same (Ok h.0) h.1, h.2)
+  exchanges_later parts new old later held same (Err OutOfMemory) h = tt
+  exchanges_later parts new old later held same (Err BodyFailed) h = same (Err BodyFailed) h
+
+  -- it has its reply
+  pub gives_reply : (stage : Stage B) (reply : Reply) → Starts service clock decider yields reads s n d stage (Ok (Replied reply))
+      → Gives service clock decider yields reads s n d stage (Ok reply)
+  gives_reply (Collecting parts collecting) reply h = h
+  gives_reply (Waiting ticket heard) reply h = absurd h
+
+  -- it ended in a fault
+  pub gives_fault : (stage : Stage B) (fault : ExchangeFault) → Starts service clock decider yields reads s n d stage (Err fault)
+      → Gives service clock decider yields reads s n d stage (Err fault)
+  gives_fault (Collecting parts collecting) BodyFailed h = h
+  gives_fault (Collecting parts collecting) OutOfMemory h = tt
+  gives_fault (Collecting parts collecting) BellLost h = absurd h
+  gives_fault (Waiting ticket heard) fault h = absurd h
+
+  -- its call was submitted, and this came of the wait
+  pub gives_answer : (stage : Stage B) (ticket : ℕ) (heard : Heard) → Starts service clock decider yields reads s n d stage (Ok (Parked ticket heard))
+      → (r : Result Reply ExchangeFault) → Awaits (service.renders s) ticket heard r → Gives service clock decider yields reads s n d stage r
+  gives_answer (Collecting parts collecting) ticket heard h (Ok reply) rendered =
+      (h.0, h.1, (decision.Submit h.2.0, h.2.1, inl (ticket, h.2.2.0, rendered.1)))
+  gives_answer (Collecting parts collecting) ticket heard h (Err BellLost) rendered = (h.0, h.1, (h.2.0, h.2.1, (ticket, heard, h.2.2, rendered.0, rendered.1)))
+  gives_answer (Collecting parts collecting) ticket heard h (Err OutOfMemory) rendered = tt
+  gives_answer (Collecting parts collecting) ticket heard h (Err BodyFailed) rendered = absurd rendered.1
+  gives_answer (Waiting t heard') ticket heard h r rendered = absurd h

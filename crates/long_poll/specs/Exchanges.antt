@@ -1,0 +1,111 @@
+-- What an exchange may give.
+use Rattle.std.specs.Prelude.{◌≡◌, ◌⊎◌, ℕ, List, Option, Some, None, Result, Ok, Err}
+use Rattle.account_lock.specs.declared.desk.Refused.{Refused}
+use Rattle.call_model.specs.declared.call.Call.{Call}
+use Rattle.futures.specs.Runs.{Runs}
+use Rattle.http.specs.declared.request.Parts.{Parts}
+use Rattle.http_body.specs.declared.frame.Frame.{Frame}
+use Rattle.lambda_wire.specs.declared.reply.Reply.{Reply}
+use Rattle.usage_ledger.specs.Tallies.{Held}
+use Rattle.long_poll.specs.Bodies.{Reads, Fails}
+use Rattle.long_poll.specs.Moments.{moment_of}
+use Rattle.long_poll.specs.Ringing.{rings_at, hears_at, WasHeard}
+use Rattle.long_poll.specs.Refusals.{is_invoke, refusal_reply}
+use Rattle.long_poll.specs.Views.{IsHistory, stats_reply, history_reply, reservation_reply}
+use Rattle.long_poll.specs.declared.bell.Heard.{Heard}
+use Rattle.long_poll.specs.declared.bell.OneShotBell.{OneShotBell}
+use Rattle.long_poll.specs.declared.clock.Clock as Clock
+use Rattle.long_poll.specs.declared.connection.Begun.{Begun}
+use Rattle.long_poll.specs.declared.connection.Begun.TheVariants.{Replied, Parked}
+use Rattle.long_poll.specs.declared.decide.Decide as Decide
+use Rattle.long_poll.specs.declared.decide.Decision.{Decision}
+use Rattle.long_poll.specs.declared.decide.Decision.TheVariants as decision
+use Rattle.long_poll.specs.declared.decide.Shown.{Shown}
+use Rattle.long_poll.specs.declared.decide.Shown.TheVariants.{Stats, History, Reservation}
+use Rattle.long_poll.specs.declared.fault.ExchangeFault.{ExchangeFault}
+use Rattle.long_poll.specs.declared.fault.ExchangeFault.TheVariants.{BodyFailed, OutOfMemory, BellLost}
+use Rattle.long_poll.specs.declared.service.Service as Service
+
+-- What is rendered at a ticket; the bell was lost where nothing is.
+abbrev pub Renders : (ℕ → Option Reply → Type 0) → ℕ → Result Reply ExchangeFault → Type 0
+Renders renders ticket (Ok reply) = renders ticket (Some reply)
+Renders renders ticket (Err BellLost) = renders ticket None
+Renders renders ticket (Err OutOfMemory) = Unit {0}
+Renders renders ticket (Err BodyFailed) = ⊥
+
+-- What is rendered once the bell was heard.
+abbrev pub Awaits : (ℕ → Option Reply → Type 0) → ℕ → Heard → Result Reply ExchangeFault → Type 0
+Awaits renders ticket heard r = WasHeard heard × Renders renders ticket r
+
+module _ {S K C A T F : Type 0} (service : Service.Ghosts S K C A T F) where
+  -- The reply shows what is asked for, as the account gives it.
+  abbrev pub IsView : S → Shown → Reply → Type 0
+  IsView s Stats reply = (stats : _) × service.counts s stats × (reply ≡ stats_reply stats)
+  IsView s History reply = (text : List ℕ) × IsHistory (service.opens s) (service.tells s) text × (reply ≡ history_reply text)
+  IsView s (Reservation f) reply = (count : Option ℕ) × service.reserves s f count × (reply ≡ reservation_reply count)
+
+  module _ {N : Type 0} (clock : Clock.Ghosts N) where
+    -- A call was submitted at a reading of the clock, with a bell, and this came back.
+    pub record Submitted (s : S) (n : N) (call : Call) (back : Result ℕ (Refused OneShotBell)) : Type 0 where
+      pub reading : ℕ
+      pub read : clock.reads n reading
+      pub before : Held
+      pub after : Held
+      pub bell : OneShotBell
+      pub came : service.submits s before (moment_of reading) call (Some bell) back after
+
+    -- A call was submitted, and this is rendered at the ticket that it got.
+    abbrev pub IsRendered : S → N → Call → Option Reply → Type 0
+    IsRendered s n call rendered = (ticket : ℕ) × Submitted s n call (Ok ticket) × service.renders s ticket rendered
+
+    -- A call was submitted and refused, and the reply says so.
+    abbrev pub IsRefusal : S → N → Call → Reply → Type 0
+    IsRefusal s n call reply =
+        (refused : Refused OneShotBell) × Submitted s n call (Err refused) × (reply ≡ refusal_reply (is_invoke call) refused.refusal)
+
+    -- A call was submitted and has this ticket, and this hears the bell that went with it.
+    abbrev pub IsParked : S → N → Call → ℕ → Heard → Type 0
+    IsParked s n call ticket heard = (submitted : Submitted s n call (Ok ticket)) × (rings_at submitted.bell ≡ hears_at heard)
+
+    -- A call was submitted, its bell was heard, and nothing is rendered at the ticket that it got.
+    abbrev pub IsLost : S → N → Call → Type 0
+    IsLost s n call =
+        (ticket : ℕ) × (heard : Heard) × IsParked s n call ticket heard × WasHeard heard × service.renders s ticket None
+
+    -- A call was submitted: it was refused and has its reply, or it has its ticket.
+    abbrev pub IsBegun : S → N → Call → Begun → Type 0
+    IsBegun s n call (Replied reply) = IsRefusal s n call reply
+    IsBegun s n call (Parked ticket heard) = IsParked s n call ticket heard
+
+    module _ {D : Type 0} (decider : Decide.Ghosts D) where
+      -- The reply to a request, by what is done with it.
+      abbrev pub IsReply : S → N → Decision → Reply → Type 0
+      IsReply s n (decision.Submit call) reply = IsRendered s n call (Some reply) ⊎ IsRefusal s n call reply
+      IsReply s n (decision.Reply own) reply = reply ≡ own
+      IsReply s n (decision.Show shown) reply = IsView s shown reply
+
+      -- What comes of a request with this head and this body. The bell was lost where its call was submitted with it, it
+      -- was heard, and nothing is rendered at the ticket.
+      abbrev pub ComesOf : S → N → D → Parts → List ℕ → Result Reply ExchangeFault → Type 0
+      ComesOf s n d head body (Ok reply) = (made : Decision) × decider.decides d head body made × IsReply s n made reply
+      ComesOf s n d head body (Err BellLost) =
+          (call : Call) × decider.decides d head body (decision.Submit call) × IsLost s n call
+      ComesOf s n d head body (Err OutOfMemory) = Unit {0}
+      ComesOf s n d head body (Err BodyFailed) = ⊥
+
+      -- What a request with this head and this body has come to.
+      abbrev pub HasBegun : S → N → D → Parts → List ℕ → Begun → Type 0
+      HasBegun s n d head body (Replied reply) = ComesOf s n d head body (Ok reply)
+      HasBegun s n d head body (Parked ticket heard) =
+          (call : Call) × decider.decides d head body (decision.Submit call) × IsParked s n call ticket heard
+
+      -- What comes of a request with this head, and with a body of which this is held already: the body failed, or it is
+      -- what comes of the head and of what was read of the body.
+      abbrev pub Exchanges : {P E : Type 0} → S → N → D → (P → List ℕ → Type 0) → Runs (Result (Frame P) E) → Parts → List ℕ
+          → Result Reply ExchangeFault → Type 0
+      Exchanges s n d reads source head held (Err BodyFailed) = Fails source
+      Exchanges s n d reads source head held (Err OutOfMemory) = Unit {0}
+      Exchanges s n d reads source head held (Err BellLost) =
+          (body : List ℕ) × Reads reads source held body × ComesOf s n d head body (Err BellLost)
+      Exchanges s n d reads source head held (Ok reply) =
+          (body : List ℕ) × Reads reads source held body × ComesOf s n d head body (Ok reply)

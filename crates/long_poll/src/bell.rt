@@ -1,0 +1,58 @@
+//! A bell that rings once, and what hears it.
+
+ghost use Rattle.std.specs.Prelude.{◌≡◌, IfOk};
+ghost use Rattle.long_poll.specs.Ringing.{rings_at, hears_at, WasHeard};
+
+use account_lock::Bell;
+use futures::channel::oneshot::{Receiver, Sender, channel};
+use futures::future::Future;
+use futures::task::{Context, Poll};
+use std::alloc::{AllocError, Global};
+
+/// A bell for one call. Where it is dropped unrung, that is heard too.
+#[derive(Drop)]
+pub struct OneShotBell {
+    sender: Sender<()>,
+}
+
+/// Ready once its bell was rung or dropped.
+#[derive(Drop)]
+pub struct Heard {
+    receiver: Receiver<()>,
+}
+
+impl OneShotBell {
+    /// A bell, and what hears it.
+    ///
+    /// # Errors
+    /// Only where memory is refused.
+    pub fn pair(alloc: Global) -> Result<(OneShotBell, Heard), AllocError>
+        ensures { IfOk result (λ pair. rings_at pair.0 ≡ hears_at pair.1) }
+    {
+        let (sender, receiver) = channel(alloc)?;
+        Ok((OneShotBell { sender }, Heard { receiver }))
+    }
+}
+
+impl Bell for OneShotBell {
+    fn ring(self) {
+        let OneShotBell { sender } = self;
+        let _ = sender.send(());
+    }
+}
+
+impl Future for Heard {
+    type Output = ();
+
+    ghost needs = { λ heard source. source ≡ hears_at heard };
+
+    ghost gives = { λ heard _. WasHeard heard };
+
+    #[tactic(auto, unfolding(crate::specs::Ringing::WasHeard))]
+    fn poll(&mut self, cx: &mut Context<'_>) -> Poll<()> {
+        match self.receiver.poll(cx) {
+            Poll::Ready(_) => Poll::Ready(()),
+            Poll::Pending => Poll::Pending,
+        }
+    }
+}

@@ -1,0 +1,91 @@
+//! A future for the first bytes of a request's body.
+
+ghost use Rattle.std.specs.Prelude.{◌≡◌, ◌==◌, ◌++◌, ℕ, List, [], length, take, IfOk, OnOk};
+ghost use Rattle.long_poll.specs.Bodies.{Collects, IsDataOf, most_bytes};
+
+use crate::ExchangeFault;
+use crate::first_bytes::FirstBytes;
+use bytes::Bytes;
+use futures::future::Future;
+use futures::ready;
+use futures::task::{Context, Poll};
+use http_body::{Body, Frame};
+use std::alloc::{AllocError, Global};
+
+/// How many frames one poll takes, so that a long body lets others run.
+const FRAMES_PER_POLL: u32 = 128;
+
+/// Collects the first bytes of a body.
+#[derive(Drop)]
+pub(crate) struct Collecting<B> {
+    alloc: Global,
+    body: B,
+    held: FirstBytes,
+}
+
+/// The bytes of a frame's data, none of trailers.
+fn data_in<D: Into<Bytes> + Drop>(frame: Frame<D>) -> Bytes
+    ensures { IsDataOf D.converts frame result }
+{
+    match frame.into_data() {
+        Ok(piece) => piece.into(),
+        Err(_) => Bytes::new(),
+    }
+}
+
+impl<B: Body> Collecting<B> {
+    /// Of this body, of which nothing was read.
+    pub(crate) fn new(alloc: Global, body: B) -> Collecting<B>
+        ensures { (result.body ≡ body) × (result.held ≡ []) }
+    {
+        Collecting {
+            alloc,
+            body,
+            held: FirstBytes::none(),
+        }
+    }
+}
+
+impl<B: Body> Collecting<B>
+where
+    B::Data: Into<Bytes>,
+{
+    /// Takes the data of a frame, and tells whether no more is wanted.
+    fn take_frame(&mut self, frame: Frame<B::Data>) -> Result<bool, AllocError>
+        ensures taken { OnOk result ((bytes : List ℕ) × IsDataOf B.Data.converts frame bytes × (self.new.held ≡ take most_bytes (self.old.held ++ bytes))) }
+        ensures full { IfOk result (λ full. full ≡ (length self.new.held == most_bytes)) }
+        ensures body { self.new.body ≡ self.old.body }
+    {
+        self.held.add(self.alloc, data_in(frame))?;
+        Ok(self.held.is_full())
+    }
+}
+
+impl<B: Body> Future for Collecting<B>
+where
+    B::Data: Into<Bytes>,
+{
+    type Output = Result<FirstBytes, ExchangeFault>;
+
+    ghost can_poll = { λ collecting. B.can_poll collecting.body };
+
+    ghost needs = { λ collecting. B.needs collecting.body };
+
+    ghost gives = { λ collecting. Collects B.Data.converts (B.yields collecting.body) collecting.held };
+
+    fn poll(&mut self, cx: &mut Context<'_>) -> Poll<Result<FirstBytes, ExchangeFault>> {
+        for _ in 0..FRAMES_PER_POLL {
+            let frame = match ready!(self.body.poll_frame(cx)) {
+                None => return Poll::Ready(Ok(self.held.taken())),
+                Some(Err(_)) => return Poll::Ready(Err(ExchangeFault::BodyFailed)),
+                Some(Ok(frame)) => frame,
+            };
+            match self.take_frame(frame) {
+                Err(AllocError) => return Poll::Ready(Err(ExchangeFault::OutOfMemory)),
+                Ok(true) => return Poll::Ready(Ok(self.held.taken())),
+                Ok(false) => {}
+            }
+        }
+        cx.yield_now()
+    }
+}

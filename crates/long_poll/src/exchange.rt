@@ -1,0 +1,170 @@
+//! One request, from its body to its reply.
+
+ghost use Rattle.std.specs.Prelude.{◌≡◌};
+ghost use Rattle.std.specs.Arc.{arc_value};
+ghost use Rattle.futures.specs.Task.{Covers, Keeps};
+ghost use Rattle.futures.specs.Poll.{IfReady, OnPending};
+ghost use Rattle.std.specs.Prelude.{[]};
+ghost use Rattle.long_poll.specs.Stages.{CanGoOn, IsCollecting, IsWaiting, WaitsFor, Gives, Starts};
+ghost use Rattle.long_poll.specs.declared.exchange.Stage.TheVariants as stage;
+
+use crate::collecting::Collecting;
+use crate::connection::{Begun, Connection};
+use crate::{Clock, Decide, ExchangeFault, Heard, Service};
+use bytes::Bytes;
+use call_model::Ticket;
+use futures::future::Future;
+use futures::ready;
+use futures::task::{Context, Poll};
+use http::request::Parts;
+use http_body::Body;
+use lambda_wire::Reply;
+use std::sync::ledger::Ledger;
+use std::sync::{Arc, Wait};
+use usage_ledger::Keep;
+
+/// Where an exchange stands.
+#[derive(Drop)]
+enum Stage<B> {
+    /// The body is being collected.
+    Collecting { parts: Parts, body: Collecting<B> },
+    /// The call was submitted, and its answer is awaited.
+    Waiting { ticket: Ticket, heard: Heard },
+}
+
+/// One request: its body is collected, it is decided, its call is submitted, its answer awaited and
+/// rendered.
+#[derive(Drop)]
+pub struct Exchange<
+    R,
+    S: Service<K, C, A, T, F>,
+    D: Decide,
+    N,
+    B,
+    K: Keep,
+    C: Ledger,
+    A: Ledger,
+    T: Ledger,
+    F: Ledger,
+> {
+    connection: Arc<Connection<R, S, D, N, K, C, A, T, F>>,
+    stage: Stage<B>,
+}
+
+impl<
+    R: Wait + Drop,
+    S: Service<K, C, A, T, F>,
+    D: Decide + Drop,
+    N: Clock + Drop,
+    B: Body,
+    K: Keep,
+    C: Ledger,
+    A: Ledger,
+    T: Ledger,
+    F: Ledger,
+> Exchange<R, S, D, N, B, K, C, A, T, F>
+where
+    B::Data: Into<Bytes>,
+{
+    /// The exchange of a request with this head and this body. It takes no memory.
+    pub fn new(
+        connection: Arc<Connection<R, S, D, N, K, C, A, T, F>>,
+        parts: Parts,
+        body: B,
+    ) -> Exchange<R, S, D, N, B, K, C, A, T, F>
+        ensures connection { result.connection ≡ connection }
+        ensures stage { result.stage ≡ stage.Collecting parts (record { alloc = (arc_value connection).alloc; body = body; held = [] }) }
+    {
+        let body = Collecting::new(connection.alloc(), body);
+        Exchange {
+            connection,
+            stage: Stage::Collecting { parts, body },
+        }
+    }
+
+    /// Collects the body; then the request is decided, and its call submitted.
+    fn poll_start(&mut self, cx: &mut Context<'_>) -> Poll<Result<Begun, ExchangeFault>>
+        requires { IsCollecting B.can_poll self.old.stage }
+        ensures value { IfReady result (Starts S.Service N.Clock D.Decide B.yields B.Data.converts (arc_value (arc_value self.old.connection).service) (arc_value (arc_value self.old.connection).clock) (arc_value (arc_value self.old.connection).decider) self.old.stage) }
+        ensures again { OnPending result (IsCollecting B.can_poll self.new.stage) }
+        ensures same { OnPending result ((x : _) → Gives S.Service N.Clock D.Decide B.yields B.Data.converts (arc_value (arc_value self.new.connection).service) (arc_value (arc_value self.new.connection).clock) (arc_value (arc_value self.new.connection).decider) self.new.stage x → Gives S.Service N.Clock D.Decide B.yields B.Data.converts (arc_value (arc_value self.old.connection).service) (arc_value (arc_value self.old.connection).clock) (arc_value (arc_value self.old.connection).decider) self.old.stage x) }
+        ensures registered { OnPending result (Covers cx.new (WaitsFor B.needs self.new.stage)) }
+        ensures kept { Keeps cx.old cx.new }
+        ensures connection { self.new.connection ≡ self.old.connection }
+    {
+        match &mut self.stage {
+            Stage::Waiting { .. } => unreachable!(),
+            Stage::Collecting { parts, body } => match body.poll(cx) {
+                Poll::Pending => Poll::Pending,
+                Poll::Ready(Err(fault)) => Poll::Ready(Err(fault)),
+                Poll::Ready(Ok(bytes)) => Poll::Ready(
+                    self.connection.begin(parts, bytes.as_slice()),
+                ),
+            },
+        }
+    }
+
+    /// From now on the answer of this ticket is awaited. What was collected is let go.
+    fn park(&mut self, ticket: Ticket, heard: Heard)
+        ensures stage { self.new.stage ≡ stage.Waiting ticket heard }
+        ensures connection { self.new.connection ≡ self.old.connection }
+    {
+        self.stage = Stage::Waiting { ticket, heard };
+    }
+
+    /// Waits for the answer, and renders it.
+    fn poll_answer(&mut self, cx: &mut Context<'_>) -> Poll<Result<Reply, ExchangeFault>>
+        requires { IsWaiting self.old.stage }
+        ensures value { IfReady result (Gives S.Service N.Clock D.Decide B.yields B.Data.converts (arc_value (arc_value self.old.connection).service) (arc_value (arc_value self.old.connection).clock) (arc_value (arc_value self.old.connection).decider) self.old.stage) }
+        ensures again { OnPending result (IsWaiting self.new.stage) }
+        ensures same { OnPending result ((x : _) → Gives S.Service N.Clock D.Decide B.yields B.Data.converts (arc_value (arc_value self.new.connection).service) (arc_value (arc_value self.new.connection).clock) (arc_value (arc_value self.new.connection).decider) self.new.stage x → Gives S.Service N.Clock D.Decide B.yields B.Data.converts (arc_value (arc_value self.old.connection).service) (arc_value (arc_value self.old.connection).clock) (arc_value (arc_value self.old.connection).decider) self.old.stage x) }
+        ensures registered { OnPending result (Covers cx.new (WaitsFor B.needs self.new.stage)) }
+        ensures kept { Keeps cx.old cx.new }
+    {
+        match &mut self.stage {
+            Stage::Collecting { .. } => unreachable!(),
+            Stage::Waiting { ticket, heard } => match heard.poll(cx) {
+                Poll::Pending => Poll::Pending,
+                Poll::Ready(()) => Poll::Ready(self.connection.render(*ticket)),
+            },
+        }
+    }
+}
+
+impl<
+    R: Wait + Drop,
+    S: Service<K, C, A, T, F>,
+    D: Decide + Drop,
+    N: Clock + Drop,
+    B: Body,
+    K: Keep,
+    C: Ledger,
+    A: Ledger,
+    T: Ledger,
+    F: Ledger,
+> Future for Exchange<R, S, D, N, B, K, C, A, T, F>
+where
+    B::Data: Into<Bytes>,
+{
+    type Output = Result<Reply, ExchangeFault>;
+
+    ghost can_poll = { λ exchange. CanGoOn B.can_poll exchange.stage };
+
+    ghost needs = { λ exchange. WaitsFor B.needs exchange.stage };
+
+    ghost gives = { λ exchange. Gives S.Service N.Clock D.Decide B.yields B.Data.converts (arc_value (arc_value exchange.connection).service) (arc_value (arc_value exchange.connection).clock) (arc_value (arc_value exchange.connection).decider) exchange.stage };
+
+    fn poll(&mut self, cx: &mut Context<'_>) -> Poll<Result<Reply, ExchangeFault>> {
+        if let Stage::Waiting { .. } = &self.stage {
+            return self.poll_answer(cx);
+        }
+        match ready!(self.poll_start(cx)) {
+            Err(fault) => Poll::Ready(Err(fault)),
+            Ok(Begun::Replied(reply)) => Poll::Ready(Ok(reply)),
+            Ok(Begun::Parked { ticket, heard }) => {
+                self.park(ticket, heard);
+                self.poll_answer(cx)
+            }
+        }
+    }
+}

@@ -1,0 +1,29 @@
+//! Why an exchange has no reply.
+
+use std::alloc::AllocError;
+use thiserror::Error;
+
+/// Why an exchange has no reply, so that its connection is closed.
+#[derive(Clone, Copy, Debug, Drop, Error, PartialEq, Eq)]
+pub enum ExchangeFault {
+    /// The request's body failed before its end. Nothing was submitted.
+    #[error("the body failed")]
+    BodyFailed,
+    /// Memory was refused. The call may have been submitted.
+    #[error("out of memory")]
+    OutOfMemory,
+    /// The call's bell was rung or lost, and its ticket still had no reply.
+    #[error("the bell was lost")]
+    BellLost,
+}
+
+impl From<AllocError> for ExchangeFault {
+    ghost use Rattle.std.specs.Prelude.{◌≡◌};
+    ghost use Rattle.long_poll.specs.declared.fault.ExchangeFault.TheVariants.{OutOfMemory};
+
+    ghost from_gives = { λ _ fault. fault ≡ OutOfMemory };
+
+    fn from(_e: AllocError) -> ExchangeFault {
+        ExchangeFault::OutOfMemory
+    }
+}

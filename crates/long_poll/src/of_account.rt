@@ -1,0 +1,71 @@
+//! An account is a service.
+
+ghost use Rattle.std.specs.Prelude.{◌<◌, ◌^◌, IfOk};
+ghost use Rattle.script.specs.Limits.{IsWithin, IsFunction};
+ghost use Rattle.long_poll.specs.Submits.{Submits};
+
+use crate::{OneShotBell, Service};
+use account_lock::{Account, Look, Refused, Setup};
+use arn_ids::FnNo;
+use call_model::{Call, Stats, Ticket};
+use lambda_wire::Reply;
+use std::alloc::AllocError;
+use std::sync::Wait;
+use std::sync::ledger::Ledger;
+use usage_ledger::{Keep, Tally};
+
+// What its readers give is read under its lock, of which no clause can speak; a submit says what it
+// did to the tally.
+impl<S: Setup + Drop, K: Keep, C: Ledger, A: Ledger, T: Ledger, F: Ledger> Service<K, C, A, T, F>
+    for Account<S, OneShotBell, C, A, T, F> {
+    ghost serves = { λ _. S.config };
+
+    ghost submits = { λ _ before _ call bell result after. Submits K.notes K.makes before call bell result after };
+
+    ghost looks = { λ _ _ _. Unit {0} };
+
+    ghost renders = { λ _ _ _. Unit {0} };
+
+    ghost opens = { λ _ _. Unit {0} };
+
+    ghost tells = { λ _ _ _. Unit {0} };
+
+    ghost counts = { λ _ _. Unit {0} };
+
+    ghost reserves = { λ _ _ _. Unit {0} };
+
+    fn submit<R: Wait>(
+        &self,
+        rt: &R,
+        tally: &mut Tally<K, C, A, T, F>,
+        now: u64,
+        call: Call,
+        bell: Option<OneShotBell>,
+    ) -> Result<Ticket, Refused<OneShotBell>> {
+        Account::submit(self, rt, tally, now, call, bell)
+    }
+
+    fn look<R: Wait>(&self, rt: &R, ticket: Ticket) -> Look {
+        Account::look(self, rt, ticket)
+    }
+
+    fn render<R: Wait>(&self, rt: &R, ticket: Ticket) -> Result<Option<Reply>, AllocError> {
+        Account::render(self, rt, ticket)
+    }
+
+    fn opening<R: Wait>(&self, rt: &R) -> Result<Vec<u8>, AllocError> {
+        Account::opening(self, rt)
+    }
+
+    fn history<R: Wait>(&self, rt: &R, ticket: Ticket) -> Result<Option<Vec<u8>>, AllocError> {
+        Account::history(self, rt, ticket)
+    }
+
+    fn stats<R: Wait>(&self, rt: &R) -> Stats {
+        Account::stats(self, rt)
+    }
+
+    fn reservation<R: Wait>(&self, rt: &R, function: FnNo) -> Option<u32> {
+        Account::reservation(self, rt, function)
+    }
+}

@@ -1,0 +1,87 @@
+//! A future for the answer of a ticket.
+
+ghost use Rattle.std.specs.Prelude.{◌≡◌};
+ghost use Rattle.std.specs.Arc.{arc_value};
+ghost use Rattle.long_poll.specs.Answers.{Answers};
+
+use crate::Service;
+use account_lock::Look;
+use call_model::{Answer, Ticket};
+use futures::future::Future;
+use futures::task;
+use futures::task::Context;
+use std::marker::PhantomData;
+use std::sync::ledger::Ledger;
+use std::sync::{Arc, Wait};
+use usage_ledger::{Keep, Tally};
+
+/// The bell was rung or lost, and the ticket still waited.
+#[derive(Clone, Copy, Debug, PartialEq, Eq)]
+pub struct BellLost;
+
+/// Waits until something is heard, and then looks once at what a ticket was answered.
+#[derive(Drop)]
+pub struct Poll<R, S, H, K: Keep, C: Ledger, A: Ledger, T: Ledger, F: Ledger> {
+    rt: R,
+    service: Arc<S>,
+    ticket: Ticket,
+    heard: H,
+    of: PhantomData<Tally<K, C, A, T, F>>,
+}
+
+impl<
+    R: Wait + Drop,
+    S: Service<K, C, A, T, F>,
+    H: Future,
+    K: Keep,
+    C: Ledger,
+    A: Ledger,
+    T: Ledger,
+    F: Ledger,
+> Poll<R, S, H, K, C, A, T, F> {
+    /// Waits for the answer of a ticket by what is heard once there is one, as the `Heard` of the
+    /// bell that went with its call. It takes no memory.
+    pub fn new(rt: R, service: Arc<S>, ticket: Ticket, heard: H) -> Poll<R, S, H, K, C, A, T, F>
+        ensures { (result.service ≡ service) × (result.ticket ≡ ticket) × (result.heard ≡ heard) }
+    {
+        Poll {
+            rt,
+            service,
+            ticket,
+            heard,
+            of: PhantomData,
+        }
+    }
+}
+
+impl<
+    R: Wait + Drop,
+    S: Service<K, C, A, T, F>,
+    H: Future,
+    K: Keep,
+    C: Ledger,
+    A: Ledger,
+    T: Ledger,
+    F: Ledger,
+> Future for Poll<R, S, H, K, C, A, T, F>
+where
+    H::Output: Drop,
+{
+    type Output = Result<Answer, BellLost>;
+
+    ghost can_poll = { λ poll. H.can_poll poll.heard };
+
+    ghost needs = { λ poll. H.needs poll.heard };
+
+    ghost gives = { λ poll. Answers (S.looks (arc_value poll.service) poll.ticket) (H.gives poll.heard) };
+
+    fn poll(&mut self, cx: &mut Context<'_>) -> task::Poll<Result<Answer, BellLost>> {
+        match self.heard.poll(cx) {
+            task::Poll::Pending => task::Poll::Pending,
+            task::Poll::Ready(_) => match self.service.look(&self.rt, self.ticket) {
+                Look::Given(answer) => task::Poll::Ready(Ok(answer)),
+                Look::Waiting => task::Poll::Ready(Err(BellLost)),
+            },
+        }
+    }
+}

@@ -1,0 +1,95 @@
+//! What a connection asks of an account.
+
+ghost use Rattle.std.specs.Prelude.{◌≡◌, ◌<◌, ◌^◌, ℕ, List, Option, Result, IfOk, option_map};
+ghost use Rattle.arn_ids.specs.declared.config.Config.{Config};
+ghost use Rattle.call_model.specs.declared.call.Call.{Call as Called};
+ghost use Rattle.call_model.specs.declared.stats.Stats.{Stats as Counted};
+ghost use Rattle.lambda_wire.specs.declared.reply.Reply.{Reply as Replied};
+ghost use Rattle.script.specs.Limits.{IsWithin, IsFunction};
+ghost use Rattle.usage_ledger.specs.Tallies.{Held};
+ghost use Rattle.account_lock.specs.declared.desk.Look.{Look as Seen};
+ghost use Rattle.account_lock.specs.declared.desk.Refused.{Refused as Back};
+ghost use Rattle.long_poll.specs.declared.bell.OneShotBell.{OneShotBell as Rings};
+
+use crate::OneShotBell;
+use account_lock::{Look, Refused};
+use arn_ids::FnNo;
+use call_model::{Call, Stats, Ticket};
+use lambda_wire::Reply;
+use std::alloc::AllocError;
+use std::sync::Wait;
+use std::sync::ledger::Ledger;
+use usage_ledger::{Keep, Tally};
+
+/// An account that connections share. Each method has a relation of its arguments and its answer,
+/// which the implementer names. The type parameters are a tally's: what it keeps, and its ledgers.
+pub trait Service<K: Keep, C: Ledger, A: Ledger, T: Ledger, F: Ledger>: Drop {
+    /// The configuration that it serves.
+    ghost serves: { Self → Config };
+
+    /// What the tally held, the moment, the call, its bell, what came back, what the tally held then.
+    ghost submits: { Self → Held → ℕ → Called → Option Rings → Result ℕ (Back Rings) → Held → Type 0 };
+
+    /// The ticket, and what it was answered.
+    ghost looks: { Self → ℕ → Seen → Type 0 };
+
+    /// The ticket, and what its client gets.
+    ghost renders: { Self → ℕ → Option Replied → Type 0 };
+
+    /// The text of the history before its first entry.
+    ghost opens: { Self → List ℕ → Type 0 };
+
+    /// The ticket, and the text of its entry.
+    ghost tells: { Self → ℕ → Option (List ℕ) → Type 0 };
+
+    /// The counts.
+    ghost counts: { Self → Counted → Type 0 };
+
+    /// The function, and its reservation.
+    ghost reserves: { Self → ℕ → Option ℕ → Type 0 };
+
+    /// Submits a call at a moment in milliseconds, below 2^53, with the bell of whoever waits for its
+    /// answer. What the step counts moves the tally.
+    ///
+    /// # Errors
+    /// Where the call is not taken; its bell comes back.
+    fn submit<R: Wait>(
+        &self,
+        rt: &R,
+        tally: &mut Tally<K, C, A, T, F>,
+        now: u64,
+        call: Call,
+        bell: Option<OneShotBell>,
+    ) -> Result<Ticket, Refused<OneShotBell>>
+        requires moment { now < 2 ^ 53 }
+        requires within { IsWithin (serves self.now) call }
+        ensures { submits self.now tally.old.held now call bell result tally.new.held };
+
+    /// What a ticket was answered.
+    fn look<R: Wait>(&self, rt: &R, ticket: Ticket) -> Look
+        ensures { looks self.now ticket result };
+
+    /// What the client of the call with a ticket gets, none while the ticket has no answer.
+    ///
+    /// The only error is want of memory.
+    fn render<R: Wait>(&self, rt: &R, ticket: Ticket) -> Result<Option<Reply>, AllocError>
+        ensures { IfOk result (renders self.now ticket) };
+
+    /// The text of the history before its first entry. The only error is want of memory.
+    fn opening<R: Wait>(&self, rt: &R) -> Result<Vec<u8>, AllocError>
+        ensures { IfOk result (λ text. opens self.now text.items) };
+
+    /// The history text of the entry with a ticket, none past the end. The only error is want of
+    /// memory.
+    fn history<R: Wait>(&self, rt: &R, ticket: Ticket) -> Result<Option<Vec<u8>>, AllocError>
+        ensures { IfOk result (λ text. tells self.now ticket (option_map (λ bytes. bytes.items) text)) };
+
+    /// The counts.
+    fn stats<R: Wait>(&self, rt: &R) -> Stats
+        ensures { counts self.now result };
+
+    /// The reservation in force of a function, by its number from 1, none where it has none.
+    fn reservation<R: Wait>(&self, rt: &R, function: FnNo) -> Option<u32>
+        requires { IsFunction (serves self.now) function }
+        ensures { reserves self.now function result };
+}

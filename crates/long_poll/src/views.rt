@@ -1,0 +1,71 @@
+//! What is shown of an account without a call.
+
+ghost use Rattle.std.specs.Prelude.{◌≡◌, IfOk};
+ghost use Rattle.serde_json.specs.View.{view};
+ghost use Rattle.long_poll.specs.Views as spec;
+
+use arn_ids::{Bytes, Row};
+use call_model::Stats;
+use http_header::{HeaderName, HeaderValue};
+use lambda_wire::{Reply, json_headers, write_reservation};
+use serde_json::{Value, json};
+use std::alloc::{AllocError, Global};
+
+/// The counts as a JSON value.
+fn stats_value(alloc: Global, stats: Stats) -> Result<Value, AllocError>
+    ensures { IfOk result (λ value. view value ≡ spec.stats_data stats) }
+{
+    json!(in alloc; {
+        "admitted": stats.admitted,
+        "entries": stats.entries,
+        "failed": stats.failed,
+        "inFlight": stats.in_flight,
+        "throttled": stats.throttled
+    })
+}
+
+/// The counts as JSON.
+#[tactic(auto, using(crate::proofs::StatsText::stats_written))]
+fn write_stats(alloc: Global, stats: Stats) -> Result<Vec<u8>, AllocError>
+    ensures { IfOk result (λ text. text.items ≡ spec.stats_text stats) }
+{
+    stats_value(alloc, stats)?.to_vec(alloc)
+}
+
+/// Shows the counts of an account. As of every function here, the only error is want of memory.
+pub fn stats_reply(alloc: Global, stats: Stats) -> Result<Reply, AllocError>
+    ensures { IfOk result (λ reply. reply ≡ spec.stats_reply stats) }
+{
+    Ok(Reply {
+        status: 200,
+        headers: json_headers(alloc)?,
+        body: Bytes::new(write_stats(alloc, stats)?),
+    })
+}
+
+/// Shows the text of a history.
+pub fn history_reply(alloc: Global, text: Vec<u8>) -> Result<Reply, AllocError>
+    ensures { IfOk result (λ reply. reply ≡ spec.history_reply text.items) }
+{
+    let mut headers = Vec::with_capacity(alloc, 1)?;
+    headers.push((
+        HeaderName::from_static("content-type"),
+        HeaderValue::from_static("text/plain"),
+    ))?;
+    Ok(Reply {
+        status: 200,
+        headers: Row::new(headers),
+        body: Bytes::new(text),
+    })
+}
+
+/// Shows a function's reservation in force (Lambda API, GetFunctionConcurrency).
+pub fn reservation_reply(alloc: Global, count: Option<u32>) -> Result<Reply, AllocError>
+    ensures { IfOk result (λ reply. reply ≡ spec.reservation_reply count) }
+{
+    Ok(Reply {
+        status: 200,
+        headers: json_headers(alloc)?,
+        body: Bytes::new(write_reservation(alloc, count)?),
+    })
+}

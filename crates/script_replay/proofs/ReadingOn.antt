@@ -1,0 +1,90 @@
+-- What was read and what is left, over a whole replay.
+use Rattle.std.proofs.Common.{◌≡◌, ℕ, ◌+◌, false, ◌==◌, List, [], ◌∷◌, ◌++◌, length, Option, Some, None, IfSome, take, refl, sym, ap, ◌∙◌, arith, append_assoc, length-append}
+use Rattle.std.proofs.lemmas.Bool.Decides.{nat_tests}
+use Rattle.std.proofs.lemmas.List.{append-nil}
+use Rattle.std.specs.Io.KnownBytes.{Keeps, Consumes, IsAtEnd}
+use Rattle.std.specs.Str.Lines.{lines}
+use Rattle.account_book.specs.Run.{AtStart}
+use Rattle.script_replay.specs.Replays.{Ended, StoppedAt, Replays, Stops}
+use Rattle.script_replay.specs.Steps.{IsOpen, Played, Stand, Going, StoppedIn, last_lines}
+use Rattle.script_replay.specs.declared.fault.ReplayFault.{ReplayFault}
+use Rattle.script_replay.specs.declared.fault.ReplayFault.TheVariants as faults
+use Rattle.script_replay.proofs.LineEnds.{one_line}
+use Rattle.script_replay.proofs.Composing.{played_more, stopped_after, all_played, ended_after}
+
+-- what was read of the input, all but the rest, is the lines that were taken and what is pending
+pub record Reading (input rest : List ℕ) (now : Stand) (old new : Option (List ℕ)) : Type 0 where
+  pub taken : List (List ℕ)
+  pub cut : lines input ≡ taken ++ lines (now.pending ++ rest)
+  pub done : Played 1 AtStart now.progress taken old new
+  pub counted : now.line ≡ length taken
+  pub free : IsOpen now.pending
+
+abbrev pub ReadSoFar : Option (List ℕ) → Option (List ℕ) → Stand → Option (List ℕ) → Option (List ℕ) → Type 0
+ReadSoFar None left now old new = IsOpen now.pending
+ReadSoFar (Some input) None now old new = ⊥
+ReadSoFar (Some input) (Some rest) now old new = Reading input rest now old new
+
+pub read_kept : (first left after : Option (List ℕ)) (now : Stand) (old new : Option (List ℕ)) → ReadSoFar first left now old new → Keeps left after → ReadSoFar first after now old new
+read_kept None left after now old new r kept = r
+read_kept (Some input) None after now old new r kept = absurd r
+read_kept (Some input) (Some rest) None now old new r kept = absurd kept
+read_kept (Some input) (Some rest) (Some more) now old new r kept = rw kept r
+
+pub read_piece : (first left after : Option (List ℕ)) (piece : List ℕ) (s now : Stand) (old mid new : Option (List ℕ)) → ReadSoFar first left s old mid → Consumes left after piece → Going s now piece [] mid new
+    → ReadSoFar first after now old new
+read_piece None left after piece s now old mid new r taken going = going.free
+read_piece (Some input) None after piece s now old mid new r taken going = absurd r
+read_piece (Some input) (Some rest) None piece s now old mid new r taken going = absurd taken
+read_piece (Some input) (Some rest) (Some more) piece s now old mid new r taken going = record {
+  taken = r.taken ++ going.taken;
+  cut = r.cut ∙ rw (taken, going.cut more, append_assoc) refl;
+  done = played_more 1 (s.line + 1) AtStart s.progress now.progress r.taken going.taken old mid new r.done going.done (omega (arith, r.counted));
+  counted = omega (arith, r.counted, going.counted, length-append r.taken going.taken);
+  free = going.free;
+}
+
+pub read_stopped : (first left after : Option (List ℕ)) (piece : List ℕ) (s : Stand) (old mid new : Option (List ℕ)) (e : ReplayFault) → ReadSoFar first left s old mid → Consumes left after piece → StoppedIn s piece mid new e
+    → IfSome first (λ input. Stops input old new e)
+read_stopped None left after piece s old mid new e r taken stopped = tt
+read_stopped (Some input) None after piece s old mid new e r taken stopped = absurd r
+read_stopped (Some input) (Some rest) None piece s old mid new e r taken stopped = absurd taken
+read_stopped (Some input) (Some rest) (Some more) piece s old mid new e r taken stopped =
+    stopped_after 1 (s.line + 1) AtStart s.progress r.taken (lines (s.pending ++ (piece ++ more))) _ old mid new e r.done (omega (arith, r.counted)) (r.cut ∙ rw taken refl) (stopped more)
+
+pub read_failed : (first left : Option (List ℕ)) (s : Stand) (old new : Option (List ℕ)) → ReadSoFar first left s old new → IfSome first (λ input. Stops input old new faults.Read)
+read_failed None left s old new r = tt
+read_failed (Some input) None s old new r = absurd r
+read_failed (Some input) (Some rest) s old new r = record { first = r.taken; rest = lines (s.pending ++ rest); split = r.cut; wrote = all_played 1 AtStart s.progress r.taken old new r.done }
+
+-- the last line may lack its line feed
+last_cut : (pending : List ℕ) → IsOpen pending → lines pending ≡ last_lines pending
+last_cut [] free = refl
+last_cut (b ∷ bs) free = let full : (length (b ∷ bs) == 0) ≡ false = grind (arith, nat_tests) in one_line (b ∷ bs) free ∙ rw full refl
+
+script_ends : (input rest : List ℕ) (s : Stand) (old new : Option (List ℕ)) (r : Reading input rest s old new) → rest ≡ [] → lines input ≡ r.taken ++ last_lines s.pending
+script_ends input rest s old new r end =
+    r.cut ∙ ap (λ (l : List ℕ). r.taken ++ lines (s.pending ++ l)) end ∙ ap (λ (l : List ℕ). r.taken ++ lines l) (append-nil s.pending)
+    ∙ ap (λ (l : List (List ℕ)). r.taken ++ l) (last_cut s.pending r.free)
+
+pub read_last : (first left : Option (List ℕ)) (s : Stand) (old mid new : Option (List ℕ)) → ReadSoFar first left s old mid → IsAtEnd left
+    → Ended (s.line + 1) s.progress (last_lines s.pending) None mid new → IfSome first (λ input. Replays input old new)
+read_last None left s old mid new r end last = tt
+read_last (Some input) None s old mid new r end last = absurd r
+read_last (Some input) (Some rest) s old mid new r end last =
+    ended_after 1 (s.line + 1) AtStart s.progress r.taken (last_lines s.pending) _ old mid new None r.done (omega (arith, r.counted)) (script_ends input rest s old mid r end) last
+
+pub last_stopped : (first left : Option (List ℕ)) (s : Stand) (old mid new : Option (List ℕ)) (e : ReplayFault) → ReadSoFar first left s old mid → IsAtEnd left
+    → StoppedAt (s.line + 1) s.progress (last_lines s.pending) mid new e → IfSome first (λ input. Stops input old new e)
+last_stopped None left s old mid new e r end stopped = tt
+last_stopped (Some input) None s old mid new e r end stopped = absurd r
+last_stopped (Some input) (Some rest) s old mid new e r end stopped =
+    stopped_after 1 (s.line + 1) AtStart s.progress r.taken (last_lines s.pending) _ old mid new e r.done (omega (arith, r.counted)) (script_ends input rest s old mid r end) stopped
+
+pub read_nothing : (first left after : Option (List ℕ)) (buf : List ℕ) (n : ℕ) (now : Stand) (old new : Option (List ℕ)) → ReadSoFar first left now old new → Consumes left after (take n buf) → n ≡ 0 → ReadSoFar first after now old new
+read_nothing None left after buf n now old new r taken zero = r
+read_nothing (Some input) None after buf n now old new r taken zero = absurd r
+read_nothing (Some input) (Some rest) None buf n now old new r taken zero = absurd taken
+read_nothing (Some input) (Some rest) (Some more) buf n now old new r taken zero =
+    let same : more ≡ rest = sym (rw zero at taken) in
+    rw same r

@@ -1,0 +1,12 @@
+use Rattle.std.proofs.Common.{◌≡◌, ◌≤◌, ◌-◌, ◌++◌, length, reverse, drop}
+use Rattle.account_book.specs.Run.{lines_from}
+use Rattle.script_replay.proofs.book.push_from.Given as goal
+
+abbrev pub invariant-loop-number : goal.invariant-loop-number
+invariant-loop-number l = record {
+  within : l.number ≤ length l.entries;
+  written : l.out.items ++ lines_from l.salt (reverse l.entries) l.number (drop l.number l.entries) ≡ l.fn.out.items ++ lines_from l.salt (reverse l.entries) l.from (drop l.from l.entries);
+}
+
+abbrev pub decreases-loop-number : goal.decreases-loop-number
+decreases-loop-number l = length l.entries - l.number

@@ -1,0 +1,16 @@
+-- A replay as contracts see it.
+use Rattle.account_book.specs.Run as run
+use Rattle.script_replay.specs.Steps.{Stand}
+use Rattle.script_replay.specs.declared.line.Progress.{Progress}
+use Rattle.script_replay.specs.declared.line.Progress.TheVariants.{AtStart, AfterForm, Taking}
+use Rattle.script_replay.specs.declared.player.Player.{Player}
+
+-- where a replay stands between two lines
+abbrev pub seen : Progress → run.Progress
+seen AtStart = run.AtStart
+seen AfterForm = run.AfterForm
+seen (Taking reserves book) = run.Taking reserves book
+
+-- where it stands between two bytes
+abbrev pub stand : Player → Stand
+stand p = record { progress = seen p.progress; line = p.line; pending = p.pending.items }

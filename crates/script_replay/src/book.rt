@@ -1,0 +1,67 @@
+//! The book of a script: how its configuration opens it, and what it answers to a call.
+
+ghost use Rattle.std.specs.Prelude.{◌≡◌, ◌<◌, ◌≤◌, ◌^◌, ◌++◌, length, reverse, drop, OnOk, IfOk, IfErr, Ok, Err};
+ghost use Rattle.script.specs.Limits.{IsWithin};
+ghost use Rattle.account_book.specs.Run.{opened, answered, lines_from};
+ghost use Rattle.script_replay.specs.Faults.{HasFault};
+
+use crate::fault::ReplayFault;
+use account_book::{Book, OpenFault, Refusal};
+use arn_ids::ConfigFault;
+use call_model::Call;
+use lambda_wire::{WireFault, read_config};
+use std::alloc::{AllocError, Global};
+
+/// Opens the book that the configuration's line says.
+#[tactic(auto, unfolding(account_book::specs::Run::opened))]
+pub fn open_book(alloc: Global, line: &[u8]) -> Result<Book, ReplayFault>
+    ensures book { IfOk result (λ book. opened line.now ≡ Ok book) }
+    ensures fault { IfErr result (λ e. HasFault (opened line.now) e) }
+{
+    let setup = match read_config(alloc, line) {
+        Ok(setup) => setup,
+        Err(WireFault::OutOfMemory) => return Err(ReplayFault::OutOfMemory),
+        Err(fault) => return Err(ReplayFault::Wire(fault)),
+    };
+    let config = match setup.config.check() {
+        Ok(config) => config,
+        Err(fault) => return Err(ReplayFault::Config(fault)),
+    };
+    match Book::open(alloc, config, setup.salt, setup.max_entries) {
+        Ok(book) => Ok(book),
+        Err(OpenFault::EntriesOutOfRange) => Err(ReplayFault::Config(ConfigFault::BadEntries)),
+        Err(OpenFault::OutOfMemory) => Err(ReplayFault::OutOfMemory),
+    }
+}
+
+/// Adds the answer lines of the entries from this number on.
+fn push_from(book: &Book, from: usize, out: &mut Vec<u8>) -> Result<(), AllocError>
+    requires there { from ≤ length book.now.history }
+    ensures { OnOk result (out.new.items ≡ out.old.items ++ lines_from book.now.salt book.now.history from (drop from (reverse book.now.history))) }
+{
+    let entries = book.entries();
+    let counts = book.counts();
+    let salt = book.salt();
+    let mut number = from;
+    while number < entries.len() {
+        script::push_answers(out, salt, entries, counts, number)?;
+        number += 1;
+    }
+    Ok(())
+}
+
+/// Hands the book a call, and adds the lines that it is answered.
+#[tactic(auto, unfolding(account_book::specs::Run::answered))]
+pub fn answer(book: &mut Book, now: u64, call: Call, out: &mut Vec<u8>) -> Result<(), AllocError>
+    requires moment { now < 2 ^ 53 }
+    requires within { IsWithin book.old.config call }
+    ensures book { OnOk result (book.new ≡ (answered book.old now call).0) }
+    ensures text { OnOk result (out.new.items ≡ out.old.items ++ (answered book.old now call).1) }
+{
+    let before = book.entries().len();
+    match book.apply(now, call) {
+        Ok(_ticket) => push_from(book, before, out),
+        Err(Refusal::JournalFull) => out.extend_from_slice(b"refused JournalFull\n"),
+        Err(Refusal::OutOfMemory) => Err(AllocError),
+    }
+}

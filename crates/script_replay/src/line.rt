@@ -1,0 +1,133 @@
+//! What one line of a script does.
+
+ghost use Rattle.std.specs.Prelude.{◌≡◌, ◌<◌, ℕ, List, length, OnOk, IfErr};
+ghost use Rattle.std.specs.Str.Lines.{strip_carriage_return};
+ghost use Rattle.account_book.specs.Run.{is_form_2 as says_form_2, is_skipped as skips, line_limit, line_answered, line_taken};
+ghost use Rattle.script_replay.specs.Faults.{HasFault};
+ghost use Rattle.script_replay.specs.Steps.{Took};
+ghost use Rattle.script_replay.specs.Views.{seen};
+
+use crate::book::{answer, open_book};
+use crate::fault::ReplayFault;
+use account_book::Book;
+use lambda_wire::WireFault;
+use std::alloc::Global;
+
+/// How many bytes a line may have, its ending not counted.
+pub const LINE_LIMIT: usize = 20_000_000;
+
+/// Where a replay stands between two lines.
+#[derive(Drop)]
+pub enum Progress {
+    /// No line was taken.
+    AtStart,
+    /// The first line said that the script is of form 2; the configuration comes next.
+    AfterForm,
+    /// The configuration opened the book. Lines may be `reserve` in form 2 alone.
+    Taking { reserves: bool, book: Book },
+}
+
+/// Whether a first line says that the script is of form 2.
+fn is_form_2(line: &[u8]) -> bool
+    ensures { result ≡ says_form_2 line.now }
+{
+    line == b"form 2".as_slice()
+}
+
+/// Whether a line is empty or a comment.
+fn is_skipped(line: &[u8]) -> bool
+    ensures { result ≡ skips line.now }
+{
+    match line {
+        [] => true,
+        [first, ..] => *first == b'#',
+    }
+}
+
+/// Takes a carriage return away from the end of a line that a line feed ended.
+pub fn drop_return(line: &mut Vec<u8>)
+    ensures { line.new.items ≡ strip_carriage_return line.old.items }
+{
+    if line.last() == Some(&b'\r') {
+        line.pop();
+    }
+}
+
+/// Hands the book the call of a line, and adds what is written to it.
+#[tactic(auto, unfolding(account_book::specs::Run::line_answered))]
+fn answer_line(
+    alloc: Global,
+    number: u64,
+    reserves: bool,
+    book: &mut Book,
+    line: &[u8],
+    out: &mut Vec<u8>,
+) -> Result<(), ReplayFault>
+    ensures took { OnOk result (Took (line_answered reserves number book.old line.now) book.new out.old.items out.new.items) }
+    ensures fault { IfErr result (λ e. HasFault (line_answered reserves number book.old line.now) e) }
+{
+    if line.len() > LINE_LIMIT {
+        return Err(ReplayFault::Script { line: number });
+    }
+    if is_skipped(line) {
+        return Ok(());
+    }
+    match script::read_call(alloc, book.config(), reserves, line)? {
+        Some((now, call)) => {
+            answer(book, now, call, out)?;
+            Ok(())
+        }
+        None => Err(ReplayFault::Script { line: number }),
+    }
+}
+
+/// Takes the line of a number: the first one may say form 2; the next one, and else the first, is
+/// the configuration, which opens the book; the book takes each other one. What a line writes is
+/// added to the text.
+pub fn take_line(
+    alloc: Global,
+    number: u64,
+    progress: &mut Progress,
+    line: &[u8],
+    out: &mut Vec<u8>,
+) -> Result<(), ReplayFault>
+    ensures took { OnOk result (Took (line_taken number (seen progress.old) line.now) (seen progress.new) out.old.items out.new.items) }
+    ensures fault { IfErr result (λ e. HasFault (line_taken number (seen progress.old) line.now) e) }
+{
+    match progress {
+        Progress::AtStart => {
+            if is_form_2(line) {
+                *progress = Progress::AfterForm;
+                return Ok(());
+            }
+            let book = open_book(alloc, line)?;
+            *progress = Progress::Taking {
+                reserves: false,
+                book,
+            };
+            Ok(())
+        }
+        Progress::AfterForm => {
+            let book = open_book(alloc, line)?;
+            *progress = Progress::Taking {
+                reserves: true,
+                book,
+            };
+            Ok(())
+        }
+        Progress::Taking { reserves, book } => {
+            answer_line(alloc, number, *reserves, book, line, out)
+        }
+    }
+}
+
+/// The fault of a line that is too long.
+pub fn overlong(number: u64, progress: &Progress) -> ReplayFault
+    ensures { (line : List ℕ) → line_limit < length line → HasFault (line_taken number (seen progress.now) line) result }
+{
+    match progress {
+        Progress::Taking { .. } => ReplayFault::Script { line: number },
+        Progress::AtStart => ReplayFault::Wire(WireFault::TooLong),
+        Progress::AfterForm => ReplayFault::Wire(WireFault::TooLong),
+    }
+}
