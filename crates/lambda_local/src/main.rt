@@ -1,12 +1,36 @@
 //! A local Lambda service. `lambda_local`, or `lambda_local replay`, replays a script of calls from
-//! standard input and writes what each is answered to standard output.
+//! standard input and writes what each is answered to standard output. `lambda_local serve PATH`
+//! serves the configuration of a file over HTTP until it is stopped, and then writes the account's
+//! counts.
 #![tactic(auto)]
 
+mod clock;
+mod serve;
+mod serve_fault;
+
+use crate::serve::serve;
+use crate::serve_fault::ServeFault;
+use http_front::Machine;
+use log::Log;
 use script_replay::{ReplayFault, replay};
 use std::env::{self, Env};
-use std::io;
+use std::io::{self, Read};
+use std::marker::PhantomData;
+use std::net::{TcpListener, TcpStream};
 use std::process::ExitCode;
+use std::rt::Files;
 use thiserror::Error;
+
+/// What the arguments ask for.
+#[derive(Drop)]
+enum Asked {
+    /// To replay standard input.
+    Replay,
+    /// To serve the configuration of the file with this path.
+    Serve(String),
+    /// Nothing that the program does.
+    Nothing,
+}
 
 /// Why the program fails. Printed, it is its line on standard error.
 #[derive(Clone, Copy, Debug, PartialEq, Eq, Error)]
@@ -17,6 +41,9 @@ enum ProgramFault {
     /// The replay ended before its input.
     #[error("{0}")]
     Replay(ReplayFault),
+    /// The service did not come to a settled end.
+    #[error("{0}")]
+    Serve(ServeFault),
 }
 
 impl ProgramFault {
@@ -25,27 +52,39 @@ impl ProgramFault {
         match self {
             ProgramFault::Usage => 2,
             ProgramFault::Replay(fault) => fault.status(),
+            ProgramFault::Serve(fault) => fault.status(),
         }
     }
 }
 
-/// Whether the arguments ask for a replay.
-fn asks_replay<R: Env + Alloc>(rt: &R) -> io::Result<bool> {
+/// What the arguments ask for.
+fn read_arguments<R: Env + AllocGlobal>(rt: &R) -> io::Result<Asked> {
     let mut words = env::args(rt)?.skip(1);
-    match (words.next(), words.next()) {
-        (None, _) => Ok(true),
-        (Some(word), None) => Ok(word.as_str() == "replay"),
-        (Some(_), Some(_)) => Ok(false),
+    let Some(first) = words.next() else {
+        return Ok(Asked::Replay);
+    };
+    let second = words.next();
+    if words.next().is_some() {
+        return Ok(Asked::Nothing);
+    }
+    match (first.as_str(), second) {
+        ("replay", None) => Ok(Asked::Replay),
+        ("serve", Some(path)) => Ok(Asked::Serve(path)),
+        _ => Ok(Asked::Nothing),
     }
 }
 
-fn run(rt: &HostRuntime) -> Result<(), ProgramFault> {
-    match asks_replay(rt) {
-        Ok(true) => {
+fn run<R: Machine + Log + Files + Env + Input + Print>(rt: R) -> Result<(), ProgramFault>
+where
+    R::File: Read + Drop,
+{
+    match read_arguments(&rt) {
+        Ok(Asked::Replay) => {
             let mut reader = rt.reader();
-            let mut writer = io::writer(rt);
+            let mut writer = io::writer(&rt);
             replay(rt.alloc(), &mut reader, &mut writer).map_err(ProgramFault::Replay)
         }
+        Ok(Asked::Serve(path)) => serve(rt, path.as_str()).map_err(ProgramFault::Serve),
         Err(error) if error.kind() == io::ErrorKind::OutOfMemory => {
             Err(ProgramFault::Replay(ReplayFault::OutOfMemory))
         }
@@ -54,7 +93,9 @@ fn run(rt: &HostRuntime) -> Result<(), ProgramFault> {
 }
 
 fn main(rt: HostRuntime) -> ExitCode {
-    match run(&rt) {
+    // (so that the types of the machine's sockets, which `run` asks for, are among those of `main`)
+    let _: PhantomData<(TcpListener, TcpStream)> = PhantomData;
+    match run(rt) {
         Ok(()) => ExitCode::SUCCESS,
         Err(fault) => {
             // Where standard error takes nothing either, the status alone tells.

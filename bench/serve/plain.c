@@ -1,0 +1,275 @@
+/* The same service written plainly, to measure against: one lock, one thread a connection, long polls
+   on condition variables, nothing proved and nothing kept. One function f, runtimes alone, no deadlines.
+
+   usage: plain INVOKE_PORT ENVIRONMENTS   (environment n listens on INVOKE_PORT + n) */
+#define _GNU_SOURCE
+#include <arpa/inet.h>
+#include <netinet/tcp.h>
+#include <pthread.h>
+#include <stdio.h>
+#include <stdlib.h>
+#include <string.h>
+#include <strings.h>
+#include <sys/socket.h>
+#include <sys/time.h>
+#include <unistd.h>
+
+enum { MOST_ENVIRONMENTS = 256, HEAD = 16384 };
+
+struct invocation {
+    char *payload, *output;
+    size_t payload_size, output_size;
+    pthread_cond_t answered;
+    int is_answered;
+};
+
+struct environment {
+    int is_asking;                 /* its runtime waits in a Next */
+    pthread_cond_t asked;
+    struct invocation *open;       /* what it works on */
+    unsigned long count;           /* the count in its invocation's identifier */
+    unsigned long asks;            /* how often its runtime asked, so that a newer poll replaces an older one */
+};
+
+static pthread_mutex_t lock = PTHREAD_MUTEX_INITIALIZER;
+static struct environment environments[MOST_ENVIRONMENTS + 1];
+static int environment_count;
+static unsigned long invoked, admitted, throttled;
+
+struct connection {
+    int socket, environment;       /* environment 0 is the invoke port */
+    char head[HEAD];
+    size_t read, used;
+};
+
+static int send_all(int socket, const char *bytes, size_t size, int flags) {
+    while (size > 0) {
+        ssize_t sent = send(socket, bytes, size, flags | MSG_NOSIGNAL);
+        if (sent <= 0) return -1;
+        bytes += sent;
+        size -= sent;
+    }
+    return 0;
+}
+
+static int reply(struct connection *c, int status, const char *headers, const char *body, size_t size) {
+    char head[512];
+    int length = snprintf(head, sizeof head, "HTTP/1.1 %d X\r\nContent-Type: application/json\r\n%sContent-Length: %zu\r\n\r\n", status, headers, size);
+    if (size < 4096) {
+        char whole[8192];
+        memcpy(whole, head, length);
+        memcpy(whole + length, body, size);
+        return send_all(c->socket, whole, length + size, 0);
+    }
+    return send_all(c->socket, head, length, MSG_MORE) || send_all(c->socket, body, size, 0);
+}
+
+static int text(struct connection *c, int status, const char *body) {
+    return reply(c, status, "", body, strlen(body));
+}
+
+static int invoke(struct connection *c, char *payload, size_t size) {
+    struct invocation *i = calloc(1, sizeof *i);
+    pthread_cond_init(&i->answered, 0);
+    i->payload = payload;
+    i->payload_size = size;
+    pthread_mutex_lock(&lock);
+    int at = 0;
+    for (int e = 1; e <= environment_count && !at; e++)
+        if (environments[e].is_asking && !environments[e].open) at = e;
+    if (!at) {
+        throttled++;
+        pthread_mutex_unlock(&lock);
+        free(payload);
+        free(i);
+        return text(c, 429, "{\"Reason\":\"LocalEnvironmentLimitExceeded\",\"Type\":\"User\",\"message\":\"Rate Exceeded.\"}");
+    }
+    admitted++;
+    environments[at].open = i;
+    environments[at].count = ++invoked;
+    pthread_cond_signal(&environments[at].asked);
+    while (!i->is_answered) pthread_cond_wait(&i->answered, &lock);
+    pthread_mutex_unlock(&lock);
+    int failed = reply(c, 200, "X-Amz-Executed-Version: $LATEST\r\n", i->output, i->output_size);
+    free(i->payload);
+    free(i->output);
+    free(i);
+    return failed;
+}
+
+static int next(struct connection *c) {
+    struct environment *e = &environments[c->environment];
+    pthread_mutex_lock(&lock);
+    unsigned long mine = ++e->asks;
+    e->is_asking = 1;
+    while (!e->open && e->asks == mine) pthread_cond_wait(&e->asked, &lock);
+    if (e->asks != mine) {
+        pthread_mutex_unlock(&lock);
+        return text(c, 403, "{\"errorMessage\":\"A newer poll replaced this one\",\"errorType\":\"InvalidStateTransition\"}");
+    }
+    e->is_asking = 0;
+    struct invocation *i = e->open;
+    unsigned long count = e->count;
+    pthread_mutex_unlock(&lock);
+    struct timeval now;
+    gettimeofday(&now, 0);
+    char headers[400];
+    snprintf(headers, sizeof headers,
+             "Lambda-Runtime-Aws-Request-Id: 00000000-0000-8000-8001-%012lx\r\nLambda-Runtime-Deadline-Ms: %ld\r\n"
+             "Lambda-Runtime-Invoked-Function-Arn: arn:aws:lambda:us-east-2:123456789012:function:f\r\n",
+             count, now.tv_sec * 1000L + now.tv_usec / 1000 + 3000);
+    return reply(c, 200, headers, i->payload, i->payload_size);
+}
+
+static int respond(struct connection *c, const char *id, char *output, size_t size) {
+    struct environment *e = &environments[c->environment];
+    const char *dash = strrchr(id, '-');
+    unsigned long count = dash ? strtoul(dash + 1, 0, 16) : 0;
+    pthread_mutex_lock(&lock);
+    if (!e->open || e->count != count) {
+        pthread_mutex_unlock(&lock);
+        free(output);
+        return text(c, 400, "{\"errorMessage\":\"Not the open invocation\",\"errorType\":\"InvalidRequestID\"}");
+    }
+    struct invocation *i = e->open;
+    e->open = 0;
+    i->output = output;
+    i->output_size = size;
+    i->is_answered = 1;
+    pthread_cond_signal(&i->answered);
+    pthread_mutex_unlock(&lock);
+    return text(c, 202, "{\"status\":\"OK\"}\n");
+}
+
+static int stats(struct connection *c) {
+    char body[128];
+    pthread_mutex_lock(&lock);
+    snprintf(body, sizeof body, "{\"admitted\":%lu,\"throttled\":%lu}", admitted, throttled);
+    pthread_mutex_unlock(&lock);
+    return text(c, 200, body);
+}
+
+/* The head of the next request, ended by a zero; 0 at the end of the connection. */
+static char *read_head(struct connection *c) {
+    memmove(c->head, c->head + c->used, c->read - c->used);
+    c->read -= c->used;
+    c->used = 0;
+    for (;;) {
+        c->head[c->read] = 0;
+        char *end = strstr(c->head, "\r\n\r\n");
+        if (end) {
+            c->used = end + 4 - c->head;
+            end[2] = 0;
+            return c->head;
+        }
+        if (c->read + 1 >= HEAD) return 0;
+        ssize_t got = recv(c->socket, c->head + c->read, HEAD - 1 - c->read, 0);
+        if (got <= 0) return 0;
+        c->read += got;
+    }
+}
+
+static char *read_body(struct connection *c, size_t size) {
+    char *body = malloc(size + 1);
+    size_t have = c->read - c->used;
+    if (have > size) have = size;
+    memcpy(body, c->head + c->used, have);
+    c->used += have;
+    while (have < size) {
+        ssize_t got = recv(c->socket, body + have, size - have, 0);
+        if (got <= 0) {
+            free(body);
+            return 0;
+        }
+        have += got;
+    }
+    return body;
+}
+
+static void *serve(void *argument) {
+    struct connection *c = argument;
+    char *head;
+    while ((head = read_head(c))) {
+        char path[1024] = "", method[16] = "";
+        sscanf(head, "%15s %1023s", method, path);
+        char *length = strcasestr(head, "\r\ncontent-length:");
+        size_t size = length ? strtoul(length + 17, 0, 10) : 0;
+        char *body = read_body(c, size);
+        if (!body) break;
+        int failed;
+        if (!c->environment && strstr(path, "/invocations")) {
+            failed = invoke(c, body, size);
+        } else if (!c->environment && !strcmp(path, "/_local/stats")) {
+            free(body);
+            failed = stats(c);
+        } else if (c->environment && !strcmp(path, "/2018-06-01/runtime/invocation/next")) {
+            free(body);
+            failed = next(c);
+        } else if (c->environment && !strcmp(path, "/2020-01-01/extension/event/next")) {
+            free(body);
+            pause();
+            failed = 1;
+        } else if (c->environment && strstr(path, "/response")) {
+            *strstr(path, "/response") = 0;
+            failed = respond(c, path, body, size);
+        } else {
+            free(body);
+            failed = text(c, 404, "{\"errorMessage\":\"No such resource\",\"errorType\":\"NotFound\"}");
+        }
+        if (failed) break;
+    }
+    close(c->socket);
+    free(c);
+    return 0;
+}
+
+struct port {
+    int listener, environment;
+};
+
+static void *accept_all(void *argument) {
+    struct port *port = argument;
+    pthread_attr_t detached;
+    pthread_attr_init(&detached);
+    pthread_attr_setdetachstate(&detached, PTHREAD_CREATE_DETACHED);
+    pthread_attr_setstacksize(&detached, 128 * 1024);
+    for (;;) {
+        int socket = accept(port->listener, 0, 0), one = 1;
+        if (socket < 0) continue;
+        setsockopt(socket, IPPROTO_TCP, TCP_NODELAY, &one, sizeof one);
+        struct connection *c = malloc(sizeof *c);
+        c->socket = socket;
+        c->environment = port->environment;
+        c->read = c->used = 0;
+        pthread_t thread;
+        if (pthread_create(&thread, &detached, serve, c)) {
+            close(socket);
+            free(c);
+        }
+    }
+    return 0;
+}
+
+int main(int count, char **words) {
+    if (count != 3 || (environment_count = atoi(words[2])) < 1 || environment_count > MOST_ENVIRONMENTS) {
+        fprintf(stderr, "usage: plain INVOKE_PORT ENVIRONMENTS\n");
+        return 2;
+    }
+    pthread_t thread = 0;
+    for (int n = 0; n <= environment_count; n++) {
+        struct sockaddr_in address = {.sin_family = AF_INET, .sin_port = htons(atoi(words[1]) + n), .sin_addr.s_addr = htonl(INADDR_LOOPBACK)};
+        struct port *port = malloc(sizeof *port);
+        int one = 1;
+        pthread_cond_init(&environments[n].asked, 0);
+        port->environment = n;
+        port->listener = socket(AF_INET, SOCK_STREAM, 0);
+        setsockopt(port->listener, SOL_SOCKET, SO_REUSEADDR, &one, sizeof one);
+        if (bind(port->listener, (struct sockaddr *)&address, sizeof address) || listen(port->listener, 1024)) {
+            perror("plain");
+            return 4;
+        }
+        pthread_create(&thread, 0, accept_all, port);
+    }
+    fprintf(stderr, "listening\n");
+    pthread_join(thread, 0);
+}

@@ -1,0 +1,6 @@
+use Rattle.std.proofs.Common.{◌≡◌}
+use Rattle.fake_clients.specs.Reports.{statuses_of, bodies_of}
+use Rattle.fake_clients.proofs.report.report_on.Given as goal
+
+abbrev pub invariant-loop-outcome : goal.invariant-loop-outcome
+invariant-loop-outcome l = (l.gathered.statuses.items ≡ statuses_of l.yielded) × (l.gathered.bodies.items ≡ bodies_of l.yielded)

@@ -1,0 +1,55 @@
+//! The registrations of a scenario's extensions.
+
+use crate::ports::environment_port;
+use crate::steps::{fault_of, header_text};
+use crate::{Client, Connector, Extension, ScenarioFault, Watch};
+use arn_ids::Config;
+use std::alloc::AllocGlobal;
+use std::net::Net;
+use std::random::RandomSource;
+use std::sync::Wait;
+use std::time::Clock;
+
+/// Registers an extension, and gives what it is known by.
+fn register<R: Wait + Net + Clock + RandomSource + AllocGlobal>(
+    rt: &R,
+    config: &Config,
+    watch: &Watch,
+    client: usize,
+    extension: &Extension,
+) -> Result<String, ScenarioFault> {
+    let Some(port) = environment_port(config, extension.env) else {
+        return Err(ScenarioFault::Failed { client });
+    };
+    let connector = Connector::new(rt, watch, client);
+    let registered = extension
+        .register(&connector, port)
+        .map_err(|fault| fault_of(client, fault))?;
+    if registered.status().as_u16() != 200 {
+        return Err(ScenarioFault::Failed { client });
+    }
+    match header_text(&registered, "lambda-extension-identifier") {
+        Some(identifier) => Ok(String::from_str(rt.alloc(), identifier)?),
+        None => Err(ScenarioFault::Failed { client }),
+    }
+}
+
+/// Registers each extension of the list, one after the other. What each is known by stands at its
+/// place, an empty text at the others'.
+pub(crate) fn register_all<R: Wait + Net + Clock + RandomSource + AllocGlobal>(
+    rt: &R,
+    config: &Config,
+    watch: &Watch,
+    clients: &[Client],
+) -> Result<Vec<String>, ScenarioFault> {
+    let alloc = rt.alloc();
+    let mut identifiers = Vec::with_capacity(alloc, clients.len())?;
+    for (place, client) in clients.iter().enumerate() {
+        let identifier = match client {
+            Client::Extension(extension) => register(rt, config, watch, place, extension)?,
+            _ => String::new(alloc),
+        };
+        identifiers.push(identifier)?;
+    }
+    Ok(identifiers)
+}

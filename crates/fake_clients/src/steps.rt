@@ -1,0 +1,47 @@
+//! How a client takes what it is answered.
+
+ghost use Rattle.std.specs.Prelude.{◌≡◌, ◌==◌, ◌||◌};
+ghost use Rattle.fake_clients.specs.Faults.{fault_at};
+
+use crate::{RequestFault, ScenarioFault};
+use bytes::Bytes;
+use http::Response;
+
+/// Whether a client goes on after this status: 200 and 202.
+pub(crate) fn is_success(status: u16) -> bool
+    ensures { result ≡ (status == 200 || status == 202) }
+{
+    status == 200 || status == 202
+}
+
+/// The fault of a scenario where the request of a client has no answer that it needs.
+pub(crate) fn fault_of(client: usize, fault: RequestFault) -> ScenarioFault
+    ensures { result ≡ fault_at client fault }
+{
+    match fault {
+        RequestFault::Waited => ScenarioFault::Waited { client },
+        RequestFault::OutOfMemory => ScenarioFault::OutOfMemory,
+        RequestFault::NoRequest | RequestFault::Closed | RequestFault::NoResponse => {
+            ScenarioFault::Failed { client }
+        }
+    }
+}
+
+/// The response with which a runtime or an extension goes on. None where it ends: at another status
+/// than 200 and 202, and where its connection was closed or refused.
+pub(crate) fn continued(
+    client: usize,
+    answered: Result<Response<Bytes>, RequestFault>,
+) -> Result<Option<Response<Bytes>>, ScenarioFault> {
+    match answered {
+        Ok(response) if is_success(response.status().as_u16()) => Ok(Some(response)),
+        Ok(_) => Ok(None),
+        Err(RequestFault::Closed) => Ok(None),
+        Err(fault) => Err(fault_of(client, fault)),
+    }
+}
+
+/// The text of a header of a response.
+pub(crate) fn header_text<'r>(response: &'r Response<Bytes>, name: &str) -> Option<&'r str> {
+    response.headers().get(name)?.to_str().ok()
+}

@@ -1,0 +1,21 @@
+-- Why a host does not open.
+use Rattle.std.specs.Prelude.{◌≡◌, Some, None}
+use Rattle.arn_ids.specs.Faults.{first_fault}
+use Rattle.arn_ids.specs.declared.config.Config.{Config as Configured}
+use Rattle.arn_ids.specs.declared.faults.ConfigFault.TheVariants.{BadEntries}
+use Rattle.account_book.specs.declared.book.OpenFault.{OpenFault}
+use Rattle.account_book.specs.declared.book.OpenFault.TheVariants as opening
+use Rattle.http_front.specs.declared.host_fault.HostFault.{HostFault}
+use Rattle.http_front.specs.declared.host_fault.HostFault.TheVariants.{Config, Network, StillShared, OutOfMemory}
+
+-- what it says of a history that is not opened
+abbrev pub fault_of_opening : OpenFault → HostFault
+fault_of_opening opening.EntriesOutOfRange = Config BadEntries
+fault_of_opening opening.OutOfMemory = OutOfMemory
+
+-- A fault of a plan: the first one of its configuration, or that memory was refused.
+abbrev pub IsFaultOf : Configured → HostFault → Type 0
+IsFaultOf config (Config fault) = first_fault config ≡ Some fault
+IsFaultOf config Network = ⊥
+IsFaultOf config StillShared = ⊥
+IsFaultOf config OutOfMemory = first_fault config ≡ None

@@ -1,0 +1,4 @@
+pub mod HistoryFrames
+pub mod Responses
+pub mod Hosts
+pub mod Ports

@@ -1,0 +1,72 @@
+//! A port of the service, as the threads of its connections share it.
+
+ghost use Rattle.std.specs.Prelude.{◌≡◌, IfOk};
+ghost use Rattle.std.specs.Arc.{arc_value};
+ghost use Rattle.http_routes.specs.Decisions.{IsPortOf};
+
+use crate::{Port, Side};
+use account_lock::Setup;
+use arn_ids::Checked;
+use std::alloc::{AllocError, Global};
+use std::marker::{Model, PhantomData};
+use std::sync::Arc;
+
+/// Whose port it is, in the configuration that the account's type names, and the salt of the
+/// identifiers. (A `Side` has routes, which don't cross threads; so each connection opens its own.)
+#[derive(Drop)]
+pub(crate) struct Door<S: Setup> {
+    port: Port,
+    config: Arc<Checked>,
+    salt: u64,
+    of: PhantomData<S>,
+}
+
+impl<S: Setup> Model for Door<S> {
+    ghost use Rattle.std.specs.Prelude.{◌≡◌};
+    ghost use Rattle.std.specs.Arc.{arc_value};
+    ghost use Rattle.http_routes.specs.Decisions.{Served, IsPortOf};
+
+    ghost Value = { Served };
+
+    ghost view = { λ d. record { config = arc_value d.config; salt = d.salt; port = d.port } };
+
+    ghost invariant = { λ d. (arc_value d.config ≡ S.config) × IsPortOf (arc_value d.config) d.port };
+}
+
+impl<S: Setup> Door<S> {
+    /// A port of this configuration.
+    pub(crate) fn new(port: Port, config: Arc<Checked>, salt: u64) -> Door<S>
+        requires configured { arc_value config ≡ S.config }
+        requires port { IsPortOf (arc_value config) port }
+        ensures { result ≡ record { config = arc_value config; salt = salt; port = port } }
+    {
+        Door {
+            port,
+            config,
+            salt,
+            of: PhantomData,
+        }
+    }
+
+    /// Whose it is.
+    pub(crate) fn port(&self) -> Port
+        ensures { result ≡ self.now.port }
+    {
+        self.port
+    }
+
+    /// The same port, for another thread.
+    pub(crate) fn share(&self) -> Result<Door<S>, AllocError>
+        ensures { IfOk result (λ door. door ≡ self.now) }
+    {
+        let config = Arc::try_clone(&self.config)?;
+        Ok(Door::new(self.port, config, self.salt))
+    }
+
+    /// Who decides its requests. The only error is want of memory.
+    pub(crate) fn side(&self, alloc: Global) -> Result<Side, AllocError>
+        ensures { IfOk result (λ side. (side ≡ self.now) × (side.config ≡ S.config)) }
+    {
+        Side::open(alloc, Arc::try_clone(&self.config)?, self.salt, self.port)
+    }
+}

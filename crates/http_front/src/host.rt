@@ -1,0 +1,175 @@
+//! The server: its ports, and the threads of its connections.
+
+ghost use Rattle.std.specs.Prelude.{◌≡◌, ◌^◌};
+
+use crate::entrance::Entrance;
+use crate::machine::Machine;
+use crate::reception::Reception;
+use crate::slots::Slots;
+use crate::ticker::tick_on;
+use crate::{HostFault, Plan};
+use account_lock::{Account, Setup};
+use long_poll::{Clock, OneShotBell};
+use mio::Poll;
+use std::alloc::AllocError;
+use std::sync::Arc;
+use std::sync::atomic::AtomicBool;
+use std::sync::atomic::Ordering::SeqCst;
+use std::sync::ledger::{Blank, Ledger};
+use std::thread;
+use std::thread::JoinHandle;
+use usage_ledger::{Keep, Tally};
+
+/// An account that is served over HTTP/1.1 on 127.0.0.1: on the invoke port for callers, and on a
+/// port of each environment for its runtime and its extensions. `S` names the configuration, `N` is
+/// the clock, in Unix milliseconds, `K` what each tally keeps, and the others are the account's
+/// ledgers.
+#[derive(Drop)]
+pub struct Host<R, S: Setup, N, K: Keep, C: Ledger, A: Ledger, T: Ledger, F: Ledger> {
+    rt: R,
+    account: Arc<Account<S, OneShotBell, C, A, T, F>>,
+    clock: Arc<N>,
+    root: Tally<K, C, A, T, F>,
+    ticking: Tally<K, C, A, T, F>,
+    entrance: Entrance<S>,
+    most: u32,
+}
+
+/// What a host leaves: its account, and all the tallies in which its calls count.
+#[derive(Drop)]
+pub struct Hosted<S: Setup, K: Keep, C: Ledger, A: Ledger, T: Ledger, F: Ledger> {
+    /// The account.
+    pub account: Account<S, OneShotBell, C, A, T, F>,
+    /// The tallies: that of the root, that of the ticker, and those of the connections.
+    pub tallies: Vec<Tally<K, C, A, T, F>>,
+}
+
+impl<
+    R: Machine,
+    S: Setup + Drop + Send + Sync + 'static,
+    N: Clock + Drop + Send + Sync + 'static,
+    K: Keep + Send + 'static,
+    C: Ledger + Send + Sync + 'static,
+    A: Ledger + Send + Sync + 'static,
+    T: Ledger + Send + Sync + 'static,
+    F: Ledger + Send + Sync + 'static,
+> Host<R, S, N, K, C, A, T, F> {
+    /// Opens the account of a plan and listens on every port. It takes `most` connections at once; a
+    /// further one is closed.
+    ///
+    /// # Errors
+    /// `Config(BadEntries)` where the plan's entries are out of range, `Network` where a port can't
+    /// be listened on, else `OutOfMemory`. No port is then listened on.
+    pub fn open(
+        rt: R,
+        plan: Plan,
+        clock: N,
+        most: u32,
+        calls: Blank,
+        admitted: Blank,
+        throttled: Blank,
+        failed: Blank,
+    ) -> Result<Host<R, S, N, K, C, A, T, F>, HostFault>
+        requires configured { plan.config ≡ S.config }
+        requires calls { (calls.name ≡ C.name) × (calls.parts ≡ C.parts) × (C.parts ≡ 2 ^ 32) }
+        requires admitted { (admitted.name ≡ A.name) × (admitted.parts ≡ A.parts) × (A.parts ≡ 2 ^ 32) }
+        requires throttled { (throttled.name ≡ T.name) × (throttled.parts ≡ T.parts) × (T.parts ≡ 2 ^ 32) }
+        requires failed { (failed.name ≡ F.name) × (failed.parts ≡ F.parts) × (F.parts ≡ 2 ^ 32) }
+    {
+        let alloc = rt.alloc();
+        let Plan {
+            config,
+            shared,
+            salt,
+            max_entries,
+        } = plan;
+        let (account, mut root) = match Account::open(
+            alloc,
+            config,
+            salt,
+            max_entries,
+            calls,
+            admitted,
+            throttled,
+            failed,
+        ) {
+            Ok(opened) => opened,
+            Err(fault) => return Err(HostFault::from(fault)),
+        };
+        let account = Arc::new(alloc, account).map_err(AllocError::from)?;
+        let clock = Arc::new(alloc, clock).map_err(AllocError::from)?;
+        let entrance = Entrance::open(&rt, alloc, &shared, salt)?;
+        let ticking = root.split();
+        Ok(Host {
+            rt,
+            account,
+            clock,
+            root,
+            ticking,
+            entrance,
+            most,
+        })
+    }
+
+    /// Serves until the service has come to its end: after a Stop, once every environment is off, or
+    /// where a full journal lets no more time pass. Then no more connections are taken, those that
+    /// are open are ended, and every thread is joined.
+    ///
+    /// # Errors
+    /// `Network` where the ports failed, `OutOfMemory` where there was none to begin with, or
+    /// `StillShared`. The account and the tallies are then gone.
+    pub fn run(self) -> Result<Hosted<S, K, C, A, T, F>, HostFault> {
+        let Host {
+            rt,
+            account,
+            clock,
+            root,
+            ticking,
+            entrance,
+            most,
+        } = self;
+        let alloc = rt.alloc();
+        let is_over = Arc::new(alloc, AtomicBool::new(false)).map_err(AllocError::from)?;
+        let mut entrance = entrance;
+        let mut reception = Reception {
+            rt,
+            account: Arc::try_clone(&account)?,
+            clock: Arc::try_clone(&clock)?,
+            root,
+            slots: Slots::new(alloc, most)?,
+            spare: Poll::new(&rt).ok(),
+        };
+        let ticker = start_ticker(rt, account, clock, ticking, Arc::try_clone(&is_over)?)?;
+        let served = reception.serve(&mut entrance, &is_over);
+        is_over.store(true, SeqCst);
+        drop(entrance);
+        reception.finish();
+        let ticked = ticker.join(&rt);
+        served?;
+        reception.into_hosted(ticked)
+    }
+}
+
+/// Starts the ticker. Where no thread can be made its tally is lost.
+fn start_ticker<
+    R: Machine,
+    S: Setup + Drop + Send + Sync + 'static,
+    N: Clock + Drop + Send + Sync + 'static,
+    K: Keep + Send + 'static,
+    C: Ledger + Send + Sync + 'static,
+    A: Ledger + Send + Sync + 'static,
+    T: Ledger + Send + Sync + 'static,
+    F: Ledger + Send + Sync + 'static,
+>(
+    rt: R,
+    account: Arc<Account<S, OneShotBell, C, A, T, F>>,
+    clock: Arc<N>,
+    tally: Tally<K, C, A, T, F>,
+    is_over: Arc<AtomicBool>,
+) -> Result<JoinHandle<Tally<K, C, A, T, F>>, AllocError> {
+    let here = rt;
+    let ticker = thread::spawn(&rt, move || {
+        tick_on(&here, &*account, &*clock, tally, &is_over)
+    })?;
+    Ok(ticker)
+}

@@ -1,0 +1,57 @@
+//! Why a host didn't open, or didn't come to its end.
+
+use account_book::OpenFault;
+use arn_ids::ConfigFault;
+use std::alloc::AllocError;
+use std::io;
+use thiserror::Error;
+
+/// Why a host didn't open, or didn't come to its end.
+#[derive(Clone, Copy, Debug, Drop, Error, PartialEq, Eq)]
+pub enum HostFault {
+    /// The configuration has a fault, or the history's entries are out of their range.
+    #[error("{0}")]
+    Config(ConfigFault),
+    /// A port couldn't be listened on, as where another program has it, or the listening failed.
+    #[error("network failed")]
+    Network,
+    /// The account or a tally was still shared when every thread had ended.
+    #[error("still shared")]
+    StillShared,
+    /// Memory or a thread was refused.
+    #[error("out of memory")]
+    OutOfMemory,
+}
+
+impl From<AllocError> for HostFault {
+    ghost use Rattle.std.specs.Prelude.{◌≡◌};
+    ghost use Rattle.http_front.specs.declared.host_fault.HostFault.TheVariants.{OutOfMemory};
+
+    ghost from_gives = { λ _ made. made ≡ OutOfMemory };
+
+    fn from(_refused: AllocError) -> HostFault {
+        HostFault::OutOfMemory
+    }
+}
+
+impl From<OpenFault> for HostFault {
+    ghost use Rattle.std.specs.Prelude.{◌≡◌};
+    ghost use Rattle.http_front.specs.Hosts.{fault_of_opening};
+
+    ghost from_gives = { λ fault made. made ≡ fault_of_opening fault };
+
+    fn from(fault: OpenFault) -> HostFault {
+        match fault {
+            OpenFault::EntriesOutOfRange => HostFault::Config(ConfigFault::BadEntries),
+            OpenFault::OutOfMemory => HostFault::OutOfMemory,
+        }
+    }
+}
+
+/// What went wrong at a socket.
+pub(crate) fn at_socket(fault: io::Error) -> HostFault {
+    match fault.kind() {
+        io::ErrorKind::OutOfMemory => HostFault::OutOfMemory,
+        _ => HostFault::Network,
+    }
+}

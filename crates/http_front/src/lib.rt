@@ -1,0 +1,39 @@
+//! The server: a listener for each port, a thread for each connection, a ticker, and the end of
+//! them all; with it HTTP/1.1 as `hyper` has it over the exchanges of `long_poll`.
+#![tactic(auto)]
+
+mod connection;
+mod copies;
+mod door;
+mod ending;
+mod entrance;
+mod front;
+mod history_body;
+mod host;
+mod host_fault;
+mod machine;
+mod plan;
+mod reception;
+mod responding;
+mod response;
+mod response_fault;
+mod slots;
+mod ticker;
+mod wire;
+
+pub use front::{EnvPort, Front};
+pub use history_body::HistoryBody;
+pub use host::{Host, Hosted};
+pub use host_fault::HostFault;
+pub use http_routes::{Decision, Port, Shown, Side, laws};
+pub use machine::Machine;
+pub use plan::Plan;
+pub use responding::{Responding, Showing};
+pub use response_fault::ResponseFault;
+
+#[cfg(test)]
+mod history_tests;
+#[cfg(test)]
+mod host_tests;
+#[cfg(test)]
+mod loopback;

@@ -1,0 +1,242 @@
+//! Who takes connections in, and sees them out.
+
+use crate::connection::Visit;
+use crate::door::Door;
+use crate::ending::Signals;
+use crate::entrance::{Entrance, Gate};
+use crate::machine::Machine;
+use crate::slots::{Ended, Running, Slots};
+use crate::{HostFault, Hosted};
+use account_lock::{Account, Setup};
+use futures::channel::oneshot;
+use long_poll::{Clock, OneShotBell};
+use mio::Poll;
+use std::alloc::AllocError;
+use std::net::TcpStream;
+use std::sync::Arc;
+use std::sync::atomic::AtomicBool;
+use std::sync::atomic::Ordering::SeqCst;
+use std::sync::ledger::Ledger;
+use std::thread::JoinHandle;
+use std::time::Duration;
+use std::{io, thread};
+use usage_ledger::{Keep, Tally};
+
+/// The stack of a connection's thread, in bytes. The deepest chain of calls takes some 80 KB.
+const STACK: usize = 512 * 1024;
+
+/// How long the ports are waited for, in milliseconds, before it is looked whether the service is
+/// over.
+const PATIENCE: u64 = 50;
+
+/// How long a try waits, in milliseconds.
+const PAUSE: u64 = 1;
+
+/// How often it is looked whether all connections have ended softly, and how many milliseconds pass
+/// between two looks: half a second in all.
+const LOOKS: u32 = 100;
+
+const BETWEEN_LOOKS: u64 = 5;
+
+/// Starts the thread of a connection, which says its last at the end.
+fn start_thread<
+    R: Machine,
+    S: Setup + Drop + Send + Sync + 'static,
+    N: Clock + Drop + Send + Sync + 'static,
+    K: Keep + Send + 'static,
+    C: Ledger + Send + Sync + 'static,
+    A: Ledger + Send + Sync + 'static,
+    T: Ledger + Send + Sync + 'static,
+    F: Ledger + Send + Sync + 'static,
+>(
+    visit: Visit<R, S, N, K, C, A, T, F>,
+    ended: Arc<Ended>,
+    at: usize,
+) -> io::Result<JoinHandle<()>> {
+    let rt = visit.rt;
+    thread::Builder::new()
+        .stack_size(STACK)
+        .spawn(&rt, move || {
+            let _ = visit.run();
+            let _ = ended.lock(&rt).push(at);
+        })
+}
+
+/// Takes connections in, each on a thread of its own, and sees them out: the account and the clock,
+/// the tally from which those of the connections are split, and the places of the connections.
+#[derive(Drop)]
+pub(crate) struct Reception<R, S: Setup, N, K: Keep, C: Ledger, A: Ledger, T: Ledger, F: Ledger> {
+    pub(crate) rt: R,
+    pub(crate) account: Arc<Account<S, OneShotBell, C, A, T, F>>,
+    pub(crate) clock: Arc<N>,
+    pub(crate) root: Tally<K, C, A, T, F>,
+    pub(crate) slots: Slots<Tally<K, C, A, T, F>>,
+    // A descriptor that is given up where none is left, so that the newcomer can be turned away.
+    pub(crate) spare: Option<Poll>,
+}
+
+impl<
+    R: Machine,
+    S: Setup + Drop + Send + Sync + 'static,
+    N: Clock + Drop + Send + Sync + 'static,
+    K: Keep + Send + 'static,
+    C: Ledger + Send + Sync + 'static,
+    A: Ledger + Send + Sync + 'static,
+    T: Ledger + Send + Sync + 'static,
+    F: Ledger + Send + Sync + 'static,
+> Reception<R, S, N, K, C, A, T, F> {
+    /// A place for a newcomer: one that is free, or else another one with a tally of its own.
+    fn place(&mut self) -> Option<usize> {
+        if let Some(at) = self.slots.take() {
+            return Some(at);
+        }
+        if !self.slots.has_room() || self.root.parts() < 2 {
+            return None;
+        }
+        match self.slots.add(&self.rt, self.root.split()) {
+            Ok(at) => Some(at),
+            Err(tally) => {
+                self.root.absorb(tally);
+                None
+            }
+        }
+    }
+
+    /// Starts the thread of a connection.
+    fn start(&self, at: usize, socket: TcpStream, door: &Door<S>) -> io::Result<Running> {
+        let alloc = self.rt.alloc();
+        let (tally, ended) = self.slots.shared(at)?;
+        let (soft, soft_end) = oneshot::channel(alloc)?;
+        let (hard, hard_end) = oneshot::channel(alloc)?;
+        let visit = Visit {
+            rt: self.rt,
+            socket,
+            door: door.share()?,
+            account: Arc::try_clone(&self.account)?,
+            clock: Arc::try_clone(&self.clock)?,
+            tally,
+            signals: Signals {
+                soft: soft_end,
+                hard: hard_end,
+            },
+        };
+        let thread = start_thread(visit, ended, at)?;
+        Ok(Running {
+            thread,
+            soft: Some(soft),
+            hard: Some(hard),
+        })
+    }
+
+    /// Takes a newcomer in; where there is no place for it, or no thread, it is closed.
+    fn take_in(&mut self, socket: TcpStream, door: &Door<S>) {
+        self.slots.reap(&self.rt);
+        let Some(at) = self.place() else {
+            return;
+        };
+        match self.start(at, socket, door) {
+            Ok(running) => self.slots.fill(at, running),
+            Err(_) => self.slots.give_back(at),
+        }
+    }
+
+    /// Where no descriptor is left for the next newcomer, the spare one is given up for it, and it is
+    /// closed.
+    fn turn_away(&mut self, gate: &Gate<S>) {
+        self.spare = None;
+        let _ = gate.listener.accept();
+        self.spare = Poll::new(&self.rt).ok();
+        thread::sleep(&self.rt, Duration::from_millis(PAUSE));
+        self.slots.reap(&self.rt);
+    }
+
+    /// Takes in all who wait at a port.
+    fn take_in_all(&mut self, gate: &Gate<S>, is_over: &AtomicBool) {
+        for _ in 0..u64::MAX {
+            if is_over.load(SeqCst) {
+                return;
+            }
+            match gate.listener.accept() {
+                Ok((socket, _)) => self.take_in(TcpStream::from(socket), &gate.door),
+                Err(fault) if fault.kind() == io::ErrorKind::WouldBlock => return,
+                Err(_) => self.turn_away(gate),
+            }
+        }
+    }
+
+    /// Takes connections in until the service is over.
+    pub(crate) fn serve(
+        &mut self,
+        entrance: &mut Entrance<S>,
+        is_over: &AtomicBool,
+    ) -> Result<(), HostFault> {
+        let rt = self.rt;
+        for _ in rt.forever() {
+            if is_over.load(SeqCst) {
+                return Ok(());
+            }
+            if let Err(fault) = entrance.poll.poll(
+                &mut entrance.events,
+                Some(Duration::from_millis(PATIENCE)),
+            )
+                && fault.kind() != io::ErrorKind::Interrupted
+            {
+                return Err(HostFault::Network);
+            }
+            self.slots.reap(&self.rt);
+            for event in &entrance.events {
+                if let Some(gate) = entrance.gates.get(event.token().0) {
+                    self.take_in_all(gate, is_over);
+                }
+            }
+        }
+        unreachable!()
+    }
+
+    /// Ends every connection: those that are idle or have been answered softly, the others at once
+    /// half a second later. Joins their threads.
+    pub(crate) fn finish(&mut self) {
+        self.slots.tell(false);
+        for _ in 0..LOOKS {
+            self.slots.reap(&self.rt);
+            if self.slots.is_idle() {
+                return;
+            }
+            thread::sleep(&self.rt, Duration::from_millis(BETWEEN_LOOKS));
+        }
+        self.slots.tell(true);
+        let rt = self.rt;
+        for _ in rt.forever() {
+            self.slots.reap(&self.rt);
+            if self.slots.is_idle() {
+                return;
+            }
+            thread::sleep(&self.rt, Duration::from_millis(PAUSE));
+        }
+    }
+
+    /// The account, and all tallies with that of the ticker, once every thread was joined.
+    ///
+    /// # Errors
+    /// `StillShared`, or `OutOfMemory`.
+    pub(crate) fn into_hosted(
+        self,
+        ticked: Tally<K, C, A, T, F>,
+    ) -> Result<Hosted<S, K, C, A, T, F>, HostFault> {
+        let Reception {
+            rt,
+            account,
+            root,
+            slots,
+            ..
+        } = self;
+        let mut tallies = Vec::new(rt.alloc());
+        tallies.push(root).map_err(AllocError::from)?;
+        tallies.push(ticked).map_err(AllocError::from)?;
+        slots.into_tallies(&mut tallies)?;
+        match Arc::into_inner(account) {
+            Some(account) => Ok(Hosted { account, tallies }),
+            None => Err(HostFault::StillShared),
+        }
+    }
+}

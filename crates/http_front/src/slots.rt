@@ -1,0 +1,162 @@
+//! Places for the connections that are open, as many as the limit at most.
+
+use crate::HostFault;
+use futures::channel::oneshot::Sender;
+use std::alloc::{AllocError, Global};
+use std::sync::{Arc, Mutex, Wait};
+use std::thread::{JoinHandle, Threads};
+
+/// A connection's thread, and the signals that end it.
+#[derive(Drop)]
+pub(crate) struct Running {
+    pub(crate) thread: JoinHandle<()>,
+    pub(crate) soft: Option<Sender<()>>,
+    pub(crate) hard: Option<Sender<()>>,
+}
+
+/// A place of one connection after another, which all count in its tally: so a tally is never lost,
+/// and there are no more of them than connections that were open at once.
+#[derive(Drop)]
+struct Slot<Y> {
+    tally: Arc<Mutex<Y>>,
+    running: Option<Running>,
+}
+
+/// The places whose threads have said their last.
+pub(crate) type Ended = Mutex<Vec<usize>>;
+
+/// The places. Those that nobody has are `free`; room for each stands ready there and in `ended`.
+#[derive(Drop)]
+pub(crate) struct Slots<Y> {
+    alloc: Global,
+    most: usize,
+    slots: Vec<Slot<Y>>,
+    free: Vec<usize>,
+    ended: Arc<Ended>,
+}
+
+impl<Y: Drop> Slots<Y> {
+    /// No places yet, of which there may be `most`. The only error is want of memory.
+    pub(crate) fn new(alloc: Global, most: u32) -> Result<Slots<Y>, AllocError> {
+        Ok(Slots {
+            alloc,
+            most: most as usize,
+            slots: Vec::new(alloc),
+            free: Vec::new(alloc),
+            ended: Arc::new(alloc, Mutex::new(Vec::new(alloc)))?,
+        })
+    }
+
+    /// Takes a place that is free.
+    pub(crate) fn take(&mut self) -> Option<usize> {
+        self.free.pop()
+    }
+
+    /// Whether there may be another place.
+    pub(crate) fn has_room(&self) -> bool {
+        self.slots.len() < self.most
+    }
+
+    /// Makes another place, with this tally, and takes it.
+    ///
+    /// # Errors
+    /// Where memory is refused the tally comes back, and there is no other place.
+    pub(crate) fn add(&mut self, rt: &impl Wait, tally: Y) -> Result<usize, Y> {
+        let at = self.slots.len();
+        let room = self.slots.len().saturating_add(1);
+        if self.slots.reserve(1).is_err()
+            || self.free.reserve(room).is_err()
+            || self.ended.lock(rt).reserve(room).is_err()
+        {
+            return Err(tally);
+        }
+        match Arc::new(self.alloc, Mutex::new(tally)) {
+            Ok(tally) => {
+                self.slots.push_reserved(Slot {
+                    tally,
+                    running: None,
+                });
+                Ok(at)
+            }
+            Err(refused) => Err(refused.value.into_inner()),
+        }
+    }
+
+    /// The tally of a place, and where its thread says its last.
+    pub(crate) fn shared(&self, at: usize) -> Result<(Arc<Mutex<Y>>, Arc<Ended>), AllocError> {
+        let Some(slot) = self.slots.get(at) else {
+            return Err(AllocError);
+        };
+        Ok((Arc::try_clone(&slot.tally)?, Arc::try_clone(&self.ended)?))
+    }
+
+    /// Gives a place that was taken to a thread.
+    pub(crate) fn fill(&mut self, at: usize, running: Running) {
+        if let Some(slot) = self.slots.get_mut(at) {
+            slot.running = Some(running);
+        }
+    }
+
+    /// Gives a place back.
+    pub(crate) fn give_back(&mut self, at: usize) {
+        let _ = self.free.push(at);
+    }
+
+    /// Joins a thread that has said its last.
+    fn join(&mut self, rt: &impl Threads, at: usize) {
+        if let Some(slot) = self.slots.get_mut(at)
+            && let Some(running) = slot.running.take()
+        {
+            let Running { thread, .. } = running;
+            thread.join(rt);
+            self.give_back(at);
+        }
+    }
+
+    /// Joins the threads that have said their last.
+    pub(crate) fn reap<R: Wait + Threads>(&mut self, rt: &R) {
+        for _ in 0..self.slots.len() {
+            let Some(at) = self.ended.lock(rt).pop() else {
+                return;
+            };
+            self.join(rt, at);
+        }
+    }
+
+    /// Whether no place is taken.
+    pub(crate) fn is_idle(&self) -> bool {
+        self.free.len() >= self.slots.len()
+    }
+
+    /// Tells each connection to end: after its exchange, or at once.
+    pub(crate) fn tell(&mut self, at_once: bool) {
+        for slot in self.slots.iter_mut() {
+            let Some(running) = &mut slot.running else {
+                continue;
+            };
+            let sender = if at_once {
+                running.hard.take()
+            } else {
+                running.soft.take()
+            };
+            if let Some(sender) = sender {
+                let _ = sender.send(());
+            }
+        }
+    }
+
+    /// Adds the tallies to these, once every thread was joined.
+    ///
+    /// # Errors
+    /// `StillShared` where a thread has one yet, or `OutOfMemory`; the tallies are then gone.
+    pub(crate) fn into_tallies(self, tallies: &mut Vec<Y>) -> Result<(), HostFault> {
+        for slot in self.slots {
+            let Slot { tally, .. } = slot;
+            let Some(tally) = Arc::into_inner(tally) else {
+                return Err(HostFault::StillShared);
+            };
+            tallies.push(tally.into_inner()).map_err(AllocError::from)?;
+        }
+        Ok(())
+    }
+}

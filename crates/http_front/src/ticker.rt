@@ -1,0 +1,85 @@
+//! The thread that lets time pass in the account.
+
+ghost use Rattle.std.specs.Prelude.{◌<◌, ◌^◌};
+
+use account_book::{Life, Refusal};
+use account_lock::{Account, Setup};
+use call_model::Call;
+use long_poll::{Clock, OneShotBell};
+use std::sync::Wait;
+use std::sync::atomic::AtomicBool;
+use std::sync::atomic::Ordering::SeqCst;
+use std::sync::ledger::Ledger;
+use std::time::Duration;
+use std::{thread, time};
+use usage_ledger::{Keep, Tally};
+
+/// How many milliseconds pass between two looks whether something is due.
+const BEAT: u64 = 50;
+
+/// The greatest moment that an account takes, 2^53 - 1.
+const GREATEST_MOMENT: u64 = 9_007_199_254_740_991;
+
+/// The moment of a call that is submitted now: what the clock reads, and 2^53 - 1 where it reads
+/// more.
+pub(crate) fn moment<N: Clock>(clock: &N) -> u64
+    ensures { result < 2 ^ 53 }
+{
+    clock.now().min(GREATEST_MOMENT)
+}
+
+/// Submits a `Tick` where something is due. Gives whether that was refused for a full journal.
+fn tick<S: Setup, N: Clock, K: Keep, C: Ledger, A: Ledger, T: Ledger, F: Ledger>(
+    rt: &impl Wait,
+    account: &Account<S, OneShotBell, C, A, T, F>,
+    clock: &N,
+    tally: &mut Tally<K, C, A, T, F>,
+) -> bool {
+    let now = moment(clock);
+    if !account.due(rt, now) {
+        return false;
+    }
+    match account.submit(rt, tally, now, Call::Tick, None) {
+        Ok(_) => false,
+        Err(refused) => refused.refusal == Refusal::JournalFull,
+    }
+}
+
+/// Ticks until the service has come to its end, and then says so, or until it is told that it has.
+/// After a Stop the end is there once every environment is off, or where a full journal lets no
+/// more time pass. Gives the tally back.
+pub(crate) fn tick_on<
+    R: Wait + time::Clock,
+    S: Setup,
+    N: Clock,
+    K: Keep,
+    C: Ledger,
+    A: Ledger,
+    T: Ledger,
+    F: Ledger,
+>(
+    rt: &R,
+    account: &Account<S, OneShotBell, C, A, T, F>,
+    clock: &N,
+    tally: Tally<K, C, A, T, F>,
+    is_over: &AtomicBool,
+) -> Tally<K, C, A, T, F> {
+    let mut tally = tally;
+    for _ in rt.forever() {
+        let is_full = tick(rt, account, clock, &mut tally);
+        match account.life(rt) {
+            Life::Open => {}
+            Life::Stopping => {
+                if is_full {
+                    is_over.store(true, SeqCst);
+                }
+            }
+            Life::Off => is_over.store(true, SeqCst),
+        }
+        if is_over.load(SeqCst) {
+            return tally;
+        }
+        thread::sleep(rt, Duration::from_millis(BEAT));
+    }
+    unreachable!()
+}

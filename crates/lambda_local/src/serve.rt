@@ -1,0 +1,108 @@
+//! Serving a configuration over HTTP.
+
+ghost use Rattle.std.specs.Prelude.{◌≡◌, ◌^◌};
+
+use crate::clock::UnixClock;
+use crate::serve_fault::ServeFault;
+use account_lock::{Settled, Setup};
+use call_model::Stats;
+use http_front::{Host, Hosted, Machine, Plan};
+use lambda_wire::read_config;
+use log::{Log, info};
+use std::fs;
+use std::io::{self, Read};
+use std::marker::Brand;
+use std::rt::Files;
+use std::sync::ledger::{Blank, Ledger};
+use usage_ledger::KeepNone;
+
+/// How many connections are served at once; a further one is closed.
+const MOST_CONNECTIONS: u32 = 1024;
+
+/// How many bytes of a configuration are read: the longest one, and one more.
+const MOST_READ: u64 = 20_000_001;
+
+/// The plan that a file says.
+fn read_plan<R: Files + AllocGlobal>(rt: &R, path: &str) -> Result<Plan, ServeFault>
+where
+    R::File: Read + Drop,
+{
+    let mut text = Vec::new(rt.alloc());
+    let file = fs::open(rt, path).map_err(|fault| ServeFault::at_input(&fault))?;
+    let read = file.take(MOST_READ).read_to_end(&mut text);
+    read.map_err(|fault| ServeFault::at_input(&fault))?;
+    let setup = read_config(rt.alloc(), text.as_slice())?;
+    Ok(Plan::check(rt.alloc(), setup)?)
+}
+
+/// Serves a plan until it is stopped, settles, and gives the account's counts. `S` names the
+/// configuration, and the others the account's ledgers.
+fn serve_plan<
+    R: Machine + Log,
+    S: Setup + Drop + Send + Sync + 'static,
+    C: Ledger + Send + Sync + 'static,
+    A: Ledger + Send + Sync + 'static,
+    T: Ledger + Send + Sync + 'static,
+    F: Ledger + Send + Sync + 'static,
+>(
+    rt: R,
+    plan: Plan,
+    calls: Blank,
+    admitted: Blank,
+    throttled: Blank,
+    failed: Blank,
+) -> Result<Stats, ServeFault>
+    requires configured { plan.config ≡ S.config }
+    requires calls { (calls.name ≡ C.name) × (calls.parts ≡ C.parts) × (C.parts ≡ 2 ^ 32) }
+    requires admitted { (admitted.name ≡ A.name) × (admitted.parts ≡ A.parts) × (A.parts ≡ 2 ^ 32) }
+    requires throttled { (throttled.name ≡ T.name) × (throttled.parts ≡ T.parts) × (T.parts ≡ 2 ^ 32) }
+    requires failed { (failed.name ≡ F.name) × (failed.parts ≡ F.parts) × (F.parts ≡ 2 ^ 32) }
+{
+    let clock = UnixClock::new(rt);
+    let host: Host<R, S, UnixClock<R>, KeepNone, C, A, T, F> = Host::open(
+        rt,
+        plan,
+        clock,
+        MOST_CONNECTIONS,
+        calls,
+        admitted,
+        throttled,
+        failed,
+    )?;
+    info!(rt; "listening");
+    let served = host.run();
+    info!(rt; "stopped");
+    let Hosted { account, tallies } = served?;
+    let Settled { stats, .. } = account.settle(tallies)?;
+    Ok(stats)
+}
+
+/// Names the configuration and the ledgers.
+fn serve_by_brand<R: Machine + Log>(rt: R, plan: Plan) -> Result<Stats, ServeFault> {
+    serve_plan::<R, Brand, Brand, Brand, Brand, Brand>(
+        rt,
+        plan,
+        Blank::new(1 << 32),
+        Blank::new(1 << 32),
+        Blank::new(1 << 32),
+        Blank::new(1 << 32),
+    )
+}
+
+/// Serves the configuration of a file until it is stopped, settles, and writes the account's counts
+/// on standard output.
+///
+/// # Errors
+/// As the fault says; nothing is then written on standard output.
+pub fn serve<R: Machine + Log + Files + Print>(rt: R, path: &str) -> Result<(), ServeFault>
+where
+    R::File: Read + Drop,
+{
+    let plan = read_plan(&rt, path)?;
+    let stats = serve_by_brand(rt, plan)?;
+    println!(rt;
+        "admitted {} throttled {} failed {}",
+        stats.admitted, stats.throttled, stats.failed
+    )
+    .map_err(|fault| ServeFault::at_output(&fault))
+}

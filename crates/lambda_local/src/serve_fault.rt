@@ -1,0 +1,99 @@
+//! Why a service did not come to a settled end.
+
+ghost use Rattle.std.specs.Prelude.{◌≡◌};
+ghost use Rattle.lambda_local.specs.Status.{status_of};
+
+use account_lock::SettleFault;
+use arn_ids::ConfigFault;
+use http_front::HostFault;
+use lambda_wire::WireFault;
+use std::io;
+use thiserror::Error;
+
+/// Why a service did not come to a settled end. Printed, it is the line that the program writes on
+/// standard error.
+#[derive(Clone, Copy, Debug, PartialEq, Eq, Error)]
+pub enum ServeFault {
+    /// The configuration says what no account can have.
+    #[error("configuration: {0}")]
+    Config(ConfigFault),
+    /// The configuration's file holds no configuration.
+    #[error("configuration: {0:?}")]
+    Wire(WireFault),
+    /// The shares of the threads do not settle.
+    #[error("settlement: {0}")]
+    Settlement(SettleFault),
+    /// The configuration's file was not read.
+    #[error("input: failed")]
+    Read,
+    /// Standard output took nothing.
+    #[error("output: failed")]
+    Write,
+    /// A port is taken, or listening failed.
+    #[error("network: failed")]
+    Network,
+    /// There was no memory.
+    #[error("out of memory")]
+    OutOfMemory,
+}
+
+impl ServeFault {
+    /// The exit status of a program that ends with it: 2 where the configuration is at fault, 3 where
+    /// the account does not settle, 4 where the machine is.
+    pub fn status(self) -> u8
+        ensures { result ≡ status_of self }
+    {
+        match self {
+            ServeFault::Config(_) | ServeFault::Wire(_) => 2,
+            ServeFault::Settlement(_) => 3,
+            ServeFault::Read | ServeFault::Write | ServeFault::Network | ServeFault::OutOfMemory =>
+                4,
+        }
+    }
+
+    /// That a file was not read.
+    pub fn at_input(fault: &io::Error) -> ServeFault {
+        match fault.kind() {
+            io::ErrorKind::OutOfMemory => ServeFault::OutOfMemory,
+            _ => ServeFault::Read,
+        }
+    }
+
+    /// That nothing was written.
+    pub fn at_output(fault: &io::Error) -> ServeFault {
+        match fault.kind() {
+            io::ErrorKind::OutOfMemory => ServeFault::OutOfMemory,
+            _ => ServeFault::Write,
+        }
+    }
+}
+
+impl From<WireFault> for ServeFault {
+    fn from(fault: WireFault) -> ServeFault {
+        match fault {
+            WireFault::OutOfMemory => ServeFault::OutOfMemory,
+            _ => ServeFault::Wire(fault),
+        }
+    }
+}
+
+impl From<HostFault> for ServeFault {
+    fn from(fault: HostFault) -> ServeFault {
+        match fault {
+            HostFault::Config(fault) => ServeFault::Config(fault),
+            HostFault::Network => ServeFault::Network,
+            // What a thread that never ended holds is missing from the account.
+            HostFault::StillShared => ServeFault::Settlement(SettleFault::TallyMissing),
+            HostFault::OutOfMemory => ServeFault::OutOfMemory,
+        }
+    }
+}
+
+impl From<SettleFault> for ServeFault {
+    fn from(fault: SettleFault) -> ServeFault {
+        match fault {
+            SettleFault::OutOfMemory => ServeFault::OutOfMemory,
+            _ => ServeFault::Settlement(fault),
+        }
+    }
+}

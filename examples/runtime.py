@@ -1,0 +1,54 @@
+#!/usr/bin/env python3
+"""A runtime: asks for invocations of one environment, greets whom the payload names, and asks again.
+A runtime that is told 403 or 500 was reset or shut down; this one then starts again, as Lambda would start it.
+
+usage: examples/runtime.py [ADDRESS]   (the environment's: default AWS_LAMBDA_RUNTIME_API, else 127.0.0.1:9001)"""
+import http.client
+import json
+import os
+import sys
+import time
+
+ADDRESS = sys.argv[1] if len(sys.argv) > 1 else os.environ.get("AWS_LAMBDA_RUNTIME_API", "127.0.0.1:9001")
+PATH = "/2018-06-01/runtime/invocation/"
+
+
+def handler(event):
+    return {"greeting": f"Hello, {event.get('name', 'world')}!"}
+
+
+def ask(connection, method, path, body=None, headers={}):
+    connection.request(method, path, body=body, headers=headers)
+    answer = connection.getresponse()
+    return answer, answer.read()
+
+
+def serve(connection):
+    """Handles invocations until the environment closes."""
+    while True:
+        answer, payload = ask(connection, "GET", PATH + "next")
+        if answer.status != 200:
+            return
+        request = answer.getheader("Lambda-Runtime-Aws-Request-Id")
+        try:
+            output = json.dumps(handler(json.loads(payload)))
+            ask(connection, "POST", PATH + request + "/response", output)
+        except Exception as fault:  # what the handler raises is the invocation's error
+            error = {"errorMessage": str(fault), "errorType": type(fault).__name__}
+            ask(connection, "POST", PATH + request + "/error", json.dumps(error),
+                {"Lambda-Runtime-Function-Error-Type": "Runtime." + error["errorType"]})
+
+
+def main():
+    while True:
+        try:
+            serve(http.client.HTTPConnection(ADDRESS))
+        except ConnectionRefusedError:
+            return  # the service has stopped
+        except (ConnectionError, http.client.HTTPException):
+            pass
+        time.sleep(0.05)
+
+
+if __name__ == "__main__":
+    main()
