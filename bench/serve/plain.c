@@ -1,9 +1,11 @@
 /* The same service written plainly, to measure against: one lock, one thread a connection, long polls
-   on condition variables, nothing proved and nothing kept. One function f, runtimes alone, no deadlines.
+   on condition variables, a journal that keeps what was handed in, and nothing proved. A payload is read
+   as JSON before it is taken. One function f, runtimes alone, no deadlines.
 
    usage: plain INVOKE_PORT ENVIRONMENTS   (environment n listens on INVOKE_PORT + n) */
 #define _GNU_SOURCE
 #include <arpa/inet.h>
+#include <ctype.h>
 #include <netinet/tcp.h>
 #include <pthread.h>
 #include <stdio.h>
@@ -35,6 +37,16 @@ static pthread_mutex_t lock = PTHREAD_MUTEX_INITIALIZER;
 static struct environment environments[MOST_ENVIRONMENTS + 1];
 static int environment_count;
 static unsigned long invoked, admitted, throttled;
+
+struct entry {
+    long moment;
+    int environment;               /* 0 of an invocation */
+    char *bytes;
+    size_t size;
+};
+
+static struct entry *journal;
+static size_t kept, room;
 
 struct connection {
     int socket, environment;       /* environment 0 is the invoke port */
@@ -68,7 +80,95 @@ static int text(struct connection *c, int status, const char *body) {
     return reply(c, status, "", body, strlen(body));
 }
 
+/* The end of the digits from here on, none where there is none. */
+static const char *digits(const char *at, const char *end) {
+    const char *from = at;
+    while (at < end && *at >= '0' && *at <= '9') at++;
+    return at > from ? at : 0;
+}
+
+static const char *spaces(const char *at, const char *end) {
+    while (at < end && (*at == ' ' || *at == '\t' || *at == '\n' || *at == '\r')) at++;
+    return at;
+}
+
+/* The end of the string whose quote is here, none where it is no JSON. */
+static const char *string(const char *at, const char *end) {
+    for (at++; at < end; at++) {
+        if (*at == '"') return at + 1;
+        if ((unsigned char)*at < ' ') return 0;
+        if (*at == '\\') {
+            if (++at == end) return 0;
+            if (*at == 'u') {
+                for (int n = 0; n < 4; n++)
+                    if (++at == end || !isxdigit((unsigned char)*at)) return 0;
+            } else if (!memchr("\"\\/bfnrt", *at, 8)) {
+                return 0;
+            }
+        }
+    }
+    return 0;
+}
+
+static const char *number(const char *at, const char *end) {
+    if (*at == '-') at++;
+    at = at < end && *at == '0' ? at + 1 : digits(at, end);
+    if (at && at < end && *at == '.') at = digits(at + 1, end);
+    if (at && at < end && (*at == 'e' || *at == 'E')) {
+        at++;
+        if (at < end && (*at == '+' || *at == '-')) at++;
+        at = digits(at, end);
+    }
+    return at;
+}
+
+/* The end of the value from here on, none where it is no JSON. */
+static const char *value(const char *at, const char *end, int depth) {
+    static const char *const words[] = {"null", "true", "false"};
+    if ((at = spaces(at, end)) == end || depth > 127) return 0;
+    if (*at == '"') return string(at, end);
+    if (*at == '{' || *at == '[') {
+        char close = *at + 2;
+        int is_object = *at == '{';
+        if ((at = spaces(at + 1, end)) < end && *at == close) return at + 1;
+        for (;; at++) {
+            if (is_object) {
+                if ((at = spaces(at, end)) == end || *at != '"' || !(at = string(at, end))) return 0;
+                if ((at = spaces(at, end)) == end || *at++ != ':') return 0;
+            }
+            if (!(at = value(at, end, depth + 1)) || (at = spaces(at, end)) == end) return 0;
+            if (*at == close) return at + 1;
+            if (*at != ',') return 0;
+        }
+    }
+    for (int n = 0; n < 3; n++) {
+        size_t size = strlen(words[n]);
+        if ((size_t)(end - at) >= size && !memcmp(at, words[n], size)) return at + size;
+    }
+    return number(at, end);
+}
+
+static int is_json(const char *bytes, size_t size) {
+    const char *end = bytes + size, *at = value(bytes, end, 0);
+    return size == 0 || (at && spaces(at, end) == end);
+}
+
+/* Keeps what was handed in; the lock is held. */
+static void keep(int environment, char *bytes, size_t size) {
+    if (kept == room) {
+        room = room ? 2 * room : 1024;
+        journal = realloc(journal, room * sizeof *journal);
+    }
+    struct timeval now;
+    gettimeofday(&now, 0);
+    journal[kept++] = (struct entry){now.tv_sec * 1000L + now.tv_usec / 1000, environment, bytes, size};
+}
+
 static int invoke(struct connection *c, char *payload, size_t size) {
+    if (!is_json(payload, size)) {
+        free(payload);
+        return text(c, 400, "{\"Message\":\"Payload is not JSON\",\"Type\":\"User\"}");
+    }
     struct invocation *i = calloc(1, sizeof *i);
     pthread_cond_init(&i->answered, 0);
     i->payload = payload;
@@ -85,14 +185,13 @@ static int invoke(struct connection *c, char *payload, size_t size) {
         return text(c, 429, "{\"Reason\":\"LocalEnvironmentLimitExceeded\",\"Type\":\"User\",\"message\":\"Rate Exceeded.\"}");
     }
     admitted++;
+    keep(0, payload, size);
     environments[at].open = i;
     environments[at].count = ++invoked;
     pthread_cond_signal(&environments[at].asked);
     while (!i->is_answered) pthread_cond_wait(&i->answered, &lock);
     pthread_mutex_unlock(&lock);
     int failed = reply(c, 200, "X-Amz-Executed-Version: $LATEST\r\n", i->output, i->output_size);
-    free(i->payload);
-    free(i->output);
     free(i);
     return failed;
 }
@@ -133,6 +232,7 @@ static int respond(struct connection *c, const char *id, char *output, size_t si
     }
     struct invocation *i = e->open;
     e->open = 0;
+    keep(c->environment, output, size);
     i->output = output;
     i->output_size = size;
     i->is_answered = 1;
