@@ -9,12 +9,27 @@ use super::rows::ONE;
 use crate::{Account, SettleFault, Setup};
 use account_book::{Life, OpenFault};
 use arn_ids::Checked;
-use std::alloc::Global;
+use std::alloc::{AllocError, Global};
 use std::marker::Brand;
 use std::process::Abort;
 use std::sync::Wait;
 use std::sync::ledger::{Blank, Ledger};
 use usage_ledger::KeepAll;
+
+const SALT: u64 = 7;
+
+/// Whether the text before a history has the salt, and this greatest number of entries.
+fn tells(
+    alloc: Global,
+    opening: Result<Vec<u8>, AllocError>,
+    max_entries: u64,
+) -> Result<bool, AllocError> {
+    let entries = format!(in alloc; "\"maxEntries\":{max_entries},")?;
+    let salt = format!(in alloc; "\"salt\":{SALT}}}")?;
+    let opening = opening?;
+    Ok(str::from_utf8(opening.as_slice()).is_ok_and(|text| text.contains(entries.as_str())
+        && text.contains(salt.as_str())))
+}
 
 /// Opens an account, and settles it at once.
 fn open<S: Setup, C: Ledger, A: Ledger, T: Ledger, F: Ledger>(
@@ -36,7 +51,7 @@ fn open<S: Setup, C: Ledger, A: Ledger, T: Ledger, F: Ledger>(
     let (account, tally) = Account::<S, Numbered, C, A, T, F>::open::<KeepAll>(
         alloc,
         config,
-        0,
+        SALT,
         max_entries,
         calls,
         admitted,
@@ -46,6 +61,10 @@ fn open<S: Setup, C: Ledger, A: Ledger, T: Ledger, F: Ledger>(
     assert_eq!(rt; tally.parts(), ALL_PARTS);
     assert_eq!(rt; account.stats(rt).entries, 0);
     assert_eq!(rt; account.life(rt), Life::Open);
+    match tells(alloc, account.opening(rt), max_entries) {
+        Ok(is_told) => assert!(rt; is_told),
+        Err(_) => return Err(OpenFault::OutOfMemory),
+    }
     match account.settle(only(rt, alloc, tally)) {
         Ok(settled) => {
             assert_eq!(rt; settled.book.len(), 0);
