@@ -1,22 +1,27 @@
 /* The same service written plainly, to measure against: one lock, one thread a connection, long polls
    on condition variables, a journal that keeps what was handed in, and nothing proved. A payload is read
-   as JSON before it is taken. One function f, runtimes alone, no deadlines.
+   as JSON before it is taken, an invocation has a deadline, and a Next whose runtime goes away while it
+   waits is withdrawn. One function f, runtimes alone.
 
    usage: plain INVOKE_PORT ENVIRONMENTS   (environment n listens on INVOKE_PORT + n) */
 #define _GNU_SOURCE
 #include <arpa/inet.h>
 #include <ctype.h>
+#include <errno.h>
 #include <netinet/tcp.h>
+#include <poll.h>
 #include <pthread.h>
 #include <stdio.h>
 #include <stdlib.h>
 #include <string.h>
 #include <strings.h>
+#include <sys/eventfd.h>
 #include <sys/socket.h>
 #include <sys/time.h>
+#include <time.h>
 #include <unistd.h>
 
-enum { MOST_ENVIRONMENTS = 256, HEAD = 16384 };
+enum { MOST_ENVIRONMENTS = 256, HEAD = 16384, MOST_BYTES = 6291456, TIMEOUT = 900 };
 
 struct invocation {
     char *payload, *output;
@@ -27,7 +32,7 @@ struct invocation {
 
 struct environment {
     int is_asking;                 /* its runtime waits in a Next */
-    pthread_cond_t asked;
+    int bell;                      /* what is written to when that Next is to look again */
     struct invocation *open;       /* what it works on */
     unsigned long count;           /* the count in its invocation's identifier */
     unsigned long asks;            /* how often its runtime asked, so that a newer poll replaces an older one */
@@ -50,6 +55,7 @@ static size_t kept, room;
 
 struct connection {
     int socket, environment;       /* environment 0 is the invoke port */
+    int bell;                      /* an eventfd, of an environment's connections */
     char head[HEAD];
     size_t read, used;
 };
@@ -164,7 +170,15 @@ static void keep(int environment, char *bytes, size_t size) {
     journal[kept++] = (struct entry){now.tv_sec * 1000L + now.tv_usec / 1000, environment, bytes, size};
 }
 
+static void ring(int bell) {
+    eventfd_write(bell, 1);
+}
+
 static int invoke(struct connection *c, char *payload, size_t size) {
+    if (size > MOST_BYTES) {
+        free(payload);
+        return text(c, 413, "{\"Message\":\"Payload is too long\",\"Type\":\"User\"}");
+    }
     if (!is_json(payload, size)) {
         free(payload);
         return text(c, 400, "{\"Message\":\"Payload is not JSON\",\"Type\":\"User\"}");
@@ -188,26 +202,56 @@ static int invoke(struct connection *c, char *payload, size_t size) {
     keep(0, payload, size);
     environments[at].open = i;
     environments[at].count = ++invoked;
-    pthread_cond_signal(&environments[at].asked);
-    while (!i->is_answered) pthread_cond_wait(&i->answered, &lock);
+    ring(environments[at].bell);
+    struct timespec deadline;
+    clock_gettime(CLOCK_REALTIME, &deadline);
+    deadline.tv_sec += TIMEOUT;
+    while (!i->is_answered && pthread_cond_timedwait(&i->answered, &lock, &deadline) != ETIMEDOUT) {}
+    if (!i->is_answered) {
+        environments[at].open = 0;
+        pthread_mutex_unlock(&lock);
+        free(i);
+        return reply(c, 200, "X-Amz-Function-Error: Unhandled\r\n", "{\"errorMessage\":\"Task timed out\"}", 33);
+    }
     pthread_mutex_unlock(&lock);
     int failed = reply(c, 200, "X-Amz-Executed-Version: $LATEST\r\n", i->output, i->output_size);
     free(i);
     return failed;
 }
 
+/* Waits for the bell; -1 where the runtime went away. */
+static int hear(struct connection *c) {
+    struct pollfd ends[2] = {{.fd = c->bell, .events = POLLIN}, {.fd = c->socket, .events = POLLRDHUP}};
+    eventfd_t count;
+    if (poll(ends, 2, -1) < 0) return errno == EINTR ? 0 : -1;
+    if (ends[0].revents) return eventfd_read(c->bell, &count);
+    return -1;
+}
+
 static int next(struct connection *c) {
     struct environment *e = &environments[c->environment];
     pthread_mutex_lock(&lock);
     unsigned long mine = ++e->asks;
+    if (e->is_asking) ring(e->bell);
     e->is_asking = 1;
-    while (!e->open && e->asks == mine) pthread_cond_wait(&e->asked, &lock);
+    e->bell = c->bell;
+    while (!e->open && e->asks == mine) {
+        pthread_mutex_unlock(&lock);
+        int gone = hear(c);
+        pthread_mutex_lock(&lock);
+        if (gone) {
+            if (e->asks == mine && !e->open) e->is_asking = 0;
+            pthread_mutex_unlock(&lock);
+            return -1;
+        }
+    }
     if (e->asks != mine) {
         pthread_mutex_unlock(&lock);
         return text(c, 403, "{\"errorMessage\":\"A newer poll replaced this one\",\"errorType\":\"InvalidStateTransition\"}");
     }
     e->is_asking = 0;
-    struct invocation *i = e->open;
+    const char *payload = e->open->payload;
+    size_t size = e->open->payload_size;
     unsigned long count = e->count;
     pthread_mutex_unlock(&lock);
     struct timeval now;
@@ -216,8 +260,8 @@ static int next(struct connection *c) {
     snprintf(headers, sizeof headers,
              "Lambda-Runtime-Aws-Request-Id: 00000000-0000-8000-8001-%012lx\r\nLambda-Runtime-Deadline-Ms: %ld\r\n"
              "Lambda-Runtime-Invoked-Function-Arn: arn:aws:lambda:us-east-2:123456789012:function:f\r\n",
-             count, now.tv_sec * 1000L + now.tv_usec / 1000 + 3000);
-    return reply(c, 200, headers, i->payload, i->payload_size);
+             count, (now.tv_sec + TIMEOUT) * 1000L + now.tv_usec / 1000);
+    return reply(c, 200, headers, payload, size);
 }
 
 static int respond(struct connection *c, const char *id, char *output, size_t size) {
@@ -318,6 +362,7 @@ static void *serve(void *argument) {
         }
         if (failed) break;
     }
+    if (c->environment) close(c->bell);
     close(c->socket);
     free(c);
     return 0;
@@ -341,6 +386,7 @@ static void *accept_all(void *argument) {
         c->socket = socket;
         c->environment = port->environment;
         c->read = c->used = 0;
+        if (c->environment) c->bell = eventfd(0, 0);
         pthread_t thread;
         if (pthread_create(&thread, &detached, serve, c)) {
             close(socket);
@@ -360,7 +406,6 @@ int main(int count, char **words) {
         struct sockaddr_in address = {.sin_family = AF_INET, .sin_port = htons(atoi(words[1]) + n), .sin_addr.s_addr = htonl(INADDR_LOOPBACK)};
         struct port *port = malloc(sizeof *port);
         int one = 1;
-        pthread_cond_init(&environments[n].asked, 0);
         port->environment = n;
         port->listener = socket(AF_INET, SOCK_STREAM, 0);
         setsockopt(port->listener, SOL_SOCKET, SO_REUSEADDR, &one, sizeof one);

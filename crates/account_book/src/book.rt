@@ -374,7 +374,7 @@ impl Book {
     }
 
     /// What the client of the call with a ticket gets: the status, the headers and the body of its
-    /// answer; none while it has none. A body is copied once, into the reply.
+    /// answer; none while it has none. An invocation's body is shared with the reply, not copied.
     ///
     /// The only error is want of memory.
     #[tactic(auto, unfolding(crate::specs::ReplyText::reply_text))]

@@ -15,7 +15,8 @@ ghost use Rattle.script.specs.TextFields.{is_body};
 
 use self::accounts::{Account, ONE, THREE, TWO, checked};
 use crate::{Book, OpenFault, Refusal};
-use arn_ids::{Bytes, Checked, EnvNo, FnNo, Text};
+use arn_ids::{Checked, EnvNo, FnNo, Text};
+use bytes::Bytes;
 use call_model::{Answer, Call, Reason, Refusal as Refused, Ticket};
 use std::alloc::{AllocError, Global};
 use std::process::Abort;
@@ -63,10 +64,10 @@ fn bytes(rt: &impl Abort, alloc: Global, body: &str) -> Bytes
     ensures { is_body result ≡ true }
 {
     assert!(rt; body.len() < 100);
-    Bytes::new(match Vec::from_slice(alloc, body.as_bytes()) {
+    match Bytes::copy_from_slice(alloc, body.as_bytes()) {
         Ok(bytes) => bytes,
-        Err(_) => Vec::from_slice(alloc, body.as_bytes()).expect(rt, "memory was refused twice"),
-    })
+        Err(_) => Bytes::copy_from_slice(alloc, body.as_bytes()).expect(rt, "memory was refused twice"),
+    }
 }
 
 /// The name `a` or `b` of an extension; its allocation may be refused once.

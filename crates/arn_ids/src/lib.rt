@@ -14,7 +14,7 @@ pub use config::{Checked, Config, EnvNo, FnNo, Function, Home, Slot};
 pub use faults::ConfigFault;
 pub use identifiers::{IdKind, IdParts, event_id, extension_id, id_parts, request_id, salt_word};
 pub use names::{FunctionName, NameFault, Named, arn_text};
-pub use text::{Bytes, Row, Text};
+pub use text::{Row, Text};
 
 #[cfg(test)]
 mod config_tests;

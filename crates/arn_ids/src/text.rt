@@ -1,4 +1,4 @@
-//! Texts, bytes and rows of values, each seen by contracts as a list.
+//! Texts and rows of values, each seen by contracts as a list.
 
 ghost use Rattle.std.specs.Prelude.{◌≡◌, string_bytes};
 
@@ -31,43 +31,6 @@ impl Text {
         ensures { result.now ≡ self.now }
     {
         &self.text
-    }
-}
-
-/// Bytes, seen as the list of them.
-#[derive(Debug, Drop)]
-pub struct Bytes {
-    bytes: Vec<u8>,
-}
-
-impl Model for Bytes {
-    ghost use Rattle.std.specs.Prelude.{ℕ, List};
-
-    ghost Value = { List ℕ };
-
-    ghost view = { λ b. b.bytes.items };
-}
-
-impl Bytes {
-    /// Wraps bytes, whose memory it takes over.
-    pub fn new(bytes: Vec<u8>) -> Bytes
-        ensures { result ≡ bytes.items }
-    {
-        Bytes { bytes }
-    }
-
-    /// The bytes.
-    pub fn as_slice(&self) -> &[u8]
-        ensures { result.now ≡ self.now }
-    {
-        &self.bytes
-    }
-
-    /// Gives the bytes back, with their memory.
-    pub fn into_vec(self) -> Vec<u8>
-        ensures { result.items ≡ self }
-    {
-        self.bytes
     }
 }
 

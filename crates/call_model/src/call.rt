@@ -3,7 +3,8 @@
 ghost use Rattle.std.specs.Prelude.{◌≡◌};
 
 use crate::Answer;
-use arn_ids::{Bytes, EnvNo, FnNo, Text};
+use arn_ids::{EnvNo, FnNo, Text};
+use bytes::Bytes;
 use std::marker::Model;
 
 /// The place of a call in the history, from 0.

@@ -1,7 +1,8 @@
 //! Each public call once.
 
 use crate::{Answer, Answers, Call, Head, Kind, Ticket};
-use arn_ids::{Bytes, Text};
+use arn_ids::Text;
+use bytes::Bytes;
 use std::alloc::{AllocError, Global};
 
 fn head(kind: Kind, number: u32, count: Option<u64>) -> Head {
@@ -15,7 +16,7 @@ fn head(kind: Kind, number: u32, count: Option<u64>) -> Head {
 #[test]
 fn heads(rt: HostRuntime) {
     let alloc = rt.alloc();
-    let body = Bytes::new(Vec::new(alloc));
+    let body = Bytes::new();
     let response = Call::Response {
         env: 2,
         id: 7,

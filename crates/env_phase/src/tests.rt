@@ -10,7 +10,8 @@ ghost use Rattle.std.specs.Prelude.{◌≡◌, IfOk};
 ghost use Rattle.env_phase.specs.Taking.{registered_name};
 
 use crate::{Environment, Step};
-use arn_ids::{Bytes, Function, Row, Text};
+use arn_ids::{Function, Row, Text};
+use bytes::Bytes;
 use call_model::{Answer, Call, Phase, Reason, Refusal, Ticket};
 use extension_set::Moves;
 use std::alloc::{AllocError, Global};
@@ -65,7 +66,7 @@ fn text(rt: &impl Abort, alloc: Global, name: &str) -> Text
 }
 
 fn call_of(rt: &impl Abort, alloc: Global, plain: Plain) -> Call {
-    let body = Bytes::new(Vec::new(alloc));
+    let body = Bytes::new();
     match plain {
         Plain::Invoke => Call::Invoke {
             function: 1,

@@ -2,7 +2,8 @@
 //! end. The values are worked by hand from the table of phases.
 
 use crate::{CLOSING_LIMIT, ExtensionSet, Moves, RegisterFault, Turn};
-use arn_ids::{Bytes, Text};
+use arn_ids::Text;
+use bytes::Bytes;
 use call_model::{Answer, Call, Reason, Refusal, Ticket};
 use std::alloc::Global;
 use std::process::Abort;
@@ -288,7 +289,7 @@ fn exited(rt: HostRuntime) {
     let exit = Call::ExtExitFailure {
         env: 1,
         ext: 3,
-        body: Bytes::new(Vec::new(alloc)),
+        body: Bytes::new(),
     };
     gives(
         &rt,
@@ -305,7 +306,7 @@ fn exited(rt: HostRuntime) {
     let refused = Call::ExtInitFailure {
         env: 1,
         ext: 2,
-        body: Bytes::new(Vec::new(alloc)),
+        body: Bytes::new(),
     };
     let own = Some(Answer::Refused(Refusal::State));
     gives(&rt, &mut set, turn(13, own), &refused, &[]);

@@ -1,6 +1,6 @@
 //! What became of a client.
 
-use arn_ids::Bytes;
+use bytes::Bytes;
 use call_model::Stats;
 
 /// What became of a client of a scenario, or of the scenario's own requests.

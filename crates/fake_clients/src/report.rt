@@ -5,7 +5,8 @@ ghost use Rattle.fake_clients.specs.Reports.{callers, status_of, body_of, status
 
 use crate::outcome::Outcome;
 use crate::{Client, ScenarioFault};
-use arn_ids::{Bytes, Row};
+use arn_ids::Row;
+use bytes::Bytes;
 use call_model::Stats;
 use std::alloc::{AllocError, Global};
 

@@ -8,7 +8,7 @@ use crate::steps::{continued, fault_of, header_text, is_success};
 use crate::{
     Caller, Client, Connector, Extension, Gate, Operator, Runtime, ScenarioFault, Watch, read_stats,
 };
-use arn_ids::{Bytes, Config, EnvNo};
+use arn_ids::{Config, EnvNo};
 use lambda_wire::WireFault;
 use std::alloc::AllocGlobal;
 use std::net::Net;
@@ -80,7 +80,7 @@ where
         self.progress.answered(self.rt);
         Ok(Outcome::Answered {
             status: response.status().as_u16(),
-            body: Bytes::new(Vec::from_slice(self.rt.alloc(), response.body().as_slice())?),
+            body: response.into_body(),
         })
     }
 

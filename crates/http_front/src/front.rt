@@ -167,7 +167,7 @@ impl<
     fn asks_for_history(&self, parts: &Parts) -> Result<bool, AllocError>
         ensures { IfOk result (λ asks. IsTrue asks → D.decides (arc_value self.now.decider) parts.now [] (Show shown.History)) }
     {
-        match self.decider.decide(self.port.alloc, parts, &[])? {
+        match self.decider.decide(self.port.alloc, parts, &Bytes::new())? {
             Decision::Show(Shown::History) => Ok(true),
             _ => Ok(false),
         }

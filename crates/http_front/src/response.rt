@@ -69,8 +69,7 @@ pub(crate) fn response_to(
         headers,
         body,
     } = reply;
-    let body = Full::new(piece(body.into_vec())?);
-    with_head(alloc, status, headers, body)
+    with_head(alloc, status, headers, Full::new(body))
 }
 
 /// The response that a history is sent as, with this body: the head is that of a history's reply.

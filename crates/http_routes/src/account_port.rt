@@ -17,6 +17,7 @@ use crate::refusals::{
 };
 use crate::routes::{AccountRoute, account_route};
 use arn_ids::{Checked, EnvNo, FnNo};
+use bytes::Bytes;
 use call_model::Call;
 use http::request::Parts;
 use lambda_wire::{WireFault, read_invoke_body, read_reservation};
@@ -28,7 +29,7 @@ use std::alloc::{AllocError, Global};
 fn invoke(
     alloc: Global,
     parts: &Parts,
-    body: &[u8],
+    body: &Bytes,
     function: FnNo,
     qualified: bool,
 ) -> Result<Decision, AllocError>
@@ -53,10 +54,10 @@ fn invoke(
 }
 
 /// PutFunctionConcurrency, with the count that the body asks for.
-fn reserve(alloc: Global, body: &[u8], function: FnNo) -> Result<Decision, AllocError>
+fn reserve(alloc: Global, body: &Bytes, function: FnNo) -> Result<Decision, AllocError>
     ensures { IfOk result (λ d. d ≡ spec.reserve function (read_count body.now)) }
 {
-    match read_reservation(alloc, body) {
+    match read_reservation(alloc, body.as_slice()) {
         Ok(count) => Ok(Decision::Submit(Call::Reserve {
             function,
             count: Some(count),
@@ -74,7 +75,7 @@ fn on_invoke(
     alloc: Global,
     config: &Checked,
     parts: &Parts,
-    body: &[u8],
+    body: &Bytes,
 ) -> Result<Decision, AllocError>
     ensures { IfOk result (λ d. d ≡ spec.about (names.invoked config.now (paths.name_of parts.now) (paths.qualifier_of parts.now)) (spec.invoke parts.now body.now)) }
 {
@@ -93,7 +94,7 @@ fn on_concurrency(
     alloc: Global,
     config: &Checked,
     parts: &Parts,
-    body: &[u8],
+    body: &Bytes,
 ) -> Result<Decision, AllocError>
     ensures { IfOk result (λ d. d ≡ spec.about (names.reserved config.now (paths.name_of parts.now)) (spec.set_reservation (is_put parts.now.method) body.now)) }
 {
@@ -152,7 +153,7 @@ fn on_route(
     alloc: Global,
     config: &Checked,
     parts: &Parts,
-    body: &[u8],
+    body: &Bytes,
     route: AccountRoute,
 ) -> Result<Decision, AllocError>
     ensures { IfOk result (λ d. d ≡ spec.at_account config.now parts.now body.now (Some route)) }
@@ -181,7 +182,7 @@ pub(crate) fn account_decision(
     router: &Router<AccountRoute>,
     config: &Checked,
     parts: &Parts,
-    body: &[u8],
+    body: &Bytes,
 ) -> Result<Decision, AllocError>
     requires { router.now ≡ account_rows }
     ensures { IfOk result (λ d. d ≡ spec.account_decision config.now parts.now body.now) }

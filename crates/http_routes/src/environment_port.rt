@@ -13,7 +13,8 @@ use crate::refusals::{
     wrong_method, wrong_request,
 };
 use crate::routes::{EnvironmentRoute, environment_route};
-use arn_ids::{Bytes, Checked, EnvNo, Text};
+use arn_ids::{Checked, EnvNo, Text};
+use bytes::Bytes;
 use call_model::Call;
 use http::request::Parts;
 use lambda_wire::{WireFault, read_register};
@@ -24,20 +25,14 @@ use std::alloc::{AllocError, Global};
 /// How many bytes the body of a request may have (Lambda quotas: invocation payload).
 const MAX_BYTES: usize = 6_291_456;
 
-fn is_too_long(body: &[u8]) -> bool
+fn is_too_long(body: &Bytes) -> bool
     ensures { result ≡ spec.is_too_long body.now }
 {
     body.len() > MAX_BYTES
 }
 
-fn copied(alloc: Global, body: &[u8]) -> Result<Bytes, AllocError>
-    ensures { IfOk result (λ bytes. bytes ≡ body.now) }
-{
-    Ok(Bytes::new(Vec::from_slice(alloc, body)?))
-}
-
 /// A call without bytes.
-fn submitted(alloc: Global, body: &[u8], call: Call) -> Result<Decision, AllocError>
+fn submitted(alloc: Global, body: &Bytes, call: Call) -> Result<Decision, AllocError>
     ensures { IfOk result (λ d. d ≡ spec.submitted body.now call) }
 {
     if is_too_long(body) {
@@ -47,7 +42,7 @@ fn submitted(alloc: Global, body: &[u8], call: Call) -> Result<Decision, AllocEr
 }
 
 /// Invocation response.
-fn response(alloc: Global, env: EnvNo, body: &[u8], id: Option<u64>) -> Result<Decision, AllocError>
+fn response(alloc: Global, env: EnvNo, body: &Bytes, id: Option<u64>) -> Result<Decision, AllocError>
     ensures { IfOk result (λ d. d ≡ spec.response env body.now id) }
 {
     let Some(id) = id else {
@@ -56,12 +51,12 @@ fn response(alloc: Global, env: EnvNo, body: &[u8], id: Option<u64>) -> Result<D
     if is_too_long(body) {
         return Ok(Decision::Submit(Call::ResponseTooLarge { env, id }));
     }
-    let body = copied(alloc, body)?;
+    let body = body.clone()?;
     Ok(Decision::Submit(Call::Response { env, id, body }))
 }
 
 /// Invocation error.
-fn failure(alloc: Global, env: EnvNo, body: &[u8], id: Option<u64>) -> Result<Decision, AllocError>
+fn failure(alloc: Global, env: EnvNo, body: &Bytes, id: Option<u64>) -> Result<Decision, AllocError>
     ensures { IfOk result (λ d. d ≡ spec.failure env body.now id) }
 {
     let Some(id) = id else {
@@ -70,18 +65,18 @@ fn failure(alloc: Global, env: EnvNo, body: &[u8], id: Option<u64>) -> Result<De
     if is_too_long(body) {
         return too_large(alloc);
     }
-    let body = copied(alloc, body)?;
+    let body = body.clone()?;
     Ok(Decision::Submit(Call::Failure { env, id, body }))
 }
 
 /// Initialization error.
-fn init_failure(alloc: Global, env: EnvNo, body: &[u8]) -> Result<Decision, AllocError>
+fn init_failure(alloc: Global, env: EnvNo, body: &Bytes) -> Result<Decision, AllocError>
     ensures { IfOk result (λ d. d ≡ spec.submitted body.now (calls.InitFailure env body.now)) }
 {
     if is_too_long(body) {
         return too_large(alloc);
     }
-    let body = copied(alloc, body)?;
+    let body = body.clone()?;
     Ok(Decision::Submit(Call::InitFailure { env, body }))
 }
 
@@ -90,7 +85,7 @@ fn register(
     alloc: Global,
     env: EnvNo,
     account: bool,
-    body: &[u8],
+    body: &Bytes,
     name: Option<Text>,
 ) -> Result<Decision, AllocError>
     ensures { IfOk result (λ d. d ≡ spec.register env account body.now name) }
@@ -98,7 +93,7 @@ fn register(
     let Some(name) = name else {
         return missing_header(alloc);
     };
-    match read_register(alloc, body) {
+    match read_register(alloc, body.as_slice()) {
         Ok(events) => Ok(Decision::Submit(Call::Register {
             env,
             name,
@@ -117,7 +112,7 @@ fn register(
 fn ext_next(
     alloc: Global,
     env: EnvNo,
-    body: &[u8],
+    body: &Bytes,
     ext: Option<u64>,
 ) -> Result<Decision, AllocError>
     ensures { IfOk result (λ d. d ≡ spec.ext_next env body.now ext) }
@@ -133,7 +128,7 @@ fn ext_init_failure(
     alloc: Global,
     env: EnvNo,
     has_type: bool,
-    body: &[u8],
+    body: &Bytes,
     ext: Option<u64>,
 ) -> Result<Decision, AllocError>
     ensures { IfOk result (λ d. d ≡ spec.ext_report has_type body.now (λ x. calls.ExtInitFailure env x body.now) ext) }
@@ -147,7 +142,7 @@ fn ext_init_failure(
     if is_too_long(body) {
         return too_large(alloc);
     }
-    let body = copied(alloc, body)?;
+    let body = body.clone()?;
     Ok(Decision::Submit(Call::ExtInitFailure { env, ext, body }))
 }
 
@@ -156,7 +151,7 @@ fn ext_exit_failure(
     alloc: Global,
     env: EnvNo,
     has_type: bool,
-    body: &[u8],
+    body: &Bytes,
     ext: Option<u64>,
 ) -> Result<Decision, AllocError>
     ensures { IfOk result (λ d. d ≡ spec.ext_report has_type body.now (λ x. calls.ExtExitFailure env x body.now) ext) }
@@ -170,7 +165,7 @@ fn ext_exit_failure(
     if is_too_long(body) {
         return too_large(alloc);
     }
-    let body = copied(alloc, body)?;
+    let body = body.clone()?;
     Ok(Decision::Submit(Call::ExtExitFailure { env, ext, body }))
 }
 
@@ -182,7 +177,7 @@ fn on_route(
     salt: u64,
     env: EnvNo,
     parts: &Parts,
-    body: &[u8],
+    body: &Bytes,
     route: EnvironmentRoute,
 ) -> Result<Decision, AllocError>
     requires { IsEnv config.now env }
@@ -227,7 +222,7 @@ pub(crate) fn environment_decision(
     salt: u64,
     env: EnvNo,
     parts: &Parts,
-    body: &[u8],
+    body: &Bytes,
 ) -> Result<Decision, AllocError>
     requires routes { router.now ≡ environment_rows }
     requires env { IsEnv config.now env }

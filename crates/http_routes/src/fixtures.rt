@@ -3,6 +3,7 @@
 use crate::request_maker::{Head, parts};
 use crate::{Decision, Port, Shown, Side};
 use arn_ids::Checked;
+use bytes::Bytes;
 use call_model::Call;
 use lambda_wire::{Reply, Setup, read_config};
 use script::read_call;
@@ -48,6 +49,16 @@ fn bench_of(alloc: Global, text: &str, port: Port) -> Option<Bench> {
     Some(Bench { config, side })
 }
 
+/// A body, copied again where memory was refused once.
+fn bytes(rt: &impl Abort, alloc: Global, body: &[u8]) -> Bytes {
+    match Bytes::copy_from_slice(alloc, body) {
+        Ok(bytes) => bytes,
+        Err(AllocError) => {
+            Bytes::copy_from_slice(alloc, body).expect(rt, "memory was refused twice")
+        }
+    }
+}
+
 impl Bench {
     /// A port of a configuration, opened again where memory was refused once.
     pub(crate) fn open(rt: &impl Abort, alloc: Global, text: &str, port: Port) -> Bench {
@@ -66,11 +77,12 @@ impl Bench {
         body: &[u8],
     ) -> Decision {
         let parts = parts(rt, alloc, head);
-        match self.side.decide(alloc, &parts, body) {
+        let body = bytes(rt, alloc, body);
+        match self.side.decide(alloc, &parts, &body) {
             Ok(decision) => decision,
             Err(AllocError) => {
                 self.side
-                    .decide(alloc, &parts, body)
+                    .decide(alloc, &parts, &body)
                     .expect(rt, "memory was refused twice")
             }
         }

@@ -10,6 +10,7 @@ use crate::account_port::account_decision;
 use crate::environment_port::environment_decision;
 use crate::routes::{AccountRoute, EnvironmentRoute, account_routes, environment_routes};
 use arn_ids::{Checked, EnvNo};
+use bytes::Bytes;
 use http::request::Parts;
 use long_poll::{Decide, Decision};
 use matchit::Router;
@@ -90,9 +91,9 @@ impl Side {
     }
 
     /// What is done with a request of this head and body: `Submit` its call, `Reply` with a refusal,
-    /// or `Show` what is asked for. The first refusal that holds is given; the body is copied once,
-    /// into the call. The only error is want of memory.
-    pub fn decide(&self, alloc: Global, parts: &Parts, body: &[u8]) -> Result<Decision, AllocError>
+    /// or `Show` what is asked for. The first refusal that holds is given; the call shares
+    /// the body, which isn't copied. The only error is want of memory.
+    pub fn decide(&self, alloc: Global, parts: &Parts, body: &Bytes) -> Result<Decision, AllocError>
         ensures decision { IfOk result (λ d. d ≡ decision self.now parts.now body.now) }
         // A call is one that the account's book takes, and a function that is shown is there.
         ensures allowed { IfOk result (IsAllowed self.now.config) }
@@ -120,7 +121,7 @@ impl Decide for Side {
 
     ghost decides_for = { λ side. side.config };
 
-    fn decide(&self, alloc: Global, parts: &Parts, body: &[u8]) -> Result<Decision, AllocError> {
+    fn decide(&self, alloc: Global, parts: &Parts, body: &Bytes) -> Result<Decision, AllocError> {
         Side::decide(self, alloc, parts, body)
     }
 }

@@ -6,7 +6,7 @@ ghost use Rattle.lambda_wire.specs.Replies as spec;
 
 use crate::body_writer::{InvokeFault, write_fault, write_invoke_fault};
 use crate::header_writer::{Headers, error_headers, json_headers};
-use arn_ids::Bytes;
+use bytes::Bytes;
 use std::alloc::{AllocError, Global};
 
 /// What a client gets: a status code (RFC 9110, section 15), headers and a body.
@@ -34,7 +34,7 @@ pub fn fault_reply(
     Ok(Reply {
         status,
         headers: json_headers(alloc)?,
-        body: Bytes::new(write_fault(alloc, message, kind)?),
+        body: Bytes::from_vec(write_fault(alloc, message, kind)?)?,
     })
 }
 
@@ -53,6 +53,6 @@ pub fn invoke_fault_reply(
     Ok(Reply {
         status,
         headers: error_headers(alloc, None, kind)?,
-        body: Bytes::new(write_invoke_fault(alloc, form, message)?),
+        body: Bytes::from_vec(write_invoke_fault(alloc, form, message)?)?,
     })
 }

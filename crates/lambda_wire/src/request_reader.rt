@@ -9,7 +9,8 @@ ghost use Rattle.lambda_wire.specs.Requests.{is_event, events_of, registration_o
 use crate::fault::WireFault;
 use crate::json_check::check_json;
 use crate::members::{json_of, number_u32, texts_or_none};
-use arn_ids::{Bytes, Text};
+use arn_ids::Text;
+use bytes::Bytes;
 use serde_json::Value;
 use std::alloc::{AllocError, Global};
 
@@ -25,21 +26,12 @@ pub struct Events {
     pub shutdown: bool,
 }
 
-/// A copy of the bytes.
-fn copied(alloc: Global, bytes: &[u8]) -> Result<Bytes, AllocError>
-    ensures { IfOk result (λ b. b ≡ bytes.now) }
-{
-    let mut copy = Vec::with_capacity(alloc, bytes.len())?;
-    copy.extend_from_slice(bytes)?;
-    Ok(Bytes::new(copy))
-}
-
 /// Reads the payload of an Invoke: JSON (RFC 8259) of at most 6,291,456 bytes, which is taken as it
-/// stands; an empty body stands for `{}` (Lambda API, Invoke: Payload).
+/// stands and shares its memory; an empty body stands for `{}` (Lambda API, Invoke: Payload).
 ///
 /// The errors are `TooLong`, `NotJson` (white space alone is no JSON), and `OutOfMemory`.
 #[tactic(auto, unfolding(crate::specs::Requests::read_payload))]
-pub fn read_invoke_body(alloc: Global, bytes: &[u8]) -> Result<Bytes, WireFault>
+pub fn read_invoke_body(alloc: Global, bytes: &Bytes) -> Result<Bytes, WireFault>
     ensures payload { spec.Gives result (read_payload bytes.now) }
     // The length is looked at first, and takes no memory.
     ensures too_long { 6291456 < length bytes.now → IsErrOf result WireFault.TooLong }
@@ -48,10 +40,10 @@ pub fn read_invoke_body(alloc: Global, bytes: &[u8]) -> Result<Bytes, WireFault>
         return Err(WireFault::TooLong);
     }
     if bytes.is_empty() {
-        return Ok(copied(alloc, b"{}")?);
+        return Ok(Bytes::from_static(b"{}"));
     }
-    check_json(alloc, bytes)?;
-    Ok(copied(alloc, bytes)?)
+    check_json(alloc, bytes.as_slice())?;
+    Ok(bytes.clone()?)
 }
 
 /// Whether one of the texts is the event.

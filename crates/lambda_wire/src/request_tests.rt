@@ -1,17 +1,25 @@
 //! Which bodies of requests are read, and what they say.
 
 use crate::{Events, WireFault, read_invoke_body, read_register, read_reservation};
-use arn_ids::Bytes;
+use bytes::Bytes;
 use std::alloc::Global;
 use std::process::Abort;
 
 /// The most bytes that a body may have.
 const LONGEST: usize = 6_291_456;
 
-/// Reads, and once more where memory ran out, as it does at most once in a run.
-fn payload(alloc: Global, bytes: &[u8]) -> Result<Bytes, WireFault> {
-    match read_invoke_body(alloc, bytes) {
-        Err(WireFault::OutOfMemory) => read_invoke_body(alloc, bytes),
+/// A body of these bytes, copied once more where memory ran out, as it does at most once in a run.
+fn body_of(rt: &impl Abort, alloc: Global, bytes: &[u8]) -> Bytes {
+    match Bytes::copy_from_slice(alloc, bytes) {
+        Ok(body) => body,
+        Err(_) => Bytes::copy_from_slice(alloc, bytes).expect(rt, "memory ran out twice"),
+    }
+}
+
+/// Reads, and once more where memory ran out.
+fn payload(alloc: Global, body: &Bytes) -> Result<Bytes, WireFault> {
+    match read_invoke_body(alloc, body) {
+        Err(WireFault::OutOfMemory) => read_invoke_body(alloc, body),
         answer => answer,
     }
 }
@@ -34,14 +42,14 @@ fn reservation(alloc: Global, bytes: &[u8]) -> Result<u32, WireFault> {
 
 /// The body is taken as these bytes.
 fn taken(rt: &impl Abort, alloc: Global, body: &[u8], wanted: &[u8], at: usize) {
-    match payload(alloc, body) {
+    match payload(alloc, &body_of(rt, alloc, body)) {
         Ok(bytes) => assert!(rt; bytes.as_slice() == wanted, "another payload at {at}"),
         Err(fault) => panic!(rt; "{fault:?} at {at}"),
     }
 }
 
 fn payload_refused(rt: &impl Abort, alloc: Global, body: &[u8], wanted: WireFault, at: usize) {
-    match payload(alloc, body) {
+    match payload(alloc, &body_of(rt, alloc, body)) {
         Ok(_) => panic!(rt; "read, where {wanted:?} is wanted, at {at}"),
         Err(fault) => assert_eq!(rt; fault, wanted, "at {at}"),
     }

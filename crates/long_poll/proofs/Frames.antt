@@ -1,5 +1,5 @@
 -- What is read of a body, one frame more at a time.
-use Rattle.std.proofs.Common.{◌≡◌, ◌≤◌, ◌-◌, ℕ, List, [], ◌∷◌, ◌++◌, length, take, Some, None, Result, Ok, Err, refl, sym, ap, ◌∙◌, inl, inr, append_assoc, append-nil, arith, zero, suc}
+use Rattle.std.proofs.Common.{◌≡◌, ◌≤◌, ◌-◌, ℕ, List, [], ◌∷◌, ◌++◌, length, take, Some, None, Result, Ok, Err, MatchResult, refl, sym, ap, ◌∙◌, inl, inr, append_assoc, append-nil, arith, zero, suc}
 use Rattle.std.proofs.lemmas.List.{take_all}
 use Rattle.bytes.proofs.Ranges.{take-append_past}
 use Rattle.futures.specs.Runs.{Runs, After, Within}
@@ -52,6 +52,13 @@ module _ {D E : Type 0} (reads : D → List ℕ → Type 0) (old : Runs (Result 
     first = sym (ap (take most_bytes) (append-nil held) ∙ take_all most_bytes held few);
     came = inl came;
   }
+
+  -- what was collected is given, where there is memory for it
+  pub collects_taken : (held read : List ℕ) → Collects reads old held (Ok read)
+      → (r : Result (List ℕ) ExchangeFault) → MatchResult r (λ bytes. bytes ≡ read) (λ fault. fault ≡ OutOfMemory)
+      → Collects reads old held r
+  collects_taken held read h (Ok bytes) is = rw is h
+  collects_taken held read h (Err fault) is = rw is tt
 
   -- a frame came, and it has all that is wanted
   pub collects_full : (held next bytes : List ℕ) (frame : Frame D) → old [] (Some (Ok frame)) → IsDataOf reads frame bytes

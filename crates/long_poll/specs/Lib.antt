@@ -3,7 +3,6 @@ pub mod Bodies
 pub mod Decisions
 pub mod Exchanges
 pub mod Moments
-pub mod Pieces
 pub mod Refusals
 pub mod Ringing
 pub mod Stages

@@ -1,6 +1,6 @@
 //! A future for the first bytes of a request's body.
 
-ghost use Rattle.std.specs.Prelude.{◌≡◌, ◌==◌, ◌++◌, ℕ, List, [], length, take, IfOk, OnOk};
+ghost use Rattle.std.specs.Prelude.{◌≡◌, ◌==◌, ◌≤◌, ◌++◌, ℕ, List, [], length, take, IfOk, MatchResult, OnOk};
 ghost use Rattle.long_poll.specs.Bodies.{Collects, IsDataOf, most_bytes};
 
 use crate::ExchangeFault;
@@ -41,7 +41,7 @@ impl<B: Body> Collecting<B> {
         Collecting {
             alloc,
             body,
-            held: FirstBytes::none(),
+            held: FirstBytes::none(alloc),
         }
     }
 }
@@ -56,8 +56,20 @@ where
         ensures full { IfOk result (λ full. full ≡ (length self.new.held == most_bytes)) }
         ensures body { self.new.body ≡ self.old.body }
     {
-        self.held.add(self.alloc, data_in(frame))?;
+        let expected = self.body.size_hint().lower();
+        self.held.add(data_in(frame), expected)?;
         Ok(self.held.is_full())
+    }
+
+    /// What was collected.
+    fn collected(&mut self) -> Result<Bytes, ExchangeFault>
+        ensures held { MatchResult result (λ bytes. bytes ≡ self.old.held) (λ fault. fault ≡ ExchangeFault.OutOfMemory) }
+        ensures few { length self.old.held ≤ most_bytes }
+    {
+        match self.held.taken(self.alloc) {
+            Ok(bytes) => Ok(bytes),
+            Err(AllocError) => Err(ExchangeFault::OutOfMemory),
+        }
     }
 }
 
@@ -65,7 +77,7 @@ impl<B: Body> Future for Collecting<B>
 where
     B::Data: Into<Bytes>,
 {
-    type Output = Result<FirstBytes, ExchangeFault>;
+    type Output = Result<Bytes, ExchangeFault>;
 
     ghost can_poll = { λ collecting. B.can_poll collecting.body };
 
@@ -73,16 +85,16 @@ where
 
     ghost gives = { λ collecting. Collects B.Data.converts (B.yields collecting.body) collecting.held };
 
-    fn poll(&mut self, cx: &mut Context<'_>) -> Poll<Result<FirstBytes, ExchangeFault>> {
+    fn poll(&mut self, cx: &mut Context<'_>) -> Poll<Result<Bytes, ExchangeFault>> {
         for _ in 0..FRAMES_PER_POLL {
             let frame = match ready!(self.body.poll_frame(cx)) {
-                None => return Poll::Ready(Ok(self.held.taken())),
+                None => return Poll::Ready(self.collected()),
                 Some(Err(_)) => return Poll::Ready(Err(ExchangeFault::BodyFailed)),
                 Some(Ok(frame)) => frame,
             };
             match self.take_frame(frame) {
                 Err(AllocError) => return Poll::Ready(Err(ExchangeFault::OutOfMemory)),
-                Ok(true) => return Poll::Ready(Ok(self.held.taken())),
+                Ok(true) => return Poll::Ready(self.collected()),
                 Ok(false) => {}
             }
         }

@@ -12,6 +12,7 @@ use crate::refusal::{is_invoke, refusal_reply};
 use crate::views::{history_reply, reservation_reply, stats_reply};
 use crate::{Clock, Decide, Decision, ExchangeFault, Heard, OneShotBell, OpenPoll, Service, Shown};
 use account_lock::Refused;
+use bytes::Bytes;
 use call_model::{Call, Ticket};
 use http::request::Parts;
 use lambda_wire::Reply;
@@ -162,7 +163,7 @@ impl<
     }
 
     /// Decides a request, and does what is decided.
-    pub(crate) fn begin(&self, parts: &Parts, body: &[u8]) -> Result<Begun, ExchangeFault>
+    pub(crate) fn begin(&self, parts: &Parts, body: &Bytes) -> Result<Begun, ExchangeFault>
         ensures ok { IfOk result (HasBegun S.Service N.Clock D.Decide (arc_value self.now.service) (arc_value self.now.clock) (arc_value self.now.decider) parts.now body.now) }
         ensures err { IfErr result (λ fault. fault ≡ ExchangeFault.OutOfMemory) }
     {

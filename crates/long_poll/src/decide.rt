@@ -7,6 +7,7 @@ ghost use Rattle.long_poll.specs.declared.decide.Decision.{Decision as Decided};
 ghost use Rattle.long_poll.specs.Decisions.{IsAllowed};
 
 use arn_ids::FnNo;
+use bytes::Bytes;
 use call_model::Call;
 use http::request::Parts;
 use lambda_wire::Reply;
@@ -45,8 +46,9 @@ pub trait Decide {
     /// The configuration that it decides for.
     ghost decides_for: { Self → Config };
 
-    /// What is done with a request of this head and body. The only error is want of memory.
-    fn decide(&self, alloc: Global, parts: &Parts, body: &[u8]) -> Result<Decision, AllocError>
+    /// What is done with a request of this head and body, whose bytes a call shares. The only error is want
+    /// of memory.
+    fn decide(&self, alloc: Global, parts: &Parts, body: &Bytes) -> Result<Decision, AllocError>
         ensures decision { IfOk result (λ decision. decides self.now parts.now body.now decision) }
         // A call is one that the account's book takes, and a function that is shown is there.
         ensures allowed { IfOk result (IsAllowed (decides_for self.now)) };

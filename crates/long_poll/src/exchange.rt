@@ -97,9 +97,7 @@ where
             Stage::Collecting { parts, body } => match body.poll(cx) {
                 Poll::Pending => Poll::Pending,
                 Poll::Ready(Err(fault)) => Poll::Ready(Err(fault)),
-                Poll::Ready(Ok(bytes)) => Poll::Ready(
-                    self.connection.begin(parts, bytes.as_slice()),
-                ),
+                Poll::Ready(Ok(bytes)) => Poll::Ready(self.connection.begin(parts, &bytes)),
             },
         }
     }

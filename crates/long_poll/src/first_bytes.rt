@@ -12,107 +12,77 @@ use std::mem;
 /// payload), so that a body that is too long is known by its length.
 const MOST_BYTES: usize = 6_291_457;
 
-/// Bytes in one piece: the first one as it came, which most bodies are, or several copied together.
-#[derive(Drop)]
-enum Piece {
-    One(Bytes),
-    Joined(Vec<u8>),
-}
-
 /// The first bytes of a body, 6,291,457 at most, seen as the list of them.
 #[derive(Drop)]
 pub(crate) struct FirstBytes {
-    piece: Piece,
+    bytes: Vec<u8>,
 }
 
 impl Model for FirstBytes {
     ghost use Rattle.std.specs.Prelude.{ℕ, List, length, ◌≤◌};
+    ghost use Rattle.long_poll.specs.Bodies.{most_bytes};
 
     ghost Value = { List ℕ };
 
-    ghost use Rattle.long_poll.specs.Pieces.{bytes_of};
-    ghost use Rattle.long_poll.specs.Bodies.{most_bytes};
+    ghost view = { λ first. first.bytes.items };
 
-    ghost view = { λ first. bytes_of first.piece };
-
-    ghost invariant = { λ first. length (bytes_of first.piece) ≤ most_bytes };
-}
-
-/// Both in one piece.
-fn joined(alloc: Global, first: &[u8], second: &[u8]) -> Result<Vec<u8>, AllocError>
-    requires { length first.now + length second.now ≤ most_bytes }
-    ensures { IfOk result (λ bytes. bytes.items ≡ first.now ++ second.now) }
-{
-    let mut bytes = Vec::with_capacity(alloc, first.len() + second.len())?;
-    bytes.extend_from_slice(first)?;
-    bytes.extend_from_slice(second)?;
-    Ok(bytes)
+    ghost invariant = { λ first. length first.bytes.items ≤ most_bytes };
 }
 
 impl FirstBytes {
-    /// None yet.
-    pub(crate) fn none() -> FirstBytes
+    /// None yet. It takes no memory.
+    pub(crate) fn none(alloc: Global) -> FirstBytes
         ensures { result ≡ [] }
     {
         FirstBytes {
-            piece: Piece::One(Bytes::new()),
+            bytes: Vec::new(alloc),
         }
     }
 
-    /// The bytes.
-    pub(crate) fn as_slice(&self) -> &[u8]
-        ensures bytes { result.now ≡ self.now }
+    /// The bytes, which it gives up, in memory of their own and no more of it than they need.
+    pub(crate) fn taken(&mut self, alloc: Global) -> Result<Bytes, AllocError>
+        ensures bytes { IfOk result (λ bytes. bytes ≡ self.old) }
+        ensures few { length self.old ≤ most_bytes }
+    {
+        let mut bytes = mem::replace(&mut self.bytes, Vec::new(alloc));
+        bytes.shrink_to_fit();
+        Ok(Bytes::from_vec(bytes)?)
+    }
+
+    fn len(&self) -> usize
+        ensures value { result ≡ length self.now }
         ensures few { length self.now ≤ most_bytes }
     {
-        match &self.piece {
-            Piece::One(bytes) => bytes.as_slice(),
-            Piece::Joined(bytes) => bytes,
-        }
-    }
-
-    /// The bytes, which it gives up.
-    pub(crate) fn taken(&mut self) -> FirstBytes
-        ensures bytes { result ≡ self.old }
-        ensures few { length result ≤ most_bytes }
-    {
-        mem::replace(self, FirstBytes::none())
+        self.bytes.len()
     }
 
     /// Whether no more are read.
     pub(crate) fn is_full(&self) -> bool
-        ensures full { result ≡ (length self.now == most_bytes) }
-        ensures few { length self.now ≤ most_bytes }
+        ensures { result ≡ (length self.now == most_bytes) }
     {
-        self.as_slice().len() == MOST_BYTES
+        self.len() == MOST_BYTES
     }
 
-    /// Takes what is wanted of more bytes.
-    pub(crate) fn add(&mut self, alloc: Global, more: Bytes) -> Result<(), AllocError>
+    /// Takes what is wanted of more bytes, behind which so many are expected.
+    pub(crate) fn add(&mut self, more: Bytes, expected: u64) -> Result<(), AllocError>
         ensures { OnOk result (self.new ≡ take most_bytes (self.old ++ more)) }
     {
         let mut more = more;
-        more.truncate(MOST_BYTES - self.as_slice().len());
-        self.push(alloc, more)
+        more.truncate(MOST_BYTES - self.len());
+        self.push(more.as_slice(), expected)
     }
 
-    fn push(&mut self, alloc: Global, more: Bytes) -> Result<(), AllocError>
-        requires { length self.old + length more ≤ most_bytes }
-        ensures { OnOk result (self.new ≡ self.old ++ more) }
+    /// Takes more bytes. For those that are expected room is made at once, so that the bytes of a body
+    /// whose length is known are moved once.
+    fn push(&mut self, more: &[u8], expected: u64) -> Result<(), AllocError>
+        requires { length self.old + length more.now ≤ most_bytes }
+        ensures { OnOk result (self.new ≡ self.old ++ more.now) }
     {
-        if more.is_empty() {
-            return Ok(());
+        if expected > 0 {
+            let room = (MOST_BYTES - self.len()) as u64;
+            let wanted = expected.saturating_add(more.len() as u64).min(room);
+            self.bytes.reserve_exact(wanted as usize)?;
         }
-        if self.as_slice().is_empty() {
-            self.piece = Piece::One(more);
-            return Ok(());
-        }
-        match &mut self.piece {
-            Piece::Joined(bytes) => bytes.extend_from_slice(more.as_slice()),
-            Piece::One(first) => {
-                let bytes = joined(alloc, first.as_slice(), more.as_slice())?;
-                self.piece = Piece::Joined(bytes);
-                Ok(())
-            }
-        }
+        self.bytes.extend_from_slice(more)
     }
 }

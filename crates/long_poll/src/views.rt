@@ -4,7 +4,8 @@ ghost use Rattle.std.specs.Prelude.{◌≡◌, IfOk};
 ghost use Rattle.serde_json.specs.View.{view};
 ghost use Rattle.long_poll.specs.Views as spec;
 
-use arn_ids::{Bytes, Row};
+use arn_ids::Row;
+use bytes::Bytes;
 use call_model::Stats;
 use http_header::{HeaderName, HeaderValue};
 use lambda_wire::{Reply, json_headers, write_reservation};
@@ -39,7 +40,7 @@ pub fn stats_reply(alloc: Global, stats: Stats) -> Result<Reply, AllocError>
     Ok(Reply {
         status: 200,
         headers: json_headers(alloc)?,
-        body: Bytes::new(write_stats(alloc, stats)?),
+        body: Bytes::from_vec(write_stats(alloc, stats)?)?,
     })
 }
 
@@ -55,7 +56,7 @@ pub fn history_reply(alloc: Global, text: Vec<u8>) -> Result<Reply, AllocError>
     Ok(Reply {
         status: 200,
         headers: Row::new(headers),
-        body: Bytes::new(text),
+        body: Bytes::from_vec(text)?,
     })
 }
 
@@ -66,6 +67,6 @@ pub fn reservation_reply(alloc: Global, count: Option<u32>) -> Result<Reply, All
     Ok(Reply {
         status: 200,
         headers: json_headers(alloc)?,
-        body: Bytes::new(write_reservation(alloc, count)?),
+        body: Bytes::from_vec(write_reservation(alloc, count)?)?,
     })
 }

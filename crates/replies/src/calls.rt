@@ -1,11 +1,14 @@
 //! What a call says of itself.
 
-ghost use Rattle.std.specs.Prelude.{◌≡◌};
+ghost use Rattle.std.specs.Prelude.{◌≡◌, IfOk};
 ghost use Rattle.http_header.specs.FieldValue.{IsFieldValue};
+ghost use Rattle.script.specs.AnswerText.{body_of};
 ghost use Rattle.replies.specs.Gists.{IsTraced};
 ghost use Rattle.replies.specs.Words as spec;
 
+use bytes::Bytes;
 use call_model::Call;
+use std::alloc::AllocError;
 
 /// What stands for the trace of a caller that gave none.
 const NO_TRACE: &str = "Root=1-00000000-000000000000000000000000;Sampled=0";
@@ -42,5 +45,20 @@ pub(crate) fn wants_account(call: &Call) -> bool
     match call {
         Call::Register { account, .. } => *account,
         _ => false,
+    }
+}
+
+/// The bytes of a call, which it shares, none where it has none.
+pub(crate) fn shared_body(call: &Call) -> Result<Bytes, AllocError>
+    ensures { IfOk result (λ bytes. bytes ≡ body_of call.now) }
+{
+    match call {
+        Call::Invoke { body, .. } => body.clone(),
+        Call::Response { body, .. } => body.clone(),
+        Call::Failure { body, .. } => body.clone(),
+        Call::InitFailure { body, .. } => body.clone(),
+        Call::ExtInitFailure { body, .. } => body.clone(),
+        Call::ExtExitFailure { body, .. } => body.clone(),
+        _ => Ok(Bytes::new()),
     }
 }

@@ -4,7 +4,8 @@ ghost use Rattle.std.specs.Prelude.{◌≡◌, Some, None, IfOk};
 ghost use Rattle.replies.specs.Gists.{IsTraced};
 
 use crate::{Gist, reply};
-use arn_ids::{Bytes, Checked, Text};
+use arn_ids::{Checked, Text};
+use bytes::Bytes;
 use call_model::{Answer, Call};
 use lambda_wire::{Headers, Reply, WireFault, read_config};
 use std::alloc::{AllocError, Global};
@@ -34,7 +35,7 @@ pub(crate) fn config(rt: &impl Abort, alloc: Global, text: &str) -> Checked {
 }
 
 fn bytes_of(alloc: Global, bytes: &[u8]) -> Result<Bytes, AllocError> {
-    Ok(Bytes::new(Vec::from_slice(alloc, bytes)?))
+    Bytes::copy_from_slice(alloc, bytes)
 }
 
 /// Bytes, copied again where memory was refused once.

@@ -6,15 +6,16 @@ ghost use Rattle.replies.specs.Gists.{gist_of};
 ghost use Rattle.replies.specs.Outcomes as spec;
 
 use crate::Gist;
+use crate::calls::shared_body;
 use crate::functions::timeout_s;
 use crate::words::{request_text, throttle_word};
-use arn_ids::{Bytes, Checked, Row};
+use arn_ids::{Checked, Row};
+use bytes::Bytes;
 use call_model::{Call, Throttle};
 use lambda_wire::{
     InvokeFault, Reply, error_headers, invoke_headers, json_headers, write_fault,
     write_invoke_fault, write_reservation, write_status, write_throttle,
 };
-use script::body_of;
 use std::alloc::{AllocError, Global};
 use uuid::Uuid;
 
@@ -33,7 +34,7 @@ pub(crate) fn outcome(
     Ok(Reply {
         status: 200,
         headers: invoke_headers(alloc, request, failed)?,
-        body: Bytes::new(Vec::from_slice(alloc, body_of(gist.source))?),
+        body: shared_body(gist.source)?,
     })
 }
 
@@ -54,7 +55,7 @@ fn failure(
     Ok(Reply {
         status: 200,
         headers: invoke_headers(alloc, request, true)?,
-        body: Bytes::new(write_fault(alloc, message.as_str(), kind)?),
+        body: Bytes::from_vec(write_fault(alloc, message.as_str(), kind)?)?,
     })
 }
 
@@ -117,7 +118,7 @@ pub(crate) fn throttled(
     Ok(Reply {
         status: 429,
         headers: error_headers(alloc, Some(request), "TooManyRequestsException")?,
-        body: Bytes::new(write_throttle(alloc, throttle_word(reason))?),
+        body: Bytes::from_vec(write_throttle(alloc, throttle_word(reason))?)?,
     })
 }
 
@@ -130,7 +131,7 @@ fn service_stopped(alloc: Global, request: Option<&str>) -> Result<Reply, AllocE
     Ok(Reply {
         status: 500,
         headers: error_headers(alloc, request, "ServiceException")?,
-        body: Bytes::new(write_invoke_fault(alloc, InvokeFault::Service, "Service is stopped")?),
+        body: Bytes::from_vec(write_invoke_fault(alloc, InvokeFault::Service, "Service is stopped")?)?,
     })
 }
 
@@ -161,7 +162,7 @@ pub(crate) fn done_with(alloc: Global, status: u16) -> Result<Reply, AllocError>
     Ok(Reply {
         status,
         headers: json_headers(alloc)?,
-        body: Bytes::new(write_status(alloc)?),
+        body: Bytes::from_vec(write_status(alloc)?)?,
     })
 }
 
@@ -173,7 +174,7 @@ pub(crate) fn reserved(alloc: Global, count: u32) -> Result<Reply, AllocError>
     Ok(Reply {
         status: 200,
         headers: json_headers(alloc)?,
-        body: Bytes::new(write_reservation(alloc, Some(count))?),
+        body: Bytes::from_vec(write_reservation(alloc, Some(count))?)?,
     })
 }
 
@@ -184,6 +185,6 @@ pub(crate) fn unreserved(alloc: Global) -> Reply
     Reply {
         status: 204,
         headers: Row::new(Vec::new(alloc)),
-        body: Bytes::new(Vec::new(alloc)),
+        body: Bytes::new(),
     }
 }

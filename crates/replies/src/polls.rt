@@ -5,16 +5,16 @@ ghost use Rattle.replies.specs.Gists.{gist_of, IsTraced};
 ghost use Rattle.replies.specs.Polls as spec;
 
 use crate::Gist;
-use crate::calls::{trace_of, wants_account};
+use crate::calls::{shared_body, trace_of, wants_account};
 use crate::functions::{arn_text, env_function};
 use crate::words::{env_text, reason_word, request_text};
-use arn_ids::{Bytes, Checked, IdKind};
+use arn_ids::{Checked, IdKind};
+use bytes::Bytes;
 use call_model::Reason;
 use lambda_wire::{
     Reply, event_headers, next_headers, registered_headers, write_invoke_event, write_registered,
     write_shutdown_event,
 };
-use script::body_of;
 use std::alloc::{AllocError, Global};
 use uuid::Uuid;
 
@@ -37,7 +37,7 @@ pub(crate) fn delivery(
     Ok(Reply {
         status: 200,
         headers: next_headers(alloc, request, deadline, arn.as_str(), trace)?,
-        body: Bytes::new(Vec::from_slice(alloc, body_of(gist.source))?),
+        body: shared_body(gist.source)?,
     })
 }
 
@@ -64,7 +64,7 @@ pub(crate) fn invoke_event(
     Ok(Reply {
         status: 200,
         headers,
-        body: Bytes::new(write_invoke_event(alloc, deadline, arn.as_str(), request, trace)?),
+        body: Bytes::from_vec(write_invoke_event(alloc, deadline, arn.as_str(), request, trace)?)?,
     })
 }
 
@@ -85,7 +85,7 @@ pub(crate) fn shutdown_event(
     Ok(Reply {
         status: 200,
         headers: event_headers(alloc, event)?,
-        body: Bytes::new(write_shutdown_event(alloc, until, reason_word(reason))?),
+        body: Bytes::from_vec(write_shutdown_event(alloc, until, reason_word(reason))?)?,
     })
 }
 
@@ -111,6 +111,6 @@ pub(crate) fn registration(
     Ok(Reply {
         status: 200,
         headers: registered_headers(alloc, extension)?,
-        body: Bytes::new(write_registered(alloc, account, name, handler)?),
+        body: Bytes::from_vec(write_registered(alloc, account, name, handler)?)?,
     })
 }

@@ -9,7 +9,8 @@ ghost use Rattle.script.specs.Views.{fields_left};
 use crate::fields::{cut, four_fields, one_field, three_fields, two_fields};
 use crate::numbers::{number, number_u32};
 use crate::text_fields::{body, extension_name, trace};
-use arn_ids::{Bytes, Checked, EnvNo};
+use arn_ids::{Checked, EnvNo};
+use bytes::Bytes;
 use call_model::Call;
 use std::alloc::{AllocError, Global};
 

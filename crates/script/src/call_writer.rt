@@ -7,7 +7,8 @@ ghost use Rattle.script.specs.TextFields.{text_field};
 ghost use Rattle.script.specs.Writing.{Adds, spaced, word_text};
 
 use crate::words::{Word, push_word, push_words};
-use arn_ids::{Bytes, Checked, EnvNo, FnNo, Text};
+use arn_ids::{Checked, EnvNo, FnNo, Text};
+use bytes::Bytes;
 use call_model::Call;
 use std::alloc::AllocError;
 

@@ -4,7 +4,8 @@ ghost use Rattle.std.specs.Prelude.{◌≡◌, [], ◌∷◌, length, reverse, I
 ghost use Rattle.script.specs.CallCounts.{call_counts};
 
 use crate::read_call;
-use arn_ids::{Bytes, Checked, Config, Function, Home, Row, Slot, Text};
+use arn_ids::{Checked, Config, Function, Home, Row, Slot, Text};
+use bytes::Bytes;
 use call_model::{Answer, Answers, Call, Entry, Reason, Refusal, Throttle, Ticket};
 use std::alloc::{AllocError, Global};
 use std::process::Abort;
@@ -14,7 +15,7 @@ fn text(alloc: Global, text: &str) -> Result<Text, AllocError> {
 }
 
 pub(crate) fn bytes(alloc: Global, bytes: &[u8]) -> Result<Bytes, AllocError> {
-    Ok(Bytes::new(Vec::from_slice(alloc, bytes)?))
+    Bytes::copy_from_slice(alloc, bytes)
 }
 
 fn function(alloc: Global, name: &str, ports: &[u16]) -> Result<Function, AllocError> {
@@ -207,26 +208,33 @@ const ANSWERS: &[(Ticket, Answer)] = &[
     (18446744073709551615, Answer::Unreserved),
 ];
 
-fn every_answer_of(alloc: Global) -> Result<Vec<Entry>, AllocError>
+/// The entries in which they are given, with these texts and bytes.
+fn answered(
+    alloc: Global,
+    name: Text,
+    trace: Text,
+    payload: Bytes,
+    report: Bytes,
+) -> Result<Vec<Entry>, AllocError>
     ensures { IfOk result (λ v. call_counts (reverse v.items) ≡ 0 ∷ 1 ∷ 0 ∷ 0 ∷ []) }
 {
-    let invoke = Call::Invoke {
-        function: 2,
-        qualified: true,
-        trace: Some(text(alloc, "t %")?),
-        body: bytes(alloc, b"{ }~\x7f\xff")?,
-    };
     let register = Call::Register {
         env: 2,
-        name: text(alloc, "a b")?,
+        name,
         invoke: true,
         shutdown: true,
         account: false,
     };
+    let invoke = Call::Invoke {
+        function: 2,
+        qualified: true,
+        trace: Some(trace),
+        body: payload,
+    };
     let failure = Call::Failure {
         env: 3,
         id: 1,
-        body: bytes(alloc, b"%")?,
+        body: report,
     };
     let mut entries = Vec::new(alloc);
     entries.push(entry(alloc, 0, register, &[])?)?;
@@ -234,6 +242,15 @@ fn every_answer_of(alloc: Global) -> Result<Vec<Entry>, AllocError>
     entries.push(entry(alloc, 20, invoke, &[])?)?;
     entries.push(entry(alloc, 20, failure, ANSWERS)?)?;
     Ok(entries)
+}
+
+fn every_answer_of(alloc: Global) -> Result<Vec<Entry>, AllocError>
+    ensures { IfOk result (λ v. call_counts (reverse v.items) ≡ 0 ∷ 1 ∷ 0 ∷ 0 ∷ []) }
+{
+    let name = text(alloc, "a b")?;
+    let trace = text(alloc, "t %")?;
+    let payload = bytes(alloc, b"{ }~\x7f\xff")?;
+    answered(alloc, name, trace, payload, bytes(alloc, b"%")?)
 }
 
 /// The same, made again where memory was refused once.

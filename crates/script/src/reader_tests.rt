@@ -27,15 +27,15 @@ fn lines(rt: HostRuntime) {
         ("10 next 3", "(10, RuntimeNext { env: 3 })"),
         (
             "1 invoke f q =t%20%7E =%7e%0a%25",
-            r#"(1, Invoke { function: 1, qualified: true, trace: Some(Text { text: "t ~" }), body: Bytes { bytes: [126, 10, 37] } })"#,
+            r#"(1, Invoke { function: 1, qualified: true, trace: Some(Text { text: "t ~" }), body: b"~\n%" })"#,
         ),
         (
             "1 invoke g-2 - - =",
-            "(1, Invoke { function: 2, qualified: false, trace: None, body: Bytes { bytes: [] } })",
+            r#"(1, Invoke { function: 2, qualified: false, trace: None, body: b"" })"#,
         ),
         (
             "1 response 1 0 =a%b%-%1",
-            "(1, Response { env: 1, id: 0, body: Bytes { bytes: [97, 37, 98, 37, 45, 37, 49] } })",
+            r#"(1, Response { env: 1, id: 0, body: b"a%b%-%1" })"#,
         ),
         (
             "1 response-too-large 2 1",
@@ -43,11 +43,11 @@ fn lines(rt: HostRuntime) {
         ),
         (
             "1 failure 2 281474976710655 ==",
-            "(1, Failure { env: 2, id: 281474976710655, body: Bytes { bytes: [61] } })",
+            r#"(1, Failure { env: 2, id: 281474976710655, body: b"=" })"#,
         ),
         (
             "1 init-failure 1 =E",
-            "(1, InitFailure { env: 1, body: Bytes { bytes: [69] } })",
+            r#"(1, InitFailure { env: 1, body: b"E" })"#,
         ),
         (
             "1 register 1 =e1 i -",
@@ -68,11 +68,11 @@ fn lines(rt: HostRuntime) {
         ("1 ext-next 1 11", "(1, ExtNext { env: 1, ext: 11 })"),
         (
             "1 ext-init-failure 1 2 =E",
-            "(1, ExtInitFailure { env: 1, ext: 2, body: Bytes { bytes: [69] } })",
+            r#"(1, ExtInitFailure { env: 1, ext: 2, body: b"E" })"#,
         ),
         (
             "1 ext-exit-failure 1 3 =E",
-            "(1, ExtExitFailure { env: 1, ext: 3, body: Bytes { bytes: [69] } })",
+            r#"(1, ExtExitFailure { env: 1, ext: 3, body: b"E" })"#,
         ),
         ("1 spindown 1", "(1, Spindown { env: 1 })"),
         (

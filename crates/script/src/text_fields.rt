@@ -6,7 +6,8 @@ ghost use Rattle.arn_ids.specs.Words.{is_word, is_printable as is_printable_byte
 ghost use Rattle.script.specs.TextFields.{text_in, text_that, body_in, name_in, trace_in};
 ghost use Rattle.script.specs.TextFields as spec;
 
-use arn_ids::{Bytes, Text};
+use arn_ids::Text;
+use bytes::Bytes;
 use percent_encoding::percent_decode;
 use std::alloc::{AllocError, Global};
 
@@ -67,7 +68,7 @@ pub(crate) fn body(alloc: Global, field: &[u8]) -> Result<Option<Bytes>, AllocEr
     if bytes.len() > LONGEST_BODY {
         return Ok(None);
     }
-    Ok(Some(Bytes::new(bytes)))
+    Ok(Some(Bytes::from_vec(bytes)?))
 }
 
 /// The name of an extension.

@@ -9,7 +9,8 @@ ghost use Rattle.script.specs.TextFields.{is_body};
 
 use crate::Bell;
 use account_book::Book;
-use arn_ids::{Bytes, Checked, EnvNo, Text};
+use arn_ids::{Checked, EnvNo, Text};
+use bytes::Bytes;
 use call_model::{Call, Ticket};
 use lambda_wire::{WireFault, read_config};
 use std::alloc::Global;
@@ -61,10 +62,10 @@ fn bytes(rt: &impl Abort, alloc: Global, body: &str) -> Bytes
     ensures { is_body result ≡ true }
 {
     assert!(rt; body.len() < 100);
-    Bytes::new(match Vec::from_slice(alloc, body.as_bytes()) {
+    match Bytes::copy_from_slice(alloc, body.as_bytes()) {
         Ok(bytes) => bytes,
-        Err(_) => Vec::from_slice(alloc, body.as_bytes()).expect(rt, "memory was refused twice"),
-    })
+        Err(_) => Bytes::copy_from_slice(alloc, body.as_bytes()).expect(rt, "memory was refused twice"),
+    }
 }
 
 /// The name `a` or `b` of an extension; its allocation may be refused once.

@@ -7,7 +7,7 @@ ghost use Rattle.long_poll.specs.Decisions.{IsAllowed};
 
 use crate::{Clock, Decide, Decision, OneShotBell, Shown};
 use account_lock::{Account, Setup};
-use arn_ids::Bytes;
+use bytes::Bytes;
 use call_model::{Call, Ticket};
 use http::request::Parts;
 use lambda_wire::{Reply, fault_reply, json_headers};
@@ -25,14 +25,14 @@ pub(super) struct Rows<S: Setup> {
     ghost function: { IsFunction S.config 1 },
 }
 
-/// A copy of a body that a call may have.
-fn payload(alloc: Global, body: &[u8]) -> Result<Option<Bytes>, AllocError>
+/// A body that a call may have.
+fn payload(body: &Bytes) -> Result<Option<Bytes>, AllocError>
     ensures { IfOk result (λ payload. IfSome payload (λ bytes. is_body bytes ≡ true)) }
 {
     if body.len() > 6_291_456 {
         return Ok(None);
     }
-    Ok(Some(Bytes::new(Vec::from_slice(alloc, body)?)))
+    Ok(Some(body.clone()?))
 }
 
 fn too_large(alloc: Global) -> Result<Reply, AllocError> {
@@ -40,21 +40,21 @@ fn too_large(alloc: Global) -> Result<Reply, AllocError> {
 }
 
 /// Says how long the body is.
-fn length(alloc: Global, body: &[u8]) -> Result<Reply, AllocError> {
+fn length(alloc: Global, body: &Bytes) -> Result<Reply, AllocError> {
     let text = format!(in alloc; "{}", body.len())?;
     Ok(Reply {
         status: 200,
         headers: json_headers(alloc)?,
-        body: Bytes::new(text.into_bytes()),
+        body: Bytes::from_string(text)?,
     })
 }
 
 /// Gives the body back.
-fn echo(alloc: Global, body: &[u8]) -> Result<Reply, AllocError> {
+fn echo(alloc: Global, body: &Bytes) -> Result<Reply, AllocError> {
     Ok(Reply {
         status: 200,
         headers: json_headers(alloc)?,
-        body: Bytes::new(Vec::from_slice(alloc, body)?),
+        body: body.clone()?,
     })
 }
 
@@ -117,7 +117,7 @@ impl<S: Setup> Decide for Rows<S> {
 
     ghost decides_for = { λ _. S.config };
 
-    fn decide(&self, alloc: Global, parts: &Parts, body: &[u8]) -> Result<Decision, AllocError> {
+    fn decide(&self, alloc: Global, parts: &Parts, body: &Bytes) -> Result<Decision, AllocError> {
         let _of = &self.of;
         match parts.uri.path() {
             "/next" => Ok(Decision::Submit(Call::RuntimeNext { env: 1 })),

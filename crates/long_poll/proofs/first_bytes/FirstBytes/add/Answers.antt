@@ -4,5 +4,5 @@ use Rattle.long_poll.proofs.first_bytes.FirstBytes.add.Goals as goal
 
 pub returns : goal.returns
 returns c =
-    rw (taken_behind most_bytes c.args.self.now c.args.more c.as_slice.ensures.few)
-    (rw (c.truncate.ensures, c.as_slice.ensures.bytes) at c.push.ensures)
+    rw (taken_behind most_bytes c.args.self.now c.args.more c.len.ensures.few)
+    (rw (c.as_slice.ensures, c.truncate.ensures, c.len.ensures.value) at c.push.ensures)
