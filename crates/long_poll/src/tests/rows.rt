@@ -29,7 +29,7 @@ pub(super) struct Rows<S: Setup> {
 fn payload(body: &Bytes) -> Result<Option<Bytes>, AllocError>
     ensures { IfOk result (λ payload. IfSome payload (λ bytes. is_body bytes ≡ true)) }
 {
-    if body.len() > 6_291_456 {
+    if body.as_slice().len() > 6_291_456 {
         return Ok(None);
     }
     Ok(Some(body.clone()?))
@@ -82,11 +82,11 @@ impl<S: Setup> Rows<S> {
         account.submit(rt, tally, at, call, Some(bell)).ok()
     }
 
-    fn invoke(&self, alloc: Global, body: &[u8]) -> Result<Decision, AllocError>
+    fn invoke(&self, alloc: Global, body: &Bytes) -> Result<Decision, AllocError>
         ensures { IfOk result (IsAllowed S.config) }
     {
         let _of = &self.of;
-        let Some(body) = payload(alloc, body)? else {
+        let Some(body) = payload(body)? else {
             return Ok(Decision::Reply(too_large(alloc)?));
         };
         Ok(Decision::Submit(Call::Invoke {
@@ -97,11 +97,11 @@ impl<S: Setup> Rows<S> {
         }))
     }
 
-    fn response(&self, alloc: Global, body: &[u8]) -> Result<Decision, AllocError>
+    fn response(&self, alloc: Global, body: &Bytes) -> Result<Decision, AllocError>
         ensures { IfOk result (IsAllowed S.config) }
     {
         let _of = &self.of;
-        let Some(body) = payload(alloc, body)? else {
+        let Some(body) = payload(body)? else {
             return Ok(Decision::Reply(too_large(alloc)?));
         };
         Ok(Decision::Submit(Call::Response {
