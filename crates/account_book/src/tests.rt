@@ -66,7 +66,10 @@ fn bytes(rt: &impl Abort, alloc: Global, body: &str) -> Bytes
     assert!(rt; body.len() < 100);
     match Bytes::copy_from_slice(alloc, body.as_bytes()) {
         Ok(bytes) => bytes,
-        Err(_) => Bytes::copy_from_slice(alloc, body.as_bytes()).expect(rt, "memory was refused twice"),
+        Err(_) => Bytes::copy_from_slice(alloc, body.as_bytes()).expect(
+            rt,
+            "memory was refused twice",
+        ),
     }
 }
 

@@ -42,7 +42,12 @@ fn submitted(alloc: Global, body: &Bytes, call: Call) -> Result<Decision, AllocE
 }
 
 /// Invocation response.
-fn response(alloc: Global, env: EnvNo, body: &Bytes, id: Option<u64>) -> Result<Decision, AllocError>
+fn response(
+    alloc: Global,
+    env: EnvNo,
+    body: &Bytes,
+    id: Option<u64>,
+) -> Result<Decision, AllocError>
     ensures { IfOk result (λ d. d ≡ spec.response env body.now id) }
 {
     let Some(id) = id else {

@@ -131,7 +131,11 @@ fn service_stopped(alloc: Global, request: Option<&str>) -> Result<Reply, AllocE
     Ok(Reply {
         status: 500,
         headers: error_headers(alloc, request, "ServiceException")?,
-        body: Bytes::from_vec(write_invoke_fault(alloc, InvokeFault::Service, "Service is stopped")?)?,
+        body: Bytes::from_vec(write_invoke_fault(
+            alloc,
+            InvokeFault::Service,
+            "Service is stopped",
+        )?)?,
     })
 }
 

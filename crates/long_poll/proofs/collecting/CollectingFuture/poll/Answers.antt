@@ -1,4 +1,4 @@
-use Rattle.std.proofs.Common.{rules, Ok, Err}
+use Rattle.std.proofs.Common.{rules, Err}
 use Rattle.long_poll.specs.declared.fault.ExchangeFault.TheVariants.{BodyFailed}
 use Rattle.long_poll.proofs.Frames.{collects_within, collects_failure, collects_end, collects_taken, collects_full, collects_frame}
 use Rattle.long_poll.proofs.collecting.CollectingFuture.poll.Goals as goal
