@@ -46,8 +46,8 @@ pub trait Decide {
     /// The configuration that it decides for.
     ghost decides_for: { Self → Config };
 
-    /// What is done with a request of this head and body, whose bytes a call shares. The only error is want
-    /// of memory.
+    /// What is done with a request of this head and body, whose bytes a call shares. The only error is
+    /// want of memory.
     fn decide(&self, alloc: Global, parts: &Parts, body: &Bytes) -> Result<Decision, AllocError>
         ensures decision { IfOk result (λ decision. decides self.now parts.now body.now decision) }
         // A call is one that the account's book takes, and a function that is shown is there.
