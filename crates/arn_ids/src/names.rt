@@ -238,7 +238,9 @@ fn long_form<'a>(
     }
 }
 
-fn is_qualifier(text: &str) -> bool
+/// Whether a text is the qualifier of some function: `$LATEST`, or 1 to 128 of ASCII letters, digits,
+/// `-` and `_`, as a version or an alias is named, known or not (Lambda API, Invoke: Qualifier).
+pub fn is_qualifier(text: &str) -> bool
     ensures { result ≡ grammar.is_qualifier text.now }
 {
     text == LATEST || is_within(text, LONGEST_QUALIFIER) && has_name_bytes(text)

@@ -50,10 +50,18 @@ fn is_printable(b: u8) -> bool
     b' ' <= b && b <= b'~'
 }
 
-fn has_printable_bytes(text: &str) -> bool
-    ensures { result ≡ list_all words.is_printable text.now }
+fn has_printable_bytes(bytes: &[u8]) -> bool
+    ensures { result ≡ list_all words.is_printable bytes.now }
 {
-    text.as_bytes().iter().all(|b| is_printable(*b))
+    bytes.iter().all(|b| is_printable(*b))
+}
+
+/// Whether there are from 1 to `most` bytes, each of which is an ASCII character that prints, the
+/// space among them.
+pub fn is_printable_word(bytes: &[u8], most: usize) -> bool
+    ensures { result ≡ words.is_word words.is_printable most bytes.now }
+{
+    1 <= bytes.len() && bytes.len() <= most && has_printable_bytes(bytes)
 }
 
 /// Whether a text is the name of a function.
@@ -81,5 +89,5 @@ pub(crate) fn is_region(text: &str) -> bool
 pub(crate) fn is_label(text: &str) -> bool
     ensures { result ≡ words.is_label text.now }
 {
-    is_within(text, LONGEST_LABEL) && has_printable_bytes(text)
+    is_printable_word(text.as_bytes(), LONGEST_LABEL)
 }

@@ -9,7 +9,6 @@ ghost use Rattle.http_routes.specs.Routes.{account_rows, is_put};
 
 use crate::heads::{is_synchronous, trace};
 use crate::names::{Target, invoked, reserved};
-use crate::numbers::environment;
 use crate::path::path_part;
 use crate::refusals::{
     malformed_name, not_found, payload_too_large, unknown_function, unreadable_payload,
@@ -23,6 +22,7 @@ use http::request::Parts;
 use lambda_wire::{WireFault, read_invoke_body, read_reservation};
 use long_poll::{Decision, Shown};
 use matchit::Router;
+use script::read_environment;
 use std::alloc::{AllocError, Global};
 
 /// Invoke of a function, with the payload that the body is.
@@ -132,7 +132,7 @@ fn on_read_concurrency(
 fn environment_of(config: &Checked, parts: &Parts) -> Option<EnvNo>
     ensures { result ≡ spec.environment_of config.now parts.now }
 {
-    environment(config, path_part(parts.uri.path(), 3)?)
+    read_environment(config, path_part(parts.uri.path(), 3)?.as_bytes())
 }
 
 /// An environment is taken down; one that isn't there is no path.

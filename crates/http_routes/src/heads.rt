@@ -1,13 +1,12 @@
 //! The headers of a request. Of a header that stands more than once, the first counts.
 
 ghost use Rattle.std.specs.Prelude.{◌≡◌, ◌==◌, ◌∷◌, codes, bytes_eq, option_map, IfOk, position, reverse};
-ghost use Rattle.std.specs.List.{list_all};
 ghost use Rattle.http.specs.Token.{lowercase};
 ghost use Rattle.arn_ids.specs.Words.{is_word, is_printable as is_printable_byte};
 ghost use Rattle.http_routes.specs.Heads as spec;
 ghost use Rattle.http_routes.specs.Views.{parts_left};
 
-use arn_ids::Text;
+use arn_ids::{Text, is_printable_word};
 use http::request::Parts;
 use std::alloc::{AllocError, Global};
 
@@ -43,24 +42,11 @@ pub(crate) fn extension_identifier(parts: &Parts) -> Option<&str>
     header_text(parts, "lambda-extension-identifier")
 }
 
-fn is_printable(bytes: &[u8]) -> bool
-    ensures { result ≡ list_all is_printable_byte bytes.now }
-{
-    bytes.iter().all(|b| b' ' <= *b && *b <= b'~')
-}
-
-/// Whether there are from 1 to `most` bytes, all of which print.
-fn is_within(bytes: &[u8], most: usize) -> bool
-    ensures { result ≡ is_word is_printable_byte most bytes.now }
-{
-    1 <= bytes.len() && bytes.len() <= most && is_printable(bytes)
-}
-
 /// A copy of a text of 1 to `most` characters that print.
 fn printable_text(alloc: Global, bytes: &[u8], most: usize) -> Result<Option<Text>, AllocError>
     ensures { IfOk result (λ text. text ≡ spec.that (is_word is_printable_byte most) bytes.now) }
 {
-    if !is_within(bytes, most) {
+    if !is_printable_word(bytes, most) {
         return Ok(None);
     }
     match String::from_utf8(Vec::from_slice(alloc, bytes)?) {

@@ -8,7 +8,6 @@ mod heads;
 mod identifiers;
 pub mod laws;
 mod names;
-mod numbers;
 mod path;
 mod refusals;
 mod routes;

@@ -1,23 +1,19 @@
 //! The function that a request to the Lambda API is about.
 
-ghost use Rattle.std.specs.Prelude.{◌≡◌, ◌&&◌, ◌==◌, nat_le, length, option_map, count_by, IfOk};
-ghost use Rattle.std.specs.List.{list_all};
+ghost use Rattle.std.specs.Prelude.{◌≡◌, ◌==◌, option_map, count_by, IfOk};
 ghost use Rattle.std.specs.Cow.{cow_str_bytes};
-ghost use Rattle.arn_ids.specs.Words.{is_word, is_name_byte as is_byte_of_name};
 ghost use Rattle.arn_ids.specs.Grammar as grammar;
 ghost use Rattle.http_routes.specs.Names as spec;
 ghost use Rattle.http_routes.specs.Paths as paths;
 ghost use Rattle.http_routes.specs.Views.{text_of};
 
 use crate::path::{name_of, qualifier_of};
-use arn_ids::{Checked, FnNo, FunctionName, NameFault, Named};
+use arn_ids::{Checked, FnNo, FunctionName, NameFault, Named, is_qualifier};
 use http::request::Parts;
 use std::alloc::{AllocError, Global};
 
 /// The one version that each function has.
 const LATEST: &str = "$LATEST";
-
-const LONGEST_QUALIFIER: usize = 128;
 
 /// What a request says of its function.
 #[derive(Clone, Copy, Debug, PartialEq, Eq)]
@@ -33,25 +29,6 @@ pub enum Target {
         /// Whether `$LATEST` was named.
         qualified: bool,
     },
-}
-
-fn is_name_byte(b: u8) -> bool
-    ensures { result ≡ is_byte_of_name b }
-{
-    b.is_ascii_digit() || b.is_ascii_lowercase() || b.is_ascii_uppercase() || b == b'-' || b == b'_'
-}
-
-fn has_name_bytes(text: &str) -> bool
-    ensures { result ≡ list_all is_byte_of_name text.now }
-{
-    text.as_bytes().iter().all(|b| is_name_byte(*b))
-}
-
-/// Whether a text is a version or an alias, known or not.
-fn is_qualifier(text: &str) -> bool
-    ensures { result ≡ grammar.is_qualifier text.now }
-{
-    text == LATEST || 1 <= text.len() && text.len() <= LONGEST_QUALIFIER && has_name_bytes(text)
 }
 
 /// Whether a qualifier is left out, or of its form.

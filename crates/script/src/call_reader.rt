@@ -7,7 +7,7 @@ ghost use Rattle.script.specs.Limits.{IsTimed};
 ghost use Rattle.script.specs.Views.{fields_left};
 
 use crate::fields::{cut, four_fields, one_field, three_fields, two_fields};
-use crate::numbers::{number, number_u32};
+use crate::numbers::{number, number_u32, read_environment};
 use crate::text_fields::{body, extension_name, trace};
 use arn_ids::{Checked, EnvNo};
 use bytes::Bytes;
@@ -17,14 +17,6 @@ use std::alloc::{AllocError, Global};
 const GREATEST_MOMENT: u64 = (1 << 53) - 1;
 
 const GREATEST_COUNT: u64 = (1 << 48) - 1;
-
-/// An environment of the configuration.
-fn env_number(config: &Checked, field: &[u8]) -> Option<EnvNo>
-    ensures { result ≡ spec.env_in config.now field.now }
-{
-    let env = number_u32(field, config.environments())?;
-    if env == 0 { None } else { Some(env) }
-}
 
 /// The count in an identifier.
 fn count_number(field: &[u8]) -> Option<u64>
@@ -117,7 +109,7 @@ fn invoke(alloc: Global, config: &Checked, line: Option<&[u8]>) -> Result<Option
 fn lone_env(config: &Checked, line: Option<&[u8]>) -> Option<EnvNo>
     ensures { result ≡ spec.lone_env_in config.now (fields_left line.entry) }
 {
-    env_number(config, one_field(line)?)
+    read_environment(config, one_field(line)?)
 }
 
 /// The environment and the count that a line names.
@@ -126,7 +118,7 @@ fn env_and_count(config: &Checked, line: Option<&[u8]>) -> Option<(EnvNo, u64)>
     ensures { result ≡ spec.env_and_count_in config.now (fields_left line.entry) }
 {
     let (env, count) = two_fields(line)?;
-    let env = env_number(config, env)?;
+    let env = read_environment(config, env)?;
     let count = count_number(count)?;
     Some((env, count))
 }
@@ -143,7 +135,7 @@ fn report(
     let Some((env, count, body_field)) = three_fields(line) else {
         return Ok(None);
     };
-    let Some(env) = env_number(config, env) else {
+    let Some(env) = read_environment(config, env) else {
         return Ok(None);
     };
     let Some(count) = count_number(count) else {
@@ -166,7 +158,7 @@ fn init_failure(
     let Some((env, body_field)) = two_fields(line) else {
         return Ok(None);
     };
-    let Some(env) = env_number(config, env) else {
+    let Some(env) = read_environment(config, env) else {
         return Ok(None);
     };
     let Some(body) = body(alloc, body_field)? else {
@@ -186,7 +178,7 @@ fn register(
     let Some((env, name_field, events_field, account)) = four_fields(line) else {
         return Ok(None);
     };
-    let Some(env) = env_number(config, env) else {
+    let Some(env) = read_environment(config, env) else {
         return Ok(None);
     };
     let Some(name) = extension_name(alloc, name_field)? else {

@@ -15,6 +15,7 @@ mod words;
 pub use answer_writer::{push_answers, push_entry};
 pub use call_reader::read_call;
 pub use calls::{body_of, env_of, invoked};
+pub use numbers::read_environment;
 pub use past::Past;
 
 #[cfg(test)]

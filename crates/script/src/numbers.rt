@@ -1,7 +1,10 @@
 //! Decimal numbers.
 
 ghost use Rattle.std.specs.Prelude.{◌≡◌, ◌≤◌, IfSome};
+ghost use Rattle.script.specs.Lines.{env_in};
 ghost use Rattle.script.specs.Numbers.{number_in, digits_in};
+
+use arn_ids::{Checked, EnvNo};
 
 /// A decimal number of at most `most`, without leading zeros.
 pub(crate) fn number(text: &[u8], most: u64) -> Option<u64>
@@ -41,4 +44,13 @@ fn digits(text: &[u8], most: u64) -> Option<u64>
         rest = others;
     }
     Some(number)
+}
+
+/// The environment of a configuration whose number stands here: decimal, from 1 to the number of its
+/// environments, without leading zeros.
+pub fn read_environment(config: &Checked, text: &[u8]) -> Option<EnvNo>
+    ensures { result ≡ env_in config.now text.now }
+{
+    let env = number_u32(text, config.environments())?;
+    if env == 0 { None } else { Some(env) }
 }

@@ -1,12 +1,11 @@
 //! Text fields: an equals sign, and bytes of which some are percent-encoded.
 
-ghost use Rattle.std.specs.Prelude.{◌≡◌, ◌&&◌, nat_le, length, option_map, IfOk};
-ghost use Rattle.std.specs.List.{list_all};
+ghost use Rattle.std.specs.Prelude.{◌≡◌, nat_le, length, option_map, IfOk};
 ghost use Rattle.arn_ids.specs.Words.{is_word, is_printable as is_printable_byte};
 ghost use Rattle.script.specs.TextFields.{text_in, text_that, body_in, name_in, trace_in};
 ghost use Rattle.script.specs.TextFields as spec;
 
-use arn_ids::Text;
+use arn_ids::{Text, is_printable_word};
 use bytes::Bytes;
 use percent_encoding::percent_decode;
 use std::alloc::{AllocError, Global};
@@ -29,19 +28,6 @@ fn decoded(alloc: Global, field: &[u8]) -> Result<Option<Vec<u8>>, AllocError>
     Ok(Some(bytes))
 }
 
-fn is_printable(bytes: &[u8]) -> bool
-    ensures { result ≡ list_all is_printable_byte bytes.now }
-{
-    bytes.iter().all(|b| b' ' <= *b && *b <= b'~')
-}
-
-/// Whether there are from 1 to `most` bytes, all of which print.
-fn is_within(bytes: &[u8], most: usize) -> bool
-    ensures { result ≡ is_word is_printable_byte most bytes.now }
-{
-    1 <= bytes.len() && bytes.len() <= most && is_printable(bytes)
-}
-
 /// A text of 1 to `most` characters that print.
 fn printable_text(alloc: Global, field: &[u8], most: usize) -> Result<Option<Text>, AllocError>
     ensures { IfOk result (λ text. text ≡ text_that (is_word is_printable_byte most) field.now) }
@@ -49,7 +35,7 @@ fn printable_text(alloc: Global, field: &[u8], most: usize) -> Result<Option<Tex
     let Some(bytes) = decoded(alloc, field)? else {
         return Ok(None);
     };
-    if !is_within(bytes.as_slice(), most) {
+    if !is_printable_word(bytes.as_slice(), most) {
         return Ok(None);
     }
     match String::from_utf8(bytes) {
