@@ -19,3 +19,10 @@ IsFaultOf config (Config fault) = first_fault config ≡ Some fault
 IsFaultOf config Network = ⊥
 IsFaultOf config StillShared = ⊥
 IsFaultOf config OutOfMemory = first_fault config ≡ None
+
+-- A fault of the machine: a port that can't be listened on, or memory that was refused.
+abbrev pub IsOfMachine : HostFault → Type 0
+IsOfMachine (Config fault) = ⊥
+IsOfMachine Network = Unit {0}
+IsOfMachine StillShared = ⊥
+IsOfMachine OutOfMemory = Unit {0}

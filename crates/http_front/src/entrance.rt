@@ -1,8 +1,9 @@
 //! The ports that a host listens on.
 
-ghost use Rattle.std.specs.Prelude.{◌≡◌, ◌++◌, IfOk, OnOk};
+ghost use Rattle.std.specs.Prelude.{◌≡◌, ◌++◌, IfOk, IfErr, OnOk};
 ghost use Rattle.std.specs.Arc.{arc_value};
 ghost use Rattle.http_routes.specs.Decisions.{IsPortOf};
+ghost use Rattle.http_front.specs.Hosts.{IsOfMachine};
 ghost use Rattle.http_front.specs.Ports.{ports_of, environment_ports};
 
 use crate::door::Door;
@@ -67,6 +68,7 @@ impl<S: Setup> Entrance<S> {
     ) -> Result<(), HostFault>
         requires configured { arc_value config.now ≡ S.config }
         requires port { IsPortOf S.config port }
+        ensures { IfErr result IsOfMachine }
     {
         let door = Door::new(port, Arc::try_clone(config)?, salt);
         let address = SocketAddr::new(IpAddr::V4(Ipv4Addr::new(127, 0, 0, 1)), number);
@@ -94,6 +96,7 @@ impl<S: Setup> Entrance<S> {
         salt: u64,
     ) -> Result<Entrance<S>, HostFault>
         requires { arc_value config.now ≡ S.config }
+        ensures { IfErr result IsOfMachine }
     {
         let mut entrance = Entrance {
             poll: Poll::new(net).map_err(at_socket)?,

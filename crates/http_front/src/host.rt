@@ -1,6 +1,9 @@
 //! The server: its ports, and the threads of its connections.
 
-ghost use Rattle.std.specs.Prelude.{◌≡◌, ◌^◌};
+ghost use Rattle.std.specs.Prelude.{◌≡◌, ◌+◌, ◌^◌, ◌≤◌, ◌↔◌, length, IsErrOf};
+ghost use Rattle.arn_ids.specs.Environments.{owners};
+ghost use Rattle.arn_ids.specs.declared.faults.ConfigFault.TheVariants.{BadEntries};
+ghost use Rattle.http_front.specs.declared.host_fault.HostFault.TheVariants.{Config};
 
 use crate::entrance::Entrance;
 use crate::machine::Machine;
@@ -58,8 +61,9 @@ impl<
     /// further one is closed.
     ///
     /// # Errors
-    /// `Config(BadEntries)` where the plan's entries are out of range, `Network` where a port can't
-    /// be listened on, else `OutOfMemory`. No port is then listened on.
+    /// `Config(BadEntries)` exactly where the plan's entries are not from the environments and one
+    /// to 2^32, `Network` where a port can't be listened on, else `OutOfMemory`. No port is then
+    /// listened on.
     pub fn open(
         rt: R,
         plan: Plan,
@@ -75,6 +79,7 @@ impl<
         requires admitted { (admitted.name ≡ A.name) × (admitted.parts ≡ A.parts) × (A.parts ≡ 2 ^ 32) }
         requires throttled { (throttled.name ≡ T.name) × (throttled.parts ≡ T.parts) × (T.parts ≡ 2 ^ 32) }
         requires failed { (failed.name ≡ F.name) × (failed.parts ≡ F.parts) × (F.parts ≡ 2 ^ 32) }
+        ensures range { IsErrOf result (Config BadEntries) ↔ ((length (owners plan.config) + 1 ≤ plan.max_entries) × (plan.max_entries ≤ 2 ^ 32) → ⊥) }
     {
         let alloc = rt.alloc();
         let Plan {

@@ -1,5 +1,7 @@
 //! Why a host didn't open, or didn't come to its end.
 
+ghost use Rattle.http_front.specs.Hosts.{IsOfMachine};
+
 use account_book::OpenFault;
 use arn_ids::ConfigFault;
 use std::alloc::AllocError;
@@ -49,7 +51,9 @@ impl From<OpenFault> for HostFault {
 }
 
 /// What went wrong at a socket.
-pub(crate) fn at_socket(fault: io::Error) -> HostFault {
+pub(crate) fn at_socket(fault: io::Error) -> HostFault
+    ensures { IsOfMachine result }
+{
     match fault.kind() {
         io::ErrorKind::OutOfMemory => HostFault::OutOfMemory,
         _ => HostFault::Network,

@@ -1,1 +1,3 @@
 pub mod Status
+pub mod Ending
+pub mod Faults

@@ -1,6 +1,7 @@
 //! Serving a configuration over HTTP.
 
-ghost use Rattle.std.specs.Prelude.{◌≡◌, ◌^◌};
+ghost use Rattle.std.specs.Prelude.{◌≡◌, ◌^◌, IfOk};
+ghost use Rattle.lambda_local.specs.Ending.{AreCounts};
 
 use crate::clock::UnixClock;
 use crate::serve_fault::ServeFault;
@@ -35,8 +36,9 @@ where
     Ok(Plan::check(rt.alloc(), setup)?)
 }
 
-/// Serves a plan until it is stopped, settles, and gives the account's counts. `S` names the
-/// configuration, and the others the account's ledgers.
+/// Serves a plan until it is stopped, settles, and gives the account's counts: those of a legal
+/// history of the plan's configuration. `S` names the configuration, and the others the account's
+/// ledgers.
 fn serve_plan<
     R: Machine + Log,
     S: Setup + Drop + Send + Sync + 'static,
@@ -57,6 +59,7 @@ fn serve_plan<
     requires admitted { (admitted.name ≡ A.name) × (admitted.parts ≡ A.parts) × (A.parts ≡ 2 ^ 32) }
     requires throttled { (throttled.name ≡ T.name) × (throttled.parts ≡ T.parts) × (T.parts ≡ 2 ^ 32) }
     requires failed { (failed.name ≡ F.name) × (failed.parts ≡ F.parts) × (F.parts ≡ 2 ^ 32) }
+    ensures { IfOk result (AreCounts plan.config) }
 {
     let clock = UnixClock::new(rt);
     let host: Host<R, S, UnixClock<R>, KeepNone, C, A, T, F> = Host::open(
@@ -73,12 +76,15 @@ fn serve_plan<
     let served = host.run();
     info!(rt; "stopped");
     let Hosted { account, tallies } = served?;
-    let Settled { stats, .. } = account.settle(tallies)?;
+    let Settled { book, stats } = account.settle(tallies)?;
+    book.facts();
     Ok(stats)
 }
 
 /// Names the configuration and the ledgers.
-fn serve_by_brand<R: Machine + Log>(rt: R, plan: Plan) -> Result<Stats, ServeFault> {
+fn serve_by_brand<R: Machine + Log>(rt: R, plan: Plan) -> Result<Stats, ServeFault>
+    ensures { IfOk result (AreCounts plan.config) }
+{
     serve_plan::<R, Brand, Brand, Brand, Brand, Brand>(
         rt,
         plan,

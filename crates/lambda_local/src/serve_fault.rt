@@ -69,6 +69,11 @@ impl ServeFault {
 }
 
 impl From<WireFault> for ServeFault {
+    ghost use Rattle.std.specs.Prelude.{◌≡◌};
+    ghost use Rattle.lambda_local.specs.Faults.{of_wire};
+
+    ghost from_gives = { λ fault made. made ≡ of_wire fault };
+
     fn from(fault: WireFault) -> ServeFault {
         match fault {
             WireFault::OutOfMemory => ServeFault::OutOfMemory,
@@ -78,6 +83,11 @@ impl From<WireFault> for ServeFault {
 }
 
 impl From<HostFault> for ServeFault {
+    ghost use Rattle.std.specs.Prelude.{◌≡◌};
+    ghost use Rattle.lambda_local.specs.Faults.{of_host};
+
+    ghost from_gives = { λ fault made. made ≡ of_host fault };
+
     fn from(fault: HostFault) -> ServeFault {
         match fault {
             HostFault::Config(fault) => ServeFault::Config(fault),
@@ -90,6 +100,11 @@ impl From<HostFault> for ServeFault {
 }
 
 impl From<SettleFault> for ServeFault {
+    ghost use Rattle.std.specs.Prelude.{◌≡◌};
+    ghost use Rattle.lambda_local.specs.Faults.{of_settling};
+
+    ghost from_gives = { λ fault made. made ≡ of_settling fault };
+
     fn from(fault: SettleFault) -> ServeFault {
         match fault {
             SettleFault::OutOfMemory => ServeFault::OutOfMemory,

@@ -1,0 +1,26 @@
+-- What a service says of the faults of its parts.
+use Rattle.lambda_wire.specs.declared.fault.WireFault.{WireFault}
+use Rattle.lambda_wire.specs.declared.fault.WireFault.TheVariants as wire
+use Rattle.account_lock.specs.declared.fault.SettleFault.{SettleFault}
+use Rattle.account_lock.specs.declared.fault.SettleFault.TheVariants as settling
+use Rattle.http_front.specs.declared.host_fault.HostFault.{HostFault}
+use Rattle.http_front.specs.declared.host_fault.HostFault.TheVariants as host
+use Rattle.lambda_local.specs.declared.serve_fault.ServeFault.{ServeFault}
+use Rattle.lambda_local.specs.declared.serve_fault.ServeFault.TheVariants.{Config, Wire, Settlement, Network, OutOfMemory}
+
+-- of a configuration that is not read
+abbrev pub of_wire : WireFault → ServeFault
+of_wire wire.OutOfMemory = OutOfMemory
+of_wire fault = Wire fault
+
+-- of a host that does not open, or does not come to its end: what a thread that never ended holds is missing from the account
+abbrev pub of_host : HostFault → ServeFault
+of_host (host.Config fault) = Config fault
+of_host host.Network = Network
+of_host host.StillShared = Settlement settling.TallyMissing
+of_host host.OutOfMemory = OutOfMemory
+
+-- of an account that does not settle
+abbrev pub of_settling : SettleFault → ServeFault
+of_settling settling.OutOfMemory = OutOfMemory
+of_settling fault = Settlement fault
