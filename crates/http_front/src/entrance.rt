@@ -1,10 +1,10 @@
 //! The ports that a host listens on.
 
-ghost use Rattle.std.specs.Prelude.{◌≡◌, ◌++◌, IfOk, IfErr, OnOk};
+ghost use Rattle.std.specs.Prelude.{◌≡◌, ◌++◌, ◌∷◌, [], map, IfOk, IfErr, OnOk};
 ghost use Rattle.std.specs.Arc.{arc_value};
 ghost use Rattle.http_routes.specs.Decisions.{IsPortOf};
 ghost use Rattle.http_front.specs.Hosts.{IsOfMachine};
-ghost use Rattle.http_front.specs.Ports.{ports_of, environment_ports};
+ghost use Rattle.http_front.specs.Ports.{ports_of, environment_ports, doors_of};
 
 use crate::door::Door;
 use crate::host_fault::at_socket;
@@ -68,7 +68,8 @@ impl<S: Setup> Entrance<S> {
     ) -> Result<(), HostFault>
         requires configured { arc_value config.now ≡ S.config }
         requires port { IsPortOf S.config port }
-        ensures { IfErr result IsOfMachine }
+        ensures doors { OnOk result (map (λ gate. gate.door) self.new.gates.items ≡ map (λ gate. gate.door) self.old.gates.items ++ (record { config = arc_value config.now; salt = salt; port = port } ∷ [])) }
+        ensures fault { IfErr result IsOfMachine }
     {
         let door = Door::new(port, Arc::try_clone(config)?, salt);
         let address = SocketAddr::new(IpAddr::V4(Ipv4Addr::new(127, 0, 0, 1)), number);
@@ -84,7 +85,8 @@ impl<S: Setup> Entrance<S> {
         Ok(())
     }
 
-    /// Listens at every port of a configuration on 127.0.0.1.
+    /// Listens at every port of a configuration on 127.0.0.1: the account's first, and then one of
+    /// each environment, in the order of their numbers.
     ///
     /// # Errors
     /// `Network` where a port can't be listened on, else `OutOfMemory`. No port is then listened on.
@@ -96,7 +98,8 @@ impl<S: Setup> Entrance<S> {
         salt: u64,
     ) -> Result<Entrance<S>, HostFault>
         requires { arc_value config.now ≡ S.config }
-        ensures { IfErr result IsOfMachine }
+        ensures doors { IfOk result (λ entrance. map (λ gate. gate.door) entrance.gates.items ≡ doors_of (arc_value config.now) salt) }
+        ensures fault { IfErr result IsOfMachine }
     {
         let mut entrance = Entrance {
             poll: Poll::new(net).map_err(at_socket)?,
