@@ -2,3 +2,4 @@ pub mod HistoryFrames
 pub mod Responses
 pub mod Hosts
 pub mod Ports
+pub mod Places

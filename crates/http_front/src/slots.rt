@@ -1,8 +1,12 @@
 //! Places for the connections that are open, as many as the limit at most.
 
+ghost use Rattle.std.specs.Prelude.{◌≡◌, ◌+◌, ◌<◌, nat_lt, IfOk, IfErr};
+ghost use Rattle.http_front.specs.Places.{Places};
+
 use crate::HostFault;
 use futures::channel::oneshot::Sender;
 use std::alloc::{AllocError, Global};
+use std::marker::Model;
 use std::sync::{Arc, Mutex, Wait};
 use std::thread::{JoinHandle, Threads};
 
@@ -25,7 +29,8 @@ struct Slot<Y> {
 /// The places whose threads have said their last.
 pub(crate) type Ended = Mutex<Vec<usize>>;
 
-/// The places. Those that nobody has are `free`; room for each stands ready there and in `ended`.
+/// The places: by their type never more than there may be, so no more connections are open at once.
+/// Those that nobody has are `free`; room for each stands ready there and in `ended`.
 #[derive(Drop)]
 pub(crate) struct Slots<Y> {
     alloc: Global,
@@ -35,9 +40,22 @@ pub(crate) struct Slots<Y> {
     ended: Arc<Ended>,
 }
 
+impl<Y> Model for Slots<Y> {
+    ghost use Rattle.std.specs.Prelude.{◌≤◌, length};
+    ghost use Rattle.http_front.specs.Places.{Places};
+
+    ghost Value = { Places };
+
+    ghost view = { λ s. record { most = s.most; made = length s.slots.items } };
+
+    ghost invariant = { λ s. length s.slots.items ≤ s.most };
+}
+
 impl<Y: Drop> Slots<Y> {
     /// No places yet, of which there may be `most`. The only error is want of memory.
-    pub(crate) fn new(alloc: Global, most: u32) -> Result<Slots<Y>, AllocError> {
+    pub(crate) fn new(alloc: Global, most: u32) -> Result<Slots<Y>, AllocError>
+        ensures { IfOk result (λ slots. slots ≡ record { most = most; made = 0 }) }
+    {
         Ok(Slots {
             alloc,
             most: most as usize,
@@ -48,12 +66,16 @@ impl<Y: Drop> Slots<Y> {
     }
 
     /// Takes a place that is free.
-    pub(crate) fn take(&mut self) -> Option<usize> {
+    pub(crate) fn take(&mut self) -> Option<usize>
+        ensures { self.new ≡ self.old }
+    {
         self.free.pop()
     }
 
     /// Whether there may be another place.
-    pub(crate) fn has_room(&self) -> bool {
+    pub(crate) fn has_room(&self) -> bool
+        ensures { result ≡ nat_lt self.now.made self.now.most }
+    {
         self.slots.len() < self.most
     }
 
@@ -61,7 +83,11 @@ impl<Y: Drop> Slots<Y> {
     ///
     /// # Errors
     /// Where memory is refused the tally comes back, and there is no other place.
-    pub(crate) fn add(&mut self, rt: &impl Wait, tally: Y) -> Result<usize, Y> {
+    pub(crate) fn add(&mut self, rt: &impl Wait, tally: Y) -> Result<usize, Y>
+        requires { self.old.made < self.old.most }
+        ensures added { IfOk result (λ at. (at ≡ self.old.made) × (self.new ≡ record self.old { made = self.old.made + 1 })) }
+        ensures refused { IfErr result (λ _. self.new ≡ self.old) }
+    {
         let at = self.slots.len();
         let room = self.slots.len().saturating_add(1);
         if self.slots.reserve(1).is_err()
@@ -91,19 +117,25 @@ impl<Y: Drop> Slots<Y> {
     }
 
     /// Gives a place that was taken to a thread.
-    pub(crate) fn fill(&mut self, at: usize, running: Running) {
+    pub(crate) fn fill(&mut self, at: usize, running: Running)
+        ensures { self.new ≡ self.old }
+    {
         if let Some(slot) = self.slots.get_mut(at) {
             slot.running = Some(running);
         }
     }
 
     /// Gives a place back.
-    pub(crate) fn give_back(&mut self, at: usize) {
+    pub(crate) fn give_back(&mut self, at: usize)
+        ensures { self.new ≡ self.old }
+    {
         let _ = self.free.push(at);
     }
 
     /// Joins a thread that has said its last.
-    fn join(&mut self, rt: &impl Threads, at: usize) {
+    fn join(&mut self, rt: &impl Threads, at: usize)
+        ensures { self.new ≡ self.old }
+    {
         if let Some(slot) = self.slots.get_mut(at)
             && let Some(running) = slot.running.take()
         {
@@ -114,7 +146,9 @@ impl<Y: Drop> Slots<Y> {
     }
 
     /// Joins the threads that have said their last.
-    pub(crate) fn reap<R: Wait + Threads>(&mut self, rt: &R) {
+    pub(crate) fn reap<R: Wait + Threads>(&mut self, rt: &R)
+        ensures { self.new ≡ self.old }
+    {
         for _ in 0..self.slots.len() {
             let Some(at) = self.ended.lock(rt).pop() else {
                 return;
@@ -129,7 +163,9 @@ impl<Y: Drop> Slots<Y> {
     }
 
     /// Tells each connection to end: after its exchange, or at once.
-    pub(crate) fn tell(&mut self, at_once: bool) {
+    pub(crate) fn tell(&mut self, at_once: bool)
+        ensures { self.new ≡ self.old }
+    {
         for slot in self.slots.iter_mut() {
             let Some(running) = &mut slot.running else {
                 continue;
