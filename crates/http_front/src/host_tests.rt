@@ -20,6 +20,13 @@ const RESPONSE: &str =
 const ASKS_NEXT: &str =
     "GET /2018-06-01/runtime/invocation/next HTTP/1.1\r\nHost: h\r\nConnection: close\r\n\r\n";
 
+const REGISTERS: &str =
+    "POST /2020-01-01/extension/register HTTP/1.1\r\nHost: h\r\nLambda-Extension-Name: x\r\nConnection: close\r\nContent-Length: 2\r\n\r\n{}";
+
+/// A request of the first extension of environment 1 for its next event.
+const ASKS_EVENT: &str =
+    "GET /2020-01-01/extension/event/next HTTP/1.1\r\nHost: h\r\nLambda-Extension-Identifier: 00000000-0000-8000-a001-000000000001\r\n\r\n";
+
 /// The status of a reply.
 fn has_status(reply: &str, status: &str) -> bool {
     reply
@@ -223,6 +230,33 @@ fn a_runtime_that_closes_while_parked(rt: HostRuntime) -> Result<(), Fail> {
             receipts: 7
         }
     );
+    Ok(())
+}
+
+#[test]
+fn an_extension_that_closes_while_parked(rt: HostRuntime) -> Result<(), Fail> {
+    let config =
+        r#"{"account":"123456789012","region":"us-east-2","invokePort":21050,"functions":[{"name":"f","ports":[21051]}]}"#;
+    let alloc = rt.alloc();
+    let at = Arc::new(alloc, AtomicU64::new(0))?;
+    let host = Server::start(rt, config, 16, at)?;
+    let mut registering = Client::send(&rt, 21051, REGISTERS)?;
+    let registered = registering.rest(alloc)?;
+    assert!(rt;
+        registered.contains(
+            "lambda-extension-identifier: 00000000-0000-8000-a001-000000000001\r\n"
+        ),
+        "{registered}"
+    );
+    let gone = Client::send(&rt, 21051, ASKS_EVENT)?;
+    assert!(rt; comes_to(&rt, 21050, 2)?);
+    drop(gone);
+    // The Withdraw is the third entry.
+    assert!(rt; comes_to(&rt, 21050, 3)?);
+    let stopped = ask(&rt, 21050, "POST", "/_local/stop", "")?;
+    assert!(rt; has_status(stopped.as_str(), "202"), "{stopped}");
+    let left = host.join(&rt)?;
+    assert_eq!(rt; left.parts, ALL_PARTS);
     Ok(())
 }
 
