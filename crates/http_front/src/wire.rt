@@ -19,7 +19,6 @@ const MOST_AHEAD: usize = 65_536;
 struct Socket {
     stream: TcpStream,
     ahead: BytesMut,
-    has_ended: bool,
 }
 
 /// One of the two holders of a connection's socket: the connection itself, and who watches for the
@@ -35,7 +34,6 @@ impl Wire {
         let socket = Socket {
             stream,
             ahead: BytesMut::new(alloc),
-            has_ended: false,
         };
         let socket = Rc::new(alloc, RefCell::new(socket))?;
         let other = socket.clone()?;
@@ -51,18 +49,12 @@ impl Wire {
             return Poll::Pending;
         };
         let socket = &mut *guard;
-        if socket.has_ended {
-            return Poll::Ready(());
-        }
         if socket.ahead.len() >= MOST_AHEAD {
             return Poll::Pending;
         }
         match poll_read_buf(&mut socket.stream, cx, &mut socket.ahead) {
             Poll::Ready(Ok(count)) if count > 0 => cx.yield_now(),
-            Poll::Ready(_) => {
-                socket.has_ended = true;
-                Poll::Ready(())
-            }
+            Poll::Ready(_) => Poll::Ready(()),
             Poll::Pending => Poll::Pending,
         }
     }
@@ -87,9 +79,6 @@ impl AsyncRead for Wire {
             buf[..count].copy_from_slice(&socket.ahead.as_slice()[..count]);
             socket.ahead.advance(count);
             return Poll::Ready(Ok(count));
-        }
-        if socket.has_ended {
-            return Poll::Ready(Ok(0));
         }
         socket.stream.poll_read(cx, buf)
     }
