@@ -128,7 +128,7 @@ impl<S: Setup, B: Bell, C: Ledger, A: Ledger, T: Ledger, F: Ledger> Account<S, B
         }
     }
 
-    /// One step of the desk under the lock; then its bells are rung, with the lock free. The tally
+    /// One step of the desk under the lock; then its bells ring, with the lock free. The tally
     /// counts the call, and notes its head at the ticket that is given back.
     ///
     /// # Errors

@@ -5,7 +5,7 @@ ghost use Rattle.account_lock.specs.Bells.{of_ticket, other_bells, own_bell};
 
 use call_model::Ticket;
 
-/// What is rung once a ticket is answered, so that whoever waits for it looks again. A bell rings
+/// What rings once a ticket is answered, so that whoever waits for it looks again. A bell rings
 /// at most once.
 pub trait Bell: Drop {
     /// Rings it.
@@ -23,7 +23,7 @@ pub(crate) fn store<B>(bells: &mut Vec<(Ticket, B)>, ticket: Ticket, bell: Optio
     }
 }
 
-/// Moves the bells of a ticket to those that are to be rung.
+/// Moves the bells of a ticket to those that are to ring.
 pub(crate) fn take_bells<B>(bells: &mut Vec<(Ticket, B)>, ticket: Ticket, rings: &mut Vec<B>)
     requires { vec_len rings.old + vec_len bells.old ≤ vec_capacity rings.old }
     ensures rings { rings.new.items ≡ rings.old.items ++ of_ticket ticket bells.old.items }

@@ -79,7 +79,7 @@ impl<Y: Drop> Slots<Y> {
         self.slots.len() < self.most
     }
 
-    /// Makes another place, with this tally, and takes it.
+    /// Makes another place, with this tally, and takes it. There is room for one more.
     ///
     /// # Errors
     /// Where memory is refused the tally comes back, and there is no other place.

@@ -4,7 +4,7 @@ use Rattle.futures.specs.Channel.{completed_source, canceled_source}
 use Rattle.long_poll.specs.declared.bell.OneShotBell.{OneShotBell}
 use Rattle.long_poll.specs.declared.bell.Heard.{Heard}
 
--- the source of wakes that fires once the bell is rung or dropped
+-- the source of wakes that fires once the bell rings or is dropped
 abbrev pub rings_at : OneShotBell → ℕ
 rings_at bell = canceled_source bell.sender
 
@@ -12,7 +12,7 @@ rings_at bell = canceled_source bell.sender
 abbrev pub hears_at : Heard → ℕ
 hears_at heard = completed_source heard.receiver
 
--- A bell was rung or lost. No contract can tell when that is: the fact comes of a poll of what hears the bell, and its
+-- A bell rang or was lost. No contract can tell when that is: the fact comes of a poll of what hears the bell, and its
 -- definition is opened in that poll's proof alone.
 unfoldable pub WasHeard : Heard → Type 0
 WasHeard heard = Unit {0}

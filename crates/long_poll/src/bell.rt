@@ -15,7 +15,7 @@ pub struct OneShotBell {
     sender: Sender<()>,
 }
 
-/// Ready once its bell was rung or dropped.
+/// Ready once its bell rang or was dropped.
 #[derive(Drop)]
 pub struct Heard {
     receiver: Receiver<()>,

@@ -12,7 +12,7 @@ pub enum ExchangeFault {
     /// Memory was refused. The call may have been submitted.
     #[error("out of memory")]
     OutOfMemory,
-    /// The call's bell was rung or lost, and its ticket still had no reply.
+    /// The call's bell rang or was lost, and its ticket still had no reply.
     #[error("the bell was lost")]
     BellLost,
 }

@@ -15,7 +15,7 @@ use std::sync::ledger::Ledger;
 use std::sync::{Arc, Wait};
 use usage_ledger::{Keep, Tally};
 
-/// The bell was rung or lost, and the ticket still waited.
+/// The bell rang or was lost, and the ticket still waited.
 #[derive(Clone, Copy, Debug, PartialEq, Eq)]
 pub struct BellLost;
 

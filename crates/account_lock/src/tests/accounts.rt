@@ -52,7 +52,7 @@ pub(super) fn shared(rt: &impl Abort, alloc: Global) -> Arc<AtomicU64, Global> {
     }
 }
 
-/// What is noted once these bells have rung.
+/// What is noted once these bells rang.
 fn all_noted(rings: &[u64]) -> u64 {
     let mut rung = 0;
     for number in rings {

@@ -148,7 +148,7 @@ pub(super) struct Noting {
     pub(super) rung: Arc<AtomicU64, Global>,
 }
 
-/// What is noted once another bell has rung.
+/// What is noted once another bell rang.
 pub(super) fn noted(rung: u64, number: u64) -> u64 {
     rung.wrapping_mul(100).wrapping_add(number).wrapping_add(1)
 }
