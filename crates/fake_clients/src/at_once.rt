@@ -3,7 +3,6 @@
 ghost use Rattle.std.specs.Prelude.{◌≡◌, length, IfOk};
 ghost use Rattle.fake_clients.specs.Reports.{callers};
 
-use crate::outcome::Outcome;
 use crate::progress::Progress;
 use crate::registration::register_all;
 use crate::report::{caller_count, report_on};
@@ -11,28 +10,13 @@ use crate::stage::Stage;
 use crate::{Client, Gate, Report, ScenarioFault, Watch};
 use arn_ids::Config;
 use lambda_wire::Setup;
-use std::alloc::{AllocError, AllocGlobal, Global};
+use std::alloc::{AllocError, AllocGlobal};
 use std::net::{Net, TcpListener, TcpStream};
 use std::random::RandomSource;
 use std::sync::{Arc, Wait};
 use std::thread;
 use std::thread::Threads;
 use std::time::Clock;
-
-/// What became of each of the clients, where nothing went wrong.
-fn all_outcomes(
-    alloc: Global,
-    outcomes: Vec<Option<Outcome>>,
-) -> Result<Option<Vec<Outcome>>, AllocError> {
-    let mut all = Vec::with_capacity(alloc, outcomes.len())?;
-    for outcome in outcomes {
-        match outcome {
-            Some(outcome) => all.push(outcome)?,
-            None => return Ok(None),
-        }
-    }
-    Ok(Some(all))
-}
 
 /// Runs all clients at once, each on a thread of its own, and beside them the scenario's own requests.
 /// What went wrong first is the fault.
@@ -55,10 +39,7 @@ where
     if let Some(fault) = stage.progress.fault(stage.rt) {
         return Err(fault);
     }
-    match all_outcomes(alloc, outcomes)? {
-        Some(outcomes) => report_on(alloc, stage.clients, outcomes),
-        None => Err(ScenarioFault::OutOfMemory),
-    }
+    report_on(alloc, stage.clients, outcomes)
 }
 
 /// The scenario under a watch that runs.

@@ -1,11 +1,17 @@
 //! The requests of one client.
 
-ghost use Rattle.std.specs.Prelude.{◌≡◌};
+ghost use Rattle.std.specs.Prelude.{◌≡◌, ◌==◌, if◌then◌else◌, length, map, Some, None, IfOk};
+ghost use Rattle.http.specs.Request.{builder_result, head_of, body_of};
+ghost use Rattle.http.specs.Steps.{StepsTo};
+ghost use Rattle.http.specs.Uri.{Spells};
+ghost use Rattle.fake_clients.specs.Wording as spec;
+ghost use Rattle.fake_clients.specs.Wording.{host, fields_of};
 
 use crate::exchange::{connect, exchange};
 use crate::{RequestFault, Watch};
 use bytes::Bytes;
 use futures::channel::oneshot::Receiver;
+use http::request::Builder;
 use http::{Method, Request, Response, header};
 use http_body_util::Full;
 use std::alloc::{AllocGlobal, Global};
@@ -32,15 +38,34 @@ pub(crate) struct Wording<'a> {
     pub(crate) body: &'a [u8],
 }
 
-/// The request that is worded so.
-fn request(alloc: Global, wording: Wording<'_>) -> Result<Request<Full<Bytes>>, RequestFault> {
-    let method = Method::from_bytes(alloc, wording.method.as_bytes()).map_err(http::Error::from)?;
-    let mut builder = Request::builder(alloc)
+/// A request of this method and path, of which only the host is said.
+fn started(alloc: Global, method: Method, path: &str) -> Builder
+    ensures { IfOk (builder_result result) (λ head. (head.method ≡ method) × Spells path.now head.uri × (head.headers ≡ host)) }
+{
+    Request::builder(alloc)
         .method(method)
-        .uri(wording.path)
-        .header(header::HOST, "127.0.0.1");
+        .uri(path)
+        .header(header::HOST, "127.0.0.1")
+}
+
+/// The request with one more field.
+fn with_field(builder: Builder, name: &str, value: &str) -> Builder
+    ensures { StepsTo (builder_result builder) (builder_result result) (λ old new. new ≡ record old { headers = spec.with_field old.headers (name.now, value.now) }) }
+{
+    builder.header(name, value)
+}
+
+/// The request that is worded so.
+fn request(alloc: Global, wording: Wording<'_>) -> Result<Request<Full<Bytes>>, RequestFault>
+    ensures method { IfOk result (λ made. (head_of made).method ≡ wording.entry.method.now) }
+    ensures uri { IfOk result (λ made. Spells wording.entry.path.now (head_of made).uri) }
+    ensures headers { IfOk result (λ made. (head_of made).headers ≡ fields_of (map (λ field. (field.0.now, field.1.now)) wording.entry.headers.now)) }
+    ensures body { IfOk result (λ made. (body_of made).buf ≡ (if length wording.entry.body.now == 0 then None else Some wording.entry.body.now)) }
+{
+    let method = Method::from_bytes(alloc, wording.method.as_bytes()).map_err(http::Error::from)?;
+    let mut builder = started(alloc, method, wording.path);
     for (name, value) in wording.headers {
-        builder = builder.header(*name, *value);
+        builder = with_field(builder, name, value);
     }
     let body = Bytes::copy_from_slice(alloc, wording.body)?;
     Ok(builder.body(Full::new(body))?)

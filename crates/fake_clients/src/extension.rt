@@ -25,7 +25,7 @@ pub struct Extension {
 }
 
 /// The body of a registration for these events (Extensions API, Register).
-fn events_body(invoke: bool, shutdown: bool) -> &'static [u8] {
+pub(crate) fn events_body(invoke: bool, shutdown: bool) -> &'static [u8] {
     match (invoke, shutdown) {
         (true, true) => br#"{"events":["INVOKE","SHUTDOWN"]}"#,
         (true, false) => br#"{"events":["INVOKE"]}"#,

@@ -25,12 +25,23 @@ pub enum RequestFault {
 }
 
 impl From<AllocError> for RequestFault {
+    ghost use Rattle.std.specs.Prelude.{◌≡◌};
+    ghost use Rattle.fake_clients.specs.declared.fault.RequestFault.TheVariants.{OutOfMemory};
+
+    ghost from_gives = { λ _ made. made ≡ OutOfMemory };
+
     fn from(_: AllocError) -> RequestFault {
         RequestFault::OutOfMemory
     }
 }
 
 impl From<io::Error> for RequestFault {
+    ghost use Rattle.std.specs.Prelude.{◌≡◌};
+    ghost use Rattle.std.specs.IoError.{error_kind};
+    ghost use Rattle.fake_clients.specs.Faults.{of_system};
+
+    ghost from_gives = { λ e made. made ≡ of_system (error_kind e) };
+
     fn from(e: io::Error) -> RequestFault {
         if e.kind() == io::ErrorKind::OutOfMemory {
             return RequestFault::OutOfMemory;
@@ -40,6 +51,11 @@ impl From<io::Error> for RequestFault {
 }
 
 impl From<http::Error> for RequestFault {
+    ghost use Rattle.std.specs.Prelude.{◌≡◌};
+    ghost use Rattle.fake_clients.specs.Faults.{of_making};
+
+    ghost from_gives = { λ e made. made ≡ of_making e };
+
     fn from(e: http::Error) -> RequestFault {
         match e {
             http::Error::OutOfMemory => RequestFault::OutOfMemory,
@@ -49,6 +65,12 @@ impl From<http::Error> for RequestFault {
 }
 
 impl From<hyper::Error> for RequestFault {
+    ghost use Rattle.std.specs.Prelude.{◌≡◌};
+    ghost use Rattle.hyper.specs.Error.{kind_of};
+    ghost use Rattle.fake_clients.specs.Faults.{of_exchange};
+
+    ghost from_gives = { λ e made. made ≡ of_exchange (kind_of e) };
+
     fn from(e: hyper::Error) -> RequestFault {
         if e.is_out_of_memory() {
             return RequestFault::OutOfMemory;
@@ -92,12 +114,22 @@ pub enum ScenarioFault {
 }
 
 impl<T: Drop> From<AllocFailed<T>> for ScenarioFault {
+    ghost use Rattle.std.specs.Prelude.{◌≡◌};
+    ghost use Rattle.fake_clients.specs.declared.fault.ScenarioFault.TheVariants.{OutOfMemory};
+
+    ghost from_gives = { λ _ made. made ≡ OutOfMemory };
+
     fn from(_: AllocFailed<T>) -> ScenarioFault {
         ScenarioFault::OutOfMemory
     }
 }
 
 impl From<AllocError> for ScenarioFault {
+    ghost use Rattle.std.specs.Prelude.{◌≡◌};
+    ghost use Rattle.fake_clients.specs.declared.fault.ScenarioFault.TheVariants.{OutOfMemory};
+
+    ghost from_gives = { λ _ made. made ≡ OutOfMemory };
+
     fn from(_: AllocError) -> ScenarioFault {
         ScenarioFault::OutOfMemory
     }

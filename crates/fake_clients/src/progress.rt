@@ -1,5 +1,7 @@
 //! How far the clients of a scenario have come.
 
+ghost use Rattle.std.specs.Prelude.{◌≡◌, ◌↔◌, ◌-◌, ◌<◌, Some, None, IsTrue, unwrap_or};
+
 use crate::ScenarioFault;
 use std::sync::{Condvar, Mutex, Wait};
 
@@ -12,8 +14,26 @@ struct Steps {
 
 impl Steps {
     /// Whether callers are still waited for.
-    fn is_under_way(&self) -> bool {
+    fn is_under_way(&self) -> bool
+        ensures { IsTrue result ↔ ((0 < self.now.unanswered) × (self.now.fault ≡ None)) }
+    {
         self.unanswered > 0 && self.fault.is_none()
+    }
+
+    /// A caller was answered.
+    fn answered(&mut self)
+        ensures { self.new ≡ record self.old { unanswered = self.old.unanswered - 1 } }
+    {
+        self.unanswered = self.unanswered.saturating_sub(1);
+    }
+
+    /// Something went wrong. The first fault is kept.
+    fn fail(&mut self, fault: ScenarioFault)
+        ensures { self.new ≡ record self.old { fault = Some (unwrap_or self.old.fault fault) } }
+    {
+        if self.fault.is_none() {
+            self.fault = Some(fault);
+        }
     }
 }
 
@@ -38,19 +58,13 @@ impl Progress {
 
     /// A caller was answered.
     pub(crate) fn answered<R: Wait>(&self, rt: &R) {
-        let mut steps = self.steps.lock(rt);
-        steps.unanswered = steps.unanswered.saturating_sub(1);
-        drop(steps);
+        self.steps.lock(rt).answered();
         self.changed.notify_all();
     }
 
     /// Something went wrong. The first fault is kept.
     pub(crate) fn fail<R: Wait>(&self, rt: &R, fault: ScenarioFault) {
-        let mut steps = self.steps.lock(rt);
-        if steps.fault.is_none() {
-            steps.fault = Some(fault);
-        }
-        drop(steps);
+        self.steps.lock(rt).fail(fault);
         self.changed.notify_all();
     }
 

@@ -1,5 +1,8 @@
 //! The registrations of a scenario's extensions.
 
+ghost use Rattle.std.specs.Prelude.{◌≡◌, length, IfOk, IfErr};
+ghost use Rattle.fake_clients.specs.Faults.{Blames};
+
 use crate::ports::environment_port;
 use crate::steps::{fault_of, header_text};
 use crate::{Client, Connector, Extension, ScenarioFault, Watch};
@@ -17,7 +20,9 @@ fn register<R: Wait + Net + Clock + RandomSource + AllocGlobal>(
     watch: &Watch,
     client: usize,
     extension: &Extension,
-) -> Result<String, ScenarioFault> {
+) -> Result<String, ScenarioFault>
+    ensures { IfErr result (Blames client) }
+{
     let Some(port) = environment_port(config, extension.env) else {
         return Err(ScenarioFault::Failed { client });
     };
@@ -41,7 +46,9 @@ pub(crate) fn register_all<R: Wait + Net + Clock + RandomSource + AllocGlobal>(
     config: &Config,
     watch: &Watch,
     clients: &[Client],
-) -> Result<Vec<String>, ScenarioFault> {
+) -> Result<Vec<String>, ScenarioFault>
+    ensures { IfOk result (λ identifiers. length identifiers.items ≡ length clients.now) }
+{
     let alloc = rt.alloc();
     let mut identifiers = Vec::with_capacity(alloc, clients.len())?;
     for (place, client) in clients.iter().enumerate() {

@@ -1,7 +1,7 @@
 //! What a scenario reports.
 
-ghost use Rattle.std.specs.Prelude.{◌≡◌, ◌++◌, [], length, OnOk, IfOk};
-ghost use Rattle.fake_clients.specs.Reports.{callers, status_of, body_of, statuses_of, bodies_of};
+ghost use Rattle.std.specs.Prelude.{◌≡◌, ◌++◌, [], length, Some, None, OnOk, IfOk, All, IsOk};
+ghost use Rattle.fake_clients.specs.Reports.{callers, status_of, body_of, counts_after, statuses_of, bodies_of, counts_of};
 
 use crate::outcome::Outcome;
 use crate::{Client, ScenarioFault};
@@ -47,7 +47,7 @@ struct Gathered {
 
 impl Gathered {
     fn new(alloc: Global) -> Gathered
-        ensures { (result.statuses.items ≡ []) × (result.bodies.items ≡ []) }
+        ensures { (result.statuses.items ≡ []) × (result.bodies.items ≡ []) × (result.stats ≡ None) }
     {
         Gathered {
             statuses: Vec::new(alloc),
@@ -60,6 +60,7 @@ impl Gathered {
     fn add(&mut self, outcome: Outcome) -> Result<(), AllocError>
         ensures statuses { OnOk result (self.new.statuses.items ≡ self.old.statuses.items ++ status_of outcome) }
         ensures bodies { OnOk result (self.new.bodies.items ≡ self.old.bodies.items ++ body_of outcome) }
+        ensures stats { OnOk result (self.new.stats ≡ counts_after self.old.stats outcome) }
     {
         match outcome {
             Outcome::Answered { status, body } => {
@@ -74,19 +75,22 @@ impl Gathered {
 }
 
 /// The report on these outcomes, of the clients in the order of their list and then of the
-/// scenario's own requests. Where a caller or the counts are missing, that is `Failed`.
+/// scenario's own requests. A fault among them is given as it is; where a caller or the counts are
+/// missing, that is `Failed`.
 pub(crate) fn report_on(
     alloc: Global,
     clients: &[Client],
-    outcomes: Vec<Outcome>,
+    outcomes: Vec<Result<Outcome, ScenarioFault>>,
 ) -> Result<Report, ScenarioFault>
     ensures statuses { IfOk result (λ report. report.statuses ≡ statuses_of outcomes.items) }
     ensures bodies { IfOk result (λ report. report.bodies ≡ bodies_of outcomes.items) }
+    ensures stats { IfOk result (λ report. counts_of outcomes.items ≡ Some report.stats) }
+    ensures well { IfOk result (λ report. All IsOk outcomes.items) }
     ensures complete { IfOk result (λ report. (length report.statuses ≡ callers clients.now) × (length report.bodies ≡ callers clients.now)) }
 {
     let mut gathered = Gathered::new(alloc);
     for outcome in outcomes {
-        gathered.add(outcome)?;
+        gathered.add(outcome?)?;
     }
     let Gathered {
         statuses,

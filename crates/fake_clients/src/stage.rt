@@ -1,5 +1,11 @@
 //! What the clients of a scenario do, each on a thread of its own.
 
+ghost use Rattle.std.specs.Prelude.{◌≡◌, true, slice_get, Some, IfOk, IfErr, MatchResult};
+ghost use Rattle.fake_clients.specs.Faults.{Blames};
+ghost use Rattle.fake_clients.specs.Outcomes.{is_answer, is_count, is_end, IsOutcomeOf};
+ghost use Rattle.fake_clients.specs.Ports.{port_of};
+ghost use Rattle.fake_clients.specs.declared.fault.ScenarioFault.TheVariants.{Failed, GateClosed};
+
 use crate::labels::{caller_label, payload_label};
 use crate::outcome::Outcome;
 use crate::ports::environment_port;
@@ -34,16 +40,23 @@ where
     R: Wait + Net + Clock + RandomSource + AllocGlobal,
     G: Gate,
 {
-    fn connector(&self, client: usize) -> Connector<'_, R> {
+    fn connector(&self, client: usize) -> Connector<'_, R>
+        ensures { result.client ≡ client }
+    {
         Connector::new(self.rt, self.watch, client)
     }
 
-    fn port(&self, client: usize, env: EnvNo) -> Result<u16, ScenarioFault> {
+    fn port(&self, client: usize, env: EnvNo) -> Result<u16, ScenarioFault>
+        ensures port { IfOk result (λ port. port_of self.now.config.now env ≡ Some port) }
+        ensures blames { IfErr result (λ fault. fault ≡ Failed client) }
+    {
         environment_port(self.config, env).ok_or(ScenarioFault::Failed { client })
     }
 
     /// Passes the gate.
-    fn pass(&self, label: u32) -> Result<(), ScenarioFault> {
+    fn pass(&self, label: u32) -> Result<(), ScenarioFault>
+        ensures { IfErr result (λ fault. fault ≡ GateClosed label) }
+    {
         if self.gate.pass(label) {
             return Ok(());
         }
@@ -52,18 +65,20 @@ where
 
     /// What becomes of the client at a place, and past the last one of the scenario's own requests.
     /// Where something goes wrong, every request that waits is ended.
-    pub(crate) fn play(&self, place: usize) -> Option<Outcome> {
-        match self.perform(place) {
-            Ok(outcome) => Some(outcome),
-            Err(fault) => {
-                self.progress.fail(self.rt, fault);
-                self.watch.close(self.rt);
-                None
-            }
+    pub(crate) fn play(&self, place: usize) -> Result<Outcome, ScenarioFault>
+        ensures { MatchResult result (IsOutcomeOf (slice_get self.now.clients.now place)) (Blames place) }
+    {
+        let outcome = self.perform(place);
+        if let Err(fault) = &outcome {
+            self.progress.fail(self.rt, *fault);
+            self.watch.close(self.rt);
         }
+        outcome
     }
 
-    fn perform(&self, place: usize) -> Result<Outcome, ScenarioFault> {
+    fn perform(&self, place: usize) -> Result<Outcome, ScenarioFault>
+        ensures { MatchResult result (IsOutcomeOf (slice_get self.now.clients.now place)) (Blames place) }
+    {
         match self.clients.get(place) {
             Some(Client::Caller(caller)) => self.call(place, caller),
             Some(Client::Runtime(runtime)) => self.serve(place, *runtime),
@@ -73,7 +88,9 @@ where
     }
 
     /// A caller invokes, and passes the gate once it was answered.
-    fn call(&self, client: usize, caller: &Caller) -> Result<Outcome, ScenarioFault> {
+    fn call(&self, client: usize, caller: &Caller) -> Result<Outcome, ScenarioFault>
+        ensures { MatchResult result (λ outcome. is_answer outcome ≡ true) (Blames client) }
+    {
         let answered = caller.invoke(&self.connector(client), self.config.invoke_port);
         let response = answered.map_err(|fault| fault_of(client, fault))?;
         self.pass(caller_label(client))?;
@@ -85,7 +102,9 @@ where
     }
 
     /// A runtime takes invocations until it is ended.
-    fn serve(&self, client: usize, runtime: Runtime) -> Result<Outcome, ScenarioFault> {
+    fn serve(&self, client: usize, runtime: Runtime) -> Result<Outcome, ScenarioFault>
+        ensures { MatchResult result (λ outcome. is_end outcome ≡ true) (Blames client) }
+    {
         let port = self.port(client, runtime.env)?;
         for _ in self.rt.forever() {
             if !self.serve_one(client, runtime, port)? {
@@ -97,7 +116,9 @@ where
 
     /// A runtime takes an invocation, and answers it with its payload once it has passed the gate. False
     /// where it is ended.
-    fn serve_one(&self, client: usize, runtime: Runtime, port: u16) -> Result<bool, ScenarioFault> {
+    fn serve_one(&self, client: usize, runtime: Runtime, port: u16) -> Result<bool, ScenarioFault>
+        ensures { IfErr result (Blames client) }
+    {
         let connector = self.connector(client);
         let Some(next) = continued(client, runtime.next(&connector, port))? else {
             return Ok(false);
@@ -112,7 +133,9 @@ where
     }
 
     /// An extension takes events until it is ended.
-    fn listen(&self, client: usize, extension: &Extension) -> Result<Outcome, ScenarioFault> {
+    fn listen(&self, client: usize, extension: &Extension) -> Result<Outcome, ScenarioFault>
+        ensures { MatchResult result (λ outcome. is_end outcome ≡ true) (Blames client) }
+    {
         let port = self.port(client, extension.env)?;
         let Some(identifier) = self.identifiers.get(client) else {
             return Err(ScenarioFault::Failed { client });
@@ -128,7 +151,9 @@ where
     }
 
     /// After every caller was answered, the service is asked for its counts, and stopped.
-    fn conclude(&self, client: usize) -> Result<Outcome, ScenarioFault> {
+    fn conclude(&self, client: usize) -> Result<Outcome, ScenarioFault>
+        ensures { MatchResult result (λ outcome. is_count outcome ≡ true) (Blames client) }
+    {
         self.progress.wait_for_callers(self.rt);
         let connector = self.connector(client);
         let port = self.config.invoke_port;

@@ -1,7 +1,11 @@
 //! How a client takes what it is answered.
 
-ghost use Rattle.std.specs.Prelude.{◌≡◌, ◌==◌, ◌||◌};
+ghost use Rattle.std.specs.Prelude.{◌≡◌, ◌↔◌, Some, IsSome, IfSome, IsSomeAnd};
+ghost use Rattle.http.specs.Response.{head_of};
+ghost use Rattle.http.specs.FieldValue.{IsVisibleAscii};
+ghost use Rattle.http.specs.Token.{lowercase};
 ghost use Rattle.fake_clients.specs.Faults.{fault_at};
+ghost use Rattle.fake_clients.specs.Steps.{goes_on, continued_with, header};
 
 use crate::{RequestFault, ScenarioFault};
 use bytes::Bytes;
@@ -9,7 +13,7 @@ use http::Response;
 
 /// Whether a client goes on after this status: 200 and 202.
 pub(crate) fn is_success(status: u16) -> bool
-    ensures { result ≡ (status == 200 || status == 202) }
+    ensures { result ≡ goes_on status }
 {
     status == 200 || status == 202
 }
@@ -32,7 +36,9 @@ pub(crate) fn fault_of(client: usize, fault: RequestFault) -> ScenarioFault
 pub(crate) fn continued(
     client: usize,
     answered: Result<Response<Bytes>, RequestFault>,
-) -> Result<Option<Response<Bytes>>, ScenarioFault> {
+) -> Result<Option<Response<Bytes>>, ScenarioFault>
+    ensures { result ≡ continued_with (λ response. (head_of response).status) client answered }
+{
     match answered {
         Ok(response) if is_success(response.status().as_u16()) => Ok(Some(response)),
         Ok(_) => Ok(None),
@@ -41,7 +47,10 @@ pub(crate) fn continued(
     }
 }
 
-/// The text of a header of a response.
-pub(crate) fn header_text<'r>(response: &'r Response<Bytes>, name: &str) -> Option<&'r str> {
+/// The text of the first header of a name, where it is visible.
+pub(crate) fn header_text<'r>(response: &'r Response<Bytes>, name: &str) -> Option<&'r str>
+    ensures text { IfSome result (λ text. header (lowercase name.now) (head_of response.now) ≡ Some text.now) }
+    ensures visible { IsSome result ↔ IsSomeAnd (header (lowercase name.now) (head_of response.now)) IsVisibleAscii }
+{
     response.headers().get(name)?.to_str().ok()
 }

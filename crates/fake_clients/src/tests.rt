@@ -1,5 +1,6 @@
 //! Requests, gates and readers, each alone, on ports from 21300 on.
 
+use crate::extension::events_body;
 use crate::fixtures::{answer_once, listen};
 use crate::labels::{caller_label, payload_label};
 use crate::{
@@ -9,7 +10,7 @@ use crate::{
 use bytes::Bytes;
 use call_model::Stats;
 use http::Response;
-use lambda_wire::{WireFault, read_config};
+use lambda_wire::{Events, WireFault, read_config, read_register};
 use std::alloc::{AllocError, AllocGlobal, Global};
 use std::net::Net;
 use std::process::Abort;
@@ -183,6 +184,18 @@ fn requests_in_words(rt: HostRuntime) -> Result<(), Fail> {
         assert_eq!(&rt; seen(answered), Ok((200, 2)), "{line}");
     }
     Ok(())
+}
+
+/// An extension's registration asks for the events that it says, as its reader has it.
+#[test]
+fn events_in_words(rt: HostRuntime) {
+    for (invoke, shutdown) in [(false, false), (false, true), (true, false), (true, true)] {
+        let read = read_register(rt.alloc(), events_body(invoke, shutdown));
+        assert!(&rt;
+            read == Ok(Events { invoke, shutdown }) || read == Err(WireFault::OutOfMemory),
+            "{read:?}"
+        );
+    }
 }
 
 /// What peers say that say no whole response.

@@ -1,6 +1,7 @@
 //! A future that is given up where its time is over.
 
-ghost use Rattle.std.specs.Prelude.{◌≡◌, Some};
+ghost use Rattle.std.specs.Prelude.{◌≡◌, ◌⊎◌, Some, IfSome, IsSomeAnd};
+ghost use Rattle.futures.specs.Channel.{completed_source};
 
 use futures::Future;
 use futures::channel::oneshot::Receiver;
@@ -16,7 +17,7 @@ pub(crate) struct Timed<F> {
 impl<F> Timed<F> {
     /// A future that is given up once this is heard.
     pub(crate) fn new(future: F, over: Receiver<()>) -> Timed<F>
-        ensures { result.future ≡ future }
+        ensures { (result.future ≡ future) × (result.over ≡ Some over) }
     {
         Timed {
             future,
@@ -30,6 +31,10 @@ impl<F: Future> Future for Timed<F> {
     type Output = Option<(F::Output, Receiver<()>)>;
 
     ghost can_poll = { λ timed. F.can_poll timed.future };
+
+    ghost needs = { λ timed source. F.needs timed.future source ⊎ IsSomeAnd timed.over (λ over. source ≡ completed_source over) };
+
+    ghost gives = { λ timed given. IfSome given (λ pair. F.gives timed.future pair.0) };
 
     fn poll(&mut self, cx: &mut Context<'_>) -> Poll<Option<(F::Output, Receiver<()>)>> {
         let Some(mut over) = self.over.take() else {

@@ -1,5 +1,8 @@
 //! The time that requests may take.
 
+ghost use Rattle.std.specs.Prelude.{◌≡◌, true, false, if◌then◌else◌, map, replicate, slice_set, Some, None, IfOk};
+ghost use Rattle.fake_clients.specs.Times.{after_turn, ended};
+
 use futures::channel::oneshot;
 use futures::channel::oneshot::{Receiver, Sender};
 use std::alloc::{AllocError, Global};
@@ -28,8 +31,26 @@ struct Waits {
 }
 
 impl Waits {
+    /// No request waits yet, of any of so many clients.
+    fn new(alloc: Global, clients: usize) -> Result<Waits, AllocError>
+        ensures closed { IfOk result (λ waits. waits.is_closed ≡ false) }
+        ensures places { IfOk result (λ waits. waits.places.items ≡ replicate clients None) }
+    {
+        let mut places = Vec::with_capacity(alloc, clients)?;
+        for _ in 0..clients {
+            places.push(None)?;
+        }
+        Ok(Waits {
+            is_closed: false,
+            places,
+        })
+    }
+
     /// The time of a request begins; after the close it is over at once.
-    fn begin(&mut self, place: usize, over: Sender<()>) {
+    fn begin(&mut self, place: usize, over: Sender<()>)
+        ensures closed { self.new.is_closed ≡ self.old.is_closed }
+        ensures places { self.new.places.items ≡ if self.old.is_closed then self.old.places.items else slice_set self.old.places.items place (Some (record { turns = 1000; over = over })) }
+    {
         if self.is_closed {
             let _ = over.send(());
             return;
@@ -43,21 +64,30 @@ impl Waits {
     }
 
     /// A request has its answer.
-    fn finish(&mut self, place: usize) {
+    fn finish(&mut self, place: usize)
+        ensures closed { self.new.is_closed ≡ self.old.is_closed }
+        ensures places { self.new.places.items ≡ slice_set self.old.places.items place None }
+    {
         if let Some(waiting) = self.places.get_mut(place) {
             *waiting = None;
         }
     }
 
     /// A turn has passed: each request has one left less, and where it had none its time is over.
-    fn turn(&mut self) {
+    fn turn(&mut self)
+        ensures closed { self.new.is_closed ≡ self.old.is_closed }
+        ensures places { self.new.places.items ≡ map after_turn self.old.places.items }
+    {
         for place in self.places.iter_mut() {
             turn_of(place);
         }
     }
 
     /// The time of each request is over, now and from now on.
-    fn close(&mut self) {
+    fn close(&mut self)
+        ensures closed { self.new.is_closed ≡ true }
+        ensures places { self.new.places.items ≡ map ended self.old.places.items }
+    {
         self.is_closed = true;
         for place in self.places.iter_mut() {
             end(place);
@@ -66,14 +96,18 @@ impl Waits {
 }
 
 /// The request at a place is told that its time is over.
-fn end(place: &mut Option<Waiting>) {
+fn end(place: &mut Option<Waiting>)
+    ensures { place.new ≡ ended place.old }
+{
     if let Some(Waiting { over, .. }) = place.take() {
         let _ = over.send(());
     }
 }
 
 /// A turn passes for the request at a place.
-fn turn_of(place: &mut Option<Waiting>) {
+fn turn_of(place: &mut Option<Waiting>)
+    ensures { place.new ≡ after_turn place.old }
+{
     match place {
         Some(waiting) if waiting.turns > 0 => waiting.turns -= 1,
         _ => end(place),
@@ -93,15 +127,8 @@ impl Watch {
     /// # Errors
     /// Only where memory is refused.
     pub fn open(alloc: Global, clients: usize) -> Result<Watch, AllocError> {
-        let mut places = Vec::with_capacity(alloc, clients)?;
-        for _ in 0..clients {
-            places.push(None)?;
-        }
         Ok(Watch {
-            waits: Mutex::new(Waits {
-                is_closed: false,
-                places,
-            }),
+            waits: Mutex::new(Waits::new(alloc, clients)?),
         })
     }
 
