@@ -6,6 +6,7 @@ use Rattle.fake_clients.specs.Faults.{fault_at}
 use Rattle.fake_clients.specs.declared.fault.RequestFault.{RequestFault}
 use Rattle.fake_clients.specs.declared.fault.RequestFault.TheVariants.{Closed}
 use Rattle.fake_clients.specs.declared.fault.ScenarioFault.{ScenarioFault}
+use Rattle.fake_clients.specs.declared.fault.ScenarioFault.TheVariants.{Failed}
 
 -- whether a client goes on after this status
 abbrev pub goes_on : ℕ → Bool
@@ -16,6 +17,11 @@ abbrev pub continued_with : {A : Type 0} → (A → ℕ) → ℕ → Result A Re
 continued_with status_of client (Ok answer) = if goes_on (status_of answer) then Ok (Some answer) else Ok None
 continued_with status_of client (Err Closed) = Ok None
 continued_with status_of client (Err fault) = Err (fault_at client fault)
+
+-- the answer of a request that must succeed
+abbrev pub succeeded_with : {A : Type 0} → (A → ℕ) → ℕ → Result A RequestFault → Result A ScenarioFault
+succeeded_with status_of client (Ok answer) = if goes_on (status_of answer) then Ok answer else Err (Failed client)
+succeeded_with status_of client (Err fault) = Err (fault_at client fault)
 
 -- the bytes of the first header of a name, which is given in lower case
 abbrev pub header : List ℕ → Parts → Option (List ℕ)

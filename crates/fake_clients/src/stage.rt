@@ -10,7 +10,7 @@ use crate::labels::{caller_label, payload_label};
 use crate::outcome::Outcome;
 use crate::ports::environment_port;
 use crate::progress::Progress;
-use crate::steps::{continued, fault_of, header_text, is_success};
+use crate::steps::{continued, fault_of, header_text, succeeded};
 use crate::{
     Caller, Client, Connector, Extension, Gate, Operator, Runtime, ScenarioFault, Watch, read_stats,
 };
@@ -157,15 +157,8 @@ where
         self.progress.wait_for_callers(self.rt);
         let connector = self.connector(client);
         let port = self.config.invoke_port;
-        let counted = Operator
-            .stats(&connector, port)
-            .map_err(|fault| fault_of(client, fault))?;
-        let stopped = Operator
-            .stop(&connector, port)
-            .map_err(|fault| fault_of(client, fault))?;
-        if !is_success(counted.status().as_u16()) || !is_success(stopped.status().as_u16()) {
-            return Err(ScenarioFault::Failed { client });
-        }
+        let counted = succeeded(client, Operator.stats(&connector, port))?;
+        succeeded(client, Operator.stop(&connector, port))?;
         match read_stats(self.rt.alloc(), counted.body().as_slice()) {
             Ok(stats) => Ok(Outcome::Counted(stats)),
             Err(WireFault::OutOfMemory) => Err(ScenarioFault::OutOfMemory),

@@ -5,14 +5,14 @@ ghost use Rattle.http.specs.Response.{head_of};
 ghost use Rattle.http.specs.FieldValue.{IsVisibleAscii};
 ghost use Rattle.http.specs.Token.{lowercase};
 ghost use Rattle.fake_clients.specs.Faults.{fault_at};
-ghost use Rattle.fake_clients.specs.Steps.{goes_on, continued_with, header};
+ghost use Rattle.fake_clients.specs.Steps.{goes_on, continued_with, succeeded_with, header};
 
 use crate::{RequestFault, ScenarioFault};
 use bytes::Bytes;
 use http::Response;
 
 /// Whether a client goes on after this status: 200 and 202.
-pub(crate) fn is_success(status: u16) -> bool
+fn is_success(status: u16) -> bool
     ensures { result ≡ goes_on status }
 {
     status == 200 || status == 202
@@ -43,6 +43,20 @@ pub(crate) fn continued(
         Ok(response) if is_success(response.status().as_u16()) => Ok(Some(response)),
         Ok(_) => Ok(None),
         Err(RequestFault::Closed) => Ok(None),
+        Err(fault) => Err(fault_of(client, fault)),
+    }
+}
+
+/// The response to a request that must succeed: with 200 or 202.
+pub(crate) fn succeeded(
+    client: usize,
+    answered: Result<Response<Bytes>, RequestFault>,
+) -> Result<Response<Bytes>, ScenarioFault>
+    ensures { result ≡ succeeded_with (λ response. (head_of response).status) client answered }
+{
+    match answered {
+        Ok(response) if is_success(response.status().as_u16()) => Ok(response),
+        Ok(_) => Err(ScenarioFault::Failed { client }),
         Err(fault) => Err(fault_of(client, fault)),
     }
 }
