@@ -54,11 +54,11 @@ pub(super) fn shared(rt: &impl Abort, alloc: Global) -> Arc<AtomicU64, Global> {
 
 /// What is noted once these bells rang.
 fn all_noted(rings: &[u64]) -> u64 {
-    let mut rung = 0;
+    let mut heard = 0;
     for number in rings {
-        rung = noted(rung, *number);
+        heard = noted(heard, *number);
     }
-    rung
+    heard
 }
 
 /// What the account's readers give after a row.
@@ -123,12 +123,12 @@ pub(super) fn plays<S: Setup, K: Keep, C: Ledger, A: Ledger, T: Ledger, F: Ledge
     requires environments { environments ≤ length (owners S.config) }
 {
     let mut tally = tally;
-    let rung = shared(rt, alloc);
+    let heard = shared(rt, alloc);
     for (turn, (now, line, rings)) in row.turns.iter().enumerate() {
-        rung.store(0, Ordering::SeqCst);
+        heard.store(0, Ordering::SeqCst);
         let bell = Noting {
             number: row.first_bell.saturating_add(turn as u64),
-            rung: Arc::try_clone(&rung).expect(rt, "a count"),
+            heard: Arc::try_clone(&heard).expect(rt, "a count"),
         };
         let _ticket = submit(
             rt,
@@ -140,7 +140,7 @@ pub(super) fn plays<S: Setup, K: Keep, C: Ledger, A: Ledger, T: Ledger, F: Ledge
             environments,
             bell,
         );
-        assert_eq!(rt; rung.load(Ordering::SeqCst), all_noted(rings), "at {now}");
+        assert_eq!(rt; heard.load(Ordering::SeqCst), all_noted(rings), "at {now}");
     }
     reads(rt, row, &account);
     if K::ALL {

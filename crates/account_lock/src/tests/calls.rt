@@ -145,18 +145,19 @@ impl Bell for Numbered {
 #[derive(Drop)]
 pub(super) struct Noting {
     pub(super) number: u64,
-    pub(super) rung: Arc<AtomicU64, Global>,
+    pub(super) heard: Arc<AtomicU64, Global>,
 }
 
 /// What is noted once another bell rang.
-pub(super) fn noted(rung: u64, number: u64) -> u64 {
-    rung.wrapping_mul(100).wrapping_add(number).wrapping_add(1)
+pub(super) fn noted(heard: u64, number: u64) -> u64 {
+    heard.wrapping_mul(100).wrapping_add(number).wrapping_add(1)
 }
 
 impl Bell for Noting {
     fn ring(self) {
-        let rung = self.rung.load(Ordering::SeqCst);
-        self.rung.store(noted(rung, self.number), Ordering::SeqCst);
+        let heard = self.heard.load(Ordering::SeqCst);
+        self.heard
+            .store(noted(heard, self.number), Ordering::SeqCst);
     }
 }
 
