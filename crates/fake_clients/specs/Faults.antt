@@ -1,5 +1,5 @@
 -- What goes wrong with a request, and in a scenario.
-use Rattle.std.specs.Prelude.{ℕ, ◌≡◌, ⊤, if◌then◌else◌}
+use Rattle.std.specs.Prelude.{ℕ, ◌≡◌, ⊤, if◌then◌else◌, List, slice_get, IsSomeAnd}
 use Rattle.std.specs.declared.io.ErrorKind.{ErrorKind}
 use Rattle.std.specs.declared.io.ErrorKind.TheVariants as System
 use Rattle.http.specs.declared.error.Error.{Error}
@@ -7,6 +7,8 @@ use Rattle.http.specs.declared.error.Error.TheVariants as Http
 use Rattle.hyper.specs.Error.{is_user, is_parse}
 use Rattle.hyper.specs.declared.error.Kind.{Kind}
 use Rattle.hyper.specs.declared.error.Kind.TheVariants as Hyper
+use Rattle.fake_clients.specs.declared.client.Client.{Client}
+use Rattle.fake_clients.specs.declared.client.Client.TheVariants.{Caller, Runtime, Extension}
 use Rattle.fake_clients.specs.declared.fault.RequestFault.{RequestFault}
 use Rattle.fake_clients.specs.declared.fault.RequestFault.TheVariants as Request
 use Rattle.fake_clients.specs.declared.fault.ScenarioFault.{ScenarioFault}
@@ -41,3 +43,16 @@ Blames client (Scenario.GateClosed label) = ⊤
 Blames client (Scenario.Waited other) = other ≡ client
 Blames client (Scenario.Failed other) = other ≡ client
 Blames client Scenario.OutOfMemory = ⊤
+
+-- A client is an extension.
+abbrev pub IsExtension : Client → Type 0
+IsExtension (Caller c) = ⊥
+IsExtension (Runtime r) = ⊥
+IsExtension (Extension e) = ⊤
+
+-- A fault that names a client names an extension of the list.
+abbrev pub BlamesExtension : List Client → ScenarioFault → Type 0
+BlamesExtension clients (Scenario.GateClosed label) = ⊤
+BlamesExtension clients (Scenario.Waited client) = IsSomeAnd (slice_get clients client) IsExtension
+BlamesExtension clients (Scenario.Failed client) = IsSomeAnd (slice_get clients client) IsExtension
+BlamesExtension clients Scenario.OutOfMemory = ⊤

@@ -1,5 +1,5 @@
 -- How clients go on.
-use Rattle.std.specs.Prelude.{ℕ, Bool, ◌==◌, ◌||◌, if◌then◌else◌, List, Option, Some, None, Result, Ok, Err, option_map}
+use Rattle.std.specs.Prelude.{ℕ, Bool, ◌==◌, ◌||◌, if◌then◌else◌, List, codes, Option, Some, None, Result, Ok, Err, option_map}
 use Rattle.http.specs.HeaderMap.{get}
 use Rattle.http.specs.declared.response.Parts.{Parts}
 use Rattle.fake_clients.specs.Faults.{fault_at}
@@ -26,3 +26,7 @@ succeeded_with status_of client (Err fault) = Err (fault_at client fault)
 -- the bytes of the first header of a name, which is given in lower case
 abbrev pub header : List ℕ → Parts → Option (List ℕ)
 header name head = option_map (λ value. value.bytes) (get head.headers name)
+
+-- what an extension is known by once its registration was answered so
+abbrev pub identifier_in : Parts → Option (List ℕ)
+identifier_in head = if head.status == 200 then header (codes "lambda-extension-identifier") head else None

@@ -1,10 +1,10 @@
 //! The registrations of a scenario's extensions.
 
 ghost use Rattle.std.specs.Prelude.{◌≡◌, length, IfOk, IfErr};
-ghost use Rattle.fake_clients.specs.Faults.{Blames};
+ghost use Rattle.fake_clients.specs.Faults.{Blames, BlamesExtension};
 
 use crate::ports::environment_port;
-use crate::steps::{fault_of, header_text};
+use crate::steps::{fault_of, identified};
 use crate::{Client, Connector, Extension, ScenarioFault, Watch};
 use arn_ids::Config;
 use std::alloc::AllocGlobal;
@@ -30,13 +30,7 @@ fn register<R: Wait + Net + Clock + RandomSource + AllocGlobal>(
     let registered = extension
         .register(&connector, port)
         .map_err(|fault| fault_of(client, fault))?;
-    if registered.status().as_u16() != 200 {
-        return Err(ScenarioFault::Failed { client });
-    }
-    match header_text(&registered, "lambda-extension-identifier") {
-        Some(identifier) => Ok(String::from_str(rt.alloc(), identifier)?),
-        None => Err(ScenarioFault::Failed { client }),
-    }
+    identified(rt.alloc(), client, &registered)
 }
 
 /// Registers each extension of the list, one after the other. What each is known by stands at its
@@ -47,7 +41,8 @@ pub(crate) fn register_all<R: Wait + Net + Clock + RandomSource + AllocGlobal>(
     watch: &Watch,
     clients: &[Client],
 ) -> Result<Vec<String>, ScenarioFault>
-    ensures { IfOk result (λ identifiers. length identifiers.items ≡ length clients.now) }
+    ensures places { IfOk result (λ identifiers. length identifiers.items ≡ length clients.now) }
+    ensures blames { IfErr result (BlamesExtension clients.now) }
 {
     let alloc = rt.alloc();
     let mut identifiers = Vec::with_capacity(alloc, clients.len())?;

@@ -10,12 +10,9 @@ use crate::labels::{caller_label, payload_label};
 use crate::outcome::Outcome;
 use crate::ports::environment_port;
 use crate::progress::Progress;
-use crate::steps::{continued, fault_of, header_text, succeeded};
-use crate::{
-    Caller, Client, Connector, Extension, Gate, Operator, Runtime, ScenarioFault, Watch, read_stats,
-};
+use crate::steps::{answer_of, continued, counted, fault_of, header_text, succeeded};
+use crate::{Caller, Client, Connector, Extension, Gate, Operator, Runtime, ScenarioFault, Watch};
 use arn_ids::{Config, EnvNo};
-use lambda_wire::WireFault;
 use std::alloc::AllocGlobal;
 use std::net::Net;
 use std::random::RandomSource;
@@ -95,10 +92,7 @@ where
         let response = answered.map_err(|fault| fault_of(client, fault))?;
         self.pass(caller_label(client))?;
         self.progress.answered(self.rt);
-        Ok(Outcome::Answered {
-            status: response.status().as_u16(),
-            body: response.into_body(),
-        })
+        Ok(answer_of(response))
     }
 
     /// A runtime takes invocations until it is ended.
@@ -157,12 +151,9 @@ where
         self.progress.wait_for_callers(self.rt);
         let connector = self.connector(client);
         let port = self.config.invoke_port;
-        let counted = succeeded(client, Operator.stats(&connector, port))?;
+        let shown = succeeded(client, Operator.stats(&connector, port))?;
         succeeded(client, Operator.stop(&connector, port))?;
-        match read_stats(self.rt.alloc(), counted.body().as_slice()) {
-            Ok(stats) => Ok(Outcome::Counted(stats)),
-            Err(WireFault::OutOfMemory) => Err(ScenarioFault::OutOfMemory),
-            Err(_) => Err(ScenarioFault::Failed { client }),
-        }
+        let stats = counted(self.rt.alloc(), client, &shown)?;
+        Ok(Outcome::Counted(stats))
     }
 }
