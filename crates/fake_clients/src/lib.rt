@@ -47,6 +47,8 @@ mod fixtures;
 #[cfg(test)]
 mod hostile;
 #[cfg(test)]
+mod scripted;
+#[cfg(test)]
 mod tests;
 #[cfg(test)]
 mod together;
