@@ -143,6 +143,8 @@ fn account_opens(rt: HostRuntime) {
     }
 }
 
+/// Bells ring in the order of their tickets, and the history reads back as it was called: a `submit`
+/// that drops its bells, or that takes another call of the same head, fails here.
 #[test]
 fn bells_in_order(rt: HostRuntime) {
     let row = BELLS_IN_ORDER;

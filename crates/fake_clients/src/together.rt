@@ -69,6 +69,9 @@ fn play<R: Machine + Abort>(
     })
 }
 
+/// The first caller's runtime responds only once the second caller has its answer: a server that
+/// serves one connection after the other, or that keeps the account's lock while a poll waits, fails
+/// here.
 #[test]
 fn two_callers_at_once(rt: HostRuntime) -> Result<(), Fail> {
     let text =
