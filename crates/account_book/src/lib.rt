@@ -16,6 +16,3 @@ mod site;
 mod totals;
 
 pub use book::{Book, Life, OpenFault, Refusal};
-
-#[cfg(test)]
-mod tests;

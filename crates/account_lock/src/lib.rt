@@ -21,6 +21,3 @@ pub use bells::Bell;
 pub use desk::{Desk, Look, Refused, Step};
 pub use fault::SettleFault;
 pub use settle::Settled;
-
-#[cfg(test)]
-mod tests;

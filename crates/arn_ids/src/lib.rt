@@ -16,12 +16,3 @@ pub use identifiers::{IdKind, IdParts, event_id, extension_id, id_parts, request
 pub use names::{FunctionName, NameFault, Named, arn_text, is_qualifier};
 pub use text::{Row, Text};
 pub use words::is_printable_word;
-
-#[cfg(test)]
-mod config_tests;
-#[cfg(test)]
-mod fault_order_tests;
-#[cfg(test)]
-mod fixtures;
-#[cfg(test)]
-mod tests;

@@ -6,8 +6,6 @@ mod call;
 mod head;
 pub mod laws;
 mod stats;
-#[cfg(test)]
-mod tests;
 
 pub use answer::{Answer, Phase, Reason, Refusal, Throttle};
 pub use call::{Answers, Call, Entry, Ticket};

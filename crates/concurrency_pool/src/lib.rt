@@ -6,6 +6,3 @@ mod limits;
 mod pool;
 
 pub use pool::{Pool, Usage};
-
-#[cfg(test)]
-mod tests;

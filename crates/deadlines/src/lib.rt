@@ -5,6 +5,3 @@ mod due;
 pub mod laws;
 
 pub use due::Due;
-
-#[cfg(test)]
-mod tests;

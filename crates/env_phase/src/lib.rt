@@ -5,8 +5,6 @@
 mod environment;
 mod phases;
 mod step;
-#[cfg(test)]
-mod tests;
 
 pub use environment::Environment;
 pub use step::Step;

@@ -5,8 +5,6 @@ mod member;
 mod moves;
 mod register_fault;
 mod set;
-#[cfg(test)]
-mod tests;
 mod turn;
 
 pub use moves::Moves;

@@ -15,16 +15,3 @@ mod side;
 
 pub use long_poll::{Decision, Shown};
 pub use side::{Port, Side};
-
-#[cfg(test)]
-mod account_rows;
-#[cfg(test)]
-mod environment_rows;
-#[cfg(test)]
-mod fixtures;
-#[cfg(test)]
-mod request_maker;
-#[cfg(test)]
-mod route_tests;
-#[cfg(test)]
-mod tests;

@@ -26,16 +26,3 @@ pub use header_writer::{
 pub use reply::{Reply, fault_reply, invoke_fault_reply};
 pub use request_reader::{Events, read_invoke_body, read_register, read_reservation};
 pub use setup::Setup;
-
-#[cfg(test)]
-mod body_tests;
-#[cfg(test)]
-mod fixtures;
-#[cfg(test)]
-mod header_tests;
-#[cfg(test)]
-mod reply_tests;
-#[cfg(test)]
-mod request_tests;
-#[cfg(test)]
-mod tests;

@@ -27,6 +27,3 @@ pub use open_poll::OpenPoll;
 pub use poll::{BellLost, Poll};
 pub use service::Service;
 pub use views::{history_reply, reservation_reply, stats_reply};
-
-#[cfg(test)]
-mod tests;

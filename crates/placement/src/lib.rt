@@ -7,6 +7,3 @@ mod places;
 
 pub use class::Class;
 pub use places::{Place, Places};
-
-#[cfg(test)]
-mod tests;

@@ -2,15 +2,9 @@
 #![tactic(auto)]
 
 mod calls;
-#[cfg(test)]
-mod fixtures;
 mod functions;
 mod gist;
-#[cfg(test)]
-mod outcome_tests;
 mod outcomes;
-#[cfg(test)]
-mod poll_tests;
 mod polls;
 mod refusals;
 mod render;

@@ -17,10 +17,3 @@ pub use call_reader::read_call;
 pub use calls::{body_of, env_of, invoked};
 pub use numbers::read_environment;
 pub use past::Past;
-
-#[cfg(test)]
-mod fixtures;
-#[cfg(test)]
-mod reader_tests;
-#[cfg(test)]
-mod writer_tests;

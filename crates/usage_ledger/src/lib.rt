@@ -17,8 +17,3 @@ pub use keep::Keep;
 pub use keepers::{KeepAll, KeepNone};
 pub use tally::Tally;
 pub use totals::{Totals, root};
-
-#[cfg(test)]
-mod grudging;
-#[cfg(test)]
-mod tests;

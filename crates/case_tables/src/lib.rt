@@ -1,0 +1,12 @@
+//! Worked examples in plain text: a table's file holds cases, a subject says what each gives, and
+//! the lines that differ are told.
+#![tactic(auto)]
+
+mod case;
+mod fault;
+mod run;
+mod table;
+
+pub use case::{Case, Part};
+pub use fault::{CaseFault, TableFault};
+pub use run::{Subject, end, run_file};

@@ -1,0 +1,133 @@
+//! Runs the cases of a file, and tells which differ.
+
+use crate::case::Case;
+use crate::fault::{CaseFault, TableFault};
+use crate::table::read_cases;
+use std::alloc::Global;
+use std::fs;
+use std::io::Read;
+use std::process::ExitCode;
+use std::rt::Files;
+
+/// What the cases of a file are about.
+pub trait Subject {
+    /// Appends what the case gives, as lines, to `given`.
+    fn give(&self, alloc: Global, case: &Case, given: &mut String) -> Result<(), CaseFault>;
+}
+
+/// The first line in which two texts differ: its number, and what each of them has there.
+#[derive(Clone, Copy)]
+struct Difference<'a> {
+    number: u64,
+    wanted: Option<&'a str>,
+    given: Option<&'a str>,
+}
+
+/// The first line in which the texts differ.
+fn first_difference<'a>(wanted: &'a str, given: &'a str) -> Option<Difference<'a>> {
+    let mut others = given.split('\n');
+    let mut number = 0u64;
+    for line in wanted.split('\n') {
+        number = number.saturating_add(1);
+        let other = others.next();
+        if other != Some(line) {
+            return Some(Difference {
+                number,
+                wanted: Some(line),
+                given: other,
+            });
+        }
+    }
+    Some(Difference {
+        number: number.saturating_add(1),
+        wanted: None,
+        given: Some(others.next()?),
+    })
+}
+
+/// Tells that a case of a file differs.
+fn tell(
+    rt: &impl Print,
+    file: &'static str,
+    case: &Case,
+    difference: &Difference<'_>,
+) -> Result<(), TableFault> {
+    let name = case.name();
+    let number = difference.number;
+    let wanted = difference.wanted.unwrap_or("no line");
+    let given = difference.given.unwrap_or("no line");
+    println!(rt;
+        "{file}: {name}: line {number} of what it gives: wanted {wanted:?}, got {given:?}"
+    ).map_err(|fault| TableFault::at_output(&fault))
+}
+
+/// Runs a case, and says whether it gave what it is to give.
+fn run_case<R: Print + AllocGlobal, S: Subject>(
+    rt: &R,
+    file: &'static str,
+    subject: &S,
+    case: &Case,
+) -> Result<bool, TableFault> {
+    let mut given = String::new(rt.alloc());
+    if let Err(fault) = subject.give(rt.alloc(), case, &mut given) {
+        return Err(TableFault::of_case(file, case.line(), fault));
+    }
+    match first_difference(case.wanted(), given.as_str()) {
+        None => Ok(true),
+        Some(difference) => {
+            tell(rt, file, case, &difference)?;
+            Ok(false)
+        }
+    }
+}
+
+/// The cases of a file in the current folder.
+fn read_file<R: Files + AllocGlobal>(rt: &R, file: &'static str) -> Result<Vec<Case>, TableFault>
+where
+    R::File: Read + Drop,
+{
+    let text = fs::read_to_string(rt, file).map_err(|fault| TableFault::at_input(file, &fault))?;
+    read_cases(rt.alloc(), text.as_str()).map_err(|fault| TableFault::of_case(file, 1, fault))
+}
+
+/// Reads the file of that name in the current folder, runs each case, prints a line for each that
+/// gives another text than it is to give, and says whether there was none; then it prints how many
+/// cases there are.
+///
+/// # Errors
+/// As the fault says; a fault of a case ends the run of its file.
+pub fn run_file<R: Files + Print + AllocGlobal, S: Subject>(
+    rt: &R,
+    file: &'static str,
+    subject: &S,
+) -> Result<bool, TableFault>
+where
+    R::File: Read + Drop,
+{
+    let cases = read_file(rt, file)?;
+    let mut agree = true;
+    for case in cases.iter() {
+        if !run_case(rt, file, subject, case)? {
+            agree = false;
+        }
+    }
+    if agree {
+        let count = cases.len();
+        println!(rt; "{file}: {count} cases").map_err(|fault| TableFault::at_output(&fault))?;
+    }
+    Ok(agree)
+}
+
+/// How a program ends that ran its tables: 0 where all agree, 1 where a case differs, and else as
+/// the fault says, with its line on standard error.
+pub fn end(rt: &impl Eprint, outcome: Result<bool, TableFault>) -> ExitCode {
+    match outcome {
+        Ok(true) => ExitCode::SUCCESS,
+        Ok(false) => ExitCode::from(1),
+        Err(fault) => {
+            // Where standard error takes nothing either, the status alone tells.
+            let _told = eprintln!(rt; "{fault}");
+            ExitCode::from(fault.status())
+        }
+    }
+}

@@ -1,0 +1,5 @@
+//! Tests of `extension_set` by its public calls: sets of extensions.
+#![tactic(auto)]
+
+#[cfg(test)]
+mod tests;

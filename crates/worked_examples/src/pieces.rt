@@ -1,0 +1,83 @@
+//! Readers that give a script by pieces, and writers that take a part of what is written; either
+//! may fail in mid-stream.
+
+ghost use Rattle.std.specs.Prelude.{◌≤◌, length};
+
+use std::alloc::{AllocError, Global};
+use std::io::{self, Read, Write};
+
+/// Gives a first line and then a script, at most so many bytes at once; then it ends, or fails.
+#[derive(Drop)]
+pub struct Pieces<'a> {
+    pub first: &'a [u8],
+    pub script: &'a [u8],
+    pub at_once: usize,
+    pub fails: bool,
+}
+
+/// Moves bytes from the front of one slice to the front of another.
+fn give(from: &mut &[u8], at_once: usize, buf: &mut [u8]) -> usize
+    ensures { result ≤ length buf.old }
+{
+    let n = from.len().min(at_once).min(buf.len());
+    buf[..n].copy_from_slice(&from[..n]);
+    *from = &from[n..];
+    n
+}
+
+impl<'a> Read for Pieces<'a> {
+    fn read(&mut self, buf: &mut [u8]) -> io::Result<usize> {
+        if !self.first.is_empty() {
+            return Ok(give(&mut self.first, self.at_once, buf));
+        }
+        if self.script.is_empty() && self.fails {
+            return Err(io::Error::from(io::ErrorKind::Other));
+        }
+        Ok(give(&mut self.script, self.at_once, buf))
+    }
+}
+
+/// How many bytes a page has memory for from the start.
+const PAGE: usize = 32768;
+
+/// How many bytes a page takes at once.
+const AT_ONCE: usize = 3;
+
+/// Takes so many bytes, and then fails.
+#[derive(Drop)]
+pub struct Page {
+    bytes: Vec<u8>,
+    room: usize,
+}
+
+impl Page {
+    /// A page that takes so many bytes. It asks for its memory here, so that a replay that wants
+    /// memory itself can still write.
+    pub fn new(alloc: Global, room: usize) -> Result<Page, AllocError> {
+        Ok(Page {
+            bytes: Vec::with_capacity(alloc, PAGE)?,
+            room,
+        })
+    }
+
+    /// What was written.
+    pub fn written(&self) -> &[u8] {
+        self.bytes.as_slice()
+    }
+}
+
+impl Write for Page {
+    fn write(&mut self, buf: &[u8]) -> io::Result<usize> {
+        let left = self.room.saturating_sub(self.bytes.len());
+        let n = left.min(buf.len()).min(AT_ONCE);
+        if n == 0 {
+            return Err(io::Error::from(io::ErrorKind::Other));
+        }
+        self.bytes.extend_from_slice(&buf[..n])?;
+        Ok(n)
+    }
+
+    fn flush(&mut self) -> io::Result<()> {
+        Ok(())
+    }
+}

@@ -1,0 +1,72 @@
+//! Books that take the lines of scripts.
+
+use account_book::{Book, OpenFault, Refusal};
+use arn_ids::ConfigFault;
+use lambda_wire::{Setup, WireFault, read_config};
+use std::alloc::{AllocError, Global};
+
+/// Why no book was opened.
+#[derive(Clone, Copy, Debug, PartialEq, Eq)]
+pub enum Unopened {
+    /// The configuration's line is not read.
+    Wire(WireFault),
+    /// The configuration says what no account can have.
+    Config(ConfigFault),
+    /// The greatest number of entries is out of its range.
+    Open(OpenFault),
+    /// There was no memory.
+    Memory,
+}
+
+/// Opens the book of a configuration that was read.
+fn open(alloc: Global, setup: Setup) -> Result<Book, Unopened> {
+    match setup.config.check() {
+        Ok(config) => match Book::open(alloc, config, setup.salt, setup.max_entries) {
+            Ok(book) => Ok(book),
+            Err(OpenFault::OutOfMemory) => Err(Unopened::Memory),
+            Err(fault) => Err(Unopened::Open(fault)),
+        },
+        Err(fault) => Err(Unopened::Config(fault)),
+    }
+}
+
+/// Opens the book that a line says.
+pub fn open_book(alloc: Global, line: &[u8]) -> Result<Book, Unopened> {
+    match read_config(alloc, line) {
+        Ok(setup) => open(alloc, setup),
+        Err(WireFault::OutOfMemory) => Err(Unopened::Memory),
+        Err(fault) => Err(Unopened::Wire(fault)),
+    }
+}
+
+/// What a book did with a line.
+#[derive(Clone, Copy, Debug, PartialEq, Eq)]
+pub enum Taken {
+    /// It stands for no call.
+    NoCall,
+    /// Its call was taken.
+    Taken,
+    /// Its call was refused, since the journal is full.
+    Full,
+    /// The book said whether it is full, and did the other thing.
+    Otherwise,
+}
+
+/// Hands a book the call of a line.
+pub fn take(
+    alloc: Global,
+    book: &mut Book,
+    reserves: bool,
+    line: &[u8],
+) -> Result<Taken, AllocError> {
+    let Some((now, call)) = script::read_call(alloc, book.config(), reserves, line)? else {
+        return Ok(Taken::NoCall);
+    };
+    let full = book.full(&call);
+    match (book.apply(now, call), full) {
+        (Ok(_ticket), false) => Ok(Taken::Taken),
+        (Err(Refusal::JournalFull), true) => Ok(Taken::Full),
+        (Err(Refusal::OutOfMemory), _) => Err(AllocError),
+        _ => Ok(Taken::Otherwise),
+    }
+}
