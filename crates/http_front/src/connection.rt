@@ -7,6 +7,7 @@ use crate::door::Door;
 use crate::ending::{Ending, Signals, Watched};
 use crate::front::{EnvPort, Front};
 use crate::machine::Machine;
+use crate::pulse::Pulse;
 use crate::ticker::moment;
 use crate::wire::Wire;
 use account_lock::{Account, Setup};
@@ -34,6 +35,7 @@ fn serve<R, V, B>(
     service: V,
     signals: Signals,
     open: Arc<OpenPoll>,
+    pulse: Arc<Pulse>,
 ) -> io::Result<()>
 where
     R: Machine,
@@ -47,16 +49,18 @@ where
 {
     let alloc = rt.alloc();
     socket.set_nodelay(true)?;
-    let http = Builder::new(alloc, RandomState::new(rt)?);
+    let mut http = Builder::new(alloc, RandomState::new(rt)?);
+    // A caller who has ended its own side, as `nc -N` does, still gets its answer.
+    http.half_close(true);
     let mut runtime = LocalRuntime::new(rt)?;
     let stream = tokio::net::TcpStream::from_std(socket, runtime.handle().reactor())?;
     let (wire, peer) = Wire::pair(alloc, stream)?;
     let ending = Ending::new(http.serve_connection(wire, service), signals);
-    runtime.block_on(rt, Watched::new(ending, peer, open))
+    runtime.block_on(rt, Watched::new(ending, peer, open, pulse))
 }
 
 /// A connection that is to be served: its socket and its port, the account and the clock, the tally
-/// in which its calls count, and the signals that end it.
+/// in which its calls count, the signals that end it, and where it tells how it stands.
 #[derive(Drop)]
 pub(crate) struct Visit<R, S: Setup, N, K: Keep, C: Ledger, A: Ledger, T: Ledger, F: Ledger> {
     pub(crate) rt: R,
@@ -66,6 +70,7 @@ pub(crate) struct Visit<R, S: Setup, N, K: Keep, C: Ledger, A: Ledger, T: Ledger
     pub(crate) clock: Arc<N>,
     pub(crate) tally: Arc<Mutex<Tally<K, C, A, T, F>>>,
     pub(crate) signals: Signals,
+    pub(crate) pulse: Arc<Pulse>,
 }
 
 impl<
@@ -105,6 +110,7 @@ impl<
             clock,
             tally,
             signals,
+            pulse,
         } = self;
         let alloc = rt.alloc();
         let service = Arc::try_clone(&account)?;
@@ -123,10 +129,17 @@ impl<
         match door.port() {
             Port::Account => {
                 let front = Front::new(rt, alloc, service, decider, connection);
-                serve(&rt, socket, front, signals, open)
+                serve(&rt, socket, front, signals, open, pulse)
             }
             Port::Environment(_) => {
-                serve(&rt, socket, EnvPort::new(alloc, connection), signals, open)
+                serve(
+                    &rt,
+                    socket,
+                    EnvPort::new(alloc, connection),
+                    signals,
+                    open,
+                    pulse,
+                )
             }
         }
     }

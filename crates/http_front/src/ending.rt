@@ -1,7 +1,9 @@
 //! A connection, and the signals that end it.
 
-ghost use Rattle.std.specs.Prelude.{◌≡◌};
+ghost use Rattle.std.specs.Prelude.{◌≡◌, IsFalse};
+ghost use Rattle.futures.specs.Task.{Keeps};
 
+use crate::pulse::Pulse;
 use crate::wire::Wire;
 use futures::Future;
 use futures::channel::oneshot::Receiver;
@@ -21,6 +23,7 @@ pub(crate) struct Signals {
 #[derive(Drop)]
 pub(crate) struct Ending<C> {
     conn: C,
+    // None once a signal has come.
     soft: Option<Receiver<()>>,
     hard: Receiver<()>,
 }
@@ -37,6 +40,17 @@ impl<C> Ending<C> {
             hard,
         }
     }
+
+    /// Whether a signal has come, once the connection has ended of itself.
+    fn is_told(&mut self, cx: &mut Context<'_>) -> bool
+        ensures same { self.new.conn ≡ self.old.conn }
+        ensures kept { Keeps cx.old cx.new }
+    {
+        match &mut self.soft {
+            None => true,
+            Some(soft) => soft.poll(cx).is_ready() || self.hard.poll(cx).is_ready(),
+        }
+    }
 }
 
 impl<C: GracefulConnection<Output = hyper::Result<()>>> Future for Ending<C> {
@@ -46,6 +60,7 @@ impl<C: GracefulConnection<Output = hyper::Result<()>>> Future for Ending<C> {
 
     fn poll(&mut self, cx: &mut Context<'_>) -> Poll<()> {
         if self.hard.poll(cx).is_ready() {
+            self.soft = None;
             return Poll::Ready(());
         }
         if let Some(soft) = &mut self.soft
@@ -62,35 +77,62 @@ impl<C: GracefulConnection<Output = hyper::Result<()>>> Future for Ending<C> {
 }
 
 /// A connection that ends too where its peer does while a Next is open, though bytes lie behind the
-/// request of that Next.
+/// request of that Next; and that, once it has ended of itself, lets its peer read the answer before
+/// the socket is closed. It tells how it stands.
 #[derive(Drop)]
 pub(crate) struct Watched<C> {
     ending: Ending<C>,
     peer: Wire,
     open: Arc<OpenPoll>,
+    pulse: Arc<Pulse>,
+    has_ended: bool,
 }
 
 impl<C> Watched<C> {
-    /// The connection, its socket, and the note of its open Next.
-    pub(crate) fn new(ending: Ending<C>, peer: Wire, open: Arc<OpenPoll>) -> Watched<C>
-        ensures { result.ending ≡ ending }
+    /// The connection, its socket, the note of its open Next, and where it tells how it stands.
+    pub(crate) fn new(
+        ending: Ending<C>,
+        peer: Wire,
+        open: Arc<OpenPoll>,
+        pulse: Arc<Pulse>,
+    ) -> Watched<C>
+        ensures ending { result.ending ≡ ending }
+        ensures open { IsFalse result.has_ended }
     {
-        Watched { ending, peer, open }
+        Watched {
+            ending,
+            peer,
+            open,
+            pulse,
+            has_ended: false,
+        }
     }
 }
 
 impl<C: GracefulConnection<Output = hyper::Result<()>>> Future for Watched<C> {
+    ghost use Rattle.std.specs.Prelude.{IsFalse};
+
     type Output = ();
 
-    ghost can_poll = { λ w. C.can_poll w.ending.conn };
+    ghost can_poll = { λ w. IsFalse w.has_ended → C.can_poll w.ending.conn };
 
     fn poll(&mut self, cx: &mut Context<'_>) -> Poll<()> {
-        if self.ending.poll(cx).is_ready() {
+        if !self.has_ended {
+            self.peer.begin_turn();
+            if self.ending.poll(cx).is_pending() {
+                self.peer.end_turn(&self.pulse);
+                if self.open.ticket().is_some() {
+                    return self.peer.poll_ended(cx);
+                }
+                return Poll::Pending;
+            }
+            self.has_ended = true;
+        }
+        if self.ending.is_told(cx) {
             return Poll::Ready(());
         }
-        if self.open.ticket().is_some() {
-            return self.peer.poll_ended(cx);
-        }
-        Poll::Pending
+        let drained = self.peer.poll_drained(cx);
+        self.peer.await_end(&self.pulse);
+        drained
     }
 }

@@ -1,15 +1,17 @@
 //! What answers the requests of the two kinds of ports.
 
-ghost use Rattle.std.specs.Prelude.{◌≡◌, [], IfOk, IfSome, IsTrue};
+ghost use Rattle.std.specs.Prelude.{◌≡◌, [], not, IfOk, IfSome, IsTrue};
 ghost use Rattle.std.specs.Arc.{arc_value};
 ghost use Rattle.http.specs.Request.{head_of, body_of};
 ghost use Rattle.long_poll.specs.declared.decide.Decision.TheVariants.{Show};
 ghost use Rattle.long_poll.specs.declared.decide.Shown.TheVariants as shown;
 ghost use Rattle.long_poll.specs.declared.exchange.Stage.TheVariants.{Collecting};
+ghost use Rattle.http_front.specs.Codings.{is_plainly_coded as coded};
 ghost use Rattle.http_front.specs.declared.history_body.Stage.TheVariants.{Opening};
 ghost use Rattle.http_front.specs.declared.responding.Asked.TheVariants.{Exchange, History};
 
 use crate::ResponseFault;
+use crate::codings::is_plainly_coded;
 use crate::history_body::HistoryBody;
 use crate::responding::{Asked, Responding, Showing};
 use bytes::Bytes;
@@ -63,23 +65,38 @@ impl<
         EnvPort { alloc, connection }
     }
 
-    /// The response to a request of this head and body.
+    /// The exchange of a request of this head and body; none where there is no memory for it.
+    fn exchange<I: Drop>(
+        &self,
+        parts: Parts,
+        body: Incoming<I>,
+    ) -> Option<Exchange<R, S, D, N, Incoming<I>, K, C, A, T, F>>
+        ensures { IfSome result (λ e. (arc_value e.connection ≡ arc_value self.now.connection) × (e.stage ≡ Collecting parts (record { alloc = (arc_value self.now.connection).alloc; body = body; held = [] }))) }
+    {
+        let connection = Arc::try_clone(&self.connection).ok()?;
+        Some(Exchange::new(connection, parts, body))
+    }
+
+    /// The response to a request of this head and body. There is no exchange where the body is coded
+    /// in a way that isn't served, so it never becomes a call (RFC 9112, section 6.1).
     fn respond<I: Drop>(
         &self,
         parts: Parts,
         body: Incoming<I>,
     ) -> Responding<R, S, D, N, Incoming<I>, K, C, A, T, F>
-        ensures { IfSome result.exchange (λ e. (arc_value e.connection ≡ arc_value self.now.connection) × (e.stage ≡ Collecting parts (record { alloc = (arc_value self.now.connection).alloc; body = body; held = [] }))) }
+        ensures coding { result.is_foreign ≡ not (coded parts) }
+        ensures exchange { IfSome result.exchange (λ e. IsTrue (coded parts) × (arc_value e.connection ≡ arc_value self.now.connection) × (e.stage ≡ Collecting parts (record { alloc = (arc_value self.now.connection).alloc; body = body; held = [] }))) }
     {
-        let Ok(connection) = Arc::try_clone(&self.connection) else {
-            return Responding {
-                alloc: self.alloc,
-                exchange: None,
-            };
+        let is_foreign = !is_plainly_coded(&parts);
+        let exchange = if is_foreign {
+            None
+        } else {
+            self.exchange(parts, body)
         };
         Responding {
             alloc: self.alloc,
-            exchange: Some(Exchange::new(connection, parts, body)),
+            exchange,
+            is_foreign,
         }
     }
 }
@@ -102,7 +119,7 @@ impl<
 
     type Future = Responding<R, S, D, N, Incoming<I>, K, C, A, T, F>;
 
-    ghost calls = { λ port request future. IfSome future.exchange (λ e. (arc_value e.connection ≡ arc_value port.connection) × (e.stage ≡ Collecting (head_of request) (record { alloc = (arc_value port.connection).alloc; body = body_of request; held = [] }))) };
+    ghost calls = { λ port request future. (future.is_foreign ≡ not (coded (head_of request))) × IfSome future.exchange (λ e. IsTrue (coded (head_of request)) × (arc_value e.connection ≡ arc_value port.connection) × (e.stage ≡ Collecting (head_of request) (record { alloc = (arc_value port.connection).alloc; body = body_of request; held = [] }))) };
 
     fn call(
         &self,
@@ -165,8 +182,11 @@ impl<
 
     /// Whether a request with this head asks for the history, whatever its body.
     fn asks_for_history(&self, parts: &Parts) -> Result<bool, AllocError>
-        ensures { IfOk result (λ asks. IsTrue asks → D.decides (arc_value self.now.decider) parts.now [] (Show shown.History)) }
+        ensures { IfOk result (λ asks. IsTrue asks → IsTrue (coded parts.now) × D.decides (arc_value self.now.decider) parts.now [] (Show shown.History)) }
     {
+        if !is_plainly_coded(parts) {
+            return Ok(false);
+        }
         match self.decider.decide(self.port.alloc, parts, &Bytes::new())? {
             Decision::Show(Shown::History) => Ok(true),
             _ => Ok(false),
@@ -201,8 +221,8 @@ impl<
     type Future = Showing<R, S, D, N, Incoming<I>, K, C, A, T, F>;
 
     ghost calls = { λ front request future. elim future.asked [
-      | Exchange r ↦ IfSome r.exchange (λ e. (arc_value e.connection ≡ arc_value front.port.connection) × (e.stage ≡ Collecting (head_of request) (record { alloc = (arc_value front.port.connection).alloc; body = body_of request; held = [] })))
-      | History body ↦ IfSome body (λ b. D.decides (arc_value front.decider) (head_of request) [] (Show shown.History) × (arc_value b.service ≡ arc_value front.service) × (b.stage ≡ Opening))
+      | Exchange r ↦ (r.is_foreign ≡ not (coded (head_of request))) × IfSome r.exchange (λ e. IsTrue (coded (head_of request)) × (arc_value e.connection ≡ arc_value front.port.connection) × (e.stage ≡ Collecting (head_of request) (record { alloc = (arc_value front.port.connection).alloc; body = body_of request; held = [] })))
+      | History body ↦ IfSome body (λ b. IsTrue (coded (head_of request)) × D.decides (arc_value front.decider) (head_of request) [] (Show shown.History) × (arc_value b.service ≡ arc_value front.service) × (b.stage ≡ Opening))
     ] };
 
     fn call(

@@ -21,6 +21,7 @@ use std::sync::atomic::Ordering::SeqCst;
 use std::sync::ledger::{Blank, Ledger};
 use std::thread;
 use std::thread::JoinHandle;
+use std::time::Duration;
 use usage_ledger::{Keep, Tally};
 
 /// An account that is served over HTTP/1.1 on 127.0.0.1: on the invoke port for callers, and on a
@@ -143,6 +144,7 @@ impl<
             root,
             slots: Slots::new(alloc, most)?,
             spare: Poll::new(&rt).ok(),
+            looked: Duration::ZERO,
         };
         let ticker = start_ticker(rt, account, clock, ticking, Arc::try_clone(&is_over)?)?;
         let served = reception.serve(&mut entrance, &is_over);

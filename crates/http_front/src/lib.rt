@@ -2,6 +2,7 @@
 //! them all; with it HTTP/1.1 as `hyper` has it over the exchanges of `long_poll`.
 #![tactic(auto)]
 
+mod codings;
 mod connection;
 mod copies;
 mod door;
@@ -13,6 +14,7 @@ mod host;
 mod host_fault;
 mod machine;
 mod plan;
+mod pulse;
 mod reception;
 mod responding;
 mod response;
@@ -30,10 +32,3 @@ pub use machine::Machine;
 pub use plan::Plan;
 pub use responding::{Responding, Showing};
 pub use response_fault::ResponseFault;
-
-#[cfg(test)]
-mod history_tests;
-#[cfg(test)]
-mod host_tests;
-#[cfg(test)]
-mod loopback;

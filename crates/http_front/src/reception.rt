@@ -5,6 +5,7 @@ use crate::door::Door;
 use crate::ending::Signals;
 use crate::entrance::{Entrance, Gate};
 use crate::machine::Machine;
+use crate::pulse::Pulse;
 use crate::slots::{Ended, Running, Slots};
 use crate::{HostFault, Hosted};
 use account_lock::{Account, Setup};
@@ -32,11 +33,23 @@ const PATIENCE: u64 = 50;
 /// How long a try waits, in milliseconds.
 const PAUSE: u64 = 1;
 
+/// How many newcomers a port is let take in before it is another port's turn.
+const MOST_IN_A_TURN: u32 = 8;
+
+/// How many seconds are between two looks at who stands still.
+const BETWEEN_ROUNDS: u64 = 1;
+
 /// How often it is looked whether all connections have ended softly, and how many milliseconds pass
 /// between two looks: half a second in all.
 const LOOKS: u32 = 100;
 
 const BETWEEN_LOOKS: u64 = 5;
+
+/// Whether taking a newcomer in failed for a reason of its own, as one who has gone again: there may
+/// be others, who have nothing to do with it. (POSIX, accept: ECONNABORTED, EINTR)
+fn is_of_newcomer(kind: io::ErrorKind) -> bool {
+    kind == io::ErrorKind::ConnectionAborted || kind == io::ErrorKind::Interrupted
+}
 
 /// Starts the thread of a connection, which says its last at the end.
 fn start_thread<
@@ -73,6 +86,8 @@ pub(crate) struct Reception<R, S: Setup, N, K: Keep, C: Ledger, A: Ledger, T: Le
     pub(crate) slots: Slots<Tally<K, C, A, T, F>>,
     // A descriptor that is given up where none is left, so that the newcomer can be turned away.
     pub(crate) spare: Option<Poll>,
+    // What the monotonic clock said when it was last looked who stands still.
+    pub(crate) looked: Duration,
 }
 
 impl<
@@ -108,6 +123,7 @@ impl<
         let (tally, ended) = self.slots.shared(at)?;
         let (soft, soft_end) = oneshot::channel(alloc)?;
         let (hard, hard_end) = oneshot::channel(alloc)?;
+        let pulse = Arc::new(alloc, Pulse::new()).map_err(AllocError::from)?;
         let visit = Visit {
             rt: self.rt,
             socket,
@@ -119,12 +135,16 @@ impl<
                 soft: soft_end,
                 hard: hard_end,
             },
+            pulse: Arc::try_clone(&pulse)?,
         };
         let thread = start_thread(visit, ended, at)?;
         Ok(Running {
             thread,
             soft: Some(soft),
             hard: Some(hard),
+            told: pulse.told(),
+            pulse,
+            looks: 0,
         })
     }
 
@@ -150,45 +170,73 @@ impl<
         self.slots.reap(&self.rt);
     }
 
-    /// Takes in all who wait at a port.
-    fn take_in_all(&mut self, gate: &Gate<S>, is_over: &AtomicBool) {
-        for _ in 0..u64::MAX {
-            if is_over.load(SeqCst) {
-                return;
-            }
+    /// Takes in those who wait at a port, so many at most in one turn. Gives whether more may wait.
+    fn take_in_some(&mut self, gate: &Gate<S>) -> bool {
+        for _ in 0..MOST_IN_A_TURN {
             match gate.listener.accept() {
                 Ok((socket, _)) => self.take_in(TcpStream::from(socket), &gate.door),
-                Err(fault) if fault.kind() == io::ErrorKind::WouldBlock => return,
+                Err(fault) if fault.kind() == io::ErrorKind::WouldBlock => return false,
+                Err(fault) if is_of_newcomer(fault.kind()) => {}
                 Err(_) => self.turn_away(gate),
             }
         }
+        true
     }
 
-    /// Takes connections in until the service is over.
+    /// Gives each port at which newcomers may wait a turn. Gives whether more may wait at one.
+    fn take_turns(&mut self, gates: &[Gate<S>], waiting: &mut [bool]) -> bool {
+        let mut more = false;
+        for (gate, waits) in gates.iter().zip(waiting.iter_mut()) {
+            if *waits {
+                *waits = self.take_in_some(gate);
+                more = more || *waits;
+            }
+        }
+        more
+    }
+
+    /// Once a second, ends the connections that have stood still for too long.
+    fn look_round(&mut self) {
+        if let Ok(now) = self.rt.monotonic()
+            && now.saturating_sub(self.looked) >= Duration::from_secs(BETWEEN_ROUNDS)
+        {
+            self.looked = now;
+            self.slots.end_the_idle();
+        }
+    }
+
+    /// Takes connections in until the service is over. A port tells once that newcomers wait at it, so
+    /// `waiting` keeps which ports have not been seen empty since; they take turns, so that a crowd at
+    /// one keeps nobody at another waiting.
     pub(crate) fn serve(
         &mut self,
         entrance: &mut Entrance<S>,
         is_over: &AtomicBool,
     ) -> Result<(), HostFault> {
         let rt = self.rt;
+        let mut waiting = vec![in rt.alloc(); false; entrance.gates.len()]?;
+        let mut more = false;
         for _ in rt.forever() {
             if is_over.load(SeqCst) {
                 return Ok(());
             }
+            let patience = if more { 0 } else { PATIENCE };
             if let Err(fault) = entrance.poll.poll(
                 &mut entrance.events,
-                Some(Duration::from_millis(PATIENCE)),
+                Some(Duration::from_millis(patience)),
             )
                 && fault.kind() != io::ErrorKind::Interrupted
             {
                 return Err(HostFault::Network);
             }
-            self.slots.reap(&self.rt);
             for event in &entrance.events {
-                if let Some(gate) = entrance.gates.get(event.token().0) {
-                    self.take_in_all(gate, is_over);
+                if let Some(waits) = waiting.get_mut(event.token().0) {
+                    *waits = true;
                 }
             }
+            self.slots.reap(&self.rt);
+            self.look_round();
+            more = self.take_turns(entrance.gates.as_slice(), waiting.as_mut_slice());
         }
         unreachable!()
     }

@@ -1,6 +1,11 @@
 //! The responses to requests, as futures.
 
+ghost use Rattle.std.specs.Prelude.{IfOk};
+ghost use Rattle.http_front.specs.Codings.{foreign_coding_reply};
+ghost use Rattle.http_front.specs.Responses.{IsResponseTo};
+
 use crate::ResponseFault;
+use crate::codings::foreign_coding_reply;
 use crate::history_body::HistoryBody;
 use crate::response::{history_response, response_to};
 use bytes::Bytes;
@@ -30,8 +35,10 @@ pub struct Responding<
     F: Ledger,
 > {
     pub(crate) alloc: Global,
-    // None where there was no memory for it.
+    // None where there was no memory for it, or where the request's body is coded in another way.
     pub(crate) exchange: Option<Exchange<R, S, D, N, B, K, C, A, T, F>>,
+    // Whether it is the coding.
+    pub(crate) is_foreign: bool,
 }
 
 impl<
@@ -49,7 +56,8 @@ impl<
 where
     B::Data: Into<Bytes>,
 {
-    ghost use Rattle.std.specs.Prelude.{IfOk, IfSome, IsSomeAnd, Ok};
+    ghost use Rattle.std.specs.Prelude.{IfOk, IfSome, IsSomeAnd, MatchBool, Ok};
+    ghost use Rattle.http_front.specs.Codings.{foreign_coding_reply};
     ghost use Rattle.http_front.specs.Responses.{IsResponseTo};
     ghost use Rattle.lambda_wire.specs.declared.reply.Reply.{Reply};
 
@@ -57,10 +65,14 @@ where
 
     ghost can_poll = { λ r. IfSome r.exchange (⟦<Exchange<R, S, D, N, B, K, C, A, T, F> as Future>⟧.can_poll) };
 
-    ghost gives = { λ r answer. IfOk answer (λ response. IsSomeAnd r.exchange (λ exchange. (reply : Reply)
-        × ⟦<Exchange<R, S, D, N, B, K, C, A, T, F> as Future>⟧.gives exchange (Ok reply) × IsResponseTo reply response)) };
+    ghost gives = { λ r answer. IfOk answer (λ response. MatchBool r.is_foreign (IsResponseTo foreign_coding_reply response)
+        (IsSomeAnd r.exchange (λ exchange. (reply : Reply)
+        × ⟦<Exchange<R, S, D, N, B, K, C, A, T, F> as Future>⟧.gives exchange (Ok reply) × IsResponseTo reply response))) };
 
     fn poll(&mut self, cx: &mut Context<'_>) -> Poll<Result<Response<Full<Bytes>>, ResponseFault>> {
+        if self.is_foreign {
+            return Poll::Ready(foreign_coding(self.alloc));
+        }
         let Some(exchange) = &mut self.exchange else {
             return Poll::Ready(Err(ResponseFault::OutOfMemory));
         };
@@ -70,6 +82,13 @@ where
             Poll::Ready(Ok(reply)) => Poll::Ready(response_to(self.alloc, reply)),
         }
     }
+}
+
+/// The response to a request whose body is coded in a way that isn't served.
+fn foreign_coding(alloc: Global) -> Result<Response<Full<Bytes>>, ResponseFault>
+    ensures { IfOk result (IsResponseTo foreign_coding_reply) }
+{
+    response_to(alloc, foreign_coding_reply(alloc)?)
 }
 
 /// What comes of a request on the account's port.

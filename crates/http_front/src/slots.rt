@@ -4,18 +4,40 @@ ghost use Rattle.std.specs.Prelude.{◌≡◌, ◌+◌, ◌<◌, nat_lt, IfOk, I
 ghost use Rattle.http_front.specs.Places.{Places};
 
 use crate::HostFault;
+use crate::pulse::{Pulse, patience};
 use futures::channel::oneshot::Sender;
 use std::alloc::{AllocError, Global};
 use std::marker::Model;
 use std::sync::{Arc, Mutex, Wait};
 use std::thread::{JoinHandle, Threads};
 
-/// A connection's thread, and the signals that end it.
+/// A connection's thread, the signals that end it, and where it tells how it stands.
 #[derive(Drop)]
 pub(crate) struct Running {
     pub(crate) thread: JoinHandle<()>,
     pub(crate) soft: Option<Sender<()>>,
     pub(crate) hard: Option<Sender<()>>,
+    pub(crate) pulse: Arc<Pulse>,
+    // What it had told at the last look, and at how many looks since it had told nothing else.
+    pub(crate) told: u64,
+    pub(crate) looks: u32,
+}
+
+impl Running {
+    /// Looks whether the connection has stood still for as long as it may, at one look a second.
+    fn has_stood_too_long(&mut self) -> bool {
+        let told = self.pulse.told();
+        if told != self.told {
+            self.told = told;
+            self.looks = 0;
+            return false;
+        }
+        self.looks = self.looks.saturating_add(1);
+        match patience(told) {
+            Some(seconds) => self.looks >= seconds,
+            None => false,
+        }
+    }
 }
 
 /// A place of one connection after another, which all count in its tally: so a tally is never lost,
@@ -177,6 +199,23 @@ impl<Y: Drop> Slots<Y> {
             };
             if let Some(sender) = sender {
                 let _ = sender.send(());
+            }
+        }
+    }
+
+    /// Tells each connection to end at once that has stood still for as long as it may: so nobody keeps
+    /// a place who asks for nothing. Called once a second.
+    pub(crate) fn end_the_idle(&mut self)
+        ensures { self.new ≡ self.old }
+    {
+        for slot in self.slots.iter_mut() {
+            let Some(running) = &mut slot.running else {
+                continue;
+            };
+            if running.has_stood_too_long()
+                && let Some(hard) = running.hard.take()
+            {
+                let _ = hard.send(());
             }
         }
     }

@@ -1,8 +1,11 @@
 //! A socket whose end is seen while nobody reads it: what came meanwhile is kept for the next read.
+//! It notes whether it moves, and what is waited for.
 
 ghost use Rattle.std.specs.Prelude.{⊤};
-ghost use Rattle.futures.specs.Task.{Keeps};
+ghost use Rattle.futures.specs.Poll.{OnPending};
+ghost use Rattle.futures.specs.Task.{IsArmed, Keeps};
 
+use crate::pulse::{Awaited, Pulse};
 use bytes::BytesMut;
 use futures::task::{Context, Poll};
 use std::alloc::{AllocError, Global};
@@ -15,10 +18,53 @@ use tokio::net::TcpStream;
 /// How many bytes are read ahead of the one who reads the socket.
 const MOST_AHEAD: usize = 65_536;
 
+/// How many bytes are read and thrown away behind an answer that ends the connection, and in one go.
+const MOST_DRAINED: u64 = 67_108_864;
+
+const DRAINED_AT_ONCE: usize = 16_384;
+
 #[derive(Drop)]
 struct Socket {
     stream: TcpStream,
     ahead: BytesMut,
+    // How often bytes came or went, counted on from 0 past its greatest number.
+    moves: u32,
+    // Whether nothing has come since something went out.
+    has_answered: bool,
+    // Whether the connection has asked in this turn for what the socket has not.
+    is_awaited: bool,
+    drained: u64,
+}
+
+impl Socket {
+    /// Notes a read, of so many bytes.
+    fn note_read(&mut self, count: usize) {
+        if count > 0 {
+            self.moves = self.moves.wrapping_add(1);
+            self.has_answered = false;
+        }
+    }
+
+    /// Notes what came of an attempt to read.
+    fn note_reading(&mut self, polled: &Poll<io::Result<usize>>) {
+        match polled {
+            Poll::Ready(Ok(count)) => self.note_read(*count),
+            Poll::Ready(Err(_)) => {}
+            Poll::Pending => self.is_awaited = true,
+        }
+    }
+
+    /// Notes what came of an attempt to write.
+    fn note_writing(&mut self, polled: &Poll<io::Result<usize>>) {
+        match polled {
+            Poll::Ready(Ok(_)) => {
+                self.moves = self.moves.wrapping_add(1);
+                self.has_answered = true;
+            }
+            Poll::Ready(Err(_)) => {}
+            Poll::Pending => self.is_awaited = true,
+        }
+    }
 }
 
 /// One of the two holders of a connection's socket: the connection itself, and who watches for the
@@ -34,6 +80,10 @@ impl Wire {
         let socket = Socket {
             stream,
             ahead: BytesMut::new(alloc),
+            moves: 0,
+            has_answered: false,
+            is_awaited: false,
+            drained: 0,
         };
         let socket = Rc::new(alloc, RefCell::new(socket))?;
         let other = socket.clone()?;
@@ -58,6 +108,62 @@ impl Wire {
             Poll::Pending => Poll::Pending,
         }
     }
+
+    /// Ready once the peer has ended its side, or the socket failed; or where `MOST_DRAINED` bytes
+    /// came, which are thrown away. A socket that is closed with bytes unread resets the connection,
+    /// and the peer may then lose the answer that it has not read yet (RFC 9112, section 9.6).
+    pub(crate) fn poll_drained(&self, cx: &mut Context<'_>) -> Poll<()>
+        ensures registered { OnPending result (IsArmed cx.new) }
+        ensures kept { Keeps cx.old cx.new }
+    {
+        let Ok(mut guard) = self.socket.try_borrow_mut() else {
+            return Poll::Ready(());
+        };
+        let socket = &mut *guard;
+        if socket.drained >= MOST_DRAINED {
+            return Poll::Ready(());
+        }
+        let mut thrown_away = [0; DRAINED_AT_ONCE];
+        match socket.stream.poll_read(cx, &mut thrown_away) {
+            Poll::Ready(Ok(count)) if count > 0 => {
+                socket.note_read(count);
+                socket.drained = socket.drained.saturating_add(count as u64);
+                cx.yield_now()
+            }
+            Poll::Ready(_) => Poll::Ready(()),
+            Poll::Pending => Poll::Pending,
+        }
+    }
+
+    /// Begins a turn of the connection, in which nothing has been asked for yet.
+    pub(crate) fn begin_turn(&self) {
+        if let Ok(mut socket) = self.socket.try_borrow_mut() {
+            socket.is_awaited = false;
+        }
+    }
+
+    /// Tells how the connection stands at the end of a turn: it waits for its peer where it asked the
+    /// socket for more than was there.
+    pub(crate) fn end_turn(&self, pulse: &Pulse) {
+        let Ok(socket) = self.socket.try_borrow_mut() else {
+            return;
+        };
+        let awaited = if !socket.is_awaited {
+            Awaited::Answer
+        } else if socket.has_answered {
+            Awaited::Next
+        } else {
+            Awaited::Request
+        };
+        pulse.tell(socket.moves, awaited);
+    }
+
+    /// Tells that the connection waits for its peer's end.
+    pub(crate) fn await_end(&self, pulse: &Pulse) {
+        if let Ok(socket) = self.socket.try_borrow_mut() {
+            pulse.tell(socket.moves, Awaited::End);
+        }
+    }
 }
 
 impl AsyncRead for Wire {
@@ -78,9 +184,12 @@ impl AsyncRead for Wire {
         if count > 0 {
             buf[..count].copy_from_slice(&socket.ahead.as_slice()[..count]);
             socket.ahead.advance(count);
+            socket.note_read(count);
             return Poll::Ready(Ok(count));
         }
-        socket.stream.poll_read(cx, buf)
+        let polled = socket.stream.poll_read(cx, buf);
+        socket.note_reading(&polled);
+        polled
     }
 }
 
@@ -96,7 +205,9 @@ impl AsyncWrite for Wire {
             return cx.yield_now();
         };
         let socket = &mut *guard;
-        socket.stream.poll_write(cx, buf)
+        let polled = socket.stream.poll_write(cx, buf);
+        socket.note_writing(&polled);
+        polled
     }
 
     fn poll_flush(&mut self, _cx: &mut Context<'_>) -> Poll<io::Result<()>> {

@@ -1,4 +1,4 @@
-use Rattle.http_front.proofs.loopback.serve.Given as goal
+use Rattle.http_front_tests.proofs.loopback.serve.Given as goal
 
 abbrev pub ghosts-run-S-Setup : goal.ghosts-run-S-Setup
 ghosts-run-S-Setup g a = record { config = a.plan.config }

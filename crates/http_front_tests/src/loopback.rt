@@ -2,8 +2,8 @@
 
 ghost use Rattle.std.specs.Prelude.{◌≡◌, ◌^◌};
 
-use crate::{Host, HostFault, Hosted, Machine, Plan};
 use account_lock::Setup;
+use http_front::{Host, HostFault, Hosted, Machine, Plan};
 use lambda_wire::read_config;
 use long_poll::Clock;
 use std::alloc::{AllocError, Global};

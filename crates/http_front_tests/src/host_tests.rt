@@ -1,8 +1,8 @@
 //! The server over loopback, on ports from 21000 on.
 
-use crate::HostFault;
 use crate::loopback::{ALL_PARTS, Client, Left, Server, ask, call, comes_to, serve};
 use arn_ids::ConfigFault;
+use http_front::HostFault;
 use std::alloc::Global;
 use std::io;
 use std::net::{IpAddr, Ipv4Addr, SocketAddr, TcpListener};

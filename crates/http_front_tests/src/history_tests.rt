@@ -1,7 +1,5 @@
-//! The text of a history as a body, and replies as responses.
+//! The text of a history as a body.
 
-use crate::HistoryBody;
-use crate::response::response_to;
 use account_book::Refusal;
 use account_lock::{Look, Refused};
 use arn_ids::FnNo;
@@ -9,7 +7,8 @@ use call_model::{Call, Stats, Ticket};
 use futures::executor::block_on;
 use http_body::Body;
 use http_body_util::BodyExt;
-use lambda_wire::{InvokeFault, Reply, fault_reply, invoke_fault_reply};
+use http_front::HistoryBody;
+use lambda_wire::Reply;
 use long_poll::{OneShotBell, Service};
 use std::alloc::{AllocError, Global};
 use std::io;
@@ -157,22 +156,5 @@ fn history_without_memory(rt: HostRuntime) -> Result<(), Fail> {
         read.err().map(|fault| fault.kind()),
         Some(io::ErrorKind::OutOfMemory)
     );
-    Ok(())
-}
-
-#[test]
-fn replies_as_responses(rt: HostRuntime) -> Result<(), Fail> {
-    let alloc = rt.alloc();
-    let reply = fault_reply(alloc, 404, "No such resource", "NotFound")?;
-    let response = response_to(alloc, reply)?;
-    assert_eq!(rt; response.status().as_u16(), 404);
-    let kind = response
-        .headers()
-        .get("content-type")
-        .and_then(|value| value.to_str().ok());
-    assert_eq!(rt; kind, Some("application/json"));
-    let (_, body) = response.into_parts();
-    let size = body.size_hint().exact();
-    assert_eq!(rt; size, Some(58));
     Ok(())
 }

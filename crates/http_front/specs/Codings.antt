@@ -1,0 +1,24 @@
+-- The transfer codings of a request, and what a request with others is answered (RFC 9112, section 6.1).
+use Rattle.std.specs.Prelude.{Bool, true, false, ℕ, List, [], ◌∷◌, ◌++◌, codes}
+use Rattle.std.specs.Str.{str_eq_ignore_ascii_case}
+use Rattle.http.specs.HeaderMap.{get_all}
+use Rattle.http.specs.declared.request.Parts.{Parts}
+use Rattle.http_header.specs.FieldValue.{FieldValue}
+use Rattle.lambda_wire.specs.Headers.{header, json_headers}
+use Rattle.lambda_wire.specs.Replies.{fault_reply}
+use Rattle.lambda_wire.specs.declared.reply.Reply.{Reply}
+
+-- no coding, or `chunked` alone in one field
+abbrev pub is_chunked_at_most : List FieldValue → Bool
+is_chunked_at_most [] = true
+is_chunked_at_most (value ∷ []) = str_eq_ignore_ascii_case value.bytes (codes "chunked")
+is_chunked_at_most (value ∷ other ∷ values) = false
+
+-- The bytes that come of a request's body are its content: the connection takes off `chunked`, and no other coding.
+abbrev pub is_plainly_coded : Parts → Bool
+is_plainly_coded parts = is_chunked_at_most (get_all parts.headers (codes "transfer-encoding"))
+
+-- What any other request is answered, on each port: it becomes no call, and its connection is closed.
+abbrev pub foreign_coding_reply : Reply
+foreign_coding_reply = record (fault_reply 501 (codes "Transfer coding not supported") (codes "NotImplemented"))
+    { headers = json_headers ++ header (codes "connection") (codes "close") ∷ [] }
