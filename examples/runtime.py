@@ -2,14 +2,17 @@
 """A runtime: asks for invocations of one environment, greets whom the payload names, and asks again.
 A runtime that is told 403 or 500 was reset or shut down; this one then starts again, as Lambda would start it.
 
-usage: examples/runtime.py [ADDRESS]   (the environment's: default AWS_LAMBDA_RUNTIME_API, else 127.0.0.1:9001)"""
+usage: examples/runtime.py [MODULE:FUNCTION] [ADDRESS]
+  MODULE:FUNCTION  your own handler of an event, found from the folder you are in (default: one that greets)
+  ADDRESS          the environment's (default: AWS_LAMBDA_RUNTIME_API, else 127.0.0.1:9001)"""
 import http.client
+import importlib
 import json
 import os
 import sys
 import time
 
-ADDRESS = sys.argv[1] if len(sys.argv) > 1 else os.environ.get("AWS_LAMBDA_RUNTIME_API", "127.0.0.1:9001")
+ADDRESS = os.environ.get("AWS_LAMBDA_RUNTIME_API", "127.0.0.1:9001")
 PATH = "/2018-06-01/runtime/invocation/"
 
 
@@ -40,6 +43,16 @@ def serve(connection):
 
 
 def main():
+    global ADDRESS, handler
+    for word in sys.argv[1:]:
+        module, _, name = word.partition(":")
+        if name.isdigit():
+            ADDRESS = word
+        elif name:
+            sys.path.insert(0, os.getcwd())
+            handler = getattr(importlib.import_module(module), name)
+        else:
+            sys.exit(__doc__)
     while True:
         try:
             serve(http.client.HTTPConnection(ADDRESS))

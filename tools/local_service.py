@@ -1,0 +1,218 @@
+"""A `lambda_local serve` of one's own, on free ports: what tools/up and tools/pytest_lambda_local.py have in common.
+
+The program is the one given, else LAMBDA_LOCAL_PROGRAM, else the repository's ./lambda_local. Free ports are the
+system's, or, where LAMBDA_LOCAL_PORTS=FIRST-LAST is set, of that range."""
+import http.client
+import json
+import os
+import random
+import shutil
+import signal
+import socket
+import subprocess
+import tempfile
+import threading
+import time
+
+ROOT = os.path.dirname(os.path.dirname(os.path.realpath(__file__)))
+RUNTIME = "/2018-06-01/runtime/"
+EXTENSION = "/2020-01-01/extension/"
+
+
+class Fault(Exception):
+    """What ends a tool: a status, and a line that says what to do."""
+
+    def __init__(self, status, message):
+        super().__init__(message)
+        self.status = status
+
+
+def program_path(given=None):
+    found = given or os.environ.get("LAMBDA_LOCAL_PROGRAM") or os.path.join(ROOT, "lambda_local")
+    if not shutil.which(found):
+        raise Fault(4, f"{found} is no program: name one by --program or LAMBDA_LOCAL_PROGRAM")
+    return found
+
+
+def ask(port, method, path, body=None, headers={}, timeout=30):
+    """Status, headers (names in lower case) and body of one request on a connection of its own."""
+    connection = http.client.HTTPConnection("127.0.0.1", port, timeout=timeout)
+    try:
+        connection.request(method, path, body, headers)
+        answer = connection.getresponse()
+        return answer.status, {name.lower(): value for name, value in answer.getheaders()}, answer.read()
+    finally:
+        connection.close()
+
+
+def free_ports(count, taken):
+    """So many ports that nobody listens on now, none of those taken."""
+    first, last = 0, 0
+    if words := os.environ.get("LAMBDA_LOCAL_PORTS"):
+        try:
+            first, last = (int(word) for word in words.split("-"))
+            assert 0 < first <= last < 65536
+        except (ValueError, AssertionError):
+            raise Fault(2, f"LAMBDA_LOCAL_PORTS={words}: write it as FIRST-LAST, for example 20000-23999") from None
+    candidates = iter(random.sample(range(first, last + 1), last + 1 - first)) if first else None
+    held, found = [], []
+    try:
+        while len(found) < count:
+            port = next(candidates, None) if candidates else 0
+            if port is None:
+                raise Fault(4, f"LAMBDA_LOCAL_PORTS={words}: not enough of these ports are free, {count} are needed")
+            listener = socket.socket()
+            held.append(listener)
+            try:
+                listener.bind(("127.0.0.1", port))
+            except OSError:
+                if candidates:
+                    continue
+                raise
+            if listener.getsockname()[1] not in taken:
+                found.append(listener.getsockname()[1])
+        return found
+    finally:
+        for listener in held:
+            listener.close()
+
+
+def parked(history):
+    """The polls that wait, as the history has it: the numbers of the environments whose runtime waits, and for each
+    environment how many extensions wait."""
+    waits, ticket = {}, -1
+    for line in history.split("\n")[2:]:
+        words = line.split(" ")
+        if line.startswith("# "):
+            waits.pop(int(words[2]), None)
+        elif line.startswith("## "):
+            ticket += 1
+        elif line:
+            ticket += 1
+            if words[1] in ("next", "ext-next"):
+                waits[ticket] = (words[1], int(words[2]))
+    runtimes = {environment for kind, environment in waits.values() if kind == "next"}
+    extensions = {}
+    for kind, environment in waits.values():
+        if kind == "ext-next":
+            extensions[environment] = extensions.get(environment, 0) + 1
+    return runtimes, extensions
+
+
+class Service:
+    """A running service. Of the configuration, ports of 0 (and an absent `invokePort`) are replaced by free ones."""
+
+    def __init__(self, configuration, program=None, say=lambda line: None):
+        self.program, self.say, self.lines = program_path(program), say, []
+        self.given = configuration
+        self.folder = tempfile.mkdtemp(prefix="lambda_local.")
+        try:
+            for _ in range(5):  # between looking and listening another program can take a port
+                picked = self._choose()
+                if self._start():
+                    return
+                if not picked or not any("network: failed" in line for line in self.lines):
+                    break
+            told = self.lines[-1] if self.lines else f"ended with status {self.process.returncode}"
+            if "network: failed" in told:
+                ports = [self.port] + [port for function in self.configuration["functions"] for port in function["ports"]]
+                told += f" (one of the ports {min(ports)} to {max(ports)} is taken: leave them out, and free ones are used)"
+            raise Fault(self.process.returncode or 4, f"the service did not start: {told}")
+        except BaseException:
+            self.kill()
+            raise
+
+    def _choose(self):
+        configuration = json.loads(json.dumps(self.given))
+        functions = configuration["functions"]
+        given = {configuration.get("invokePort", 0)} | {port for function in functions for port in function["ports"]}
+        wanted = sum(1 for function in functions for port in function["ports"] if port == 0) + (not configuration.get("invokePort"))
+        found = iter(free_ports(wanted, given))
+        if not configuration.get("invokePort"):
+            configuration["invokePort"] = next(found)
+        for function in functions:
+            function["ports"] = [port or next(found) for port in function["ports"]]
+        self.configuration, self.port = configuration, configuration["invokePort"]
+        self.endpoint_url = f"http://127.0.0.1:{self.port}"
+        return wanted
+
+    def _start(self):
+        path = os.path.join(self.folder, "configuration.json")
+        with open(path, "w") as file:
+            json.dump(self.configuration, file)
+        self.lines = []
+        # (in a session of its own, so that a terminal's Ctrl-C does not end it out of order)
+        self.process = subprocess.Popen([self.program, "serve", path], stdin=subprocess.DEVNULL, stdout=subprocess.PIPE,
+                                        stderr=subprocess.PIPE, text=True, errors="replace", start_new_session=True)
+        self.listening = threading.Event()
+        self.reader = threading.Thread(target=self._read, daemon=True)
+        self.reader.start()
+        begun = time.monotonic()
+        while not self.listening.wait(5):
+            self.say(f"waits for the service since {time.monotonic() - begun:.0f} s")
+        if self.listening_line:
+            return True
+        self.process.wait()
+        self.process.stdout.close()
+        self.reader.join(5)
+        return False
+
+    listening_line = False
+
+    def _read(self):
+        self.listening_line = False
+        with self.process.stderr as stream:
+            for line in stream:
+                line = line.rstrip("\n")
+                self.lines.append(line)
+                if line.split(" ")[-1] == "listening":
+                    self.listening_line = True
+                    self.listening.set()
+                elif line.split(" ")[-1] != "stopped":
+                    self.say(line)
+        self.listening.set()
+
+    def stats(self):
+        return json.loads(ask(self.port, "GET", "/_local/stats")[2])
+
+    def history(self):
+        return ask(self.port, "GET", "/_local/history", timeout=300)[2].decode()
+
+    def stop(self, seconds=20):
+        """Stops it in order: its status, and the line with its counts. It is killed after so many seconds."""
+        end = time.monotonic() + seconds
+        while self.process.poll() is None:
+            try:
+                if ask(self.port, "POST", "/_local/stop", timeout=seconds)[0] == 202:
+                    break
+                time.sleep(0.1)  # (no memory for it just now)
+            except (OSError, http.client.HTTPException):
+                time.sleep(0.05)
+            if time.monotonic() > end:
+                break
+        try:
+            self.process.wait(max(0.1, end - time.monotonic()))
+        except subprocess.TimeoutExpired:
+            self.say(f"the service did not end within {seconds} s and is killed")
+            self._kill_group()
+        counts = self.process.stdout.read().strip()
+        self.kill()
+        return self.process.returncode, counts
+
+    def _kill_group(self):
+        if self.process.poll() is None:
+            os.killpg(self.process.pid, signal.SIGKILL)
+            self.process.wait()
+
+    def kill(self):
+        """Ends it in any case, and leaves nothing behind."""
+        if hasattr(self, "process"):
+            self._kill_group()
+            self.process.stdout.close()
+            self.reader.join(5)
+        shutil.rmtree(self.folder, ignore_errors=True)
+
+    def replays(self, history):
+        """Whether the history's replay gives its own answers."""
+        done = subprocess.run([self.program, "replay"], input=history, capture_output=True, text=True)
+        return done.returncode == 0 and done.stdout.splitlines() == [line[2:] for line in history.splitlines() if line.startswith("# ")]
