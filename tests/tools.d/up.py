@@ -137,6 +137,14 @@ def commands():
     up.until("[up] ready")
     time.sleep(0.3)
     check("TERM ends the command", up.end(), (143, []))
+    with tempfile.TemporaryDirectory() as folder:
+        silent = os.path.join(folder, "silent")
+        with open(silent, "w") as file:
+            file.write("#!/bin/sh\nexec sleep 100\n")
+        os.chmod(silent, 0o755)
+        up = Up("--program", silent)
+        time.sleep(1)
+        check("TERM ends it before the service listens", up.end(), (143, []))
     up = Up(environments=64)
     check("64 environments are ready", up.until("[up] ready", 60))
     check("INT ends 64", up.end(signal.SIGINT), (0, []))
