@@ -2,6 +2,7 @@
 
 The program is the one given, else LAMBDA_LOCAL_PROGRAM, else the repository's ./lambda_local. Free ports are the
 system's, or, where LAMBDA_LOCAL_PORTS=FIRST-LAST is set, of that range."""
+import contextlib
 import http.client
 import json
 import os
@@ -43,6 +44,23 @@ def ask(port, method, path, body=None, headers={}, timeout=30):
         return answer.status, {name.lower(): value for name, value in answer.getheaders()}, answer.read()
     finally:
         connection.close()
+
+
+@contextlib.contextmanager
+def undisturbed():
+    """Puts off the signals that end a tool: a process that is started and not known yet could not be ended."""
+    if threading.current_thread() is not threading.main_thread():
+        yield
+        return
+    came = []
+    before = {number: signal.signal(number, lambda number, _: came.append(number)) for number in (signal.SIGTERM, signal.SIGINT, signal.SIGHUP)}
+    try:
+        yield
+    finally:
+        for number, handler in before.items():
+            signal.signal(number, handler)
+        for number in came:
+            signal.raise_signal(number)
 
 
 def free_ports(count, taken):
@@ -142,11 +160,12 @@ class Service:
             json.dump(self.configuration, file)
         self.lines = []
         # (in a session of its own, so that a terminal's Ctrl-C does not end it out of order)
-        self.process = subprocess.Popen([self.program, "serve", path], stdin=subprocess.DEVNULL, stdout=subprocess.PIPE,
-                                        stderr=subprocess.PIPE, text=True, errors="replace", start_new_session=True)
-        self.listening = threading.Event()
-        self.reader = threading.Thread(target=self._read, daemon=True)
-        self.reader.start()
+        with undisturbed():
+            self.process = subprocess.Popen([self.program, "serve", path], stdin=subprocess.DEVNULL, stdout=subprocess.PIPE,
+                                            stderr=subprocess.PIPE, text=True, errors="replace", start_new_session=True)
+            self.listening = threading.Event()
+            self.reader = threading.Thread(target=self._read, daemon=True)
+            self.reader.start()
         begun = time.monotonic()
         while not self.listening.wait(5):
             self.say(f"waits for the service since {time.monotonic() - begun:.0f} s")
@@ -200,9 +219,12 @@ class Service:
         return self.process.returncode, counts
 
     def _kill_group(self):
-        if self.process.poll() is None:
-            os.killpg(self.process.pid, signal.SIGKILL)
-            self.process.wait()
+        """Where the launcher builds the program, it cleans up when it is asked to end."""
+        for number in (signal.SIGTERM, signal.SIGKILL):
+            if self.process.poll() is None:
+                os.killpg(self.process.pid, number)
+                with contextlib.suppress(subprocess.TimeoutExpired):
+                    self.process.wait(3 if number == signal.SIGTERM else None)
 
     def kill(self):
         """Ends it in any case, and leaves nothing behind."""

@@ -7,11 +7,13 @@ coverage and monkeypatches work. As a pytest plugin (PYTHONPATH=tools pytest -p 
 
 and without pytest: `with LambdaLocal(greet=handler) as service: ..`. A handler takes the event, or the event and the
 headers of its invocation. The end stops the service and checks its counts, and that its history replays to itself.
+The report of a failed test has the history and its timeline, and names the files where both stand whole.
 The program is LAMBDA_LOCAL_PROGRAM, else the repository's ./lambda_local."""
 import http.client
 import inspect
 import json
 import os
+import subprocess
 import sys
 import threading
 import time
@@ -155,19 +157,36 @@ except ImportError:
     pytest = None
 
 if pytest:
+    TIMELINE = os.path.join(os.path.dirname(os.path.realpath(__file__)), "timeline")
+    SHOWN = 100  # lines of each in a report
+
     @pytest.fixture
-    def lambda_local(request):
+    def lambda_local(request, tmp_path_factory):
         service = LambdaLocal()
-        request.node.lambda_local = service
+        request.node.lambda_local = (service, tmp_path_factory)
         yield service
         service.stop()
+
+    def last_lines(text, path):
+        lines = text.splitlines()
+        return "\n".join([*([f".. {len(lines) - SHOWN} lines before these: {path}"] if len(lines) > SHOWN else []), *lines[-SHOWN:]])
+
+    def sections(history, folder):
+        """What a report says of a history, which stands whole in the folder, as does a page with its timeline."""
+        path, page = folder / "history.txt", folder / "timeline.html"
+        path.write_text(history)
+        yield f"lambda_local history: {path}", last_lines(history, path)
+        drawn = subprocess.run([sys.executable, TIMELINE, "-o", page, path], capture_output=True, text=True)
+        told = subprocess.run([sys.executable, TIMELINE, path], capture_output=True, text=True)
+        yield f"lambda_local timeline: {page}", last_lines(told.stdout + told.stderr + drawn.stderr, page)
 
     @pytest.hookimpl(hookwrapper=True)
     def pytest_runtest_makereport(item, call):
         outcome = yield
-        report, service = outcome.get_result(), getattr(item, "lambda_local", None)
-        if report.failed and service:
+        report = outcome.get_result()
+        service, folders = getattr(item, "lambda_local", (None, None))
+        if report.failed and service and service.service:
             try:
-                report.sections.append(("lambda_local history", service.history()))
+                report.sections += sections(service.history(), folders.mktemp("lambda_local"))
             except (OSError, http.client.HTTPException) as fault:
                 report.sections.append(("lambda_local history", f"not to be had: {fault}"))

@@ -61,12 +61,12 @@ def phases(trace, environment):
     return [event["name"] for event in found]
 
 
-def draw(name, script):
+def draw(name, script, *arguments):
     """All four forms of a script's timeline, checked for their grammar and for a span a call. Gives the trace."""
     count = calls_of(script)
-    status, text, said = run("--text", script=script)
+    status, text, said = run("--text", *arguments, script=script)
     check(f"{name}: text", status == 0 and said == "", said)
-    status, trace, said = run("--trace", script=script)
+    status, trace, said = run("--trace", *arguments, script=script)
     check(f"{name}: trace", status == 0, said)
     try:
         spans = events(trace, "call")
@@ -82,7 +82,7 @@ def draw(name, script):
         check(f"{name}: the trace is JSON", False, str(fault))
         return trace
     for form in ("html", "svg"):
-        status, page, said = run(f"--{form}", script=script)
+        status, page, said = run(f"--{form}", *arguments, script=script)
         check(f"{name}: {form}", status == 0 and said == "", said)
         try:
             tree = ElementTree.fromstring(page.replace("<!DOCTYPE html>\n", ""))
@@ -137,6 +137,7 @@ ROWS = (
      "Starting Closing:SPINDOWN Off"),
     ("odd texts", ONE, "0 register 1 =%3c/title%3e<script>\"'&]]> i -\n1 next 1\n2 invoke f q =trace =%00%1b[31m%e2%82%ac%80<b>&amp;\n"
      "3 ext-next 1 1\n4 response 1 1 =\xe9<", "Starting Busy"),
+    ("the greatest moments", ONE, "253402300799999 next 1\n253402300800000 invoke f - - =1\n9007199254740991 tick", "Starting Idle Busy Closing:TIMEOUT Starting"),
     ("nothing called", ONE, "", ""),
 )
 
@@ -150,6 +151,45 @@ def rows():
         check(f"{name}: the phases", went == wanted, " ".join(went))
         resets = [event["name"].replace("reset: ", "Closing:") for event in events(trace, "reset") if event["pid"] == 11]
         check(f"{name}: a reset for each Closing", resets == [phase for phase in wanted if phase.startswith("Closing")], str(resets))
+
+
+def written(parts):
+    """The script that the parts of a case make; none where there are parts of other kinds."""
+    made = []
+    for title, text in parts:
+        word, _, argument = title.partition(" ")
+        if word == "script":
+            made.append(text)
+        elif word == "open":
+            made.append(text[:-1])
+        elif word == "repeat":
+            made.append(text * int(argument))
+        elif word == "signs":
+            made.append("#" * int(argument))
+        elif word == "bytes":
+            made.append(bytes.fromhex(argument).decode("latin-1"))
+        else:
+            return None
+    return "".join(made)
+
+
+def worked():
+    """The cases of worked examples that are scripts, with the answers that their tables want of them."""
+    drawn = 0
+    with tempfile.TemporaryDirectory() as folder:
+        wanted = os.path.join(folder, "answers")
+        for path in sorted(glob.glob(os.path.join(ROOT, "crates", "worked_examples", "data", "*.txt"))):
+            for case in re.split(r"^== ", open(path).read(), flags=re.M)[1:]:
+                name, *rest = re.split(r"^-- (.*)\n", case, flags=re.M)
+                *parts, (_, answers) = zip(rest[::2], rest[1::2])
+                script = written(parts)
+                answers = answers.removesuffix("\n\n") + "\n" if answers.endswith("\n\n") else answers
+                if script and len(script) < 100_000 and re.fullmatch(r"(\d+ \d+ [a-z-]+.*\n|refused JournalFull\n)*", answers):
+                    drawn += 1
+                    with open(wanted, "w") as file:
+                        file.write(answers)
+                    draw(f"{os.path.basename(path)}, {name.strip()}", script, "--answers", wanted, "--limit", "100000")
+    check("worked examples are drawn", drawn > 20, str(drawn))
 
 
 def random_script(seed, count=250):
@@ -411,22 +451,21 @@ def history_lines(count):
 
 
 def measured(arguments, pieces):
-    """Runs the tool over what is piped into it: its status, its greatest memory in MB, and the seconds."""
-    begun = time.monotonic()
+    """Runs the tool over what is piped into it: its status, its greatest memory in MB, and the seconds of the processor."""
     process = subprocess.Popen([TOOL, *arguments], stdin=subprocess.PIPE, env=ENVIRONMENT, stderr=subprocess.DEVNULL)
     for piece in pieces:
         process.stdin.write(piece.encode())
     process.stdin.close()
     _, status, used = os.wait4(process.pid, 0)
     process.returncode = os.waitstatus_to_exitcode(status)
-    return process.returncode, used.ru_maxrss / 1024, time.monotonic() - begun
+    return process.returncode, used.ru_maxrss / 1024, used.ru_utime + used.ru_stime
 
 
 def long_ones():
     for form in ("text", "trace", "html"):
         small = measured((f"--{form}", "-o", "/dev/null"), history_lines(50_000))
         large = measured((f"--{form}", "-o", "/dev/null"), history_lines(1_000_000))
-        print(f"{form}: 50,000 lines {small[1]:.0f} MB, 1,000,000 lines {large[1]:.0f} MB in {large[2]:.0f} s")
+        print(f"{form}: 50,000 lines {small[1]:.0f} MB, 1,000,000 lines {large[1]:.0f} MB in {large[2]:.0f} s of the processor")
         check(f"a million lines as {form}", small[0] == large[0] == 0 and large[1] < 64 and large[1] < small[1] + 4,
               f"{small[1]:.0f} and {large[1]:.0f} MB")
     calls = [ONE.replace('"region"', '"maxEntries":4000000000,"region"') + "\n"]
@@ -436,9 +475,11 @@ def long_ones():
 
 
 def main():
-    for part in (examples, rows, random_scripts, history, service, faults, windows, pictures, long_ones):
+    for part in (examples, rows, worked, random_scripts, history, service, faults, windows, pictures, long_ones):
         if len(sys.argv) == 1 or part.__name__ in sys.argv[1:]:
+            before = passed
             part()
+            print(f"ok   {part.__name__}: {passed - before}", flush=True)
     print(f"{passed} passed, {failed} failed")
     return 1 if failed else 0
 

@@ -1,5 +1,5 @@
 #!/usr/bin/env python3
-"""Checks tools/up, tools/pytest_lambda_local.py and tools/from_template against real processes. The program is
+"""Checks tools/up and tools/from_template against real processes. The program is
 LAMBDA_LOCAL_PROGRAM, else ./lambda_local. Ends with 'N passed, M failed'."""
 import json
 import os
@@ -14,12 +14,12 @@ import urllib.request
 
 ROOT = os.path.dirname(os.path.dirname(os.path.dirname(os.path.realpath(__file__))))
 TOOLS = os.path.join(ROOT, "tools")
+FROM_TEMPLATE = os.path.join(TOOLS, "from_template")
 sys.path.insert(0, TOOLS)
 from pytest_lambda_local import FunctionError, LambdaLocal  # noqa: E402
 
 passed = failed = 0
 HANDLER = '''import os, sys, time
-if os.path.exists("broken"): sys.exit(3)
 def run(event):
     do = event.get("do")
     if do == "hang": time.sleep(600)
@@ -43,12 +43,14 @@ def check(name, seen, wanted=True):
 class Up:
     """tools/up over functions in a folder of their own."""
 
-    def __init__(self, *options, command=(), environments=1, **members):
+    def __init__(self, *options, command=(), environments=1, app=HANDLER, **members):
         self.folder = tempfile.TemporaryDirectory()
         self.at = self.folder.name
         with open(os.path.join(self.at, "app.py"), "w") as file:
-            file.write(HANDLER)
-        function = {"name": "f", "command": [sys.executable, os.path.join(ROOT, "examples", "runtime.py"), "app:run"],
+            file.write(app)
+        # (what is broken ends at once, also on a machine where Python takes a second to start)
+        runtime = ["sh", "-c", 'test ! -e broken || exit 3; exec "$0" "$@"', sys.executable, os.path.join(ROOT, "examples", "runtime.py"), "app:run"]
+        function = {"name": "f", "command": runtime,
                     "environments": environments, "variables": {"GREETING": "hello"}, "timeout": 1, **members}
         with open(os.path.join(self.at, "up.json"), "w") as file:
             json.dump({"functions": [function]}, file)
@@ -91,6 +93,7 @@ class Up:
             status = "hangs"
         self.process.wait()
         self.reader.join(10)
+        self.output = self.process.stdout.read()
         self.process.stdout.close()
         self.process.stderr.close()
         left = [pid for pid in filter(str.isdigit, os.listdir("/proc")) if self.lives(pid)]
@@ -140,23 +143,30 @@ def commands():
     with tempfile.TemporaryDirectory() as folder:
         silent = os.path.join(folder, "silent")
         with open(silent, "w") as file:
-            file.write("#!/bin/sh\nexec sleep 100\n")
+            file.write('#!/bin/sh\n: > "$0.started"\nexec sleep 100\n')
         os.chmod(silent, 0o755)
         up = Up("--program", silent)
-        time.sleep(1)
+        for _ in range(3000):
+            if os.path.exists(silent + ".started"):
+                break
+            time.sleep(0.02)
         check("TERM ends it before the service listens", up.end(), (143, []))
     up = Up(environments=64)
     check("64 environments are ready", up.until("[up] ready", 60))
     check("INT ends 64", up.end(signal.SIGINT), (0, []))
 
 
+def extension_that(seconds):
+    """The command of an extension that crashes after so many seconds."""
+    return [sys.executable, "-c", "import http.client,os,time\nc=http.client.HTTPConnection(os.environ['AWS_LAMBDA_RUNTIME_API'])\n"
+            "c.request('POST','/2020-01-01/extension/register','{\"events\":[]}',{'Lambda-Extension-Name':'x'})\n"
+            "a=c.getresponse();a.read();i=a.headers['Lambda-Extension-Identifier']\n"
+            f"import threading;threading.Timer({seconds},os._exit,[5]).start()\n"
+            "c.request('GET','/2020-01-01/extension/event/next',headers={'Lambda-Extension-Identifier':i})\nc.getresponse().read()"]
+
+
 def extensions():
-    crashing = [sys.executable, "-c", "import http.client,os,time\nc=http.client.HTTPConnection(os.environ['AWS_LAMBDA_RUNTIME_API'])\n"
-                "c.request('POST','/2020-01-01/extension/register','{\"events\":[]}',{'Lambda-Extension-Name':'x'})\n"
-                "a=c.getresponse();a.read();i=a.headers['Lambda-Extension-Identifier']\n"
-                "import threading;threading.Timer(1.5,os._exit,[5]).start()\n"
-                "c.request('GET','/2020-01-01/extension/event/next',headers={'Lambda-Extension-Identifier':i})\nc.getresponse().read()"]
-    up = Up(extensions={"x": crashing})
+    up = Up(extensions={"x": extension_that(1.5)})
     check("it is ready with an extension", up.until("[up] ready"))
     check("an extension that crashes is told", up.until("Extension exited with error: exit status 5", 10))
     check("and its environment serves again", isinstance(up.invoke()[0], int))
@@ -173,25 +183,21 @@ def reload():
     second = up.invoke()[0]
     check("a new process serves the changed file", isinstance(second, int) and second != first)
     check("nothing is left after a reload", up.end(), (0, []))
+
+
+def debug():
     up = Up("--debug", "f")
     check("a function to debug begins", up.until("may stop in its Init", 10))
     check("and serves", isinstance(up.invoke()[0], int))
     check("nothing is left of it", up.end(), (0, []))
-
-
-def plugin():
-    def fails(event):
-        raise ValueError("no")
-    with LambdaLocal(double=lambda event: event * 2, fails=fails) as service:
-        check("handlers in the test's process", [service.invoke("double", number) for number in range(5)], [0, 2, 4, 6, 8])
-        try:
-            service.invoke("fails", 1)
-            check("a handler's fault is told", False)
-        except FunctionError as fault:
-            check("a handler's fault is told", fault.report, {"errorMessage": "no", "errorType": "ValueError"})
-        check("it settles", (service.settled(), service.stats()["admitted"]), (True, 6))
-        check("the history is there", service.history().startswith("form 2\n"))
-    check("the service has ended", service.service.process.returncode, 0)
+    # As at a breakpoint, for longer than an Init has (10 s) and than others are waited for.
+    held = "import time; time.sleep(12)\n"
+    up = Up("--debug", "f", "--ready", "5", command=["--", "sh", "-c", 'curl -s -d "{}" "$AWS_ENDPOINT_URL_LAMBDA/2015-03-31/functions/f/invocations"'],
+            extensions={"x": extension_that(1000)}, app=held + HANDLER)
+    check("a command waits for a function that is debugged", up.until("waits for f/1, which is being debugged", 20))
+    status, left = up.end(None)
+    check("it runs once that has left its Init, and an extension came after it", (status, left, up.output.isdigit()), (0, [], True))
+    check("no Init timed out", any("shuts down" in line for line in up.lines), False)
 
 
 def templates():
@@ -206,7 +212,7 @@ Resources:
   One: {Type: AWS::Serverless::Function, Properties: {CodeUri: src/, Handler: app.run, Layers: [x], Environment: {Variables: {B: !Ref Table}}}}
   Two: {Type: AWS::Lambda::Function, Properties: {FunctionName: !Ref Name, Runtime: nodejs20.x, Handler: i.h, ReservedConcurrentExecutions: 3}}
 """
-    one = {"name": "One", "handler": "app.run", "timeout": 5, "environments": 1, "variables": {"A": "1"}, "directory": "src/",
+    one = {"name": "One", "handler": "app.run", "timeout": 5, "environments": 1, "variables": {"A": "1"}, "directory": "src",
            "command": ["python3", "-m", "awslambdaric", "app.run"]}
     two = {"name": "given", "handler": "i.h", "reserved": 3, "environments": 3, "command": ["npx", "aws-lambda-ric", "i.h"]}
     less = """service: shop
@@ -214,21 +220,64 @@ provider: {name: aws, runtime: python3.12}
 functions: {pay: {handler: app.pay, events: [x]}}
 """
     pay = {"name": "shop-dev-pay", "handler": "app.pay", "timeout": 6, "environments": 1, "command": ["python3", "-m", "awslambdaric", "app.pay"]}
-    cdk = json.dumps({"Resources": {"F1": {"Type": "AWS::Lambda::Function", "Properties": {"Handler": "bootstrap", "Runtime": "provided.al2023"}}}})
+    cdk = json.dumps({"Resources": {"F1": {"Type": "AWS::Lambda::Function", "Metadata": {"aws:asset:path": "asset.1"}, "Properties": {
+        "Handler": "bootstrap", "Runtime": "provided.al2023", "Code": {"S3Bucket": {"Ref": "x"}}}}}})
+    f1 = {"name": "F1", "handler": "bootstrap", "environments": 1, "command": ["./bootstrap"], "directory": "asset.1"}
     with tempfile.TemporaryDirectory() as folder:
         for name, text, wanted, words in (("SAM", sam, [one, two], ["Table", "Layers", "variable B"]), ("Serverless", less, [pay], ["events"]),
-                                          ("CDK", cdk, [{"name": "F1", "handler": "bootstrap", "environments": 1, "command": ["./bootstrap"]}], []),
+                                          ("CDK", cdk, [f1], ["asset.1 is no folder"]),
                                           ("a name by expression", sam.replace("!Ref Name", "!Ref Table"), None, ["FunctionName"]), ("no template", "[1]", None, ["no template"])):
             path = os.path.join(folder, "template")
             with open(path, "w") as file:
                 file.write(text)
-            done = subprocess.run([os.path.join(TOOLS, "from_template"), path], capture_output=True, text=True)
-            check(f"from_template: {name}", json.loads(done.stdout)["functions"] if done.returncode == 0 else done.returncode, wanted or 2)
+            made = os.path.join(folder, "up.json")
+            done = subprocess.run([FROM_TEMPLATE, path, "-o", made], capture_output=True, text=True)
+            check(f"from_template: {name}", functions_of(made) if done.returncode == 0 else done.returncode, wanted or 2)
             check(f"from_template: {name}, what is named", [word for word in words if word not in done.stderr], [])
 
 
+def functions_of(path):
+    with open(path) as file:
+        return json.load(file)["functions"]
+
+
+def places():
+    """A template's function is found from wherever its UP.json stands, and wherever tools/up is started."""
+    try:
+        import samtranslator.yaml_helper  # noqa: F401
+    except ImportError:
+        return print("skip the SAM translator is not here")
+    with tempfile.TemporaryDirectory() as root:
+        for name in ("app/src", "made", "else where"):
+            os.makedirs(os.path.join(root, name))
+        bootstrap = os.path.join(root, "app", "src", "bootstrap")
+        with open(bootstrap, "w") as file:
+            file.write(f"#!/bin/sh\nexec {sys.executable} {ROOT}/examples/runtime.py app:run\n")
+        os.chmod(bootstrap, 0o755)
+        with open(os.path.join(root, "app", "src", "app.py"), "w") as file:
+            file.write("import os\ndef run(event): return os.getcwd()\n")
+        with open(os.path.join(root, "app", "template.yaml"), "w") as file:
+            file.write("Resources:\n  F: {Type: AWS::Serverless::Function, Properties: {CodeUri: ./src, Handler: x, Runtime: provided.al2023}}\n"
+                       "  G: {Type: AWS::Serverless::Function, Properties: {CodeUri: s3://far/away, Handler: x, Runtime: provided.al2023}}\n")
+        shell = 'cd "$1" && "$2" "$3" '
+        for name, where, template, words, wanted in (
+            ("beside it", "app", "template.yaml", "-o ../app/up.json", ["src", None]), ("elsewhere", "else where", "../app/template.yaml", "-o ../made/up.json", ["../app/src", "../app"]),
+            ("through a pipe", "else where", "../app/template.yaml", "| cat > ../made/up.json", [os.path.join(root, "app", "src"), os.path.join(root, "app")]),
+            ("by a redirection", "made", "../app/template.yaml", "> up.json", ["../app/src", "../app"])):
+            subprocess.run(["sh", "-c", shell + words, "sh", os.path.join(root, where), FROM_TEMPLATE, template], stderr=subprocess.DEVNULL)
+            made = os.path.join(root, "app" if name == "beside it" else "made", "up.json")
+            check(f"folders of an UP.json {name}", [function.get("directory") for function in functions_of(made)], wanted)
+        made = os.path.join(root, "made", "up.json")
+        with_code = functions_of(made)[:1]
+        with open(made, "w") as file:
+            json.dump({"functions": with_code}, file)
+        done = subprocess.run([os.path.join(TOOLS, "up"), "../made/up.json", "--", "sh", "-c", 'curl -s -d "{}" "$AWS_ENDPOINT_URL_LAMBDA/2015-03-31/functions/F/invocations"'],
+                              cwd=os.path.join(root, "else where"), capture_output=True, text=True, timeout=120)
+        check("tools/up runs it from a third folder", (done.returncode, done.stdout), (0, json.dumps(os.path.join(root, "app", "src"))))
+
+
 def main():
-    for part in (templates, plugin, runtimes, commands, extensions, reload):
+    for part in (templates, places, runtimes, commands, extensions, reload, debug):
         try:
             part()
         except Exception as fault:
