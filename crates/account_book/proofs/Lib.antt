@@ -1,3 +1,4 @@
+pub mod Awaiting
 pub mod BeforeCalls
 pub mod Concerned
 pub mod EntryAnswers

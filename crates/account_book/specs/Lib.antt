@@ -15,3 +15,4 @@ pub mod Run
 pub mod Reached
 pub mod HistoryText
 pub mod ReplyText
+pub mod Premature

@@ -17,6 +17,7 @@ ghost use Rattle.script.specs.Limits.{IsWithin};
 ghost use Rattle.account_book.specs.Answering.{most_answers, answers_in};
 ghost use Rattle.account_book.specs.Books.{life};
 ghost use Rattle.account_book.specs.HistoryText.{opening_text};
+ghost use Rattle.account_book.specs.Premature.{premature};
 ghost use Rattle.account_book.specs.Reached.{IsReached};
 ghost use Rattle.account_book.specs.ReplyText.{reply_text};
 ghost use Rattle.account_book.specs.Room.{wanted};
@@ -312,6 +313,22 @@ impl Book {
         ensures { result ≡ is_some (first (due self.now.config self.now.history now)) }
     {
         self.journal.first_due(now).is_some()
+    }
+
+    /// Whether a call is premature, handed in at a moment in milliseconds: an Invoke that would be
+    /// throttled, while an environment that stands in its way has answered its invocation and is not
+    /// ready again. None is premature after a Stop, where the function's reservation is 0, or where an
+    /// environment is due, which may end what stands in the way.
+    #[tactic(auto, unfolding(crate::specs::Premature::premature))]
+    pub fn is_premature(&self, now: u64, call: &Call) -> bool
+        requires within { IsWithin self.now.config call.now }
+        ensures { result ≡ premature self.now.config self.now.history now call.now }
+    {
+        let Call::Invoke { function, .. } = call else {
+            return false;
+        };
+        let last = self.journal.last_moment();
+        self.journal.first_due(now.max(last)).is_none() && self.journal.awaits(*function)
     }
 
     /// How far the service has come to its end.

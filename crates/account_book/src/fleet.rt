@@ -1,8 +1,8 @@
 //! The environments of an account, and what is kept beside them: when each is due, where an
 //! invocation goes, and what is in flight.
 
-ghost use Rattle.std.specs.Prelude.{◌≡◌, ◌+◌, ◌-◌, ◌*◌, ◌<◌, ◌≤◌, ◌^◌, length, map, slice_set, All, true, false, None, cond, [], count_by, IfOk, MatchResult};
-ghost use Rattle.std.specs.List.{list_all};
+ghost use Rattle.std.specs.Prelude.{◌≡◌, ◌+◌, ◌-◌, ◌*◌, ◌<◌, ◌≤◌, ◌^◌, length, map, slice_set, All, true, false, None, cond, [], count_by, IfOk, MatchResult, ◌&&◌};
+ghost use Rattle.std.specs.List.{list_all, list_any};
 ghost use Rattle.arn_ids.specs.Faults.{first_fault};
 ghost use Rattle.call_model.proofs.AtHand.{is_invoke};
 ghost use Rattle.call_model.specs.Limits.{Admits, Refuses};
@@ -11,10 +11,12 @@ ghost use Rattle.concurrency_pool.specs.Pools.{usage_at, throttle, with_in_fligh
 ghost use Rattle.deadlines.specs.Due.{first_due};
 ghost use Rattle.placement.specs.Places.{place_among};
 ghost use Rattle.account_book.specs.Taking.{sites as sites_in};
-ghost use Rattle.env_phase.specs.Taking.{registered_name, is_off};
+ghost use Rattle.env_phase.specs.Taking.{registered_name, is_off, has_answered};
 ghost use Rattle.account_book.specs.Fleets.{site_at, moved, moves_at, put_all, merged, flown, deadline_at, place_at, is_due, IsFew};
+ghost use Rattle.account_book.specs.Premature.{in_way};
 
 use crate::opening::open_sites;
+use crate::premature::is_any_awaited;
 use crate::room::Roomy;
 use crate::site::Site;
 use arn_ids::{Checked, EnvNo, FnNo, Text};
@@ -153,6 +155,14 @@ impl Fleet {
     {
         self.pool.may_admit(function)?;
         self.places.choose(function).ok_or(Throttle::Environments)
+    }
+
+    /// Whether an environment that stands in the way of an Invoke of a function, which is refused for
+    /// this reason, has answered its invocation and is not ready again.
+    pub fn is_awaited(&self, reason: Throttle, function: FnNo) -> bool
+        ensures { result ≡ list_any (λ site. has_answered site.environment.stand && in_way reason function (usage_at self.now.pool site.function).reserved site.function) self.now.sites }
+    {
+        is_any_awaited(&self.sites, &self.pool, reason, function)
     }
 
     /// A function's reservation in force.

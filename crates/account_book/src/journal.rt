@@ -17,6 +17,7 @@ ghost use Rattle.env_phase.specs.Taking.{registered_name, is_off};
 ghost use Rattle.script.specs.CallCounts.{call_counts};
 ghost use Rattle.script.specs.Limits.{IsWithin};
 ghost use Rattle.account_book.specs.Answering.{most_answers, first_or_0, IsRoom, IsNarrow};
+ghost use Rattle.account_book.specs.Premature.{awaits};
 ghost use Rattle.account_book.specs.Reaches.{book_answer};
 ghost use Rattle.account_book.specs.Taking.{IsKnown, AllKnown};
 
@@ -278,6 +279,22 @@ impl Journal {
                 own: None,
             },
             Err(reason) => Verdict::own(Answer::Throttled(reason)),
+        }
+    }
+
+    /// Whether an Invoke of a function would be throttled, while an environment that stands in its way
+    /// has answered its invocation and is not ready again.
+    pub fn awaits(&self, function: FnNo) -> bool
+        requires from_one { 1 ≤ function }
+        requires there { function ≤ length self.now.config.functions }
+        ensures { result ≡ awaits self.now.config self.now.history function (verdict self.now.config self.now.history function) }
+    {
+        if self.ledger.is_stopped() {
+            return false;
+        }
+        match self.fleet.admit(function) {
+            Ok(_) => false,
+            Err(reason) => self.fleet.is_awaited(reason, function),
         }
     }
 

@@ -9,6 +9,7 @@ mod journal;
 pub mod laws;
 mod ledger;
 mod opening;
+mod premature;
 mod reach;
 mod rendering;
 mod room;

@@ -5,4 +5,5 @@ pub mod Looks
 pub mod Failing
 pub mod Gathered
 pub mod Marking
+pub mod Offers
 pub mod Settlement

@@ -11,9 +11,10 @@ ghost use Rattle.call_model.specs.Next.{IsLegal};
 ghost use Rattle.script.specs.Limits.{IsWithin};
 ghost use Rattle.usage_ledger.specs.Keeping.{Steps, Kept};
 ghost use Rattle.usage_ledger.specs.Tallies.{fresh};
+ghost use Rattle.account_lock.specs.Offers.{IsBack};
 ghost use Rattle.account_lock.specs.Settlement.{IsSettled, IsFault};
 
-use crate::{Bell, Desk, Look, Refused, SettleFault, Settled, Step};
+use crate::{Bell, Declined, Desk, Look, Refused, SettleFault, Settled, Step};
 use account_book::{Book, Life, OpenFault};
 use arn_ids::{Checked, FnNo};
 use call_model::{Call, Stats, Ticket};
@@ -54,6 +55,17 @@ pub struct Account<S: Setup, B, C: Ledger, A: Ledger, T: Ledger, F: Ledger> {
     locked: Mutex<Locked<S, B, C, A, T, F>>,
 }
 
+/// Rings the bells of a step, once the lock is free, and gives the call's ticket.
+fn ring_out<B: Bell>(step: Step<B>) -> Ticket
+    ensures { result ≡ step.ticket }
+{
+    let Step { ticket, rings } = step;
+    for bell in rings {
+        bell.ring();
+    }
+    ticket
+}
+
 impl<S: Setup, B: Bell, C: Ledger, A: Ledger, T: Ledger, F: Ledger> Locked<S, B, C, A, T, F> {
     /// One step of the desk.
     #[tactic(auto, using(crate::proofs::Stepping::one_call_within))]
@@ -72,6 +84,25 @@ impl<S: Setup, B: Bell, C: Ledger, A: Ledger, T: Ledger, F: Ledger> Locked<S, B,
         ensures refused { IfErr result (λ refused. (refused.bell ≡ bell) × (tally.new.held ≡ tally.old.held)) }
     {
         self.desk.apply(tally, now, call, bell)
+    }
+
+    /// The same of a call that is offered.
+    #[tactic(auto, using(crate::proofs::Stepping::one_call_within))]
+    fn offer<K: Keep>(
+        &mut self,
+        tally: &mut Tally<K, C, A, T, F>,
+        now: u64,
+        call: Call,
+        bell: Option<B>,
+    ) -> Result<Step<B>, Declined<B>>
+        requires moment { now < 2 ^ 53 }
+        requires within { IsWithin S.config call }
+        ensures counted { OnOk result (tally.new.held.counts.calls ≡ tally.old.held.counts.calls + 1) }
+        ensures parts { (tally.new.held.parts ≡ tally.old.held.parts) × (tally.new.held.joined ≡ tally.old.held.joined) }
+        ensures made { IfOk result (λ step. (answers : List (ℕ × Told)) × (between : Kept) × Steps K.notes tally.old.held.kept answers between × K.makes between step.ticket (head_of call) tally.new.held.kept) }
+        ensures declined { IfErr result (λ declined. IsBack call bell declined × (tally.new.held ≡ tally.old.held)) }
+    {
+        self.desk.offer(tally, now, call, bell)
     }
 
     /// A function's reservation in force.
@@ -150,14 +181,36 @@ impl<S: Setup, B: Bell, C: Ledger, A: Ledger, T: Ledger, F: Ledger> Account<S, B
     {
         let step = self.locked.lock(rt).apply(tally, now, call, bell);
         match step {
-            Ok(step) => {
-                let Step { ticket, rings } = step;
-                for bell in rings {
-                    bell.ring();
-                }
-                Ok(ticket)
-            }
+            Ok(step) => Ok(ring_out(step)),
             Err(refused) => Err(refused),
+        }
+    }
+
+    /// Submits a call unless it is premature ([`account_book::Book::is_premature`]): it is looked at,
+    /// and taken, under one lock.
+    ///
+    /// # Errors
+    /// As `Desk::offer`; the tally is then as it was, and the bell comes back, from a premature call
+    /// with the call.
+    pub fn offer<K: Keep>(
+        &self,
+        rt: &impl Wait,
+        tally: &mut Tally<K, C, A, T, F>,
+        now: u64,
+        call: Call,
+        bell: Option<B>,
+    ) -> Result<Ticket, Declined<B>>
+        requires moment { now < 2 ^ 53 }
+        requires within { IsWithin S.config call }
+        ensures counted { OnOk result (tally.new.held.counts.calls ≡ tally.old.held.counts.calls + 1) }
+        ensures parts { (tally.new.held.parts ≡ tally.old.held.parts) × (tally.new.held.joined ≡ tally.old.held.joined) }
+        ensures made { IfOk result (λ ticket. (answers : List (ℕ × Told)) × (between : Kept) × Steps K.notes tally.old.held.kept answers between × K.makes between ticket (head_of call) tally.new.held.kept) }
+        ensures declined { IfErr result (λ declined. IsBack call bell declined × (tally.new.held ≡ tally.old.held)) }
+    {
+        let step = self.locked.lock(rt).offer(tally, now, call, bell);
+        match step {
+            Ok(step) => Ok(ring_out(step)),
+            Err(declined) => Err(declined),
         }
     }
 

@@ -2,11 +2,13 @@
 //! the lines that differ are told.
 #![tactic(auto)]
 
+mod bytes;
 mod case;
 mod fault;
 mod run;
 mod table;
 
+pub use bytes::push_bytes;
 pub use case::{Case, Part};
 pub use fault::{CaseFault, TableFault};
-pub use run::{Subject, end, run_file};
+pub use run::{Subject, end, judge_case, read_file, run_file, tell_count};

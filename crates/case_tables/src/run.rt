@@ -61,18 +61,21 @@ fn tell(
     ).map_err(|fault| TableFault::at_output(&fault))
 }
 
-/// Runs a case, and says whether it gave what it is to give.
-fn run_case<R: Print + AllocGlobal, S: Subject>(
-    rt: &R,
+/// Says whether a case gave what it is to give, and tells where it differs.
+///
+/// # Errors
+/// What the case suffers from, where it came to no end.
+pub fn judge_case(
+    rt: &impl Print,
     file: &'static str,
-    subject: &S,
     case: &Case,
+    came: Result<(), CaseFault>,
+    given: &str,
 ) -> Result<bool, TableFault> {
-    let mut given = String::new(rt.alloc());
-    if let Err(fault) = subject.give(rt.alloc(), case, &mut given) {
+    if let Err(fault) = came {
         return Err(TableFault::of_case(file, case.line(), fault));
     }
-    match first_difference(case.wanted(), given.as_str()) {
+    match first_difference(case.wanted(), given) {
         None => Ok(true),
         Some(difference) => {
             tell(rt, file, case, &difference)?;
@@ -82,7 +85,13 @@ fn run_case<R: Print + AllocGlobal, S: Subject>(
 }
 
 /// The cases of a file in the current folder.
-fn read_file<R: Files + AllocGlobal>(rt: &R, file: &'static str) -> Result<Vec<Case>, TableFault>
+///
+/// # Errors
+/// As the fault says.
+pub fn read_file<R: Files + AllocGlobal>(
+    rt: &R,
+    file: &'static str,
+) -> Result<Vec<Case>, TableFault>
 where
     R::File: Read + Drop,
 {
@@ -90,9 +99,19 @@ where
     read_cases(rt.alloc(), text.as_str()).map_err(|fault| TableFault::of_case(file, 1, fault))
 }
 
+/// Tells that all these cases of a file agree.
+///
+/// # Errors
+/// `Write`, or `OutOfMemory`.
+pub fn tell_count(rt: &impl Print, file: &'static str, cases: &[Case]) -> Result<(), TableFault> {
+    let count = cases.len();
+    println!(rt; "{file}: {count} cases").map_err(|fault| TableFault::at_output(&fault))
+}
+
 /// Reads the file of that name in the current folder, runs each case, prints a line for each that
 /// gives another text than it is to give, and says whether there was none; then it prints how many
-/// cases there are.
+/// cases there are. (A case that starts threads can't be run by a method: who has such cases reads
+/// the file, runs each and judges it.)
 ///
 /// # Errors
 /// As the fault says; a fault of a case ends the run of its file.
@@ -107,13 +126,14 @@ where
     let cases = read_file(rt, file)?;
     let mut agree = true;
     for case in cases.iter() {
-        if !run_case(rt, file, subject, case)? {
+        let mut given = String::new(rt.alloc());
+        let came = subject.give(rt.alloc(), case, &mut given);
+        if !judge_case(rt, file, case, came, given.as_str())? {
             agree = false;
         }
     }
     if agree {
-        let count = cases.len();
-        println!(rt; "{file}: {count} cases").map_err(|fault| TableFault::at_output(&fault))?;
+        tell_count(rt, file, cases.as_slice())?;
     }
     Ok(agree)
 }

@@ -1,12 +1,12 @@
 -- What an environment is when it is opened, and after a call.
-use Rattle.std.specs.Prelude.{ℕ, ◌*◌, Bool, true, false, List, [], Option, Some, None}
+use Rattle.std.specs.Prelude.{ℕ, ◌*◌, Bool, true, false, ◌&&◌, List, [], Option, Some, None, is_none}
 use Rattle.arn_ids.specs.declared.config.Function.{Function}
 use Rattle.call_model.specs.declared.answer.Answer.{Answer}
 use Rattle.call_model.specs.declared.answer.Phase.{Phase}
 use Rattle.call_model.specs.declared.answer.Phase.TheVariants.{Starting, Off}
 use Rattle.call_model.specs.declared.call.Call.{Call}
 use Rattle.call_model.specs.declared.call.Call.TheVariants.{Register}
-use Rattle.call_model.specs.Stand.{Stand}
+use Rattle.call_model.specs.Stand.{Stand, is_busy}
 use Rattle.call_model.specs.After.{Known, Step, stand_after, moves_of}
 use Rattle.env_phase.specs.declared.step.Step.{Step as TheStep}
 
@@ -39,3 +39,7 @@ given known step call = moves_of known.fixed step known.stand call
 abbrev pub is_off : Phase → Bool
 is_off Off = true
 is_off _ = false
+
+-- whether it is Busy with its invocation answered: it has answered, and is not ready again
+abbrev pub has_answered : Stand → Bool
+has_answered s = is_busy s.phase && is_none s.request

@@ -10,10 +10,10 @@ ghost use Rattle.call_model.specs.Laws.{is_taken};
 ghost use Rattle.call_model.specs.Next.{deadline_of};
 ghost use Rattle.call_model.specs.Stand.{bound_of};
 ghost use Rattle.call_model.specs.After.{expires_now};
-ghost use Rattle.env_phase.specs.Taking.{opened, is_off, registered_name, step_of, taken, given};
+ghost use Rattle.env_phase.specs.Taking.{opened, is_off, has_answered, registered_name, step_of, taken, given};
 
 use crate::Step;
-use crate::phases::{at_hand, bound_of, is_closing};
+use crate::phases::{at_hand, bound_of, is_busy, is_closing};
 use arn_ids::{Function, Row, Text};
 use call_model::{Call, Phase, Ticket};
 use extension_set::{ExtensionSet, Moves};
@@ -170,6 +170,14 @@ impl Environment {
         ensures { result ≡ is_off self.now.stand.phase }
     {
         matches!(self.phase, Phase::Off)
+    }
+
+    /// Whether it has answered its invocation and is not ready again: its runtime or an extension has
+    /// not asked for the next one. (life cycle: Invoke phase)
+    pub fn has_answered(&self) -> bool
+        ensures { result ≡ has_answered self.now.stand }
+    {
+        is_busy(self.phase) && self.request.is_none()
     }
 
     /// The phase.

@@ -1,2 +1,1 @@
 pub mod PortLemmas
-pub mod Replies

@@ -1,5 +1,5 @@
 -- The transfer codings of a request, and what a request with others is answered (RFC 9112, section 6.1).
-use Rattle.std.specs.Prelude.{Bool, true, false, ℕ, List, [], ◌∷◌, ◌++◌, codes}
+use Rattle.std.specs.Prelude.{Bool, true, false, List, [], ◌∷◌, ◌++◌, codes}
 use Rattle.std.specs.Str.{str_eq_ignore_ascii_case}
 use Rattle.http.specs.HeaderMap.{get_all}
 use Rattle.http.specs.declared.request.Parts.{Parts}

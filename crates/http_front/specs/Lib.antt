@@ -1,5 +1,4 @@
 pub mod Codings
-pub mod HistoryFrames
 pub mod Responses
 pub mod Hosts
 pub mod Ports

@@ -1,13 +1,16 @@
--- The response that a reply is sent as.
+-- The response that an outcome is sent as.
 use Rattle.std.specs.Prelude.{◌≡◌, ℕ, List, [], ◌==◌, if◌then◌else◌, length, fold, Option, Some, None}
 use Rattle.http.specs.Response.{head_of, body_of}
 use Rattle.http.specs.declared.response.Response.{Response}
 use Rattle.http.specs.declared.version.TheConstants.Version.{HTTP_11}
+use Rattle.http_body_util.specs.declared.either.Either.{Either}
+use Rattle.http_body_util.specs.declared.either.Either.TheVariants.{Left, Right}
 use Rattle.http_body_util.specs.declared.full.Full.{Full}
 use Rattle.http_header.specs.FieldValue.{FieldValue}
 use Rattle.http_header.specs.HeaderMap.{Entries, append}
-use Rattle.lambda_wire.specs.declared.reply.Reply.{Reply}
-use Rattle.long_poll.specs.Views.{history_reply}
+use Rattle.long_poll.specs.Views.{history_headers}
+use Rattle.long_poll.specs.declared.outcome.Outcome.{Outcome}
+use Rattle.long_poll.specs.declared.outcome.Outcome.TheVariants.{Reply, History}
 
 -- header fields, added in their order
 abbrev pub fields : List (List ℕ × FieldValue) → Entries FieldValue
@@ -23,10 +26,13 @@ pub record HasHead {B : Type 0} (status : ℕ) (headers : List (List ℕ × Fiel
 abbrev pub whole : List ℕ → Option (List ℕ)
 whole bytes = if length bytes == 0 then None else Some bytes
 
--- A response is a reply's: its status, its header fields and no other, and its bytes.
-abbrev pub IsResponseTo : Reply → Response (Full (List ℕ)) → Type 0
-IsResponseTo reply response = HasHead reply.status reply.headers response × ((body_of response).buf ≡ whole reply.body)
+-- a body is these bytes in one piece
+abbrev pub IsWhole : {H : Type 0} → List ℕ → Either (Full (List ℕ)) H → Type 0
+IsWhole bytes (Left full) = full.buf ≡ whole bytes
+IsWhole bytes (Right body) = ⊥
 
--- the head of a history's reply
-abbrev pub history_head : Reply
-history_head = history_reply []
+-- A response is an outcome's: that of a reply has its status, its header fields and no other, and its bytes; that of a
+-- history is 200, has the headers of a text, and shows the history as its body.
+abbrev pub IsResponseTo : {H : Type 0} → Outcome H → Response (Either (Full (List ℕ)) H) → Type 0
+IsResponseTo (Reply reply) response = HasHead reply.status reply.headers response × IsWhole reply.body (body_of response)
+IsResponseTo (History body) response = HasHead 200 history_headers response × (body_of response ≡ Right body)

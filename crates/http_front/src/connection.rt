@@ -2,10 +2,9 @@
 
 ghost use Rattle.hyper.specs.ServerDispatch.{GivesBodies};
 
-use crate::Port;
 use crate::door::Door;
 use crate::ending::{Ending, Signals, Watched};
-use crate::front::{EnvPort, Front};
+use crate::front::Front;
 use crate::machine::Machine;
 use crate::pulse::Pulse;
 use crate::ticker::moment;
@@ -71,6 +70,8 @@ pub(crate) struct Visit<R, S: Setup, N, K: Keep, C: Ledger, A: Ledger, T: Ledger
     pub(crate) tally: Arc<Mutex<Tally<K, C, A, T, F>>>,
     pub(crate) signals: Signals,
     pub(crate) pulse: Arc<Pulse>,
+    // For how many milliseconds a premature call is held back at most.
+    pub(crate) patience: u32,
 }
 
 impl<
@@ -111,36 +112,16 @@ impl<
             tally,
             signals,
             pulse,
+            patience,
         } = self;
         let alloc = rt.alloc();
-        let service = Arc::try_clone(&account)?;
         let decider = Arc::new(alloc, door.side(alloc)?).map_err(AllocError::from)?;
         let noted = Arc::try_clone(&open)?;
         let connection = Connection::new(
-            rt,
-            alloc,
-            account,
-            Arc::try_clone(&decider)?,
-            clock,
-            tally,
-            noted,
+            rt, alloc, account, decider, clock, tally, noted, patience,
         );
         let connection = Arc::new(alloc, connection).map_err(AllocError::from)?;
-        match door.port() {
-            Port::Account => {
-                let front = Front::new(rt, alloc, service, decider, connection);
-                serve(&rt, socket, front, signals, open, pulse)
-            }
-            Port::Environment(_) => {
-                serve(
-                    &rt,
-                    socket,
-                    EnvPort::new(alloc, connection),
-                    signals,
-                    open,
-                    pulse,
-                )
-            }
-        }
+        let front = Front::new(alloc, connection);
+        serve(&rt, socket, front, signals, open, pulse)
     }
 }

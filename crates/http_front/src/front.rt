@@ -1,35 +1,32 @@
-//! What answers the requests of the two kinds of ports.
+//! What answers the requests of a port.
 
-ghost use Rattle.std.specs.Prelude.{◌≡◌, [], not, IfOk, IfSome, IsTrue};
+ghost use Rattle.std.specs.Prelude.{◌≡◌, [], not, IfSome, IsTrue};
 ghost use Rattle.std.specs.Arc.{arc_value};
 ghost use Rattle.http.specs.Request.{head_of, body_of};
-ghost use Rattle.long_poll.specs.declared.decide.Decision.TheVariants.{Show};
-ghost use Rattle.long_poll.specs.declared.decide.Shown.TheVariants as shown;
 ghost use Rattle.long_poll.specs.declared.exchange.Stage.TheVariants.{Collecting};
 ghost use Rattle.http_front.specs.Codings.{is_plainly_coded as coded};
-ghost use Rattle.http_front.specs.declared.history_body.Stage.TheVariants.{Opening};
-ghost use Rattle.http_front.specs.declared.responding.Asked.TheVariants.{Exchange, History};
 
 use crate::ResponseFault;
 use crate::codings::is_plainly_coded;
-use crate::history_body::HistoryBody;
-use crate::responding::{Asked, Responding, Showing};
+use crate::responding::Responding;
 use bytes::Bytes;
 use http::request::Parts;
 use http::{Request, Response};
 use http_body_util::{Either, Full};
 use hyper::body::Incoming;
 use hyper::service;
-use long_poll::{Clock, Connection, Decide, Decision, Exchange, Service, Shown};
-use std::alloc::{AllocError, Global};
+use long_poll::{Clock, Connection, Decide, Exchange, HistoryBody, Service};
+use std::alloc::Global;
 use std::sync::ledger::Ledger;
 use std::sync::{Arc, Wait};
+use std::time;
 use usage_ledger::Keep;
 
-/// An environment's port, for one connection: each request is an exchange.
-/// (Runtime API 2018-06-01, Extensions API 2020-01-01)
+/// A port, for one connection: each request is an exchange. Who decides the exchanges knows whose port
+/// it is: an environment's (Runtime API 2018-06-01, Extensions API 2020-01-01), or the account's
+/// (Lambda API: Invoke, PutFunctionConcurrency, GetFunctionConcurrency; and this service's own routes).
 #[derive(Drop)]
-pub struct EnvPort<
+pub struct Front<
     R,
     S: Service<K, C, A, T, F>,
     D: Decide,
@@ -45,7 +42,7 @@ pub struct EnvPort<
 }
 
 impl<
-    R: Wait + Drop,
+    R: Wait + time::Clock + Copy + Drop,
     S: Service<K, C, A, T, F>,
     D: Decide + Drop,
     N: Clock + Drop,
@@ -54,15 +51,15 @@ impl<
     A: Ledger,
     T: Ledger,
     F: Ledger,
-> EnvPort<R, S, D, N, K, C, A, T, F> {
+> Front<R, S, D, N, K, C, A, T, F> {
     /// The port for a connection. It takes no memory.
     pub fn new(
         alloc: Global,
         connection: Arc<Connection<R, S, D, N, K, C, A, T, F>>,
-    ) -> EnvPort<R, S, D, N, K, C, A, T, F>
+    ) -> Front<R, S, D, N, K, C, A, T, F>
         ensures { result.connection ≡ connection }
     {
-        EnvPort { alloc, connection }
+        Front { alloc, connection }
     }
 
     /// The exchange of a request of this head and body; none where there is no memory for it.
@@ -102,108 +99,7 @@ impl<
 }
 
 impl<
-    R: Wait + Drop,
-    S: Service<K, C, A, T, F>,
-    D: Decide + Drop,
-    N: Clock + Drop,
-    I: Drop,
-    K: Keep,
-    C: Ledger,
-    A: Ledger,
-    T: Ledger,
-    F: Ledger,
-> service::Service<Request<Incoming<I>>> for EnvPort<R, S, D, N, K, C, A, T, F> {
-    type Response = Response<Full<Bytes>>;
-
-    type Error = ResponseFault;
-
-    type Future = Responding<R, S, D, N, Incoming<I>, K, C, A, T, F>;
-
-    ghost calls = { λ port request future. (future.is_foreign ≡ not (coded (head_of request))) × IfSome future.exchange (λ e. IsTrue (coded (head_of request)) × (arc_value e.connection ≡ arc_value port.connection) × (e.stage ≡ Collecting (head_of request) (record { alloc = (arc_value port.connection).alloc; body = body_of request; held = [] }))) };
-
-    fn call(
-        &self,
-        request: Request<Incoming<I>>,
-    ) -> Responding<R, S, D, N, Incoming<I>, K, C, A, T, F> {
-        let (parts, body) = request.into_parts();
-        self.respond(parts, body)
-    }
-}
-
-/// The account's port, for one connection: each request is an exchange, but for the history, which is
-/// streamed. (Lambda API: Invoke, PutFunctionConcurrency, GetFunctionConcurrency; and this service's
-/// own routes)
-#[derive(Drop)]
-pub struct Front<
-    R,
-    S: Service<K, C, A, T, F>,
-    D: Decide,
-    N,
-    K: Keep,
-    C: Ledger,
-    A: Ledger,
-    T: Ledger,
-    F: Ledger,
-> {
-    rt: R,
-    service: Arc<S>,
-    decider: Arc<D>,
-    port: EnvPort<R, S, D, N, K, C, A, T, F>,
-}
-
-impl<
-    R: Wait + Copy + Drop,
-    S: Service<K, C, A, T, F>,
-    D: Decide + Drop,
-    N: Clock + Drop,
-    K: Keep,
-    C: Ledger,
-    A: Ledger,
-    T: Ledger,
-    F: Ledger,
-> Front<R, S, D, N, K, C, A, T, F> {
-    /// The port for a connection to this service, whose requests this decides. It takes no memory.
-    pub fn new(
-        rt: R,
-        alloc: Global,
-        service: Arc<S>,
-        decider: Arc<D>,
-        connection: Arc<Connection<R, S, D, N, K, C, A, T, F>>,
-    ) -> Front<R, S, D, N, K, C, A, T, F>
-        ensures { (result.service ≡ service) × (result.decider ≡ decider) × (result.port.connection ≡ connection) }
-    {
-        Front {
-            rt,
-            service,
-            decider,
-            port: EnvPort::new(alloc, connection),
-        }
-    }
-
-    /// Whether a request with this head asks for the history, whatever its body.
-    fn asks_for_history(&self, parts: &Parts) -> Result<bool, AllocError>
-        ensures { IfOk result (λ asks. IsTrue asks → IsTrue (coded parts.now) × D.decides (arc_value self.now.decider) parts.now [] (Show shown.History)) }
-    {
-        if !is_plainly_coded(parts) {
-            return Ok(false);
-        }
-        match self.decider.decide(self.port.alloc, parts, &Bytes::new())? {
-            Decision::Show(Shown::History) => Ok(true),
-            _ => Ok(false),
-        }
-    }
-
-    /// The whole history, none where there is no memory for it.
-    fn history(&self) -> Option<HistoryBody<R, S, K, C, A, T, F>>
-        ensures { IfSome result (λ b. (arc_value b.service ≡ arc_value self.now.service) × (b.stage ≡ Opening)) }
-    {
-        let service = Arc::try_clone(&self.service).ok()?;
-        Some(HistoryBody::new(self.rt, service))
-    }
-}
-
-impl<
-    R: Wait + Copy + Drop,
+    R: Wait + time::Clock + Copy + Drop,
     S: Service<K, C, A, T, F>,
     D: Decide + Drop,
     N: Clock + Drop,
@@ -218,26 +114,15 @@ impl<
 
     type Error = ResponseFault;
 
-    type Future = Showing<R, S, D, N, Incoming<I>, K, C, A, T, F>;
+    type Future = Responding<R, S, D, N, Incoming<I>, K, C, A, T, F>;
 
-    ghost calls = { λ front request future. elim future.asked [
-      | Exchange r ↦ (r.is_foreign ≡ not (coded (head_of request))) × IfSome r.exchange (λ e. IsTrue (coded (head_of request)) × (arc_value e.connection ≡ arc_value front.port.connection) × (e.stage ≡ Collecting (head_of request) (record { alloc = (arc_value front.port.connection).alloc; body = body_of request; held = [] })))
-      | History body ↦ IfSome body (λ b. IsTrue (coded (head_of request)) × D.decides (arc_value front.decider) (head_of request) [] (Show shown.History) × (arc_value b.service ≡ arc_value front.service) × (b.stage ≡ Opening))
-    ] };
+    ghost calls = { λ port request future. (future.is_foreign ≡ not (coded (head_of request))) × IfSome future.exchange (λ e. IsTrue (coded (head_of request)) × (arc_value e.connection ≡ arc_value port.connection) × (e.stage ≡ Collecting (head_of request) (record { alloc = (arc_value port.connection).alloc; body = body_of request; held = [] }))) };
 
     fn call(
         &self,
         request: Request<Incoming<I>>,
-    ) -> Showing<R, S, D, N, Incoming<I>, K, C, A, T, F> {
+    ) -> Responding<R, S, D, N, Incoming<I>, K, C, A, T, F> {
         let (parts, body) = request.into_parts();
-        let asked = match self.asks_for_history(&parts) {
-            Ok(false) => Asked::Exchange(self.port.respond(parts, body)),
-            Ok(true) => Asked::History(self.history()),
-            Err(_) => Asked::History(None),
-        };
-        Showing {
-            alloc: self.port.alloc,
-            asked,
-        }
+        self.respond(parts, body)
     }
 }

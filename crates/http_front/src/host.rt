@@ -37,6 +37,7 @@ pub struct Host<R, S: Setup, N, K: Keep, C: Ledger, A: Ledger, T: Ledger, F: Led
     ticking: Tally<K, C, A, T, F>,
     entrance: Entrance<S>,
     most: u32,
+    patience: u32,
 }
 
 /// What a host leaves: its account, and all the tallies in which its calls count.
@@ -59,7 +60,9 @@ impl<
     F: Ledger + Send + Sync + 'static,
 > Host<R, S, N, K, C, A, T, F> {
     /// Opens the account of a plan and listens on every port. It takes `most` connections at once; a
-    /// further one is closed.
+    /// further one is closed. An Invoke that would be throttled while an environment that stands in
+    /// its way has answered and is about to ask for the next one is held back for `patience`
+    /// milliseconds at most, in which that environment may be ready again.
     ///
     /// # Errors
     /// `Config(BadEntries)` exactly where the plan's entries are not from the environments and one
@@ -70,6 +73,7 @@ impl<
         plan: Plan,
         clock: N,
         most: u32,
+        patience: u32,
         calls: Blank,
         admitted: Blank,
         throttled: Blank,
@@ -114,6 +118,7 @@ impl<
             ticking,
             entrance,
             most,
+            patience,
         })
     }
 
@@ -133,6 +138,7 @@ impl<
             ticking,
             entrance,
             most,
+            patience,
         } = self;
         let alloc = rt.alloc();
         let is_over = Arc::new(alloc, AtomicBool::new(false)).map_err(AllocError::from)?;
@@ -144,6 +150,7 @@ impl<
             root,
             slots: Slots::new(alloc, most)?,
             spare: Poll::new(&rt).ok(),
+            patience,
             looked: Duration::ZERO,
         };
         let ticker = start_ticker(rt, account, clock, ticking, Arc::try_clone(&is_over)?)?;

@@ -28,7 +28,7 @@ const STACK: usize = 512 * 1024;
 
 /// How long the ports are waited for, in milliseconds, before it is looked whether the service is
 /// over.
-const PATIENCE: u64 = 50;
+const ROUND: u64 = 50;
 
 /// How long a try waits, in milliseconds.
 const PAUSE: u64 = 1;
@@ -86,6 +86,8 @@ pub(crate) struct Reception<R, S: Setup, N, K: Keep, C: Ledger, A: Ledger, T: Le
     pub(crate) slots: Slots<Tally<K, C, A, T, F>>,
     // A descriptor that is given up where none is left, so that the newcomer can be turned away.
     pub(crate) spare: Option<Poll>,
+    // For how many milliseconds a premature call is held back at most.
+    pub(crate) patience: u32,
     // What the monotonic clock said when it was last looked who stands still.
     pub(crate) looked: Duration,
 }
@@ -136,6 +138,7 @@ impl<
                 hard: hard_end,
             },
             pulse: Arc::try_clone(&pulse)?,
+            patience: self.patience,
         };
         let thread = start_thread(visit, ended, at)?;
         Ok(Running {
@@ -220,11 +223,10 @@ impl<
             if is_over.load(SeqCst) {
                 return Ok(());
             }
-            let patience = if more { 0 } else { PATIENCE };
-            if let Err(fault) = entrance.poll.poll(
-                &mut entrance.events,
-                Some(Duration::from_millis(patience)),
-            )
+            let round = if more { 0 } else { ROUND };
+            if let Err(fault) = entrance
+                .poll
+                .poll(&mut entrance.events, Some(Duration::from_millis(round)))
                 && fault.kind() != io::ErrorKind::Interrupted
             {
                 return Err(HostFault::Network);

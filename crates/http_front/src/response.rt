@@ -1,17 +1,17 @@
-//! A reply as a response of the connection.
+//! What a request is answered as a response of the connection.
 
 ghost use Rattle.std.specs.Prelude.{◌≡◌, IfOk};
 ghost use Rattle.http.specs.Response.{body_of};
-ghost use Rattle.http_front.specs.Responses.{fields, HasHead, IsResponseTo, history_head};
+ghost use Rattle.http_front.specs.Responses.{fields, HasHead, IsResponseTo};
 
 use crate::ResponseFault;
 use bytes::Bytes;
 use http::response::Parts;
 use http::{Response, StatusCode};
-use http_body_util::Full;
+use http_body_util::{Either, Full};
 use http_header::HeaderMap;
 use lambda_wire::{Headers, Reply};
-use long_poll::history_reply;
+use long_poll::{Outcome, history_headers};
 use std::alloc::{AllocError, Global};
 
 /// The header fields of a reply, in their order.
@@ -25,13 +25,6 @@ fn header_map(alloc: Global, headers: Headers) -> Result<HeaderMap, AllocError>
         }
     }
     Ok(map)
-}
-
-/// Bytes as a piece of a body, with no copy of them.
-pub(crate) fn piece(bytes: Vec<u8>) -> Result<Bytes, AllocError>
-    ensures { IfOk result (λ piece. piece ≡ bytes.items) }
-{
-    Ok(Bytes::from_vec(bytes).map_err(AllocError::from)?)
 }
 
 /// The response with this status, these header fields and this body.
@@ -53,40 +46,28 @@ fn with_head<B: Drop>(
     Ok(Response::from_parts(parts, body))
 }
 
-/// The response that a reply is sent as: its status, its header fields, and its body in one piece,
-/// which isn't copied.
+/// The response that an outcome is sent as: a reply's has its status, its header fields, and its body
+/// in one piece, which isn't copied; a history's is a text that is streamed.
 ///
 /// # Errors
-/// `BadStatus` and `OutOfMemory`; the reply is then dropped.
-pub(crate) fn response_to(
+/// `BadStatus` and `OutOfMemory`; the outcome is then dropped.
+pub(crate) fn response_to<H: Drop>(
     alloc: Global,
-    reply: Reply,
-) -> Result<Response<Full<Bytes>>, ResponseFault>
-    ensures { IfOk result (IsResponseTo reply) }
+    outcome: Outcome<H>,
+) -> Result<Response<Either<Full<Bytes>, H>>, ResponseFault>
+    ensures { IfOk result (IsResponseTo outcome) }
 {
-    let Reply {
-        status,
-        headers,
-        body,
-    } = reply;
-    with_head(alloc, status, headers, Full::new(body))
-}
-
-/// The response that a history is sent as, with this body: the head is that of a history's reply.
-///
-/// # Errors
-/// As `response_to`.
-pub(crate) fn history_response<B: Drop>(
-    alloc: Global,
-    body: B,
-) -> Result<Response<B>, ResponseFault>
-    ensures head { IfOk result (HasHead history_head.status history_head.headers) }
-    ensures body { IfOk result (λ response. body_of response ≡ body) }
-{
-    let Reply {
-        status,
-        headers,
-        ..
-    } = history_reply(alloc, Vec::new(alloc))?;
-    with_head(alloc, status, headers, body)
+    match outcome {
+        Outcome::Reply(reply) => {
+            let Reply {
+                status,
+                headers,
+                body,
+            } = reply;
+            with_head(alloc, status, headers, Either::Left(Full::new(body)))
+        }
+        Outcome::History(body) => {
+            with_head(alloc, 200, history_headers(alloc)?, Either::Right(body))
+        }
+    }
 }

@@ -5,9 +5,11 @@
 #![tactic(auto)]
 
 mod clock;
+mod patience;
 mod serve;
 mod serve_fault;
 
+use crate::patience::{PatienceFault, read_patience};
 use crate::serve::serve;
 use crate::serve_fault::ServeFault;
 use http_front::Machine;
@@ -35,7 +37,7 @@ enum Asked {
 /// Why the program fails. Printed, it is its line on standard error.
 #[derive(Clone, Copy, Debug, PartialEq, Eq, Error)]
 enum ProgramFault {
-    /// The arguments ask for nothing that the program does.
+    /// The arguments ask for nothing that the program does, or the patience is none.
     #[error("usage: lambda_local [replay | serve PATH]")]
     Usage,
     /// The replay ended before its input.
@@ -53,6 +55,15 @@ impl ProgramFault {
             ProgramFault::Usage => 2,
             ProgramFault::Replay(fault) => fault.status(),
             ProgramFault::Serve(fault) => fault.status(),
+        }
+    }
+}
+
+impl From<PatienceFault> for ProgramFault {
+    fn from(fault: PatienceFault) -> ProgramFault {
+        match fault {
+            PatienceFault::Malformed => ProgramFault::Usage,
+            PatienceFault::OutOfMemory => ProgramFault::Serve(ServeFault::OutOfMemory),
         }
     }
 }
@@ -84,7 +95,10 @@ where
             let mut writer = io::writer(&rt);
             replay(rt.alloc(), &mut reader, &mut writer).map_err(ProgramFault::Replay)
         }
-        Ok(Asked::Serve(path)) => serve(rt, path.as_str()).map_err(ProgramFault::Serve),
+        Ok(Asked::Serve(path)) => {
+            let patience = read_patience(&rt)?;
+            serve(rt, path.as_str(), patience).map_err(ProgramFault::Serve)
+        }
         Err(error) if error.kind() == io::ErrorKind::OutOfMemory => {
             Err(ProgramFault::Replay(ReplayFault::OutOfMemory))
         }

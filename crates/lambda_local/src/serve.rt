@@ -49,6 +49,7 @@ fn serve_plan<
 >(
     rt: R,
     plan: Plan,
+    patience: u32,
     calls: Blank,
     admitted: Blank,
     throttled: Blank,
@@ -67,6 +68,7 @@ fn serve_plan<
         plan,
         clock,
         MOST_CONNECTIONS,
+        patience,
         calls,
         admitted,
         throttled,
@@ -82,12 +84,13 @@ fn serve_plan<
 }
 
 /// Names the configuration and the ledgers.
-fn serve_by_brand<R: Machine + Log>(rt: R, plan: Plan) -> Result<Stats, ServeFault>
+fn serve_by_brand<R: Machine + Log>(rt: R, plan: Plan, patience: u32) -> Result<Stats, ServeFault>
     ensures { IfOk result (AreCounts plan.config) }
 {
     serve_plan::<R, Brand, Brand, Brand, Brand, Brand>(
         rt,
         plan,
+        patience,
         Blank::new(1 << 32),
         Blank::new(1 << 32),
         Blank::new(1 << 32),
@@ -96,16 +99,21 @@ fn serve_by_brand<R: Machine + Log>(rt: R, plan: Plan) -> Result<Stats, ServeFau
 }
 
 /// Serves the configuration of a file until it is stopped, settles, and writes the account's counts
-/// on standard output.
+/// on standard output. An Invoke that comes too early is held back for `patience` milliseconds at
+/// most ([`Host::open`]).
 ///
 /// # Errors
 /// As the fault says; nothing is then written on standard output.
-pub fn serve<R: Machine + Log + Files + Print>(rt: R, path: &str) -> Result<(), ServeFault>
+pub fn serve<R: Machine + Log + Files + Print>(
+    rt: R,
+    path: &str,
+    patience: u32,
+) -> Result<(), ServeFault>
 where
     R::File: Read + Drop,
 {
     let plan = read_plan(&rt, path)?;
-    let stats = serve_by_brand(rt, plan)?;
+    let stats = serve_by_brand(rt, plan, patience)?;
     println!(rt;
         "admitted {} throttled {} failed {}",
         stats.admitted, stats.throttled, stats.failed

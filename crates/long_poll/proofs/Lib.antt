@@ -1,7 +1,5 @@
 -- What is read of a body, one frame more at a time.
 pub mod Frames
--- The text of a history, one entry more at a time.
-pub mod Telling
 -- What an exchange gives, from where it stands.
 pub mod Beginnings
 -- The compact text of the counts' value.

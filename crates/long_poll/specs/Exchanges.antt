@@ -11,12 +11,12 @@ use Rattle.long_poll.specs.Bodies.{Reads, Fails}
 use Rattle.long_poll.specs.Moments.{moment_of}
 use Rattle.long_poll.specs.Ringing.{rings_at, hears_at, WasHeard}
 use Rattle.long_poll.specs.Refusals.{is_invoke, refusal_reply}
-use Rattle.long_poll.specs.Views.{IsHistory, stats_reply, history_reply, reservation_reply}
+use Rattle.long_poll.specs.Views.{stats_reply, reservation_reply}
 use Rattle.long_poll.specs.declared.bell.Heard.{Heard}
 use Rattle.long_poll.specs.declared.bell.OneShotBell.{OneShotBell}
 use Rattle.long_poll.specs.declared.clock.Clock as Clock
 use Rattle.long_poll.specs.declared.connection.Begun.{Begun}
-use Rattle.long_poll.specs.declared.connection.Begun.TheVariants.{Replied, Parked}
+use Rattle.long_poll.specs.declared.connection.Begun.TheVariants.{Replied, AsksForHistory, Parked}
 use Rattle.long_poll.specs.declared.decide.Decide as Decide
 use Rattle.long_poll.specs.declared.decide.Decision.{Decision}
 use Rattle.long_poll.specs.declared.decide.Decision.TheVariants as decision
@@ -24,6 +24,8 @@ use Rattle.long_poll.specs.declared.decide.Shown.{Shown}
 use Rattle.long_poll.specs.declared.decide.Shown.TheVariants.{Stats, History, Reservation}
 use Rattle.long_poll.specs.declared.fault.ExchangeFault.{ExchangeFault}
 use Rattle.long_poll.specs.declared.fault.ExchangeFault.TheVariants.{BodyFailed, OutOfMemory, BellLost}
+use Rattle.long_poll.specs.declared.outcome.Outcome.{Outcome}
+use Rattle.long_poll.specs.declared.outcome.Outcome.TheVariants as outcome
 use Rattle.long_poll.specs.declared.service.Service as Service
 
 -- What is rendered at a ticket; the bell was lost where nothing is.
@@ -33,15 +35,17 @@ Renders renders ticket (Err BellLost) = renders ticket None
 Renders renders ticket (Err OutOfMemory) = Unit {0}
 Renders renders ticket (Err BodyFailed) = ⊥
 
--- What is rendered once the bell was heard.
-abbrev pub Awaits : (ℕ → Option Reply → Type 0) → ℕ → Heard → Result Reply ExchangeFault → Type 0
-Awaits renders ticket heard r = WasHeard heard × Renders renders ticket r
+-- What is rendered once the bell was heard: a reply, never a history.
+abbrev pub Awaits : {H : Type 0} → (ℕ → Option Reply → Type 0) → ℕ → Heard → Result (Outcome H) ExchangeFault → Type 0
+Awaits renders ticket heard (Ok (outcome.Reply reply)) = WasHeard heard × Renders renders ticket (Ok reply)
+Awaits renders ticket heard (Ok (outcome.History body)) = ⊥
+Awaits renders ticket heard (Err fault) = WasHeard heard × Renders renders ticket (Err fault)
 
 module _ {S K C A T F : Type 0} (service : Service.Ghosts S K C A T F) where
-  -- The reply shows what is asked for, as the account gives it.
+  -- The reply shows what is asked for, as the account gives it. A history is shown by a body, and by no reply.
   abbrev pub IsView : S → Shown → Reply → Type 0
   IsView s Stats reply = (stats : _) × service.counts s stats × (reply ≡ stats_reply stats)
-  IsView s History reply = (text : List ℕ) × IsHistory (service.opens s) (service.tells s) text × (reply ≡ history_reply text)
+  IsView s History reply = ⊥
   IsView s (Reservation f) reply = (count : Option ℕ) × service.reserves s f count × (reply ≡ reservation_reply count)
 
   module _ {N : Type 0} (clock : Clock.Ghosts N) where
@@ -75,6 +79,7 @@ module _ {S K C A T F : Type 0} (service : Service.Ghosts S K C A T F) where
     -- A call was submitted: it was refused and has its reply, or it has its ticket.
     abbrev pub IsBegun : S → N → Call → Begun → Type 0
     IsBegun s n call (Replied reply) = IsRefusal s n call reply
+    IsBegun s n call AsksForHistory = ⊥
     IsBegun s n call (Parked ticket heard) = IsParked s n call ticket heard
 
     module _ {D : Type 0} (decider : Decide.Ghosts D) where
@@ -84,28 +89,32 @@ module _ {S K C A T F : Type 0} (service : Service.Ghosts S K C A T F) where
       IsReply s n (decision.Reply own) reply = reply ≡ own
       IsReply s n (decision.Show shown) reply = IsView s shown reply
 
-      -- What comes of a request with this head and this body. The bell was lost where its call was submitted with it, it
-      -- was heard, and nothing is rendered at the ticket.
-      abbrev pub ComesOf : S → N → D → Parts → List ℕ → Result Reply ExchangeFault → Type 0
-      ComesOf s n d head body (Ok reply) = (made : Decision) × decider.decides d head body made × IsReply s n made reply
-      ComesOf s n d head body (Err BellLost) =
-          (call : Call) × decider.decides d head body (decision.Submit call) × IsLost s n call
-      ComesOf s n d head body (Err OutOfMemory) = Unit {0}
-      ComesOf s n d head body (Err BodyFailed) = ⊥
+      module _ {H : Type 0} (shows : H → Type 0) where
+        -- What comes of a request with this head and this body: a reply, or, where the history is asked for, a body that
+        -- shows it. The bell was lost where its call was submitted with it, it was heard, and nothing is rendered at the
+        -- ticket.
+        abbrev pub ComesOf : S → N → D → Parts → List ℕ → Result (Outcome H) ExchangeFault → Type 0
+        ComesOf s n d head body (Ok (outcome.Reply reply)) = (made : Decision) × decider.decides d head body made × IsReply s n made reply
+        ComesOf s n d head body (Ok (outcome.History shown)) = decider.decides d head body (decision.Show History) × shows shown
+        ComesOf s n d head body (Err BellLost) =
+            (call : Call) × decider.decides d head body (decision.Submit call) × IsLost s n call
+        ComesOf s n d head body (Err OutOfMemory) = Unit {0}
+        ComesOf s n d head body (Err BodyFailed) = ⊥
+
+        -- What comes of a request with this head, and with a body of which this is held already: the body failed, or it is
+        -- what comes of the head and of what was read of the body.
+        abbrev pub Exchanges : {P E : Type 0} → S → N → D → (P → List ℕ → Type 0) → Runs (Result (Frame P) E) → Parts → List ℕ
+            → Result (Outcome H) ExchangeFault → Type 0
+        Exchanges s n d reads source head held (Err BodyFailed) = Fails source
+        Exchanges s n d reads source head held (Err OutOfMemory) = Unit {0}
+        Exchanges s n d reads source head held (Err BellLost) =
+            (body : List ℕ) × Reads reads source held body × ComesOf s n d head body (Err BellLost)
+        Exchanges s n d reads source head held (Ok answer) =
+            (body : List ℕ) × Reads reads source held body × ComesOf s n d head body (Ok answer)
 
       -- What a request with this head and this body has come to.
       abbrev pub HasBegun : S → N → D → Parts → List ℕ → Begun → Type 0
-      HasBegun s n d head body (Replied reply) = ComesOf s n d head body (Ok reply)
+      HasBegun s n d head body (Replied reply) = (made : Decision) × decider.decides d head body made × IsReply s n made reply
+      HasBegun s n d head body AsksForHistory = decider.decides d head body (decision.Show History)
       HasBegun s n d head body (Parked ticket heard) =
           (call : Call) × decider.decides d head body (decision.Submit call) × IsParked s n call ticket heard
-
-      -- What comes of a request with this head, and with a body of which this is held already: the body failed, or it is
-      -- what comes of the head and of what was read of the body.
-      abbrev pub Exchanges : {P E : Type 0} → S → N → D → (P → List ℕ → Type 0) → Runs (Result (Frame P) E) → Parts → List ℕ
-          → Result Reply ExchangeFault → Type 0
-      Exchanges s n d reads source head held (Err BodyFailed) = Fails source
-      Exchanges s n d reads source head held (Err OutOfMemory) = Unit {0}
-      Exchanges s n d reads source head held (Err BellLost) =
-          (body : List ℕ) × Reads reads source held body × ComesOf s n d head body (Err BellLost)
-      Exchanges s n d reads source head held (Ok reply) =
-          (body : List ℕ) × Reads reads source held body × ComesOf s n d head body (Ok reply)

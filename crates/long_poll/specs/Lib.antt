@@ -1,8 +1,12 @@
 pub mod Answers
+pub mod Attempts
 pub mod Bodies
 pub mod Decisions
 pub mod Exchanges
+pub mod HistoryFrames
 pub mod Moments
+pub mod Offers
+pub mod Outcomes
 pub mod Refusals
 pub mod Ringing
 pub mod Stages

@@ -2,7 +2,6 @@
 use Rattle.std.specs.Prelude.{◌≡◌, ℕ, List, Result, Ok, Err}
 use Rattle.futures.specs.Runs.{Runs}
 use Rattle.http_body.specs.declared.frame.Frame.{Frame}
-use Rattle.lambda_wire.specs.declared.reply.Reply.{Reply}
 use Rattle.long_poll.specs.Bodies.{Reads, Fails}
 use Rattle.long_poll.specs.Exchanges.{Exchanges, HasBegun, Awaits}
 use Rattle.long_poll.specs.Ringing.{hears_at}
@@ -13,6 +12,7 @@ use Rattle.long_poll.specs.declared.exchange.Stage.{Stage}
 use Rattle.long_poll.specs.declared.exchange.Stage.TheVariants.{Collecting, Waiting}
 use Rattle.long_poll.specs.declared.fault.ExchangeFault.{ExchangeFault}
 use Rattle.long_poll.specs.declared.fault.ExchangeFault.TheVariants.{BodyFailed, OutOfMemory, BellLost}
+use Rattle.long_poll.specs.declared.outcome.Outcome.{Outcome}
 use Rattle.long_poll.specs.declared.service.Service as Service
 
 -- its body is being collected, and can be polled
@@ -37,10 +37,10 @@ WaitsFor needs (Waiting ticket heard) source = source ≡ hears_at heard
 
 module _ {S K C A T F N D B P E : Type 0} (service : Service.Ghosts S K C A T F) (clock : Clock.Ghosts N) (decider : Decide.Ghosts D)
     (yields : B → Runs (Result (Frame P) E)) (reads : P → List ℕ → Type 0) (s : S) (n : N) (d : D) where
-  -- What it may give.
-  abbrev pub Gives : Stage B → Result Reply ExchangeFault → Type 0
-  Gives (Collecting parts collecting) = Exchanges service clock decider s n d reads (yields collecting.body) parts collecting.held
-  Gives (Waiting ticket heard) = Awaits (service.renders s) ticket heard
+  -- What it may give, where these bodies show the history.
+  abbrev pub Gives : {H : Type 0} → (H → Type 0) → Stage B → Result (Outcome H) ExchangeFault → Type 0
+  Gives shows (Collecting parts collecting) = Exchanges service clock decider shows s n d reads (yields collecting.body) parts collecting.held
+  Gives shows (Waiting ticket heard) = Awaits (service.renders s) ticket heard
 
   -- What it has come to once its body was collected.
   abbrev pub Starts : Stage B → Result Begun ExchangeFault → Type 0

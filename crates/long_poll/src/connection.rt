@@ -1,17 +1,18 @@
 //! What the exchanges of one connection share.
 
-ghost use Rattle.std.specs.Prelude.{◌≡◌, ℕ, Ok, Err, IfOk, IfErr, MatchResult};
+ghost use Rattle.std.specs.Prelude.{◌≡◌, ◌≤◌, IfOk, IfErr};
 ghost use Rattle.std.specs.Arc.{arc_value};
 ghost use Rattle.script.specs.Limits.{IsWithin};
-ghost use Rattle.long_poll.specs.Decisions.{IsThere};
-ghost use Rattle.long_poll.specs.Exchanges.{Submitted, IsView, IsBegun, HasBegun, Renders};
-ghost use Rattle.long_poll.specs.Views.{IsHistory};
+ghost use Rattle.long_poll.specs.Exchanges.{Submitted, IsBegun, HasBegun, Renders};
+ghost use Rattle.long_poll.specs.Attempts.{IsAttempt};
+ghost use Rattle.long_poll.specs.Outcomes.{ShowsAllOf};
 
 use crate::clock::moment;
+use crate::history_body::HistoryBody;
 use crate::refusal::{is_invoke, refusal_reply};
-use crate::views::{history_reply, reservation_reply, stats_reply};
+use crate::views::{reservation_reply, stats_reply};
 use crate::{Clock, Decide, Decision, ExchangeFault, Heard, OneShotBell, OpenPoll, Service, Shown};
-use account_lock::Refused;
+use account_lock::{Declined, Refused};
 use bytes::Bytes;
 use call_model::{Call, Ticket};
 use http::request::Parts;
@@ -19,10 +20,16 @@ use lambda_wire::Reply;
 use std::alloc::{AllocError, Global};
 use std::sync::ledger::Ledger;
 use std::sync::{Arc, Mutex, Wait};
+use std::time::Duration;
+use std::{thread, time};
 use usage_ledger::{Keep, Tally};
 
+/// The longest pause between two looks whether a call is still premature, in milliseconds.
+const LONGEST_PAUSE: u32 = 8;
+
 /// What the exchanges of one connection share: the account and who decides its requests, both of
-/// one configuration, a clock, the connection's tally, and the note of its open Next.
+/// one configuration, a clock, the connection's tally, the note of its open Next, and its patience:
+/// for how many milliseconds a premature call is held back at most.
 #[derive(Drop)]
 pub struct Connection<
     R,
@@ -42,6 +49,7 @@ pub struct Connection<
     pub(crate) clock: Arc<N>,
     tally: Arc<Mutex<Tally<K, C, A, T, F>>>,
     open: Arc<OpenPoll>,
+    patience: u32,
     ghost agree: { S.serves (arc_value service) ≡ D.decides_for (arc_value decider) },
 }
 
@@ -50,12 +58,31 @@ pub struct Connection<
 pub(crate) enum Begun {
     /// It has its reply.
     Replied(Reply),
+    /// It asks for the history.
+    AsksForHistory,
     /// Its call was submitted, and something is heard once its ticket is answered.
     Parked { ticket: Ticket, heard: Heard },
 }
 
+/// What came of an attempt to submit a call.
+#[derive(Drop)]
+enum Attempt {
+    /// It was submitted, and this came back.
+    Made(Result<Ticket, Refused<OneShotBell>>),
+    /// It was premature, and comes back with its bell.
+    HeldBack(Call, OneShotBell),
+}
+
+/// The pause behind another one, in milliseconds: twice as long, up to the longest.
+fn next_pause(pause: u32) -> u32
+    requires { 1 ≤ pause }
+    ensures { 1 ≤ result }
+{
+    pause.saturating_mul(2).min(LONGEST_PAUSE)
+}
+
 impl<
-    R: Wait + Drop,
+    R: Wait + time::Clock + Copy + Drop,
     S: Service<K, C, A, T, F>,
     D: Decide + Drop,
     N: Clock + Drop,
@@ -66,7 +93,8 @@ impl<
     F: Ledger,
 > Connection<R, S, D, N, K, C, A, T, F> {
     /// A connection to this account, whose requests are decided for the same configuration. For one
-    /// submit at a time its tally is locked, and then the account.
+    /// submit at a time its tally is locked, and then the account. A call that is premature is held
+    /// back for `patience` milliseconds at most, in which the connection's thread sleeps.
     pub fn new(
         rt: R,
         alloc: Global,
@@ -75,6 +103,7 @@ impl<
         clock: Arc<N>,
         tally: Arc<Mutex<Tally<K, C, A, T, F>>>,
         open: Arc<OpenPoll>,
+        patience: u32,
     ) -> Connection<R, S, D, N, K, C, A, T, F>
         requires { S.serves (arc_value service) ≡ D.decides_for (arc_value decider) }
         ensures { (result.service ≡ service) × (result.decider ≡ decider) × (result.clock ≡ clock) }
@@ -87,6 +116,7 @@ impl<
             clock,
             tally,
             open,
+            patience,
         }
     }
 
@@ -110,6 +140,56 @@ impl<
             .submit(&self.rt, &mut tally, now, call, Some(bell))
     }
 
+    /// Submits a call with its bell at the clock's reading, unless it is premature.
+    fn attempt(&self, call: Call, bell: OneShotBell) -> Attempt
+        requires { IsWithin (S.serves (arc_value self.now.service)) call }
+        ensures { IsAttempt S.Service N.Clock (arc_value self.now.service) (arc_value self.now.clock) call bell result }
+    {
+        let mut tally = self.tally.lock(&self.rt);
+        let now = moment(&*self.clock);
+        match self
+            .service
+            .offer(&self.rt, &mut tally, now, call, Some(bell))
+        {
+            Ok(ticket) => Attempt::Made(Ok(ticket)),
+            Err(Declined::Refused(refused)) => Attempt::Made(Err(refused)),
+            Err(Declined::Premature { call, bell }) => match bell {
+                Some(bell) => Attempt::HeldBack(call, bell),
+                None => unreachable!(),
+            },
+        }
+    }
+
+    /// Submits a call with its bell: once it is not premature, or when it was held back for as long as
+    /// the connection's patience goes. No lock is held meanwhile.
+    fn submit_in_patience(
+        &self,
+        call: Call,
+        bell: OneShotBell,
+    ) -> Result<Ticket, Refused<OneShotBell>>
+        requires { IsWithin (S.serves (arc_value self.now.service)) call }
+        ensures { (submitted : Submitted S.Service N.Clock (arc_value self.now.service) (arc_value self.now.clock) call result) × (submitted.bell ≡ bell) }
+    {
+        let mut call = call;
+        let mut bell = bell;
+        let mut left = self.patience;
+        let mut pause = 1;
+        while left > 0 {
+            match self.attempt(call, bell) {
+                Attempt::Made(back) => return back,
+                Attempt::HeldBack(held, its_bell) => {
+                    call = held;
+                    bell = its_bell;
+                }
+            }
+            let now = left.min(pause);
+            thread::sleep(&self.rt, Duration::from_millis(u64::from(now)));
+            left -= now;
+            pause = next_pause(pause);
+        }
+        self.submit_at_reading(call, bell)
+    }
+
     /// Submits a call with a bell of its own. A Next is noted as open.
     fn submit(&self, call: Call) -> Result<Begun, ExchangeFault>
         requires { IsWithin (S.serves (arc_value self.now.service)) call }
@@ -119,7 +199,7 @@ impl<
         let (bell, heard) = OneShotBell::pair(self.alloc)?;
         let is_next = matches!(call, Call::RuntimeNext { .. } | Call::ExtNext { .. });
         let is_invoke = is_invoke(&call);
-        match self.submit_at_reading(call, bell) {
+        match self.submit_in_patience(call, bell) {
             Err(refused) => Ok(Begun::Replied(refusal_reply(
                 self.alloc,
                 is_invoke,
@@ -134,34 +214,6 @@ impl<
         }
     }
 
-    /// The text of the whole history.
-    fn history_text(&self) -> Result<Vec<u8>, AllocError>
-        ensures { IfOk result (λ text. IsHistory (S.opens (arc_value self.now.service)) (S.tells (arc_value self.now.service)) text.items) }
-    {
-        let mut text = self.service.opening(&self.rt)?;
-        for ticket in 0..u64::MAX {
-            match self.service.history(&self.rt, ticket)? {
-                None => return Ok(text),
-                Some(entry) => text.extend_from_slice(&entry)?,
-            }
-        }
-        Err(AllocError)
-    }
-
-    /// Shows what is asked for.
-    fn show(&self, shown: Shown) -> Result<Reply, AllocError>
-        requires { IsThere (S.serves (arc_value self.now.service)) shown }
-        ensures { IfOk result (IsView S.Service (arc_value self.now.service) shown) }
-    {
-        match shown {
-            Shown::Stats => stats_reply(self.alloc, self.service.stats(&self.rt)),
-            Shown::History => history_reply(self.alloc, self.history_text()?),
-            Shown::Reservation { function } => {
-                reservation_reply(self.alloc, self.service.reservation(&self.rt, function))
-            }
-        }
-    }
-
     /// Decides a request, and does what is decided.
     pub(crate) fn begin(&self, parts: &Parts, body: &Bytes) -> Result<Begun, ExchangeFault>
         ensures ok { IfOk result (HasBegun S.Service N.Clock D.Decide (arc_value self.now.service) (arc_value self.now.clock) (arc_value self.now.decider) parts.now body.now) }
@@ -169,9 +221,25 @@ impl<
     {
         match self.decider.decide(self.alloc, parts, body)? {
             Decision::Reply(reply) => Ok(Begun::Replied(reply)),
-            Decision::Show(shown) => Ok(Begun::Replied(self.show(shown)?)),
+            Decision::Show(Shown::Stats) => {
+                let stats = self.service.stats(&self.rt);
+                Ok(Begun::Replied(stats_reply(self.alloc, stats)?))
+            }
+            Decision::Show(Shown::History) => Ok(Begun::AsksForHistory),
+            Decision::Show(Shown::Reservation { function }) => {
+                let count = self.service.reservation(&self.rt, function);
+                Ok(Begun::Replied(reservation_reply(self.alloc, count)?))
+            }
             Decision::Submit(call) => self.submit(call),
         }
+    }
+
+    /// The account's whole history.
+    pub(crate) fn history(&self) -> Result<HistoryBody<R, S, K, C, A, T, F>, AllocError>
+        ensures { IfOk result (ShowsAllOf (arc_value self.now.service)) }
+    {
+        let service = Arc::try_clone(&self.service)?;
+        Ok(HistoryBody::new(self.rt, service))
     }
 
     /// Renders the answer of a ticket, once it was heard. The note of a Next is taken back.

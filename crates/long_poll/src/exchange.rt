@@ -1,16 +1,19 @@
 //! One request, from its body to its reply.
 
-ghost use Rattle.std.specs.Prelude.{◌≡◌};
+ghost use Rattle.std.specs.Prelude.{◌≡◌, MatchResult};
 ghost use Rattle.std.specs.Arc.{arc_value};
 ghost use Rattle.futures.specs.Task.{Covers, Keeps};
 ghost use Rattle.futures.specs.Poll.{IfReady, OnPending};
 ghost use Rattle.std.specs.Prelude.{[]};
+ghost use Rattle.long_poll.specs.Outcomes.{ShowsAllOf, IsHistoryOf};
 ghost use Rattle.long_poll.specs.Stages.{CanGoOn, IsCollecting, IsWaiting, WaitsFor, Gives, Starts};
 ghost use Rattle.long_poll.specs.declared.exchange.Stage.TheVariants as stage;
+ghost use Rattle.long_poll.specs.declared.fault.ExchangeFault.TheVariants.{OutOfMemory};
 
 use crate::collecting::Collecting;
 use crate::connection::{Begun, Connection};
-use crate::{Clock, Decide, ExchangeFault, Heard, Service};
+use crate::history_body::HistoryBody;
+use crate::{Clock, Decide, ExchangeFault, Heard, Outcome, Service};
 use bytes::Bytes;
 use call_model::Ticket;
 use futures::future::Future;
@@ -18,9 +21,9 @@ use futures::ready;
 use futures::task::{Context, Poll};
 use http::request::Parts;
 use http_body::Body;
-use lambda_wire::Reply;
 use std::sync::ledger::Ledger;
 use std::sync::{Arc, Wait};
+use std::time;
 use usage_ledger::Keep;
 
 /// Where an exchange stands.
@@ -33,7 +36,7 @@ enum Stage<B> {
 }
 
 /// One request: its body is collected, it is decided, its call is submitted, its answer awaited and
-/// rendered.
+/// rendered; or it is answered what is shown without a call.
 #[derive(Drop)]
 pub struct Exchange<
     R,
@@ -52,7 +55,7 @@ pub struct Exchange<
 }
 
 impl<
-    R: Wait + Drop,
+    R: Wait + time::Clock + Copy + Drop,
     S: Service<K, C, A, T, F>,
     D: Decide + Drop,
     N: Clock + Drop,
@@ -87,7 +90,7 @@ where
         requires { IsCollecting B.can_poll self.old.stage }
         ensures value { IfReady result (Starts S.Service N.Clock D.Decide B.yields B.Data.converts (arc_value (arc_value self.old.connection).service) (arc_value (arc_value self.old.connection).clock) (arc_value (arc_value self.old.connection).decider) self.old.stage) }
         ensures again { OnPending result (IsCollecting B.can_poll self.new.stage) }
-        ensures same { OnPending result ((x : _) → Gives S.Service N.Clock D.Decide B.yields B.Data.converts (arc_value (arc_value self.new.connection).service) (arc_value (arc_value self.new.connection).clock) (arc_value (arc_value self.new.connection).decider) self.new.stage x → Gives S.Service N.Clock D.Decide B.yields B.Data.converts (arc_value (arc_value self.old.connection).service) (arc_value (arc_value self.old.connection).clock) (arc_value (arc_value self.old.connection).decider) self.old.stage x) }
+        ensures same { OnPending result ((x : _) → Gives S.Service N.Clock D.Decide B.yields B.Data.converts (arc_value (arc_value self.new.connection).service) (arc_value (arc_value self.new.connection).clock) (arc_value (arc_value self.new.connection).decider) (ShowsAllOf {R = R} {S = S} {K = K} {C = C} {A = A} {T = T} {F = F} (arc_value (arc_value self.new.connection).service)) self.new.stage x → Gives S.Service N.Clock D.Decide B.yields B.Data.converts (arc_value (arc_value self.old.connection).service) (arc_value (arc_value self.old.connection).clock) (arc_value (arc_value self.old.connection).decider) (ShowsAllOf (arc_value (arc_value self.old.connection).service)) self.old.stage x) }
         ensures registered { OnPending result (Covers cx.new (WaitsFor B.needs self.new.stage)) }
         ensures kept { Keeps cx.old cx.new }
         ensures connection { self.new.connection ≡ self.old.connection }
@@ -110,12 +113,22 @@ where
         self.stage = Stage::Waiting { ticket, heard };
     }
 
+    /// The account's whole history.
+    fn history(&self) -> Result<Outcome<HistoryBody<R, S, K, C, A, T, F>>, ExchangeFault>
+        ensures { MatchResult result (λ outcome. IsHistoryOf (arc_value (arc_value self.now.connection).service) outcome) (λ fault. fault ≡ OutOfMemory) }
+    {
+        Ok(Outcome::History(self.connection.history()?))
+    }
+
     /// Waits for the answer, and renders it.
-    fn poll_answer(&mut self, cx: &mut Context<'_>) -> Poll<Result<Reply, ExchangeFault>>
+    fn poll_answer(
+        &mut self,
+        cx: &mut Context<'_>,
+    ) -> Poll<Result<Outcome<HistoryBody<R, S, K, C, A, T, F>>, ExchangeFault>>
         requires { IsWaiting self.old.stage }
-        ensures value { IfReady result (Gives S.Service N.Clock D.Decide B.yields B.Data.converts (arc_value (arc_value self.old.connection).service) (arc_value (arc_value self.old.connection).clock) (arc_value (arc_value self.old.connection).decider) self.old.stage) }
+        ensures value { IfReady result (Gives S.Service N.Clock D.Decide B.yields B.Data.converts (arc_value (arc_value self.old.connection).service) (arc_value (arc_value self.old.connection).clock) (arc_value (arc_value self.old.connection).decider) (ShowsAllOf (arc_value (arc_value self.old.connection).service)) self.old.stage) }
         ensures again { OnPending result (IsWaiting self.new.stage) }
-        ensures same { OnPending result ((x : _) → Gives S.Service N.Clock D.Decide B.yields B.Data.converts (arc_value (arc_value self.new.connection).service) (arc_value (arc_value self.new.connection).clock) (arc_value (arc_value self.new.connection).decider) self.new.stage x → Gives S.Service N.Clock D.Decide B.yields B.Data.converts (arc_value (arc_value self.old.connection).service) (arc_value (arc_value self.old.connection).clock) (arc_value (arc_value self.old.connection).decider) self.old.stage x) }
+        ensures same { OnPending result ((x : _) → Gives S.Service N.Clock D.Decide B.yields B.Data.converts (arc_value (arc_value self.new.connection).service) (arc_value (arc_value self.new.connection).clock) (arc_value (arc_value self.new.connection).decider) (ShowsAllOf {R = R} {S = S} {K = K} {C = C} {A = A} {T = T} {F = F} (arc_value (arc_value self.new.connection).service)) self.new.stage x → Gives S.Service N.Clock D.Decide B.yields B.Data.converts (arc_value (arc_value self.old.connection).service) (arc_value (arc_value self.old.connection).clock) (arc_value (arc_value self.old.connection).decider) (ShowsAllOf (arc_value (arc_value self.old.connection).service)) self.old.stage x) }
         ensures registered { OnPending result (Covers cx.new (WaitsFor B.needs self.new.stage)) }
         ensures kept { Keeps cx.old cx.new }
     {
@@ -123,14 +136,17 @@ where
             Stage::Collecting { .. } => unreachable!(),
             Stage::Waiting { ticket, heard } => match heard.poll(cx) {
                 Poll::Pending => Poll::Pending,
-                Poll::Ready(()) => Poll::Ready(self.connection.render(*ticket)),
+                Poll::Ready(()) => match self.connection.render(*ticket) {
+                    Ok(reply) => Poll::Ready(Ok(Outcome::Reply(reply))),
+                    Err(fault) => Poll::Ready(Err(fault)),
+                },
             },
         }
     }
 }
 
 impl<
-    R: Wait + Drop,
+    R: Wait + time::Clock + Copy + Drop,
     S: Service<K, C, A, T, F>,
     D: Decide + Drop,
     N: Clock + Drop,
@@ -144,21 +160,22 @@ impl<
 where
     B::Data: Into<Bytes>,
 {
-    type Output = Result<Reply, ExchangeFault>;
+    type Output = Result<Outcome<HistoryBody<R, S, K, C, A, T, F>>, ExchangeFault>;
 
     ghost can_poll = { λ exchange. CanGoOn B.can_poll exchange.stage };
 
     ghost needs = { λ exchange. WaitsFor B.needs exchange.stage };
 
-    ghost gives = { λ exchange. Gives S.Service N.Clock D.Decide B.yields B.Data.converts (arc_value (arc_value exchange.connection).service) (arc_value (arc_value exchange.connection).clock) (arc_value (arc_value exchange.connection).decider) exchange.stage };
+    ghost gives = { λ exchange. Gives S.Service N.Clock D.Decide B.yields B.Data.converts (arc_value (arc_value exchange.connection).service) (arc_value (arc_value exchange.connection).clock) (arc_value (arc_value exchange.connection).decider) (ShowsAllOf (arc_value (arc_value exchange.connection).service)) exchange.stage };
 
-    fn poll(&mut self, cx: &mut Context<'_>) -> Poll<Result<Reply, ExchangeFault>> {
+    fn poll(&mut self, cx: &mut Context<'_>) -> Poll<Self::Output> {
         if let Stage::Waiting { .. } = &self.stage {
             return self.poll_answer(cx);
         }
         match ready!(self.poll_start(cx)) {
             Err(fault) => Poll::Ready(Err(fault)),
-            Ok(Begun::Replied(reply)) => Poll::Ready(Ok(reply)),
+            Ok(Begun::Replied(reply)) => Poll::Ready(Ok(Outcome::Reply(reply))),
+            Ok(Begun::AsksForHistory) => Poll::Ready(self.history()),
             Ok(Begun::Parked { ticket, heard }) => {
                 self.park(ticket, heard);
                 self.poll_answer(cx)

@@ -5,7 +5,7 @@ ghost use Rattle.script.specs.Limits.{IsWithin, IsFunction};
 ghost use Rattle.long_poll.specs.Submits.{Submits};
 
 use crate::{OneShotBell, Service};
-use account_lock::{Account, Look, Refused, Setup};
+use account_lock::{Account, Declined, Look, Refused, Setup};
 use arn_ids::FnNo;
 use call_model::{Call, Stats, Ticket};
 use lambda_wire::Reply;
@@ -43,6 +43,17 @@ impl<S: Setup + Drop, K: Keep, C: Ledger, A: Ledger, T: Ledger, F: Ledger> Servi
         bell: Option<OneShotBell>,
     ) -> Result<Ticket, Refused<OneShotBell>> {
         Account::submit(self, rt, tally, now, call, bell)
+    }
+
+    fn offer<R: Wait>(
+        &self,
+        rt: &R,
+        tally: &mut Tally<K, C, A, T, F>,
+        now: u64,
+        call: Call,
+        bell: Option<OneShotBell>,
+    ) -> Result<Ticket, Declined<OneShotBell>> {
+        Account::offer(self, rt, tally, now, call, bell)
     }
 
     fn look<R: Wait>(&self, rt: &R, ticket: Ticket) -> Look {

@@ -9,10 +9,11 @@ ghost use Rattle.script.specs.Limits.{IsWithin, IsFunction};
 ghost use Rattle.usage_ledger.specs.Tallies.{Held};
 ghost use Rattle.account_lock.specs.declared.desk.Look.{Look as Seen};
 ghost use Rattle.account_lock.specs.declared.desk.Refused.{Refused as Back};
+ghost use Rattle.long_poll.specs.Offers.{Offers};
 ghost use Rattle.long_poll.specs.declared.bell.OneShotBell.{OneShotBell as Rings};
 
 use crate::OneShotBell;
-use account_lock::{Look, Refused};
+use account_lock::{Declined, Look, Refused};
 use arn_ids::FnNo;
 use call_model::{Call, Stats, Ticket};
 use lambda_wire::Reply;
@@ -64,6 +65,23 @@ pub trait Service<K: Keep, C: Ledger, A: Ledger, T: Ledger, F: Ledger>: Drop {
         requires moment { now < 2 ^ 53 }
         requires within { IsWithin (serves self.now) call }
         ensures { submits self.now tally.old.held now call bell result tally.new.held };
+
+    /// Submits a call unless it is premature: an Invoke that would be throttled while an environment
+    /// that stands in its way is about to be ready again.
+    ///
+    /// # Errors
+    /// `Premature` where it is: the call comes back with its bell. Else as `submit`.
+    fn offer<R: Wait>(
+        &self,
+        rt: &R,
+        tally: &mut Tally<K, C, A, T, F>,
+        now: u64,
+        call: Call,
+        bell: Option<OneShotBell>,
+    ) -> Result<Ticket, Declined<OneShotBell>>
+        requires moment { now < 2 ^ 53 }
+        requires within { IsWithin (serves self.now) call }
+        ensures { Offers (submits self.now tally.old.held now call bell) tally.old.held call bell result tally.new.held };
 
     /// What a ticket was answered.
     fn look<R: Wait>(&self, rt: &R, ticket: Ticket) -> Look

@@ -8,7 +8,7 @@ use arn_ids::Row;
 use bytes::Bytes;
 use call_model::Stats;
 use http_header::{HeaderName, HeaderValue};
-use lambda_wire::{Reply, json_headers, write_reservation};
+use lambda_wire::{Headers, Reply, json_headers, write_reservation};
 use serde_json::{Value, json};
 use std::alloc::{AllocError, Global};
 
@@ -44,20 +44,16 @@ pub fn stats_reply(alloc: Global, stats: Stats) -> Result<Reply, AllocError>
     })
 }
 
-/// Shows the text of a history.
-pub fn history_reply(alloc: Global, text: Vec<u8>) -> Result<Reply, AllocError>
-    ensures { IfOk result (λ reply. reply ≡ spec.history_reply text.items) }
+/// The headers of a history, which is text.
+pub fn history_headers(alloc: Global) -> Result<Headers, AllocError>
+    ensures { IfOk result (λ headers. headers ≡ spec.history_headers) }
 {
     let mut headers = Vec::with_capacity(alloc, 1)?;
     headers.push((
         HeaderName::from_static("content-type"),
         HeaderValue::from_static("text/plain"),
     ))?;
-    Ok(Reply {
-        status: 200,
-        headers: Row::new(headers),
-        body: Bytes::from_vec(text)?,
-    })
+    Ok(Row::new(headers))
 }
 
 /// Shows a function's reservation in force (Lambda API, GetFunctionConcurrency).

@@ -10,6 +10,7 @@ use std::alloc::{AllocError, Global};
 /// What a script is answered. Its parts are those of a script; with `reader-fails` the reader fails
 /// behind it, with `room N` the writer takes N bytes. A case gives the answers, and at a fault the
 /// program's line on standard error and its status.
+#[derive(Clone, Copy)]
 pub struct Scripts {
     /// Whether a script is replayed byte by byte, in form 2 and from its history too.
     pub in_every_way: bool,

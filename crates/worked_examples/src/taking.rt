@@ -70,3 +70,11 @@ pub fn take(
         _ => Ok(Taken::Otherwise),
     }
 }
+
+/// Whether the call of a line comes too early for a book; none where it stands for no call.
+pub fn is_early(alloc: Global, book: &Book, line: &[u8]) -> Result<Option<bool>, AllocError> {
+    let Some((now, call)) = script::read_call(alloc, book.config(), true, line)? else {
+        return Ok(None);
+    };
+    Ok(Some(book.is_premature(now, &call)))
+}

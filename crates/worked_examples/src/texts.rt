@@ -81,14 +81,25 @@ pub fn script_of(alloc: Global, case: &Case, others: &[&str]) -> Result<Vec<u8>,
     Ok(script)
 }
 
+/// Adds bytes as text.
+fn push_utf8(given: &mut String, bytes: &[u8]) -> Result<(), AllocError> {
+    match str::from_utf8(bytes) {
+        Ok(text) => given.push_str(text),
+        Err(_) => given.push_str("(bytes that are no text)\n"),
+    }
+}
+
 /// Adds bytes as text; a last line that does not end is marked.
 pub fn push_bytes(given: &mut String, bytes: &[u8]) -> Result<(), AllocError> {
-    match str::from_utf8(bytes) {
-        Ok(text) => given.push_str(text)?,
-        Err(_) => given.push_str("(bytes that are no text)\n")?,
-    }
+    push_utf8(given, bytes)?;
     if matches!(bytes.last(), None | Some(b'\n')) {
         return Ok(());
     }
     given.push_str("\n(without a line feed)\n")
+}
+
+/// Adds bytes that end no line as a line.
+pub fn push_line(given: &mut String, bytes: &[u8]) -> Result<(), AllocError> {
+    push_utf8(given, bytes)?;
+    given.push('\n')
 }

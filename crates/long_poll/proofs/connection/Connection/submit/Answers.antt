@@ -4,5 +4,5 @@ use Rattle.long_poll.proofs.connection.Connection.submit.Goals as goal
 
 pub returns-after-is_next-clause-ok : goal.returns-after-is_next-clause-ok
 returns-after-is_next-clause-ok g c =
-    let parked = rw c.in-Ok.is at c.submit_at_reading.ensures in
+    let parked = rw c.in-Ok.is at c.submit_in_patience.ensures in
     (parked.0, ap rings_at parked.1 ∙ c.in_ok-bell.ensures)

@@ -1,0 +1,42 @@
+-- Which Invokes are premature: handed in a moment before an environment is ready again that could take them.
+use Rattle.std.specs.Prelude.{ℕ, Bool, false, not, ◌&&◌, ◌==◌, List, Option, is_none}
+use Rattle.std.specs.List.{list_any}
+use Rattle.arn_ids.specs.declared.config.Config.{Config}
+use Rattle.arn_ids.specs.Environments.{environments, function_of}
+use Rattle.call_model.specs.declared.answer.Throttle.{Throttle}
+use Rattle.call_model.specs.declared.answer.Throttle.TheVariants.{Function as ByFunction, Account as ByAccount, Environments as ByEnvironments}
+use Rattle.call_model.specs.declared.call.Call.{Call}
+use Rattle.call_model.specs.declared.call.Call.TheVariants.{Invoke}
+use Rattle.call_model.specs.declared.call.Entry.{Entry}
+use Rattle.call_model.specs.Life.{stand}
+use Rattle.call_model.specs.Limits.{reservation, verdict, Verdict, Refuses}
+use Rattle.call_model.specs.Next.{due, moment_at}
+use Rattle.call_model.specs.Stand.{is_number}
+use Rattle.deadlines.specs.Due.{first}
+use Rattle.env_phase.specs.Taking.{has_answered}
+
+-- Whether what the function own has in flight stands in the way of an Invoke of the function f that is refused for this
+-- reason: at the account's limit each function without a reservation does, at its own reservation or where its
+-- environments are taken it alone. A reservation of 0 admits nothing, whoever is ready.
+abbrev pub in_way : Throttle → ℕ → Option ℕ → ℕ → Bool
+in_way ByAccount f reserved own = is_none reserved
+in_way ByFunction f reserved own = (own == f) && not (is_number reserved 0)
+in_way ByEnvironments f reserved own = own == f
+
+-- whether an environment that stands in the way has answered its invocation and is not ready again
+abbrev pub is_awaited : Config → List Entry → ℕ → Throttle → Bool
+is_awaited config h f reason =
+    list_any (λ e. has_answered (stand config h e) && in_way reason f (reservation config h (function_of config e)) (function_of config e))
+    (environments config)
+
+-- the same by the verdict on the Invoke
+abbrev pub awaits : Config → List Entry → ℕ → Verdict → Bool
+awaits config h f (Refuses reason) = is_awaited config h f reason
+awaits config h f _ = false
+
+-- Premature: an Invoke that would be throttled at this moment, while an environment that stands in its way has answered
+-- and is not ready again. Where an environment is due first, no call is: that may end what stands in the way.
+unfoldable pub premature : Config → List Entry → ℕ → Call → Bool
+premature config h now (Invoke f qualified trace body) =
+    is_none (first (due config h (moment_at h now))) && awaits config h f (verdict config h f)
+premature config h now _ = false

@@ -1,0 +1,147 @@
+//! Threads that share an account. Which of them comes first is not known; that every call has its
+//! ticket, and every bell rings once, is.
+
+use crate::bells::Bells;
+use crate::lines::malformed;
+use crate::places::{Place, Taken};
+use crate::seats::part_of;
+use crate::stand::Turns;
+use account_lock::Setup;
+use call_model::Ticket;
+use case_tables::CaseFault;
+use std::alloc::{AllocError, Global};
+use std::sync::Wait;
+use std::sync::ledger::Ledger;
+use std::thread::{self, Threads};
+use usage_ledger::{Keep, Tally};
+
+/// How many milliseconds go by in a turn.
+const TURN: u64 = 500;
+
+/// What a thread works with: its tally, and the environment at which it polls.
+#[derive(Drop)]
+struct Job<K: Keep, C: Ledger, A: Ledger, T: Ledger, F: Ledger> {
+    tally: Tally<K, C, A, T, F>,
+    env: u64,
+}
+
+/// What the words of a line stand for.
+#[derive(Clone, Copy)]
+struct Words {
+    now: u64,
+    env: u64,
+    parked: Ticket,
+}
+
+/// A line with its words: NOW is the moment of the turn, ENV the environment of the thread, and PARKED
+/// the ticket of its last Next.
+fn line_with(alloc: Global, line: &str, words: Words) -> Result<String, AllocError> {
+    let mut text = String::new(alloc);
+    for word in line.split(' ') {
+        if !text.is_empty() {
+            text.push(' ')?;
+        }
+        match word {
+            "NOW" => text.push_str(format!(in alloc; "{}", words.now)?.as_str())?,
+            "ENV" => text.push_str(format!(in alloc; "{}", words.env)?.as_str())?,
+            "PARKED" => text.push_str(format!(in alloc; "{}", words.parked)?.as_str())?,
+            _ => text.push_str(word)?,
+        }
+    }
+    Ok(text)
+}
+
+/// Makes the call of a line; its ticket.
+fn one_call<R: Wait, S: Setup, K: Keep, C: Ledger, A: Ledger, T: Ledger, F: Ledger>(
+    place: &Place<R, S, C, A, T, F>,
+    tally: &mut Tally<K, C, A, T, F>,
+    bells: &Bells,
+    number: u64,
+    line: &str,
+) -> Result<Ticket, CaseFault> {
+    let bell = bells.unnumbered(0)?;
+    match place.submit(tally, line.as_bytes(), bell)? {
+        Taken::At(ticket) => Ok(ticket),
+        _ => Err(malformed(number, "a call that is taken is wanted")),
+    }
+}
+
+/// Makes the calls of all lines once; the ticket of the last Next.
+fn one_turn<R: Wait, S: Setup, K: Keep, C: Ledger, A: Ledger, T: Ledger, F: Ledger>(
+    place: &Place<R, S, C, A, T, F>,
+    tally: &mut Tally<K, C, A, T, F>,
+    bells: &Bells,
+    turns: Turns<'_>,
+    words: Words,
+) -> Result<Ticket, CaseFault> {
+    let mut words = words;
+    let mut number = turns.first;
+    for line in turns.lines.split('\n') {
+        let text = line_with(place.alloc, line, words)?;
+        let ticket = one_call(place, tally, bells, number, text.as_str())?;
+        if line.contains(" next ") {
+            words.parked = ticket;
+        }
+        number = number.saturating_add(1);
+    }
+    Ok(words.parked)
+}
+
+/// The calls of a thread; its tally.
+fn work<R: Wait, S: Setup, K: Keep, C: Ledger, A: Ledger, T: Ledger, F: Ledger>(
+    place: &Place<R, S, C, A, T, F>,
+    bells: &Bells,
+    turns: Turns<'_>,
+    job: Job<K, C, A, T, F>,
+) -> Result<Tally<K, C, A, T, F>, CaseFault> {
+    let Job { tally, env } = job;
+    let mut tally = tally;
+    let mut parked = 0;
+    for turn in 0..turns.count {
+        let words = Words {
+            now: turn.wrapping_mul(TURN),
+            env,
+            parked,
+        };
+        parked = one_turn(place, &mut tally, bells, turns, words)?;
+    }
+    Ok(tally)
+}
+
+/// A job for each of four environments.
+fn jobs_of<K: Keep, C: Ledger, A: Ledger, T: Ledger, F: Ledger>(
+    alloc: Global,
+    tallies: &mut [Tally<K, C, A, T, F>],
+) -> Result<Vec<Job<K, C, A, T, F>>, CaseFault> {
+    let mut jobs = Vec::with_capacity(alloc, 4)?;
+    for env in 1..5 {
+        let Ok(tally) = part_of(tallies.first_mut()) else {
+            return Err(malformed(0, "a tally with parts is wanted"));
+        };
+        jobs.push(Job { tally, env })?;
+    }
+    Ok(jobs)
+}
+
+/// Makes the calls of four threads at once. Their tallies are put behind the others.
+pub fn crowd_of<
+    R: Wait + Threads + Sync,
+    S: Setup + Send + Sync,
+    K: Keep + Send + Sync,
+    C: Ledger + Send + Sync,
+    A: Ledger + Send + Sync,
+    T: Ledger + Send + Sync,
+    F: Ledger + Send + Sync,
+>(
+    place: &Place<R, S, C, A, T, F>,
+    tallies: &mut Vec<Tally<K, C, A, T, F>>,
+    bells: &Bells,
+    turns: Turns<'_>,
+) -> Result<(), CaseFault> {
+    let jobs = jobs_of(place.alloc, tallies)?;
+    let worked = thread::map_vec(&place.rt, jobs, &|job| work(place, bells, turns, job))?;
+    for tally in worked {
+        tallies.push(tally?)?;
+    }
+    Ok(())
+}

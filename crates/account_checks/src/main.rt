@@ -1,0 +1,73 @@
+//! Runs what is checked of accounts: desks behind their locks, the bells of those who wait, threads
+//! that share an account, and settlements of true and of forged tallies.
+#![tactic(auto)]
+
+mod accounts;
+mod bells;
+mod crowds;
+mod forging;
+mod lines;
+mod opening;
+mod places;
+mod running;
+mod seats;
+mod stand;
+mod texts;
+
+use crate::accounts::give;
+use case_tables::{TableFault, end, judge_case, read_file, tell_count};
+use std::io::Read;
+use std::process::ExitCode;
+use std::rt::Files;
+use std::sync::Wait;
+use std::thread::Threads;
+
+/// The tables, each of one subject.
+const TABLES: [&str; 4] = [
+    "openings.txt",
+    "bells.txt",
+    "settlements.txt",
+    "threads.txt",
+];
+
+/// Runs the cases of a table, and says whether all agree.
+fn run_table<R: Wait + Threads + Files + Print + AllocGlobal + Copy + Send + Sync + Drop + 'static>(
+    rt: R,
+    file: &'static str,
+) -> Result<bool, TableFault>
+where
+    R::File: Read + Drop,
+{
+    let cases = read_file(&rt, file)?;
+    let mut agree = true;
+    for case in cases.iter() {
+        let mut given = String::new(rt.alloc());
+        let came = give(rt, rt.alloc(), case, &mut given);
+        if !judge_case(&rt, file, case, came, given.as_str())? {
+            agree = false;
+        }
+    }
+    if agree {
+        tell_count(&rt, file, cases.as_slice())?;
+    }
+    Ok(agree)
+}
+
+fn run<R: Wait + Threads + Files + Print + AllocGlobal + Copy + Send + Sync + Drop + 'static>(
+    rt: R,
+) -> Result<bool, TableFault>
+where
+    R::File: Read + Drop,
+{
+    let mut agree = true;
+    for file in TABLES {
+        if !run_table(rt, file)? {
+            agree = false;
+        }
+    }
+    Ok(agree)
+}
+
+fn main(rt: HostRuntime) -> ExitCode {
+    end(&rt, run(rt))
+}

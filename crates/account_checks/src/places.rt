@@ -1,0 +1,207 @@
+//! Accounts that take lines of scripts.
+
+ghost use Rattle.std.specs.Prelude.{◌≡◌, ◌^◌};
+
+use crate::bells::Numbered;
+use crate::opening::Opening;
+use account_book::{Book, Life, OpenFault, Refusal};
+use account_lock::{Account, Desk, Look, Refused, Setup};
+use arn_ids::{Checked, FnNo};
+use call_model::{Stats, Ticket};
+use lambda_wire::Reply;
+use script::read_call;
+use std::alloc::{AllocError, Global};
+use std::sync::Wait;
+use std::sync::ledger::{Blank, Ledger};
+use usage_ledger::{Keep, Tally, root};
+
+/// What became of a line.
+#[derive(Clone, Copy)]
+pub enum Taken {
+    /// Its call has this ticket.
+    At(Ticket),
+    /// The journal is full, and the call's bell came back.
+    Full,
+    /// The journal is full, and the call's bell is gone.
+    BellGone,
+    /// It stands for no call.
+    NoCall,
+}
+
+/// What an account is asked.
+#[derive(Clone, Copy)]
+pub enum Question {
+    Look(Ticket),
+    Due(u64),
+    Life,
+    Stats,
+    Reservation(FnNo),
+    Render(Ticket),
+    Opening,
+    History(Ticket),
+}
+
+/// What an account says.
+#[derive(Drop)]
+pub enum Said {
+    Look(Look),
+    Due(bool),
+    Life(Life),
+    Stats(Stats),
+    Reservation(Option<u32>),
+    Reply(Option<Reply>),
+    Text(Option<Vec<u8>>),
+    /// The configuration has no such function.
+    NoFunction,
+}
+
+/// An account, and its configuration, by which the lines of its calls are read.
+#[derive(Drop)]
+pub struct Place<R, S: Setup, C: Ledger, A: Ledger, T: Ledger, F: Ledger> {
+    pub rt: R,
+    pub alloc: Global,
+    pub config: Checked,
+    pub account: Account<S, Numbered, C, A, T, F>,
+    ghost configured: { config ≡ S.config },
+}
+
+/// What comes of a call that was not taken.
+fn untaken(refused: &Refused<Numbered>) -> Result<Taken, AllocError> {
+    match (refused.refusal, refused.bell.is_some()) {
+        (Refusal::OutOfMemory, _) => Err(AllocError),
+        (Refusal::JournalFull, true) => Ok(Taken::Full),
+        (Refusal::JournalFull, false) => Ok(Taken::BellGone),
+    }
+}
+
+impl<R: Wait, S: Setup, C: Ledger, A: Ledger, T: Ledger, F: Ledger> Place<R, S, C, A, T, F> {
+    /// Submits the call of a line, with a bell, by a tally.
+    pub fn submit<K: Keep>(
+        &self,
+        tally: &mut Tally<K, C, A, T, F>,
+        line: &[u8],
+        bell: Numbered,
+    ) -> Result<Taken, AllocError> {
+        let Some((now, call)) = read_call(self.alloc, &self.config, true, line)? else {
+            return Ok(Taken::NoCall);
+        };
+        match self.account.submit(&self.rt, tally, now, call, Some(bell)) {
+            Ok(ticket) => Ok(Taken::At(ticket)),
+            Err(refused) => untaken(&refused),
+        }
+    }
+
+    /// The reservation of a function.
+    fn reservation(&self, function: FnNo) -> Said {
+        if function < 1 || function as usize > self.config.functions().len() {
+            return Said::NoFunction;
+        }
+        Said::Reservation(self.account.reservation(&self.rt, function))
+    }
+
+    /// Asks the account.
+    pub fn ask(&self, question: Question) -> Result<Said, AllocError> {
+        let (rt, account) = (&self.rt, &self.account);
+        Ok(match question {
+            Question::Look(ticket) => Said::Look(account.look(rt, ticket)),
+            Question::Due(now) => Said::Due(account.due(rt, now)),
+            Question::Life => Said::Life(account.life(rt)),
+            Question::Stats => Said::Stats(account.stats(rt)),
+            Question::Reservation(function) => self.reservation(function),
+            Question::Render(ticket) => Said::Reply(account.render(rt, ticket)?),
+            Question::Opening => Said::Text(Some(account.opening(rt)?)),
+            Question::History(ticket) => Said::Text(account.history(rt, ticket)?),
+        })
+    }
+}
+
+/// An account and the tally that has all parts.
+#[derive(Drop)]
+pub struct Opened<R, S: Setup, K: Keep, C: Ledger, A: Ledger, T: Ledger, F: Ledger> {
+    pub place: Place<R, S, C, A, T, F>,
+    pub root: Tally<K, C, A, T, F>,
+}
+
+/// Opens an account.
+pub fn open_account<R: Drop, S: Setup, K: Keep, C: Ledger, A: Ledger, T: Ledger, F: Ledger>(
+    rt: R,
+    alloc: Global,
+    opening: Opening,
+    calls: Blank,
+    admitted: Blank,
+    throttled: Blank,
+    failed: Blank,
+) -> Result<Opened<R, S, K, C, A, T, F>, OpenFault>
+    requires configured { opening.config ≡ S.config }
+    requires calls { (calls.name ≡ C.name) × (calls.parts ≡ C.parts) × (C.parts ≡ 2 ^ 32) }
+    requires admitted { (admitted.name ≡ A.name) × (admitted.parts ≡ A.parts) × (A.parts ≡ 2 ^ 32) }
+    requires throttled { (throttled.name ≡ T.name) × (throttled.parts ≡ T.parts) × (T.parts ≡ 2 ^ 32) }
+    requires failed { (failed.name ≡ F.name) × (failed.parts ≡ F.parts) × (F.parts ≡ 2 ^ 32) }
+{
+    let Opening {
+        config,
+        beside,
+        salt,
+        max_entries,
+    } = opening;
+    let (account, root) = match Account::open(
+        alloc,
+        config,
+        salt,
+        max_entries,
+        calls,
+        admitted,
+        throttled,
+        failed,
+    ) {
+        Ok(opened) => opened,
+        Err(fault) => return Err(fault),
+    };
+    Ok(Opened {
+        place: Place {
+            rt,
+            alloc,
+            config: beside,
+            account,
+        },
+        root,
+    })
+}
+
+/// Opens a desk, and puts it behind a lock.
+pub fn open_desk<R: Drop, S: Setup, K: Keep, C: Ledger, A: Ledger, T: Ledger, F: Ledger>(
+    rt: R,
+    alloc: Global,
+    opening: Opening,
+    calls: Blank,
+    admitted: Blank,
+    throttled: Blank,
+    failed: Blank,
+) -> Result<Opened<R, S, K, C, A, T, F>, OpenFault>
+    requires configured { opening.config ≡ S.config }
+    requires calls { (calls.name ≡ C.name) × (calls.parts ≡ C.parts) × (C.parts ≡ 2 ^ 32) }
+    requires admitted { (admitted.name ≡ A.name) × (admitted.parts ≡ A.parts) × (A.parts ≡ 2 ^ 32) }
+    requires throttled { (throttled.name ≡ T.name) × (throttled.parts ≡ T.parts) × (T.parts ≡ 2 ^ 32) }
+    requires failed { (failed.name ≡ F.name) × (failed.parts ≡ F.parts) × (F.parts ≡ 2 ^ 32) }
+{
+    let Opening {
+        config,
+        beside,
+        salt,
+        max_entries,
+    } = opening;
+    let book = match Book::open(alloc, config, salt, max_entries) {
+        Ok(book) => book,
+        Err(fault) => return Err(fault),
+    };
+    let (totals, root) = root(alloc, calls, admitted, throttled, failed);
+    Ok(Opened {
+        place: Place {
+            rt,
+            alloc,
+            config: beside,
+            account: Account::share(Desk::open(alloc, book, totals)),
+        },
+        root,
+    })
+}

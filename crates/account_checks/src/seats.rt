@@ -1,0 +1,218 @@
+//! An account with its tallies.
+
+use crate::bells::{Bells, Numbered};
+use crate::crowds::crowd_of;
+use crate::forging::{Forgery, Kept};
+use crate::places::{Opened, Place, Question, Said, Taken};
+use crate::stand::{Ending, Seat, SeatFault, Stand, Turns};
+use account_lock::{Account, SettleFault, Settled, Setup};
+use call_model::Stats;
+use case_tables::CaseFault;
+use std::alloc::AllocError;
+use std::sync::Wait;
+use std::sync::ledger::Ledger;
+use std::thread::Threads;
+use usage_ledger::{JoinFault, Keep, Tally};
+
+/// An account with its tallies, and with the one that is held back.
+#[derive(Drop)]
+pub struct Seats<R, S: Setup, K: Keep, C: Ledger, A: Ledger, T: Ledger, F: Ledger> {
+    place: Place<R, S, C, A, T, F>,
+    tallies: Vec<Tally<K, C, A, T, F>>,
+    held_back: Option<Tally<K, C, A, T, F>>,
+    settles_desk: bool,
+}
+
+/// A new tally with a part of another one.
+pub fn part_of<K: Keep, C: Ledger, A: Ledger, T: Ledger, F: Ledger>(
+    tally: Option<&mut Tally<K, C, A, T, F>>,
+) -> Result<Tally<K, C, A, T, F>, SeatFault> {
+    let Some(tally) = tally else {
+        return Err(SeatFault::NoTally);
+    };
+    if tally.parts() < 2 {
+        return Err(SeatFault::NoParts);
+    }
+    Ok(tally.split())
+}
+
+/// Takes a tally out of these.
+fn taken_out<K: Keep, C: Ledger, A: Ledger, T: Ledger, F: Ledger>(
+    tallies: &mut Vec<Tally<K, C, A, T, F>>,
+    seat: usize,
+) -> Result<Tally<K, C, A, T, F>, SeatFault> {
+    if seat >= tallies.len() {
+        return Err(SeatFault::NoTally);
+    }
+    Ok(tallies.remove(seat))
+}
+
+/// Notes receipts.
+fn note_receipts<K: Keep, C: Ledger, A: Ledger, T: Ledger, F: Ledger>(
+    tally: &mut Tally<K, C, A, T, F>,
+    kept: &Kept,
+) -> Result<(), AllocError> {
+    for receipt in kept.receipts.iter() {
+        tally.room(1)?;
+        tally.note(receipt.0, receipt.1);
+    }
+    Ok(())
+}
+
+/// Notes calls.
+fn note_calls<K: Keep, C: Ledger, A: Ledger, T: Ledger, F: Ledger>(
+    tally: &mut Tally<K, C, A, T, F>,
+    kept: &Kept,
+) -> Result<(), AllocError> {
+    for call in kept.calls.iter() {
+        tally.room(1)?;
+        tally.made(call.0, call.1);
+    }
+    Ok(())
+}
+
+/// Two tallies as one.
+fn joined<K: Keep, C: Ledger, A: Ledger, T: Ledger, F: Ledger>(
+    one: Tally<K, C, A, T, F>,
+    other: Tally<K, C, A, T, F>,
+) -> Result<Tally<K, C, A, T, F>, SeatFault> {
+    match one.join(other) {
+        Ok(joined) => Ok(joined),
+        Err(JoinFault::OutOfMemory { .. }) => Err(SeatFault::Memory),
+    }
+}
+
+/// The counts of what is settled.
+fn counted(settled: Result<Settled, SettleFault>) -> Result<(Stats, u64), SettleFault> {
+    match settled {
+        Ok(settled) => Ok((settled.stats, settled.book.len())),
+        Err(fault) => Err(fault),
+    }
+}
+
+/// Settles an account, or its desk.
+fn settle_account<S: Setup, K: Keep, C: Ledger, A: Ledger, T: Ledger, F: Ledger>(
+    account: Account<S, Numbered, C, A, T, F>,
+    settles_desk: bool,
+    tallies: Vec<Tally<K, C, A, T, F>>,
+) -> Result<Settled, SettleFault> {
+    if settles_desk {
+        account.into_desk().settle(tallies)
+    } else {
+        account.settle(tallies)
+    }
+}
+
+impl<R: Drop, S: Setup + Drop, K: Keep, C: Ledger, A: Ledger, T: Ledger, F: Ledger> Seats<
+    R,
+    S,
+    K,
+    C,
+    A,
+    T,
+    F,
+> {
+    /// An account with its first tally.
+    pub fn new(
+        opened: Opened<R, S, K, C, A, T, F>,
+        settles_desk: bool,
+    ) -> Result<Seats<R, S, K, C, A, T, F>, AllocError> {
+        let Opened { place, root } = opened;
+        let mut tallies = Vec::with_capacity(place.alloc, 1)?;
+        tallies.push(root)?;
+        Ok(Seats {
+            place,
+            tallies,
+            held_back: None,
+            settles_desk,
+        })
+    }
+}
+
+/// Makes the calls of four threads at once, each by a tally of its own.
+pub fn crowd<
+    R: Wait + Threads + Sync,
+    S: Setup + Send + Sync,
+    K: Keep + Send + Sync,
+    C: Ledger + Send + Sync,
+    A: Ledger + Send + Sync,
+    T: Ledger + Send + Sync,
+    F: Ledger + Send + Sync,
+>(
+    seats: &mut Seats<R, S, K, C, A, T, F>,
+    bells: &Bells,
+    turns: Turns<'_>,
+) -> Result<(), CaseFault> {
+    crowd_of(&seats.place, &mut seats.tallies, bells, turns)
+}
+
+impl<R: Wait + Drop, S: Setup + Drop, K: Keep, C: Ledger, A: Ledger, T: Ledger, F: Ledger> Stand
+    for Seats<R, S, K, C, A, T, F> {
+    fn make_seat(&mut self, seat: usize) -> Result<(), SeatFault> {
+        for _ in self.tallies.len()..seat.saturating_add(1) {
+            let tally = part_of(self.tallies.first_mut())?;
+            self.tallies.push(tally)?;
+        }
+        Ok(())
+    }
+
+    fn seat(&self, seat: usize) -> Option<Seat<'_>> {
+        let tally = self.tallies.get(seat)?;
+        Some(Seat {
+            parts: tally.parts(),
+            joined: tally.joined(),
+            receipts: tally.kept(),
+            calls: tally.calls(),
+        })
+    }
+
+    fn take(&mut self, seat: usize, line: &[u8], bell: Numbered) -> Result<Taken, SeatFault> {
+        match self.tallies.get_mut(seat) {
+            None => Err(SeatFault::NoTally),
+            Some(tally) => Ok(self.place.submit(tally, line, bell)?),
+        }
+    }
+
+    fn ask(&self, question: Question) -> Result<Said, AllocError> {
+        self.place.ask(question)
+    }
+
+    fn join(&mut self) -> Result<(), SeatFault> {
+        let other = taken_out(&mut self.tallies, 2)?;
+        let one = taken_out(&mut self.tallies, 1)?;
+        self.tallies.push(joined(one, other)?)?;
+        Ok(())
+    }
+
+    fn hold_back(&mut self) -> Result<(), SeatFault> {
+        self.held_back = Some(taken_out(&mut self.tallies, 1)?);
+        Ok(())
+    }
+
+    fn forge(&mut self, forgery: Forgery) -> Result<(), SeatFault> {
+        let honest = taken_out(&mut self.tallies, 1)?;
+        let mut kept = Kept::copy(self.place.alloc, honest.kept(), honest.calls())?;
+        kept.forge(forgery);
+        let mut forged = part_of(self.tallies.first_mut())?;
+        note_receipts(&mut forged, &kept)?;
+        note_calls(&mut forged, &kept)?;
+        if let Some(root) = self.tallies.first_mut() {
+            root.absorb(honest);
+        }
+        self.tallies.push(forged)?;
+        Ok(())
+    }
+
+    fn settle(self) -> Ending {
+        let Seats {
+            place,
+            tallies,
+            held_back,
+            settles_desk,
+        } = self;
+        Ending {
+            settled: counted(settle_account(place.account, settles_desk, tallies)),
+            held_back: held_back.map(|tally| tally.parts()),
+        }
+    }
+}

@@ -1,0 +1,98 @@
+//! An account and its tallies, as scripts see them.
+
+use crate::bells::Numbered;
+use crate::forging::Forgery;
+use crate::lines::malformed;
+use crate::places::{Question, Said, Taken};
+use account_lock::SettleFault;
+use call_model::{Answer, Head, Stats, Ticket};
+use case_tables::CaseFault;
+use std::alloc::{AllocError, AllocFailed};
+
+/// Why something was not done to tallies.
+#[derive(Clone, Copy, Debug, PartialEq, Eq)]
+pub enum SeatFault {
+    /// There is no such tally.
+    NoTally,
+    /// The tally with number 0 has one part left.
+    NoParts,
+    /// There was no memory.
+    Memory,
+}
+
+impl From<AllocError> for SeatFault {
+    fn from(_e: AllocError) -> SeatFault {
+        SeatFault::Memory
+    }
+}
+
+impl<X: Drop> From<AllocFailed<X>> for SeatFault {
+    fn from(_e: AllocFailed<X>) -> SeatFault {
+        SeatFault::Memory
+    }
+}
+
+impl SeatFault {
+    /// What a case suffers from that has this fault at a line.
+    pub fn at(self, line: u64) -> CaseFault {
+        match self {
+            SeatFault::Memory => CaseFault::Memory,
+            SeatFault::NoTally => malformed(line, "a tally that is there is wanted"),
+            SeatFault::NoParts => malformed(line, "fewer tallies are wanted"),
+        }
+    }
+}
+
+/// What is seen of a tally.
+#[derive(Clone, Copy)]
+pub struct Seat<'a> {
+    pub parts: u64,
+    pub joined: bool,
+    pub receipts: &'a [(Ticket, Answer)],
+    pub calls: &'a [(Ticket, Head)],
+}
+
+/// What a settlement came to.
+#[derive(Clone, Copy)]
+pub struct Ending {
+    /// The counts, and how many entries the book has.
+    pub settled: Result<(Stats, u64), SettleFault>,
+    /// The parts of the tally that was held back.
+    pub held_back: Option<u64>,
+}
+
+/// The lines of a crowd: each of its four threads makes the calls of all lines so many times.
+#[derive(Clone, Copy)]
+pub struct Turns<'a> {
+    pub count: u64,
+    pub lines: &'a str,
+    /// The number of the first line in its file.
+    pub first: u64,
+}
+
+/// An account and its tallies. The tally with number 0 has all parts that no other one has.
+pub trait Stand: Drop {
+    /// Sees to it that there is a tally with this number.
+    fn make_seat(&mut self, seat: usize) -> Result<(), SeatFault>;
+
+    /// What is seen of a tally.
+    fn seat(&self, seat: usize) -> Option<Seat<'_>>;
+
+    /// Submits the call of a line by a tally.
+    fn take(&mut self, seat: usize, line: &[u8], bell: Numbered) -> Result<Taken, SeatFault>;
+
+    /// Asks the account.
+    fn ask(&self, question: Question) -> Result<Said, AllocError>;
+
+    /// Joins the tallies 1 and 2.
+    fn join(&mut self) -> Result<(), SeatFault>;
+
+    /// Holds the tally 1 back from the settlement.
+    fn hold_back(&mut self) -> Result<(), SeatFault>;
+
+    /// Forges what tally 1 keeps: another one keeps it in its place, and tally 0 takes its share over.
+    fn forge(&mut self, forgery: Forgery) -> Result<(), SeatFault>;
+
+    /// Settles the account.
+    fn settle(self) -> Ending;
+}

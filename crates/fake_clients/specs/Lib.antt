@@ -1,9 +1,0 @@
-pub mod Counts
-pub mod Faults
-pub mod Labels
-pub mod Outcomes
-pub mod Ports
-pub mod Reports
-pub mod Steps
-pub mod Times
-pub mod Wording

@@ -1,0 +1,186 @@
+//! Environments, call by call.
+
+ghost use Rattle.std.specs.Prelude.{◌≡◌, ◌<◌, ◌^◌, IfOk};
+ghost use Rattle.env_phase.specs.Taking.{registered_name};
+
+use crate::answers::say_answers;
+use crate::configurations::configuration_of;
+use crate::lines::{Calls, LineFault, Words, make_calls, tell};
+use crate::script_calls::call_of;
+use arn_ids::{Checked, Text};
+use call_model::Call;
+use case_tables::{Case, CaseFault};
+use env_phase::{Environment, Step};
+use extension_set::Moves;
+use std::alloc::{AllocError, Global};
+use std::marker::Model;
+
+/// How many calls an environment takes in a case.
+const MOST_CALLS: u64 = 1000;
+
+/// An environment, and how many calls it took.
+#[derive(Drop)]
+struct Driven {
+    environment: Environment,
+    calls: u64,
+}
+
+impl Model for Driven {
+    ghost use Rattle.std.specs.Prelude.{◌≤◌, ◌*◌};
+    ghost use Rattle.call_model.specs.After.{Known};
+
+    ghost Value = { Known };
+
+    ghost view = { λ d. d.environment };
+
+    ghost invariant = { λ d. (d.environment.stand.events ≤ 24 * d.calls) × (d.environment.stand.registrations ≤ d.calls) × (d.calls ≤ 1000) };
+}
+
+/// The name that a Register brings.
+fn name_of(alloc: Global, call: &Call) -> Result<Option<Text>, AllocError>
+    ensures { IfOk result (λ name. name ≡ registered_name call.now) }
+{
+    match call {
+        Call::Register { name, .. } => {
+            let copy = String::from_str(alloc, name.as_str())?;
+            Ok(Some(Text::new(copy)))
+        }
+        _ => Ok(None),
+    }
+}
+
+/// An environment of the first function.
+fn open(alloc: Global, config: &Checked) -> Result<Driven, LineFault> {
+    if config.functions().len() < 1 {
+        return Err(LineFault::Malformed);
+    }
+    let function = config.function(1);
+    if function.timeout_s > 900 {
+        return Err(LineFault::Malformed);
+    }
+    Ok(Driven {
+        environment: Environment::open(alloc, function)?,
+        calls: 0,
+    })
+}
+
+impl Driven {
+    /// Has the environment take a call, whose answers are put into the moves.
+    fn take(&mut self, alloc: Global, step: Step, call: &Call) -> Result<Moves, LineFault>
+        requires { step.now < 2 ^ 53 }
+    {
+        let name = name_of(alloc, call)?;
+        if self.calls >= MOST_CALLS {
+            return Err(LineFault::Malformed);
+        }
+        let mut moves = Moves::new();
+        self.environment.take(step, call, name, &mut moves);
+        self.calls += 1;
+        Ok(moves)
+    }
+}
+
+fn say_phase(
+    alloc: Global,
+    environment: &Environment,
+    moves: &Moves,
+    given: &mut String,
+) -> Result<(), LineFault> {
+    tell(alloc, given, &environment.phase())?;
+    say_answers(alloc, given, moves.as_slice())
+}
+
+/// Asks an environment for what it has; whether there is such a question.
+fn ask(
+    alloc: Global,
+    environment: &Environment,
+    line: &str,
+    given: &mut String,
+) -> Result<(), LineFault> {
+    match line {
+        "members" => tell(alloc, given, &environment.members()),
+        "is-taken" => tell(alloc, given, &environment.is_taken()),
+        "is-off" => tell(alloc, given, &environment.is_off()),
+        "bound" => tell(alloc, given, &environment.bound()),
+        "deadline" => tell(alloc, given, &environment.deadline()),
+        _ => Err(LineFault::Malformed),
+    }
+}
+
+/// An account with an environment of its first function.
+#[derive(Drop)]
+struct Account {
+    config: Checked,
+    driven: Driven,
+    invokes: u64,
+}
+
+impl Account {
+    /// The step of a call: an Invoke is counted.
+    fn step(&mut self, ticket: u64, now: u64, call: &Call) -> Step {
+        let mut count = 0;
+        if let Call::Invoke { .. } = call {
+            self.invokes = self.invokes.saturating_add(1);
+            count = self.invokes;
+        }
+        Step { ticket, now, count }
+    }
+
+    fn take(
+        &mut self,
+        alloc: Global,
+        words: Words<'_>,
+        given: &mut String,
+    ) -> Result<(), LineFault> {
+        let mut words = words;
+        let ticket = words.number()?;
+        let (now, call) = call_of(alloc, &self.config, words.rest())?;
+        let step = self.step(ticket, now, &call);
+        if step.now >= 1 << 53 {
+            return Err(LineFault::Malformed);
+        }
+        let moves = self.driven.take(alloc, step, &call)?;
+        say_phase(alloc, &self.driven.environment, &moves, given)
+    }
+}
+
+fn begin(alloc: Global, line: &str) -> Result<Account, LineFault> {
+    let config = configuration_of(alloc, line)?;
+    let driven = open(alloc, &config)?;
+    Ok(Account {
+        config,
+        driven,
+        invokes: 0,
+    })
+}
+
+/// The account that was read last.
+#[derive(Drop)]
+struct Stage {
+    account: Option<Account>,
+}
+
+impl Calls for Stage {
+    fn call(&mut self, alloc: Global, line: &str, given: &mut String) -> Result<(), LineFault> {
+        if line.starts_with('{') {
+            self.account = Some(begin(alloc, line)?);
+            return Ok(());
+        }
+        match &mut self.account {
+            Some(account) if line.contains(' ') => account.take(alloc, Words::of(line), given),
+            Some(account) => ask(alloc, &account.driven.environment, line, given),
+            None => Err(LineFault::Malformed),
+        }
+    }
+}
+
+/// What an environment makes of calls.
+///
+/// | Line | What it gives |
+/// |---|---|
+/// | `{..}` | nothing; the lines behind it call a new environment of its first function |
+/// | `TICKET CALL` | the phase after this call of a script, and below it the call's answers |
+/// | `members`, `is-taken`, `is-off`, `bound`, `deadline` | what is asked of the environment |
+pub fn give(alloc: Global, case: &Case, given: &mut String) -> Result<(), CaseFault> {
+    make_calls(alloc, case, &mut Stage { account: None }, given)
+}

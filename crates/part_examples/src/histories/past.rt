@@ -1,0 +1,102 @@
+//! Entries with the counts in their request identifiers.
+
+ghost use Rattle.std.specs.Prelude.{◌≡◌, ◌≤◌, ◌∷◌, length, reverse};
+ghost use Rattle.std.specs.List.{count_by};
+ghost use Rattle.call_model.specs.History.{is_invoke_of};
+ghost use Rattle.script.specs.CallCounts.{call_counts, request_count};
+
+use arn_ids::FnNo;
+use call_model::{Call, Entry};
+use std::alloc::{AllocError, Global};
+use std::marker::Model;
+
+/// Entries, the oldest first, with the count in the request identifier of each that is an Invoke,
+/// and 0 for each other one.
+#[derive(Drop)]
+pub struct Past {
+    entries: Vec<Entry>,
+    counts: Vec<u64>,
+}
+
+impl Model for Past {
+    ghost use Rattle.std.specs.Prelude.{◌≡◌, List, reverse};
+    ghost use Rattle.call_model.specs.declared.call.Entry.{Entry as TheEntry};
+    ghost use Rattle.script.specs.CallCounts.{call_counts};
+
+    ghost Value = { List TheEntry };
+
+    ghost view = { λ p. p.entries.items };
+
+    ghost invariant = { λ p. reverse p.counts.items ≡ call_counts (reverse p.entries.items) };
+}
+
+fn invokes(call: &Call, function: FnNo) -> bool
+    ensures { result ≡ is_invoke_of function call.now }
+{
+    match call {
+        Call::Invoke {
+            function: other,
+            ..
+        } => *other == function,
+        _ => false,
+    }
+}
+
+/// How many of these entries invoke a function.
+fn count_of(entries: &[Entry], function: FnNo) -> u64
+    ensures value { result ≡ count_by (λ entry. is_invoke_of function entry.call) entries.now }
+    ensures few { result ≤ length entries.now }
+{
+    let mut count = 0;
+    for entry in entries {
+        if invokes(&entry.call, function) {
+            count += 1;
+        }
+    }
+    count
+}
+
+/// The count of an entry that follows these.
+#[tactic(auto, using(crate::proofs::Counting::one_more, crate::proofs::Counting::count_reversed))]
+fn next_count(entries: &[Entry], entry: &Entry) -> u64
+    ensures { result ≡ request_count (entry.now ∷ reverse entries.now) entry.now.call }
+{
+    match &entry.call {
+        Call::Invoke { function, .. } => count_of(entries, *function) + 1,
+        _ => 0,
+    }
+}
+
+impl Past {
+    /// No entries.
+    pub fn new(alloc: Global) -> Past {
+        Past {
+            entries: Vec::new(alloc),
+            counts: Vec::new(alloc),
+        }
+    }
+
+    /// Adds an entry behind the others.
+    pub fn add(&mut self, entry: Entry) -> Result<(), AllocError> {
+        self.entries.reserve(1)?;
+        self.counts.reserve(1)?;
+        let count = next_count(self.entries.as_slice(), &entry);
+        self.entries.push_reserved(entry);
+        self.counts.push_reserved(count);
+        Ok(())
+    }
+
+    /// The entries.
+    pub fn entries(&self) -> &[Entry]
+        ensures { result.now ≡ self.now }
+    {
+        self.entries.as_slice()
+    }
+
+    /// Their counts.
+    pub fn counts(&self) -> &[u64]
+        ensures { reverse result.now ≡ call_counts (reverse self.now) }
+    {
+        self.counts.as_slice()
+    }
+}

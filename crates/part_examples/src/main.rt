@@ -1,0 +1,91 @@
+//! Runs the examples of the parts that an account is made of: each file of cases in the folder that
+//! it is run in.
+#![tactic(auto)]
+
+mod answers;
+mod configurations;
+mod due;
+mod environments;
+mod extension_sets;
+mod heads;
+mod histories;
+mod identifiers;
+mod lines;
+mod moves;
+mod names;
+mod places;
+mod pools;
+mod script_calls;
+mod scripts;
+mod written_answers;
+
+use case_tables::{Case, CaseFault, Subject, TableFault, end, run_file};
+use std::alloc::Global;
+use std::process::ExitCode;
+
+/// What a file's cases are about.
+#[derive(Clone, Copy)]
+enum Table {
+    Names,
+    Identifiers,
+    Configurations,
+    Scripts,
+    Histories,
+    Heads,
+    Pools,
+    Deadlines,
+    Places,
+    Moves,
+    Extensions,
+    Environments,
+}
+
+/// The files.
+const TABLES: [(&str, Table); 13] = [
+    ("names.txt", Table::Names),
+    ("identifiers.txt", Table::Identifiers),
+    ("configurations.txt", Table::Configurations),
+    ("scripts.txt", Table::Scripts),
+    ("histories.txt", Table::Histories),
+    ("heads.txt", Table::Heads),
+    ("pools.txt", Table::Pools),
+    ("deadlines.txt", Table::Deadlines),
+    ("places.txt", Table::Places),
+    ("moves.txt", Table::Moves),
+    ("extensions.txt", Table::Extensions),
+    ("environments.txt", Table::Environments),
+    ("long_lines.txt", Table::Scripts),
+];
+
+impl Subject for Table {
+    fn give(&self, alloc: Global, case: &Case, given: &mut String) -> Result<(), CaseFault> {
+        match self {
+            Table::Names => names::give(alloc, case, given),
+            Table::Identifiers => identifiers::give(alloc, case, given),
+            Table::Configurations => configurations::give(alloc, case, given),
+            Table::Scripts => scripts::give(alloc, case, given),
+            Table::Histories => histories::give(alloc, case, given),
+            Table::Heads => heads::give(alloc, case, given),
+            Table::Pools => pools::give(alloc, case, given),
+            Table::Deadlines => due::give(alloc, case, given),
+            Table::Places => places::give(alloc, case, given),
+            Table::Moves => moves::give(alloc, case, given),
+            Table::Extensions => extension_sets::give(alloc, case, given),
+            Table::Environments => environments::give(alloc, case, given),
+        }
+    }
+}
+
+fn run(rt: &HostRuntime) -> Result<bool, TableFault> {
+    let mut agree = true;
+    for (file, table) in TABLES {
+        if !run_file(rt, file, &table)? {
+            agree = false;
+        }
+    }
+    Ok(agree)
+}
+
+fn main(rt: HostRuntime) -> ExitCode {
+    end(&rt, run(&rt))
+}

@@ -1,0 +1,110 @@
+//! Lines of scripts, and the calls that they stand for.
+
+use crate::configurations::configuration_of;
+use crate::lines::{Calls, LineFault, Words, make_calls, say, short, tell};
+use arn_ids::Checked;
+use call_model::Call;
+use case_tables::{Case, CaseFault};
+use std::alloc::Global;
+
+/// The account that was read last.
+#[derive(Drop)]
+struct Account {
+    config: Option<Checked>,
+}
+
+/// The line between the bars.
+fn line_of(alloc: Global, words: &str) -> Result<String, LineFault> {
+    let Some(rest) = words.strip_prefix('|') else {
+        return Err(LineFault::Malformed);
+    };
+    let Some(line) = rest.strip_suffix('|') else {
+        return Err(LineFault::Malformed);
+    };
+    let line = line.replace(alloc, "<tab>", "\t")?;
+    Ok(line.as_str().replace(alloc, "<return>", "\r")?)
+}
+
+/// What a line of a script stands for, in a form that has `reserve` or not.
+fn read(
+    alloc: Global,
+    config: &Checked,
+    reserves: bool,
+    line: &str,
+) -> Result<Option<(u64, Call)>, LineFault> {
+    Ok(script::read_call(alloc, config, reserves, line.as_bytes())?)
+}
+
+fn say_whether(call: &Option<(u64, Call)>, given: &mut String) -> Result<(), LineFault> {
+    say(given, if call.is_some() { "a call" } else { "no call" })
+}
+
+/// Says what a line is; where that is no call, what stands for that.
+fn say_call(
+    alloc: Global,
+    call: &Option<(u64, Call)>,
+    otherwise: &str,
+    given: &mut String,
+) -> Result<(), LineFault> {
+    match call {
+        Some(call) => tell(alloc, given, call),
+        None => Ok(given.push_str(otherwise)?),
+    }
+}
+
+/// A line with so many letters.
+fn with_letters(alloc: Global, words: Words<'_>) -> Result<String, LineFault> {
+    let mut words = words;
+    let count = short(words.number()?)?;
+    let letters = "x".repeat(alloc, count as usize)?;
+    let line = line_of(alloc, words.rest())?;
+    Ok(line.as_str().replace(alloc, "<letters>", letters.as_str())?)
+}
+
+fn read_script(
+    alloc: Global,
+    config: &Checked,
+    line: &str,
+    given: &mut String,
+) -> Result<(), LineFault> {
+    let mut words = Words::of(line);
+    let word = words.next();
+    let text = match word {
+        "letters" => with_letters(alloc, words)?,
+        _ => line_of(alloc, words.rest())?,
+    };
+    let call = read(alloc, config, word != "form-1", text.as_str())?;
+    match word {
+        "call" => say_call(alloc, &call, "no call\n", given),
+        "no-call" => say_call(alloc, &call, "", given),
+        "form-1" | "letters" => say_whether(&call, given),
+        _ => Err(LineFault::Malformed),
+    }
+}
+
+impl Calls for Account {
+    fn call(&mut self, alloc: Global, line: &str, given: &mut String) -> Result<(), LineFault> {
+        if line.starts_with('{') {
+            self.config = Some(configuration_of(alloc, line)?);
+            return Ok(());
+        }
+        match &self.config {
+            Some(config) => read_script(alloc, config, line, given),
+            None => Err(LineFault::Malformed),
+        }
+    }
+}
+
+/// What lines of scripts say. A line of a script stands between bars (here quotes), `<tab>` and `<return>` stand
+/// for these bytes.
+///
+/// | Line | What it gives |
+/// |---|---|
+/// | `{..}` | nothing; the account whose scripts are read |
+/// | `call 'LINE'` | the line's moment and call, or `no call` |
+/// | `no-call 'LINE'` | nothing where the line stands for no call |
+/// | `form-1 'LINE'` | whether it stands for a call in a script of the first form |
+/// | `letters N 'LINE'` | whether it does, with N letters in place of `<letters>` |
+pub fn give(alloc: Global, case: &Case, given: &mut String) -> Result<(), CaseFault> {
+    make_calls(alloc, case, &mut Account { config: None }, given)
+}

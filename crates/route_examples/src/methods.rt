@@ -1,0 +1,74 @@
+//! Targets with each method: whether a port has the path, and whether the path takes the method.
+
+use crate::decided::decided;
+use crate::port::Door;
+use crate::request::head_of;
+use bytes::Bytes;
+use case_tables::{CaseFault, Part};
+use http_routes::Decision;
+use std::alloc::Global;
+
+/// The word for what is done with a request: 404 where there is no such path, 405 where it takes
+/// other methods, and `yes` where it takes this one.
+fn word_of(decision: &Decision) -> &'static str {
+    let Decision::Reply(reply) = decision else {
+        return "yes";
+    };
+    let body = reply.body.as_slice();
+    if body.starts_with(b"{\"errorMessage\":\"No such resource\"") {
+        return "404";
+    }
+    match reply.status {
+        405 => "405",
+        _ => "yes",
+    }
+}
+
+/// Adds the word of a method.
+fn push_method(
+    alloc: Global,
+    door: &Door,
+    part: &Part,
+    method: &str,
+    target: &str,
+    given: &mut String,
+) -> Result<(), CaseFault> {
+    let head = head_of(alloc, part, method, target)?;
+    let decision = decided(alloc, door, &head, &Bytes::new())?;
+    given.push_str(word_of(&decision))?;
+    Ok(())
+}
+
+/// Adds the line of a target: a word for each method.
+fn push_target(
+    alloc: Global,
+    door: &Door,
+    part: &Part,
+    target: &str,
+    given: &mut String,
+) -> Result<(), CaseFault> {
+    let mut is_first = true;
+    for method in part.arguments().split(' ') {
+        if !is_first {
+            given.push(' ')?;
+        }
+        push_method(alloc, door, part, method, target, given)?;
+        is_first = false;
+    }
+    given.push('\n')?;
+    Ok(())
+}
+
+/// Adds the lines of a part's targets.
+pub fn push_methods(
+    alloc: Global,
+    door: &Door,
+    part: &Part,
+    given: &mut String,
+) -> Result<(), CaseFault> {
+    let lines = part.text();
+    for target in lines.strip_suffix('\n').unwrap_or(lines).split('\n') {
+        push_target(alloc, door, part, target, given)?;
+    }
+    Ok(())
+}

@@ -1,0 +1,171 @@
+//! Checks the service over sockets: each file of checks in the folder that it is run in. A check
+//! serves a configuration on ports that are free, lets peers send and hear bytes, and gives what they
+//! heard.
+#![tactic(auto)]
+
+mod acts;
+mod answers;
+mod checks;
+mod flood;
+mod peer;
+mod ports;
+mod readings;
+mod server;
+mod stage;
+mod steps;
+
+use crate::checks::Checks;
+use crate::readings::Readings;
+use case_tables::{Case, CaseFault, TableFault, end, judge_case, read_file, run_file, tell_count};
+use http_front::Machine;
+use std::alloc::AllocError;
+use std::io::Read;
+use std::marker::PhantomData;
+use std::net::{TcpListener, TcpStream};
+use std::process::ExitCode;
+use std::rt::Files;
+use std::thread;
+use std::thread::JoinHandle;
+
+/// The file of readings.
+const READING_CASES: &str = "readings.txt";
+
+/// The files of checks that take no long time.
+const QUICK_CHECKS: [&str; 7] = [
+    "calls.txt",
+    "words.txt",
+    "identifiers.txt",
+    "departures.txt",
+    "bodies.txt",
+    "hosts.txt",
+    "history.txt",
+];
+
+/// The checks of peers that stand still, whom the service bears with for twenty seconds. They run
+/// beside the others, and tell what they saw behind them.
+const SLOW_CHECKS: &str = "standing_still.txt";
+
+/// Tells the last line of what a check gave, and says whether it gave what it is to give.
+fn tell_check<R: Print>(
+    rt: &R,
+    file: &'static str,
+    case: &Case,
+    came: Result<(), CaseFault>,
+    given: &str,
+) -> Result<bool, TableFault> {
+    let name = case.name();
+    let ended = given.lines().last().unwrap_or("");
+    // Where standard output takes nothing the count of the cases doesn't stand there either.
+    let _told = println!(rt; "{name}: {ended}");
+    judge_case(rt, file, case, came, given)
+}
+
+/// Runs the checks of a file, each of which is told at once, and says whether all agree.
+fn run_checks<R: Machine + Files + Print>(
+    rt: R,
+    file: &'static str,
+    checks: &Checks<R>,
+) -> Result<bool, TableFault>
+where
+    R::File: Read + Drop,
+{
+    let cases = read_file(&rt, file)?;
+    let mut agree = true;
+    for case in cases.iter() {
+        let mut given = String::new(rt.alloc());
+        let came = checks.give(rt.alloc(), case, &mut given);
+        if !tell_check(&rt, file, case, came, given.as_str())? {
+            agree = false;
+        }
+    }
+    if agree {
+        tell_count(&rt, file, cases.as_slice())?;
+    }
+    Ok(agree)
+}
+
+/// Runs the files that take no long time.
+fn run_quick<R: Machine + Files + Print>(rt: R) -> Result<bool, TableFault>
+where
+    R::File: Read + Drop,
+{
+    let mut agree = run_file(&rt, READING_CASES, &Readings)?;
+    let checks = Checks::new(rt);
+    for file in QUICK_CHECKS {
+        if !run_checks(rt, file, &checks)? {
+            agree = false;
+        }
+    }
+    Ok(agree)
+}
+
+/// A check that was run.
+#[derive(Drop)]
+struct Ran {
+    came: Result<(), CaseFault>,
+    given: String,
+}
+
+/// Checks that were run, of which nothing is told yet.
+#[derive(Drop)]
+struct Slow {
+    cases: Vec<Case>,
+    ran: Result<Vec<Ran>, AllocError>,
+}
+
+/// Runs checks.
+fn ran_of<R: Machine>(rt: R, cases: &[Case]) -> Result<Vec<Ran>, AllocError> {
+    let checks = Checks::new(rt);
+    let mut ran = Vec::with_capacity(rt.alloc(), cases.len())?;
+    for case in cases {
+        let mut given = String::new(rt.alloc());
+        let came = checks.give(rt.alloc(), case, &mut given);
+        ran.push(Ran { came, given })?;
+    }
+    Ok(ran)
+}
+
+/// Runs checks, and gives them back.
+fn run_slow<R: Machine>(rt: R, cases: Vec<Case>) -> Slow {
+    let ran = ran_of(rt, cases.as_slice());
+    Slow { cases, ran }
+}
+
+/// Starts a thread that runs checks.
+fn start_slow<R: Machine>(rt: R, cases: Vec<Case>) -> Result<JoinHandle<Slow>, AllocError> {
+    let slow = thread::spawn(&rt, move || run_slow(rt, cases))?;
+    Ok(slow)
+}
+
+/// Tells checks that were run, and says whether all agree.
+fn tell_slow<R: Print>(rt: &R, slow: &Slow) -> Result<bool, TableFault> {
+    let Ok(ran) = &slow.ran else {
+        return Err(TableFault::OutOfMemory);
+    };
+    let mut agree = true;
+    for (case, ran) in slow.cases.iter().zip(ran.iter()) {
+        if !tell_check(rt, SLOW_CHECKS, case, ran.came, ran.given.as_str())? {
+            agree = false;
+        }
+    }
+    if agree {
+        tell_count(rt, SLOW_CHECKS, slow.cases.as_slice())?;
+    }
+    Ok(agree)
+}
+
+fn run<R: Machine + Files + Print>(rt: R) -> Result<bool, TableFault>
+where
+    R::File: Read + Drop,
+{
+    let slow = start_slow(rt, read_file(&rt, SLOW_CHECKS)?)?;
+    let quick = run_quick(rt);
+    let slow = slow.join(&rt);
+    Ok(quick? && tell_slow(&rt, &slow)?)
+}
+
+fn main(rt: HostRuntime) -> ExitCode {
+    // (so that the types of the machine's sockets, which `run` asks for, are among those of `main`)
+    let _: PhantomData<(TcpListener, TcpStream)> = PhantomData;
+    end(&rt, run(rt))
+}

@@ -1,0 +1,206 @@
+//! A service on a thread of its own.
+
+ghost use Rattle.std.specs.Prelude.{◌≡◌, ◌^◌};
+
+use account_lock::{SettleFault, Setup};
+use call_model::Stats;
+use http_front::{Host, HostFault, Hosted, Machine, Plan};
+use lambda_wire::read_config;
+use long_poll::Clock;
+use std::alloc::AllocError;
+use std::marker::Brand;
+use std::sync::Arc;
+use std::sync::atomic::Ordering::SeqCst;
+use std::sync::atomic::{AtomicBool, AtomicU64};
+use std::sync::ledger::{Blank, Ledger};
+use std::thread;
+use std::thread::JoinHandle;
+use usage_ledger::{Keep, KeepAll, Tally};
+
+/// A clock that a check sets, in milliseconds.
+#[derive(Drop)]
+struct SetClock {
+    board: Arc<Board>,
+}
+
+impl Clock for SetClock {
+    fn now(&self) -> u64 {
+        self.board.moment.load(SeqCst)
+    }
+}
+
+/// What a check and its service tell each other.
+#[derive(Drop)]
+pub struct Board {
+    pub moment: AtomicU64,
+    listens: AtomicBool,
+    has_ended: AtomicBool,
+}
+
+/// What is served.
+#[derive(Drop)]
+pub struct Order {
+    /// The text of the configuration.
+    pub config: String,
+    /// How many connections there may be at once.
+    pub places: u32,
+    /// For how many milliseconds an Invoke is held back that comes too early.
+    pub patience: u32,
+    /// Whether a tally is missing when the account is settled.
+    pub holds_back: bool,
+}
+
+/// What a service left: how many entries, how many calls and receipts its tallies keep, and what its
+/// account settled with.
+#[derive(Clone, Copy, Debug)]
+pub struct Left {
+    pub entries: u64,
+    pub calls: u64,
+    pub receipts: u64,
+    pub settled: Result<Stats, SettleFault>,
+}
+
+/// Drops the first tally in whose steps a call was made.
+fn hold_one_back<K: Keep, C: Ledger, A: Ledger, T: Ledger, F: Ledger>(
+    tallies: &mut Vec<Tally<K, C, A, T, F>>,
+) {
+    for place in 0..tallies.len() {
+        if !tallies[place].calls().is_empty() {
+            let _ = tallies.swap_remove(place);
+            return;
+        }
+    }
+}
+
+/// Adds up how many calls and how many receipts these tallies keep.
+fn count<K: Keep, C: Ledger, A: Ledger, T: Ledger, F: Ledger>(
+    tallies: &[Tally<K, C, A, T, F>],
+) -> (u64, u64) {
+    let mut calls = 0u64;
+    let mut receipts = 0u64;
+    for tally in tallies {
+        calls = calls.saturating_add(tally.calls().len() as u64);
+        receipts = receipts.saturating_add(tally.kept().len() as u64);
+    }
+    (calls, receipts)
+}
+
+/// Opens a host, runs it to its end, and settles its account.
+fn run<
+    R: Machine,
+    S: Setup + Drop + Send + Sync + 'static,
+    C: Ledger + Send + Sync + 'static,
+    A: Ledger + Send + Sync + 'static,
+    T: Ledger + Send + Sync + 'static,
+    F: Ledger + Send + Sync + 'static,
+>(
+    rt: R,
+    plan: Plan,
+    order: &Order,
+    board: Arc<Board>,
+    calls: Blank,
+    admitted: Blank,
+    throttled: Blank,
+    failed: Blank,
+) -> Result<Left, HostFault>
+    requires configured { plan.config ≡ S.config }
+    requires calls { (calls.name ≡ C.name) × (calls.parts ≡ C.parts) × (C.parts ≡ 2 ^ 32) }
+    requires admitted { (admitted.name ≡ A.name) × (admitted.parts ≡ A.parts) × (A.parts ≡ 2 ^ 32) }
+    requires throttled { (throttled.name ≡ T.name) × (throttled.parts ≡ T.parts) × (T.parts ≡ 2 ^ 32) }
+    requires failed { (failed.name ≡ F.name) × (failed.parts ≡ F.parts) × (F.parts ≡ 2 ^ 32) }
+{
+    let clock = SetClock {
+        board: Arc::try_clone(&board)?,
+    };
+    let host: Host<R, S, SetClock, KeepAll, C, A, T, F> = Host::open(
+        rt,
+        plan,
+        clock,
+        order.places,
+        order.patience,
+        calls,
+        admitted,
+        throttled,
+        failed,
+    )?;
+    board.listens.store(true, SeqCst);
+    let Hosted {
+        account,
+        mut tallies,
+    } = host.run()?;
+    if order.holds_back {
+        hold_one_back(&mut tallies);
+    }
+    let entries = account.stats(&rt).entries;
+    let (calls, receipts) = count(tallies.as_slice());
+    let settled = account.settle(tallies).map(|settled| settled.stats);
+    Ok(Left {
+        entries,
+        calls,
+        receipts,
+        settled,
+    })
+}
+
+/// Serves until it is stopped, and settles.
+fn serve<R: Machine>(rt: R, order: &Order, board: Arc<Board>) -> Result<Left, HostFault> {
+    let setup = match read_config(rt.alloc(), order.config.as_bytes()) {
+        Ok(setup) => setup,
+        Err(_) => return Err(HostFault::OutOfMemory),
+    };
+    let plan = Plan::check(rt.alloc(), setup)?;
+    run::<R, Brand, Brand, Brand, Brand, Brand>(
+        rt,
+        plan,
+        order,
+        board,
+        Blank::new(1 << 32),
+        Blank::new(1 << 32),
+        Blank::new(1 << 32),
+        Blank::new(1 << 32),
+    )
+}
+
+/// A service on a thread of its own.
+#[derive(Drop)]
+pub struct Server {
+    pub board: Arc<Board>,
+    thread: JoinHandle<Result<Left, HostFault>>,
+}
+
+impl Server {
+    /// Begins to serve, with the clock at this moment.
+    pub fn start<R: Machine>(rt: R, order: Order, moment: u64) -> Result<Server, AllocError> {
+        let board = Arc::new(
+            rt.alloc(),
+            Board {
+                moment: AtomicU64::new(moment),
+                listens: AtomicBool::new(false),
+                has_ended: AtomicBool::new(false),
+            },
+        )?;
+        let shared = Arc::try_clone(&board)?;
+        let told = Arc::try_clone(&board)?;
+        let thread = thread::spawn(&rt, move || {
+            let left = serve(rt, &order, shared);
+            told.has_ended.store(true, SeqCst);
+            left
+        })?;
+        Ok(Server { board, thread })
+    }
+
+    /// Whether it listens on its ports.
+    pub fn listens(&self) -> bool {
+        self.board.listens.load(SeqCst)
+    }
+
+    /// Whether it has come to its end.
+    pub fn has_ended(&self) -> bool {
+        self.board.has_ended.load(SeqCst)
+    }
+
+    /// What it left, once it has come to its end.
+    pub fn join<R: Machine>(self, rt: &R) -> Result<Left, HostFault> {
+        self.thread.join(rt)
+    }
+}

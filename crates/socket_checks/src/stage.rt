@@ -1,0 +1,263 @@
+//! What a check works with, and how its service begins and ends.
+
+use crate::answers::push_line;
+use crate::peer::{Peer, TURN_MS, exchange};
+use crate::ports::Ports;
+use crate::server::{Left, Order, Server};
+use crate::steps::{malformed, number, request_of};
+use case_tables::{Case, CaseFault, Part};
+use http_front::{HostFault, Machine};
+use std::alloc::{AllocError, Global};
+use std::marker::PhantomData;
+use std::net::{TcpListener, TcpStream};
+use std::sync::atomic::Ordering::SeqCst;
+use std::thread;
+use std::time::Duration;
+
+/// How many turns something is waited for: ten seconds. A step may say otherwise for the steps behind
+/// it.
+const TURNS: u32 = 1_000;
+
+/// How many connections a service has at once, unless a step says otherwise.
+const PLACES: u32 = 64;
+
+/// How often ports are looked for at most, where another program was faster to take one.
+const TRIES: u32 = 5;
+
+/// How a step went.
+#[derive(Clone, Copy, PartialEq, Eq)]
+pub enum Progress {
+    /// The next one may follow.
+    On,
+    /// What it waited for did not come, so nothing follows.
+    Stuck,
+}
+
+/// A connection with its name.
+#[derive(Drop)]
+pub struct Named {
+    pub name: String,
+    pub peer: Peer,
+}
+
+/// What a check works with: a service, its ports and its clock, and the peers that have names.
+#[derive(Drop)]
+pub struct Stage<R> {
+    pub rt: R,
+    pub alloc: Global,
+    pub ports: Ports,
+    pub peers: Vec<Named>,
+    /// How many turns of ten milliseconds something is waited for.
+    pub turns: u32,
+    /// What the monotonic clock said when the check began.
+    pub begun: Duration,
+    places: u32,
+    patience: u32,
+    holds_back: bool,
+    moment: u64,
+    server: Option<Server>,
+    is_stopping: bool,
+    // (so that the types of the machine's sockets are among those of each method)
+    of: PhantomData<(TcpListener, TcpStream)>,
+}
+
+/// How a service ended, as a line.
+fn ending(alloc: Global, left: Result<Left, HostFault>) -> Result<String, AllocError> {
+    let left = match left {
+        Ok(left) => left,
+        Err(fault) => return format!(in alloc; "ended: {fault:?}\n"),
+    };
+    let Left {
+        entries,
+        calls,
+        receipts,
+        settled,
+    } = left;
+    match settled {
+        Ok(stats) => format!(in alloc;
+            "ended: {entries} entries, {calls} calls, {receipts} receipts; {} admitted, {} throttled, {} failed\n",
+            stats.admitted, stats.throttled, stats.failed
+        ),
+        Err(fault) => format!(in alloc; "ended: {fault:?}\n"),
+    }
+}
+
+impl<R: Machine> Stage<R> {
+    /// A stage without a service.
+    pub fn new(rt: R, alloc: Global, case: &Case) -> Result<Stage<R>, CaseFault> {
+        let Ok(ports) = Ports::probe(&rt, alloc) else {
+            return Err(CaseFault::Malformed {
+                line: case.line(),
+                what: "no port is free",
+            });
+        };
+        Ok(Stage {
+            rt,
+            alloc,
+            ports,
+            peers: Vec::new(alloc),
+            turns: TURNS,
+            begun: rt.monotonic().unwrap_or(Duration::ZERO),
+            places: PLACES,
+            patience: 0,
+            holds_back: false,
+            moment: 0,
+            server: None,
+            is_stopping: false,
+            of: PhantomData,
+        })
+    }
+
+    /// A turn passes.
+    pub fn pause(&self) {
+        thread::sleep(&self.rt, Duration::from_millis(TURN_MS));
+    }
+
+    /// That the service has yet to begin.
+    fn expect_no_service(&self, part: &Part) -> Result<(), CaseFault> {
+        match self.server {
+            Some(_) => Err(malformed(part, "the service has begun")),
+            None => Ok(()),
+        }
+    }
+
+    /// The service will have so many places for connections.
+    pub fn set_places(&mut self, part: &Part) -> Result<Progress, CaseFault> {
+        self.expect_no_service(part)?;
+        self.places = number(part, part.arguments())?;
+        Ok(Progress::On)
+    }
+
+    /// The service will hold an Invoke back that comes too early.
+    pub fn set_patience(&mut self, part: &Part) -> Result<Progress, CaseFault> {
+        self.expect_no_service(part)?;
+        self.patience = number(part, part.arguments())?;
+        Ok(Progress::On)
+    }
+
+    /// A tally will be missing at the settlement.
+    pub fn hold_back(&mut self, part: &Part) -> Result<Progress, CaseFault> {
+        self.expect_no_service(part)?;
+        self.holds_back = true;
+        Ok(Progress::On)
+    }
+
+    /// Sets the service's clock.
+    pub fn set_moment(&mut self, moment: u32) -> Progress {
+        self.moment = u64::from(moment);
+        if let Some(server) = &self.server {
+            server.board.moment.store(self.moment, SeqCst);
+        }
+        Progress::On
+    }
+
+    /// Starts a service on the ports of this stage, and waits until it listens or has come to its end.
+    fn start(&mut self, text: &str, taken: Option<&str>) -> Result<Server, CaseFault> {
+        let order = Order {
+            config: self.ports.filled(self.alloc, text)?,
+            places: self.places,
+            patience: self.patience,
+            holds_back: self.holds_back,
+        };
+        self.ports.release(taken);
+        let server = Server::start(self.rt, order, self.moment)?;
+        for _ in 0..TURNS {
+            if server.listens() || server.has_ended() {
+                break;
+            }
+            self.pause();
+        }
+        Ok(server)
+    }
+
+    /// The port that another program has: what stands behind `taken`.
+    fn taken<'a>(&self, part: &'a Part) -> Result<Option<&'a str>, CaseFault> {
+        match part.arguments().split_once(' ') {
+            None if part.arguments().is_empty() => Ok(None),
+            Some(("taken", name)) if self.ports.number(name).is_some() => Ok(Some(name)),
+            _ => Err(malformed(part, "taken and a port are wanted")),
+        }
+    }
+
+    /// Serves the configuration that a part says. Where the service doesn't open, that is its end.
+    pub fn serve(&mut self, part: &Part, given: &mut String) -> Result<Progress, CaseFault> {
+        self.expect_no_service(part)?;
+        let taken = self.taken(part)?;
+        for _ in 0..TRIES {
+            let server = self.start(part.text(), taken)?;
+            if !server.has_ended() {
+                self.server = Some(server);
+                return Ok(Progress::On);
+            }
+            let left = server.join(&self.rt);
+            if taken.is_some() || !matches!(left, Err(HostFault::Network)) {
+                given.push_str(ending(self.alloc, left)?.as_str())?;
+                return Ok(Progress::On);
+            }
+            self.look_for_ports(part)?;
+        }
+        Err(malformed(part, "no port is free"))
+    }
+
+    /// Looks for other ports.
+    fn look_for_ports(&mut self, part: &Part) -> Result<(), CaseFault> {
+        match Ports::probe(&self.rt, self.alloc) {
+            Ok(ports) => {
+                self.ports = ports;
+                Ok(())
+            }
+            Err(_) => Err(malformed(part, "no port is free")),
+        }
+    }
+
+    /// Asks the service to stop, and says whether it does; none where it keeps silent.
+    fn is_stopped(&self) -> Result<Option<bool>, AllocError> {
+        let request = request_of(self.alloc, "POST", "/_local/stop", "")?;
+        let Some(port) = self.ports.number("invoke") else {
+            return Ok(None);
+        };
+        match exchange(&self.rt, port, request.as_str(), TURNS) {
+            Ok(heard) if !heard.has_ended => Ok(None),
+            Ok(heard) => Ok(Some(heard.bytes.as_slice().starts_with(b"HTTP/1.1 202 "))),
+            Err(_) => Ok(Some(false)),
+        }
+    }
+
+    /// Asks the service to stop until it does: it may have to see first that others have gone.
+    pub fn stop(&mut self) -> Result<Progress, CaseFault> {
+        self.is_stopping = true;
+        for _ in 0..TURNS {
+            match self.is_stopped()? {
+                Some(true) => return Ok(Progress::On),
+                Some(false) => self.pause(),
+                None => break,
+            }
+        }
+        Ok(Progress::Stuck)
+    }
+
+    /// Waits for the end of a service, and adds how it ended.
+    fn see_out(&self, server: Server, given: &mut String) -> Result<Progress, CaseFault> {
+        for _ in 0..TURNS {
+            if server.has_ended() {
+                let line = ending(self.alloc, server.join(&self.rt))?;
+                given.push_str(line.as_str())?;
+                return Ok(Progress::On);
+            }
+            self.pause();
+        }
+        push_line(self.alloc, given, "ended", "not yet")?;
+        Ok(Progress::Stuck)
+    }
+
+    /// Ends the service, if there is one, and adds how it ended.
+    pub fn end(&mut self, given: &mut String) -> Result<Progress, CaseFault> {
+        let Some(server) = self.server.take() else {
+            return Ok(Progress::On);
+        };
+        if !self.is_stopping && self.stop()? == Progress::Stuck {
+            push_line(self.alloc, given, "stop", "no answer")?;
+        }
+        self.see_out(server, given)
+    }
+}

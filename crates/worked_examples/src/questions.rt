@@ -1,0 +1,65 @@
+//! What a book can be asked.
+
+use arn_ids::FnNo;
+use call_model::Ticket;
+
+/// A question.
+///
+/// | Line | What the answer says |
+/// |---|---|
+/// | `entries` | for each ticket, and the one past the end: the entry's moment, its place, the count in its request identifier, and the answer to the ticket |
+/// | `opening` | the history's text before its first entry |
+/// | `history T` | that of the entry with a ticket |
+/// | `render T` | the reply to a ticket: its status, its headers, and behind `=` its body |
+/// | `stats` | the counts of the account |
+/// | `due M` | whether an environment is due at a moment |
+/// | `life` | how far the service has come to its end |
+/// | `reservation F` | the reservation in force of the function of this number |
+/// | `salt`, `config` | the salt; the environments, the functions and the account's limit |
+///
+/// Where there is nothing, the answer has `-`.
+#[derive(Clone, Copy)]
+pub enum Question {
+    Entries,
+    Opening,
+    History(Ticket),
+    Render(Ticket),
+    Stats,
+    Due(u64),
+    Life,
+    Reservation(FnNo),
+    Salt,
+    Config,
+}
+
+/// The question of a word alone.
+fn plain_question(word: &str) -> Option<Question> {
+    match word {
+        "entries" => Some(Question::Entries),
+        "opening" => Some(Question::Opening),
+        "stats" => Some(Question::Stats),
+        "life" => Some(Question::Life),
+        "salt" => Some(Question::Salt),
+        "config" => Some(Question::Config),
+        _ => None,
+    }
+}
+
+/// The question of a word and a number.
+fn numbered_question(word: &str, number: u64) -> Option<Question> {
+    match word {
+        "history" => Some(Question::History(number)),
+        "render" => Some(Question::Render(number)),
+        "due" => Some(Question::Due(number)),
+        "reservation" => Some(Question::Reservation(FnNo::try_from(number).ok()?)),
+        _ => None,
+    }
+}
+
+/// The question of a line.
+pub fn question_of(line: &str) -> Option<Question> {
+    match line.split_once(' ') {
+        Some((word, number)) => numbered_question(word, number.parse::<u64>().ok()?),
+        None => plain_question(line),
+    }
+}
