@@ -1,61 +1,29 @@
 //! The thread of one connection.
 
-ghost use Rattle.hyper.specs.ServerDispatch.{GivesBodies};
-
 use crate::door::Door;
-use crate::ending::{Ending, Signals, Watched};
 use crate::front::Front;
-use crate::machine::Machine;
-use crate::pulse::Pulse;
 use crate::ticker::moment;
-use crate::wire::Wire;
 use account_lock::{Account, Setup};
-use bytes::Bytes;
 use call_model::Call;
-use http::{Request, Response};
-use http_body::Body;
-use hyper::body::Incoming;
-use hyper::server::conn::http1::Builder;
-use hyper::service;
+use http_connection::{Machine, Park, Pulse, Signals, serve_connection};
 use long_poll::{Clock, Connection, OneShotBell, OpenPoll};
 use std::alloc::AllocError;
-use std::hash::RandomState;
 use std::io;
 use std::net::TcpStream;
 use std::sync::ledger::Ledger;
 use std::sync::{Arc, Mutex};
-use tokio::runtime::LocalRuntime;
 use usage_ledger::{Keep, Tally};
 
-/// Serves a connection by a service of its own, until the connection ends or is told to.
-fn serve<R, V, B>(
-    rt: &R,
-    socket: TcpStream,
-    service: V,
-    signals: Signals,
+/// The note of a connection's open Next, as its socket's end is watched by it.
+#[derive(Drop)]
+struct OpenNext {
     open: Arc<OpenPoll>,
-    pulse: Arc<Pulse>,
-) -> io::Result<()>
-where
-    R: Machine,
-    V: service::Service<Request<Incoming<Wire>>, Response = Response<B>>,
-    V::Error: Into<anyhow::Error>,
-    B: Body,
-    B::Data: Into<Bytes>,
-    B::Error: Into<anyhow::Error>,
-    requires can_call { V.can_call service }
-    requires bodies { (request : _) (future : _) → V.calls service request future → GivesBodies V.Future.gives B.can_poll future }
-{
-    let alloc = rt.alloc();
-    socket.set_nodelay(true)?;
-    let mut http = Builder::new(alloc, RandomState::new(rt)?);
-    // A caller who has ended its own side, as `nc -N` does, still gets its answer.
-    http.half_close(true);
-    let mut runtime = LocalRuntime::new(rt)?;
-    let stream = tokio::net::TcpStream::from_std(socket, runtime.handle().reactor())?;
-    let (wire, peer) = Wire::pair(alloc, stream)?;
-    let ending = Ending::new(http.serve_connection(wire, service), signals);
-    runtime.block_on(rt, Watched::new(ending, peer, open, pulse))
+}
+
+impl Park for OpenNext {
+    fn is_parked(&self) -> bool {
+        self.open.ticket().is_some()
+    }
 }
 
 /// A connection that is to be served: its socket and its port, the account and the clock, the tally
@@ -122,6 +90,6 @@ impl<
         );
         let connection = Arc::new(alloc, connection).map_err(AllocError::from)?;
         let front = Front::new(alloc, connection);
-        serve(&rt, socket, front, signals, open, pulse)
+        serve_connection(&rt, socket, front, signals, OpenNext { open }, pulse)
     }
 }

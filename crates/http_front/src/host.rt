@@ -6,12 +6,12 @@ ghost use Rattle.arn_ids.specs.declared.faults.ConfigFault.TheVariants.{BadEntri
 ghost use Rattle.http_front.specs.declared.host_fault.HostFault.TheVariants.{Config};
 
 use crate::entrance::Entrance;
-use crate::machine::Machine;
 use crate::reception::Reception;
 use crate::slots::Slots;
 use crate::ticker::tick_on;
 use crate::{HostFault, Plan};
 use account_lock::{Account, Setup};
+use http_connection::Machine;
 use long_poll::{Clock, OneShotBell};
 use mio::Poll;
 use std::alloc::AllocError;

@@ -2,14 +2,12 @@
 
 use crate::connection::Visit;
 use crate::door::Door;
-use crate::ending::Signals;
 use crate::entrance::{Entrance, Gate};
-use crate::machine::Machine;
-use crate::pulse::Pulse;
 use crate::slots::{Ended, Running, Slots};
 use crate::{HostFault, Hosted};
 use account_lock::{Account, Setup};
 use futures::channel::oneshot;
+use http_connection::{Machine, Pulse, Signals};
 use long_poll::{Clock, OneShotBell};
 use mio::Poll;
 use std::alloc::AllocError;

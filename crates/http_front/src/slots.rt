@@ -4,8 +4,8 @@ ghost use Rattle.std.specs.Prelude.{◌≡◌, ◌+◌, ◌<◌, nat_lt, IfOk, I
 ghost use Rattle.http_front.specs.Places.{Places};
 
 use crate::HostFault;
-use crate::pulse::{Pulse, patience};
 use futures::channel::oneshot::Sender;
+use http_connection::{Pulse, patience};
 use std::alloc::{AllocError, Global};
 use std::marker::Model;
 use std::sync::{Arc, Mutex, Wait};

@@ -3,20 +3,22 @@
 ghost use Rattle.std.specs.Prelude.{◌≡◌, IsFalse};
 ghost use Rattle.futures.specs.Task.{Keeps};
 
+use crate::park::Park;
 use crate::pulse::Pulse;
 use crate::wire::Wire;
 use futures::Future;
 use futures::channel::oneshot::Receiver;
 use futures::task::{Context, Poll};
 use hyper::server::graceful::GracefulConnection;
-use long_poll::OpenPoll;
 use std::sync::Arc;
 
-/// The two signals that end a connection: softly, after the exchange that has begun, and at once.
+/// The two signals that end a connection.
 #[derive(Drop)]
-pub(crate) struct Signals {
-    pub(crate) soft: Receiver<()>,
-    pub(crate) hard: Receiver<()>,
+pub struct Signals {
+    /// It ends softly, after the exchange that has begun.
+    pub soft: Receiver<()>,
+    /// It ends at once.
+    pub hard: Receiver<()>,
 }
 
 /// A connection until it ends of itself or by a signal.
@@ -76,26 +78,22 @@ impl<C: GracefulConnection<Output = hyper::Result<()>>> Future for Ending<C> {
     }
 }
 
-/// A connection that ends too where its peer does while a Next is open, though bytes lie behind the
-/// request of that Next; and that, once it has ended of itself, lets its peer read the answer before
-/// the socket is closed. It tells how it stands.
+/// A connection that ends too where its peer does while a request is parked, though bytes lie behind
+/// that request; and that, once it has ended of itself, lets its peer read the answer before the
+/// socket is closed. It tells how it stands.
 #[derive(Drop)]
-pub(crate) struct Watched<C> {
+pub(crate) struct Watched<C, O> {
     ending: Ending<C>,
     peer: Wire,
-    open: Arc<OpenPoll>,
+    open: O,
     pulse: Arc<Pulse>,
     has_ended: bool,
 }
 
-impl<C> Watched<C> {
-    /// The connection, its socket, the note of its open Next, and where it tells how it stands.
-    pub(crate) fn new(
-        ending: Ending<C>,
-        peer: Wire,
-        open: Arc<OpenPoll>,
-        pulse: Arc<Pulse>,
-    ) -> Watched<C>
+impl<C, O> Watched<C, O> {
+    /// The connection, its socket, where it is noted that a request is parked, and where it tells how
+    /// it stands.
+    pub(crate) fn new(ending: Ending<C>, peer: Wire, open: O, pulse: Arc<Pulse>) -> Watched<C, O>
         ensures ending { result.ending ≡ ending }
         ensures open { IsFalse result.has_ended }
     {
@@ -109,7 +107,7 @@ impl<C> Watched<C> {
     }
 }
 
-impl<C: GracefulConnection<Output = hyper::Result<()>>> Future for Watched<C> {
+impl<C: GracefulConnection<Output = hyper::Result<()>>, O: Park> Future for Watched<C, O> {
     ghost use Rattle.std.specs.Prelude.{IsFalse};
 
     type Output = ();
@@ -121,7 +119,7 @@ impl<C: GracefulConnection<Output = hyper::Result<()>>> Future for Watched<C> {
             self.peer.begin_turn();
             if self.ending.poll(cx).is_pending() {
                 self.peer.end_turn(&self.pulse);
-                if self.open.ticket().is_some() {
+                if self.open.is_parked() {
                     return self.peer.poll_ended(cx);
                 }
                 return Poll::Pending;

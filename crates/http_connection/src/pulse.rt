@@ -1,4 +1,4 @@
-//! Whether a connection moves: its own thread tells it, and who keeps the places reads it.
+//! Whether a connection moves: its own thread tells it, and whoever keeps connections reads it.
 
 ghost use Rattle.std.specs.Prelude.{◌<◌};
 
@@ -8,7 +8,7 @@ use std::sync::atomic::Ordering::SeqCst;
 /// What a connection waits for.
 #[derive(Clone, Copy, Drop)]
 pub(crate) enum Awaited {
-    /// An answer, or nothing: a Next that is parked and a caller that waits have no limit.
+    /// An answer, or nothing: a request that is parked and a caller that waits have no limit.
     Answer,
     /// More of a request that has begun, or the first one.
     Request,
@@ -33,7 +33,7 @@ impl Awaited {
 }
 
 /// How many seconds a connection with this pulse may stand still; none where it may for ever.
-pub(crate) fn patience(told: u64) -> Option<u32> {
+pub fn patience(told: u64) -> Option<u32> {
     match told % 4 {
         0 => None,
         1 => Some(20),
@@ -45,13 +45,13 @@ pub(crate) fn patience(told: u64) -> Option<u32> {
 /// What a connection waits for, and how often it has moved: a number that stays the same while the
 /// connection stands still.
 #[derive(Drop)]
-pub(crate) struct Pulse {
+pub struct Pulse {
     told: AtomicU64,
 }
 
 impl Pulse {
     /// That of a connection which waits for its first request.
-    pub(crate) fn new() -> Pulse {
+    pub fn new() -> Pulse {
         Pulse {
             told: AtomicU64::new(Awaited::Request.number()),
         }
@@ -64,7 +64,7 @@ impl Pulse {
     }
 
     /// What was told last.
-    pub(crate) fn told(&self) -> u64 {
+    pub fn told(&self) -> u64 {
         self.told.load(SeqCst)
     }
 }

@@ -70,7 +70,7 @@ impl Socket {
 /// One of the two holders of a connection's socket: the connection itself, and who watches for the
 /// peer's end.
 #[derive(Drop)]
-pub(crate) struct Wire {
+pub struct Wire {
     socket: Rc<RefCell<Socket>>,
 }
 

@@ -1,0 +1,56 @@
+//! Serves a connection.
+
+ghost use Rattle.hyper.specs.ServerDispatch.{GivesBodies};
+
+use crate::ending::{Ending, Signals, Watched};
+use crate::machine::Machine;
+use crate::park::Park;
+use crate::pulse::Pulse;
+use crate::wire::Wire;
+use bytes::Bytes;
+use http::{Request, Response};
+use http_body::Body;
+use hyper::body::Incoming;
+use hyper::server::conn::http1::Builder;
+use hyper::service::Service;
+use std::hash::RandomState;
+use std::io;
+use std::net::TcpStream;
+use std::sync::Arc;
+use tokio::runtime::LocalRuntime;
+
+/// Serves the requests of a connection, one after the other, until the connection ends, a signal ends
+/// it, or its peer ends while a request is parked. It blocks its thread, whose own reactor it opens.
+///
+/// # Errors
+/// Where the socket can't be watched, or memory is refused; nothing was read of it then.
+pub fn serve_connection<R, V, B, O>(
+    rt: &R,
+    socket: TcpStream,
+    service: V,
+    signals: Signals,
+    open: O,
+    pulse: Arc<Pulse>,
+) -> io::Result<()>
+where
+    R: Machine,
+    V: Service<Request<Incoming<Wire>>, Response = Response<B>>,
+    V::Error: Into<anyhow::Error>,
+    B: Body,
+    B::Data: Into<Bytes>,
+    B::Error: Into<anyhow::Error>,
+    O: Park,
+    requires can_call { V.can_call service }
+    requires bodies { (request : _) (future : _) → V.calls service request future → GivesBodies V.Future.gives B.can_poll future }
+{
+    let alloc = rt.alloc();
+    socket.set_nodelay(true)?;
+    let mut http = Builder::new(alloc, RandomState::new(rt)?);
+    // A caller who has ended its own side, as `nc -N` does, still gets its answer.
+    http.half_close(true);
+    let mut runtime = LocalRuntime::new(rt)?;
+    let stream = tokio::net::TcpStream::from_std(socket, runtime.handle().reactor())?;
+    let (wire, peer) = Wire::pair(alloc, stream)?;
+    let ending = Ending::new(http.serve_connection(wire, service), signals);
+    runtime.block_on(rt, Watched::new(ending, peer, open, pulse))
+}
