@@ -1,0 +1,37 @@
+//! The laws: functions with no work in them, whose contracts are proved.
+
+ghost use Rattle.std.specs.Prelude.{◌≡◌, ℕ, true, List, ◌∷◌, Some, None};
+ghost use Rattle.arn_ids.specs.Faults.{first_fault};
+ghost use Rattle.arn_ids.specs.declared.config.Config.{Config};
+ghost use Rattle.call_model.specs.declared.answer.Throttle.TheVariants.{Environments as ByEnvironments};
+ghost use Rattle.call_model.specs.declared.call.Call.TheVariants.{Tick};
+ghost use Rattle.call_model.specs.declared.call.Entry.{Entry};
+ghost use Rattle.call_model.specs.Counts.{stats};
+ghost use Rattle.call_model.specs.Life.{stand};
+ghost use Rattle.call_model.specs.Limits.{reservation, verdict, Refuses};
+ghost use Rattle.call_model.specs.Next.{IsLegal};
+ghost use Rattle.call_model.specs.Own.{own, own_ticket};
+ghost use Rattle.account_book.specs.ReplyText.{reply_text};
+ghost use Rattle.headline.specs.Headline.{Headline};
+
+/// The headline holds of every legal history, with its own counts.
+pub fn headline()
+    ensures { (config : Config) (h : List Entry) → IsLegal config h → Headline config h (stats config h) }
+{}
+
+/// A function whose reservation is in force is never refused for want of an environment, in a
+/// configuration without a fault. (Lambda Developer Guide: reserved concurrency)
+pub fn never_local()
+    ensures { (config : Config) (h : List Entry) (f limit : ℕ) → first_fault config ≡ None → IsLegal config h → reservation config h f ≡ Some limit → verdict config h f ≡ Refuses ByEnvironments → ⊥ }
+{}
+
+/// Isolation by reservation, of every legal history: each ticket of a function has the same reply in
+/// the function's own history: status, headers and body, with all identifiers.
+pub fn isolated()
+    ensures { (config : Config) (salt : ℕ) (h : List Entry) (f t : ℕ) → IsLegal config h → own_ticket config h f t ≡ true → reply_text config salt (own config h f) t ≡ reply_text config salt h t }
+{}
+
+/// A Tick leaves every environment as it is: whatever time changes is an expiry's entry of its own.
+pub fn ticks_change_nothing()
+    ensures { (config : Config) (h : List Entry) (entry : Entry) (e : ℕ) → IsLegal config (entry ∷ h) → entry.call ≡ Tick → stand config (entry ∷ h) e ≡ stand config h e }
+{}

@@ -1,0 +1,56 @@
+//! The calls that say the headline of their own history.
+
+ghost use Rattle.std.specs.Prelude.{◌≡◌, ℕ, List, IfOk, IfErr};
+ghost use Rattle.call_model.specs.declared.call.Entry.{Entry};
+ghost use Rattle.call_model.specs.Next.{IsLegal};
+ghost use Rattle.account_lock.specs.Settlement.{IsSettled, IsFault};
+ghost use Rattle.headline.specs.Headline.{Headline};
+
+use crate::laws;
+use account_book::Book;
+use account_lock::{Account, Bell, Desk, SettleFault, Settled, Setup};
+use call_model::Stats;
+use std::sync::ledger::Ledger;
+use usage_ledger::{Keep, Tally};
+
+/// The counts of a book, of whose history the headline holds.
+pub fn of_book(book: &Book) -> Stats
+    ensures { Headline book.now.config book.now.history result }
+{
+    book.facts();
+    laws::headline();
+    book.stats()
+}
+
+/// The counts of a desk, of whose history the headline holds: whatever stands behind an account's lock
+/// is such a desk.
+pub fn of_desk<B: Bell, C: Ledger, A: Ledger, T: Ledger, F: Ledger>(
+    desk: &Desk<B, C, A, T, F>,
+) -> Stats
+    ensures { Headline desk.now.book.config desk.now.book.history result }
+{
+    desk.facts();
+    laws::headline();
+    desk.stats()
+}
+
+/// Settles an account, once no thread shares it: the headline holds of its history, and what all
+/// tallies have counted together is what that history counts.
+///
+/// # Errors
+/// The first `SettleFault` that holds, in the order in which they are declared; account and tallies
+/// are then gone.
+pub fn settle<S: Setup, B: Bell, K: Keep, C: Ledger, A: Ledger, T: Ledger, F: Ledger>(
+    account: Account<S, B, C, A, T, F>,
+    tallies: Vec<Tally<K, C, A, T, F>>,
+) -> Result<Settled, SettleFault>
+    ensures configured { IfOk result (λ settled. settled.book.config ≡ S.config) }
+    ensures headline { IfOk result (λ settled. Headline S.config settled.book.history settled.stats) }
+    ensures settled { IfOk result (λ settled. IsSettled K.ALL settled.book.history tallies.items) }
+    ensures fault { IfErr result (λ fault. (h : List Entry) × IsLegal S.config h × IsFault K.ALL fault h tallies.items) }
+{
+    let settled = account.settle(tallies)?;
+    settled.book.facts();
+    laws::headline();
+    Ok(settled)
+}
