@@ -16,3 +16,5 @@ pub mod Rising
 pub mod Agreeing
 -- How many answers a step gives.
 pub mod Noting
+-- The text of an entry, as it is shown under the lock.
+pub mod ShownTexts

@@ -1,5 +1,5 @@
 -- How many answers a step gives.
-use Rattle.std.proofs.Common.{◌≡◌, ◌+◌, List, [], ◌∷◌, ◌++◌, length, reverse, flat_map, refl, sym, ap, ◌∙◌, arith, length-append}
+use Rattle.std.proofs.Common.{◌≡◌, ◌+◌, List, [], ◌∷◌, ◌++◌, length, reverse, ap, arith, length-append}
 use Rattle.std.proofs.lemmas.List.{reverse-append}
 use Rattle.call_model.specs.declared.call.Entry.{Entry}
 use Rattle.account_book.specs.Answering.{answers_in}

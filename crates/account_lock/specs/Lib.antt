@@ -6,4 +6,5 @@ pub mod Failing
 pub mod Gathered
 pub mod Marking
 pub mod Offers
+pub mod Shown
 pub mod Settlement

@@ -1,18 +1,29 @@
 //! The account: a desk that threads share.
 
-ghost use Rattle.std.specs.Prelude.{◌≡◌, ◌+◌, ◌<◌, ◌≤◌, ◌^◌, ◌↔◌, ℕ, List, length, IfOk, IfErr, OnOk, IsErrOf};
+ghost use Rattle.std.specs.Prelude.{◌≡◌, ◌≢◌, ◌+◌, ◌<◌, ◌≤◌, ◌^◌, ◌↔◌, ℕ, List, is_some, length, option_map, IfOk, IfErr, OnOk, IsErrOf};
 ghost use Rattle.arn_ids.specs.Environments.{owners};
 ghost use Rattle.account_book.specs.declared.book.OpenFault.TheVariants.{EntriesOutOfRange};
 ghost use Rattle.call_model.specs.declared.answer.Answer.{Answer as Told};
 ghost use Rattle.call_model.specs.declared.call.Entry.{Entry};
 ghost use Rattle.call_model.specs.Counts.{stats};
 ghost use Rattle.call_model.specs.Heads.{head_of};
-ghost use Rattle.call_model.specs.Next.{IsLegal};
+ghost use Rattle.call_model.specs.History.{answer_of};
+ghost use Rattle.call_model.specs.Limits.{reservation};
+ghost use Rattle.call_model.specs.Next.{due};
+ghost use Rattle.deadlines.specs.Due.{first};
 ghost use Rattle.script.specs.Limits.{IsWithin};
+ghost use Rattle.account_book.specs.Books.{life};
+ghost use Rattle.account_book.specs.HistoryText.{opening_text};
+ghost use Rattle.account_book.specs.ReplyText.{reply_text};
 ghost use Rattle.usage_ledger.specs.Keeping.{Steps, Kept};
 ghost use Rattle.usage_ledger.specs.Tallies.{fresh};
+ghost use Rattle.account_lock.specs.Counting.{counts_of};
+ghost use Rattle.account_lock.specs.Gathered.{counts_in};
+ghost use Rattle.account_lock.specs.Looks.{look_of};
 ghost use Rattle.account_lock.specs.Offers.{IsBack};
 ghost use Rattle.account_lock.specs.Settlement.{IsSettled, IsFault};
+ghost use Rattle.account_lock.specs.Shown.{IsTextOf, Shown, ShownWith};
+ghost use Rattle.account_lock.specs.declared.fault.SettleFault.TheVariants.{TallyMissing};
 
 use crate::{Bell, Declined, Desk, Look, Refused, SettleFault, Settled, Step};
 use account_book::{Book, Life, OpenFault};
@@ -105,12 +116,61 @@ impl<S: Setup, B: Bell, C: Ledger, A: Ledger, T: Ledger, F: Ledger> Locked<S, B,
         self.desk.offer(tally, now, call, bell)
     }
 
-    /// A function's reservation in force.
+    fn look(&self, ticket: Ticket) -> Look
+        ensures { Shown S.config (λ h. result ≡ look_of (answer_of h ticket)) }
+    {
+        self.desk.facts();
+        self.desk.look(ticket)
+    }
+
+    fn due(&self, now: u64) -> bool
+        ensures { Shown S.config (λ h. result ≡ is_some (first (due S.config h now))) }
+    {
+        self.desk.facts();
+        self.desk.due(now)
+    }
+
+    fn stats(&self) -> Stats
+        ensures { Shown S.config (λ h. result ≡ stats S.config h) }
+    {
+        self.desk.facts();
+        self.desk.stats()
+    }
+
+    fn life(&self) -> Life
+        ensures { Shown S.config (λ h. result ≡ life S.config h) }
+    {
+        self.desk.facts();
+        self.desk.life()
+    }
+
     fn reservation(&self, function: FnNo) -> Option<u32>
         requires from_one { 1 ≤ function }
         requires there { function ≤ length S.config.functions }
+        ensures { Shown S.config (λ h. result ≡ reservation S.config h function) }
     {
+        self.desk.facts();
         self.desk.reservation(function)
+    }
+
+    fn render(&self, ticket: Ticket) -> Result<Option<Reply>, AllocError>
+        ensures { IfOk result (λ reply. ShownWith S.config (λ salt h. reply ≡ reply_text S.config salt h ticket)) }
+    {
+        self.desk.facts();
+        self.desk.render(ticket)
+    }
+
+    fn opening(&self) -> Result<Vec<u8>, AllocError>
+        ensures { IfOk result (λ text. (salt : ℕ) × (most : ℕ) × (text.items ≡ opening_text S.config salt most)) }
+    {
+        self.desk.opening()
+    }
+
+    fn history(&self, ticket: Ticket) -> Result<Option<Vec<u8>>, AllocError>
+        ensures { IfOk result (λ text. ShownWith S.config (λ salt. IsTextOf S.config salt ticket (option_map (λ bytes. bytes.items) text))) }
+    {
+        self.desk.facts();
+        self.desk.history(ticket)
     }
 }
 
@@ -214,24 +274,32 @@ impl<S: Setup, B: Bell, C: Ledger, A: Ledger, T: Ledger, F: Ledger> Account<S, B
         }
     }
 
-    /// What a ticket was answered.
-    pub fn look(&self, rt: &impl Wait, ticket: Ticket) -> Look {
-        self.locked.lock(rt).desk.look(ticket)
+    /// What a ticket was answered, in a history that calls led to.
+    pub fn look(&self, rt: &impl Wait, ticket: Ticket) -> Look
+        ensures { Shown S.config (λ h. result ≡ look_of (answer_of h ticket)) }
+    {
+        self.locked.lock(rt).look(ticket)
     }
 
     /// Whether an environment is due at a moment in milliseconds: a `Tick` then expires it.
-    pub fn due(&self, rt: &impl Wait, now: u64) -> bool {
-        self.locked.lock(rt).desk.due(now)
+    pub fn due(&self, rt: &impl Wait, now: u64) -> bool
+        ensures { Shown S.config (λ h. result ≡ is_some (first (due S.config h now))) }
+    {
+        self.locked.lock(rt).due(now)
     }
 
     /// The counts of the account.
-    pub fn stats(&self, rt: &impl Wait) -> Stats {
-        self.locked.lock(rt).desk.stats()
+    pub fn stats(&self, rt: &impl Wait) -> Stats
+        ensures { Shown S.config (λ h. result ≡ stats S.config h) }
+    {
+        self.locked.lock(rt).stats()
     }
 
     /// How far the service has come to its end.
-    pub fn life(&self, rt: &impl Wait) -> Life {
-        self.locked.lock(rt).desk.life()
+    pub fn life(&self, rt: &impl Wait) -> Life
+        ensures { Shown S.config (λ h. result ≡ life S.config h) }
+    {
+        self.locked.lock(rt).life()
     }
 
     /// A function's reservation in force, none where it has none.
@@ -239,41 +307,49 @@ impl<S: Setup, B: Bell, C: Ledger, A: Ledger, T: Ledger, F: Ledger> Account<S, B
     pub fn reservation(&self, rt: &impl Wait, function: FnNo) -> Option<u32>
         requires from_one { 1 ≤ function }
         requires there { function ≤ length S.config.functions }
+        ensures { Shown S.config (λ h. result ≡ reservation S.config h function) }
     {
         self.locked.lock(rt).reservation(function)
     }
 
-    /// What the client of the call with a ticket gets: the status, the headers and the body of its
-    /// answer; none while it has none.
+    /// What the client of the call with a ticket gets, in a history that calls led to: the status, the
+    /// headers and the body of its answer; none while it has none.
     ///
     /// The only error is want of memory.
-    pub fn render(&self, rt: &impl Wait, ticket: Ticket) -> Result<Option<Reply>, AllocError> {
-        self.locked.lock(rt).desk.render(ticket)
+    pub fn render(&self, rt: &impl Wait, ticket: Ticket) -> Result<Option<Reply>, AllocError>
+        ensures { IfOk result (λ reply. ShownWith S.config (λ salt h. reply ≡ reply_text S.config salt h ticket)) }
+    {
+        self.locked.lock(rt).render(ticket)
     }
 
     /// The text of the history before its first entry.
     ///
     /// The only error is want of memory.
-    pub fn opening(&self, rt: &impl Wait) -> Result<Vec<u8>, AllocError> {
-        self.locked.lock(rt).desk.opening()
+    pub fn opening(&self, rt: &impl Wait) -> Result<Vec<u8>, AllocError>
+        ensures { IfOk result (λ text. (salt : ℕ) × (most : ℕ) × (text.items ≡ opening_text S.config salt most)) }
+    {
+        self.locked.lock(rt).opening()
     }
 
     /// The history text of the entry with a ticket; none past the end.
     ///
     /// The only error is want of memory.
-    pub fn history(&self, rt: &impl Wait, ticket: Ticket) -> Result<Option<Vec<u8>>, AllocError> {
-        self.locked.lock(rt).desk.history(ticket)
+    pub fn history(&self, rt: &impl Wait, ticket: Ticket) -> Result<Option<Vec<u8>>, AllocError>
+        ensures { IfOk result (λ text. ShownWith S.config (λ salt. IsTextOf S.config salt ticket (option_map (λ bytes. bytes.items) text))) }
+    {
+        self.locked.lock(rt).history(ticket)
     }
 
     /// Adds the shares of all tallies up, and compares what they keep with the history, once no
     /// thread shares the account.
     ///
     /// # Errors
-    /// As `Desk::settle`; account and tallies are then gone.
+    /// As `Desk::settle`; account and tallies are then gone. The fault is one of a history that calls
+    /// led to, and where no tally was missing, of one whose counts the tallies have.
     pub fn settle<K: Keep>(self, tallies: Vec<Tally<K, C, A, T, F>>) -> Result<Settled, SettleFault>
         ensures book { IfOk result (λ settled. (settled.book.config ≡ S.config) × (settled.stats ≡ stats S.config settled.book.history)) }
         ensures settled { IfOk result (λ settled. IsSettled K.ALL settled.book.history tallies.items) }
-        ensures fault { IfErr result (λ fault. (h : List Entry) × IsLegal S.config h × IsFault K.ALL fault h tallies.items) }
+        ensures fault { IfErr result (λ fault. Shown S.config (λ h. IsFault K.ALL fault h tallies.items × (fault ≢ TallyMissing → counts_in tallies.items ≡ counts_of h))) }
     {
         let desk = self.into_desk();
         desk.facts();

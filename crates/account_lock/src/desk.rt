@@ -12,6 +12,7 @@ ghost use Rattle.script.specs.Limits.{IsWithin};
 ghost use Rattle.script.specs.AnswerText.{entry_text};
 ghost use Rattle.account_book.specs.Books.{life};
 ghost use Rattle.account_book.specs.HistoryText.{opening_text};
+ghost use Rattle.account_book.specs.Reached.{IsReached};
 ghost use Rattle.account_book.specs.ReplyText.{reply_text};
 ghost use Rattle.account_book.specs.declared.book.Refusal.TheVariants.{JournalFull};
 ghost use Rattle.usage_ledger.specs.Counts.{no_counts, plus};
@@ -232,10 +233,13 @@ impl<B: Bell, C: Ledger, A: Ledger, T: Ledger, F: Ledger> Desk<B, C, A, T, F> {
         self.book.history(ticket)
     }
 
-    /// What its type keeps.
+    /// What its type keeps: its history is one that calls led to, each of which its book took; its bells
+    /// belong to those who wait; and its totals are what the history counts.
     pub fn facts(&self)
-        ensures { IsDesk self.now }
+        ensures desk { IsDesk self.now }
+        ensures reached { IsReached self.now.book.config self.now.book.max_entries self.now.book.history }
     {
         let _bells = &self.bells;
+        self.book.facts();
     }
 }

@@ -1,10 +1,12 @@
 //! The end of an account: its tallies against its book.
 
-ghost use Rattle.std.specs.Prelude.{◌≡◌, ◌==◌, ◌^◌, ℕ, length, vec_len, IfOk, IfErr, IfSome, IfNone};
+ghost use Rattle.std.specs.Prelude.{◌≡◌, ◌≢◌, ◌==◌, ◌^◌, ℕ, length, vec_len, IfOk, IfErr, IfSome, IfNone};
 ghost use Rattle.call_model.specs.Counts.{stats};
+ghost use Rattle.account_lock.specs.Counting.{counts_of};
 ghost use Rattle.account_lock.specs.Gathered.{parts_in, counts_in};
 ghost use Rattle.account_lock.specs.Marking.{marked};
 ghost use Rattle.account_lock.specs.Settlement.{IsKept, IsSettled, IsFault};
+ghost use Rattle.account_lock.specs.declared.fault.SettleFault.TheVariants.{TallyMissing};
 
 use crate::calls::call_differs;
 use crate::marks::blank_marks;
@@ -79,18 +81,17 @@ fn compare<K: Keep, C: Ledger, A: Ledger, T: Ledger, F: Ledger>(
     None
 }
 
-/// The first fault of a settlement. All memory is asked for before the first comparison.
-fn first_fault<K: Keep, C: Ledger, A: Ledger, T: Ledger, F: Ledger>(
+/// The first fault of what tallies keep that have all parts. All memory is asked for before the first
+/// comparison.
+fn fault_of_keeping<K: Keep, C: Ledger, A: Ledger, T: Ledger, F: Ledger>(
     alloc: Global,
     book: &Book,
     tallies: &[Tally<K, C, A, T, F>],
 ) -> Option<SettleFault>
-    ensures none { IfNone result ((parts_in tallies.now ≡ 2 ^ 32) × IsKept K.ALL book.now.history tallies.now) }
+    requires parts { parts_in tallies.now ≡ 2 ^ 32 }
+    ensures none { IfNone result (IsKept K.ALL book.now.history tallies.now) }
     ensures some { IfSome result (λ fault. IsFault K.ALL fault book.now.history tallies.now) }
 {
-    if !all_parts(tallies) {
-        return Some(SettleFault::TallyMissing);
-    }
     let entries = book.len() as usize;
     let Ok(receipts) = blank_marks(alloc, entries) else {
         return Some(SettleFault::OutOfMemory);
@@ -107,15 +108,18 @@ impl<B: Bell, C: Ledger, A: Ledger, T: Ledger, F: Ledger> Desk<B, C, A, T, F> {
     ///
     /// # Errors
     /// The first `SettleFault` that holds, in the order in which they are declared; desk and tallies
-    /// are then gone.
+    /// are then gone. Where no tally was missing, they have counted what the history counts all the
+    /// same.
     pub fn settle<K: Keep>(self, tallies: Vec<Tally<K, C, A, T, F>>) -> Result<Settled, SettleFault>
         ensures book { IfOk result (λ settled. (settled.book ≡ self.book) × (settled.stats ≡ stats self.book.config self.book.history)) }
         ensures settled { IfOk result (λ settled. IsSettled K.ALL self.book.history tallies.items) }
         ensures fault { IfErr result (λ fault. IsFault K.ALL fault self.book.history tallies.items) }
+        ensures counted { IfErr result (λ fault. fault ≢ TallyMissing → counts_in tallies.items ≡ counts_of self.book.history) }
     {
-        if let Some(fault) = first_fault(self.alloc, &self.book, &tallies) {
-            return Err(fault);
+        if !all_parts(&tallies) {
+            return Err(SettleFault::TallyMissing);
         }
+        let fault = fault_of_keeping(self.alloc, &self.book, &tallies);
         let Some(all) = gather(tallies) else {
             return Err(SettleFault::TallyMissing);
         };
@@ -124,6 +128,9 @@ impl<B: Bell, C: Ledger, A: Ledger, T: Ledger, F: Ledger> Desk<B, C, A, T, F> {
         let Desk { book, totals, .. } = self;
         let mut totals = totals;
         totals.audit(&mut all);
-        Ok(Settled { book, stats })
+        match fault {
+            Some(fault) => Err(fault),
+            None => Ok(Settled { book, stats }),
+        }
     }
 }

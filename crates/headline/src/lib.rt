@@ -3,7 +3,6 @@
 #![tactic(auto)]
 
 pub mod laws;
-
 mod readers;
 
 pub use readers::{of_book, of_desk, settle};

@@ -1,9 +1,11 @@
 //! The calls that say the headline of their own history.
 
-ghost use Rattle.std.specs.Prelude.{◌≡◌, ℕ, List, IfOk, IfErr};
-ghost use Rattle.call_model.specs.declared.call.Entry.{Entry};
-ghost use Rattle.call_model.specs.Next.{IsLegal};
+ghost use Rattle.std.specs.Prelude.{◌≡◌, ◌≢◌, IfOk, IfErr};
+ghost use Rattle.account_lock.specs.Counting.{counts_of};
+ghost use Rattle.account_lock.specs.Gathered.{counts_in};
 ghost use Rattle.account_lock.specs.Settlement.{IsSettled, IsFault};
+ghost use Rattle.account_lock.specs.Shown.{Shown};
+ghost use Rattle.account_lock.specs.declared.fault.SettleFault.TheVariants.{TallyMissing};
 ghost use Rattle.headline.specs.Headline.{Headline};
 
 use crate::laws;
@@ -39,7 +41,8 @@ pub fn of_desk<B: Bell, C: Ledger, A: Ledger, T: Ledger, F: Ledger>(
 ///
 /// # Errors
 /// The first `SettleFault` that holds, in the order in which they are declared; account and tallies
-/// are then gone.
+/// are then gone. Where no tally was missing, they have counted what a history counts of which the
+/// fault speaks.
 pub fn settle<S: Setup, B: Bell, K: Keep, C: Ledger, A: Ledger, T: Ledger, F: Ledger>(
     account: Account<S, B, C, A, T, F>,
     tallies: Vec<Tally<K, C, A, T, F>>,
@@ -47,7 +50,7 @@ pub fn settle<S: Setup, B: Bell, K: Keep, C: Ledger, A: Ledger, T: Ledger, F: Le
     ensures configured { IfOk result (λ settled. settled.book.config ≡ S.config) }
     ensures headline { IfOk result (λ settled. Headline S.config settled.book.history settled.stats) }
     ensures settled { IfOk result (λ settled. IsSettled K.ALL settled.book.history tallies.items) }
-    ensures fault { IfErr result (λ fault. (h : List Entry) × IsLegal S.config h × IsFault K.ALL fault h tallies.items) }
+    ensures fault { IfErr result (λ fault. Shown S.config (λ h. IsFault K.ALL fault h tallies.items × (fault ≢ TallyMissing → counts_in tallies.items ≡ counts_of h))) }
 {
     let settled = account.settle(tallies)?;
     settled.book.facts();

@@ -1,7 +1,14 @@
 //! An account is a service.
 
-ghost use Rattle.std.specs.Prelude.{◌<◌, ◌^◌, IfOk};
+ghost use Rattle.std.specs.Prelude.{◌≡◌, ◌<◌, ◌^◌, ℕ, IfOk};
+ghost use Rattle.call_model.specs.Counts.{stats};
+ghost use Rattle.call_model.specs.History.{answer_of};
+ghost use Rattle.call_model.specs.Limits.{reservation};
 ghost use Rattle.script.specs.Limits.{IsWithin, IsFunction};
+ghost use Rattle.account_book.specs.HistoryText.{opening_text};
+ghost use Rattle.account_book.specs.ReplyText.{reply_text};
+ghost use Rattle.account_lock.specs.Looks.{look_of};
+ghost use Rattle.account_lock.specs.Shown.{IsTextOf, Shown, ShownWith};
 ghost use Rattle.long_poll.specs.Submits.{Submits};
 
 use crate::{OneShotBell, Service};
@@ -14,25 +21,25 @@ use std::sync::Wait;
 use std::sync::ledger::Ledger;
 use usage_ledger::{Keep, Tally};
 
-// What its readers give is read under its lock, of which no clause can speak; a submit says what it
-// did to the tally.
+// What its readers give is what a history says that calls led to in its configuration: which one it was
+// under the lock no clause can say. A submit says what it did to the tally.
 impl<S: Setup + Drop, K: Keep, C: Ledger, A: Ledger, T: Ledger, F: Ledger> Service<K, C, A, T, F>
     for Account<S, OneShotBell, C, A, T, F> {
     ghost serves = { λ _. S.config };
 
     ghost submits = { λ _ before _ call bell result after. Submits K.notes K.makes before call bell result after };
 
-    ghost looks = { λ _ _ _. Unit {0} };
+    ghost looks = { λ _ ticket seen. Shown S.config (λ h. seen ≡ look_of (answer_of h ticket)) };
 
-    ghost renders = { λ _ _ _. Unit {0} };
+    ghost renders = { λ _ ticket reply. ShownWith S.config (λ salt h. reply ≡ reply_text S.config salt h ticket) };
 
-    ghost opens = { λ _ _. Unit {0} };
+    ghost opens = { λ _ text. (salt : ℕ) × (most : ℕ) × (text ≡ opening_text S.config salt most) };
 
-    ghost tells = { λ _ _ _. Unit {0} };
+    ghost tells = { λ _ ticket text. ShownWith S.config (λ salt. IsTextOf S.config salt ticket text) };
 
-    ghost counts = { λ _ _. Unit {0} };
+    ghost counts = { λ _ counted. Shown S.config (λ h. counted ≡ stats S.config h) };
 
-    ghost reserves = { λ _ _ _. Unit {0} };
+    ghost reserves = { λ _ function count. Shown S.config (λ h. count ≡ reservation S.config h function) };
 
     fn submit<R: Wait>(
         &self,

@@ -1,4 +1,4 @@
-use Rattle.std.proofs.Common.{◌≡◌, sym, ◌∙◌}
+use Rattle.std.proofs.Common.{sym, ◌∙◌}
 use Rattle.account_lock.proofs.Agreeing.{head_there, head_past}
 use Rattle.account_lock.proofs.calls.head_of_entry.Goals as goal
 

@@ -1,4 +1,4 @@
-use Rattle.std.proofs.Common.{◌≡◌, ℕ, ◌+◌, false, List, take, sym, subst, refl}
+use Rattle.std.proofs.Common.{◌≡◌, ◌+◌, false, List, take, sym, subst, refl}
 use Rattle.std.specs.List.{All}
 use Rattle.std.proofs.lemmas.List.{take_all}
 use Rattle.usage_ledger.specs.Tallies.{Tallied}

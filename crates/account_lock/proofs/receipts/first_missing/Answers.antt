@@ -1,4 +1,4 @@
-use Rattle.std.proofs.Common.{◌≡◌, ℕ, ◌<◌, ◌≤◌, min, true, List, Bool, length, ◌∙◌, sym, ap, subst}
+use Rattle.std.proofs.Common.{◌≡◌, ℕ, ◌<◌, ◌≤◌, true, List, Bool, length, subst}
 use Rattle.std.specs.Prelude.{is_some}
 use Rattle.call_model.specs.History.{answer_of}
 use Rattle.account_lock.specs.Failing.{FirstFailure}

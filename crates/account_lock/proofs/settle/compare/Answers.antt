@@ -1,6 +1,6 @@
 use Rattle.std.proofs.Common.{◌≡◌, ℕ, Bool, true, subst}
 use Rattle.account_lock.specs.Failing.{FailsFirstAt}
-use Rattle.account_lock.specs.Settlement.{HasReceipt, CallsAgree, IsKept, IsFault}
+use Rattle.account_lock.specs.Settlement.{HasReceipt, CallsAgree}
 use Rattle.account_lock.proofs.settle.compare.Goals as goal
 
 pub returns-in-Some-clause-some : goal.returns-in-Some-clause-some

@@ -1,4 +1,4 @@
-use Rattle.std.proofs.Common.{◌≡◌, ◌+◌, List, [], ◌∷◌, ◌++◌, sym, ap, ◌∙◌, arith, option_to_list}
+use Rattle.std.proofs.Common.{◌≡◌, [], ◌∷◌, ◌++◌, sym, ap, ◌∙◌, arith, option_to_list}
 use Rattle.usage_ledger.specs.Tallies.{Held, Tallied}
 use Rattle.account_lock.specs.Gathered.{parts_in, counts_in}
 use Rattle.account_lock.proofs.Gathering.{parts_in-push, counts_in-push, taken}
