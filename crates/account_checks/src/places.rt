@@ -75,18 +75,45 @@ fn untaken(refused: &Refused<Numbered>) -> Result<Taken, AllocError> {
 }
 
 impl<R: Wait, S: Setup, C: Ledger, A: Ledger, T: Ledger, F: Ledger> Place<R, S, C, A, T, F> {
-    /// Submits the call of a line, with a bell, by a tally.
+    /// Submits the call of a line by a tally, with a bell, which comes back where it is refused.
+    fn submit_once<K: Keep>(
+        &self,
+        tally: &mut Tally<K, C, A, T, F>,
+        line: &[u8],
+        bell: Option<Numbered>,
+    ) -> Result<Taken, Refused<Numbered>> {
+        let Ok(read) = read_call(self.alloc, &self.config, true, line) else {
+            return Err(Refused {
+                refusal: Refusal::OutOfMemory,
+                bell,
+            });
+        };
+        let Some((now, call)) = read else {
+            return Ok(Taken::NoCall);
+        };
+        match self.account.submit(&self.rt, tally, now, call, bell) {
+            Ok(ticket) => Ok(Taken::At(ticket)),
+            Err(refused) => Err(refused),
+        }
+    }
+
+    /// Submits the call of a line, with a bell, by a tally; once more, with the bell that came back,
+    /// where memory was refused: account and tally are then as they were.
     pub fn submit<K: Keep>(
         &self,
         tally: &mut Tally<K, C, A, T, F>,
         line: &[u8],
         bell: Numbered,
     ) -> Result<Taken, AllocError> {
-        let Some((now, call)) = read_call(self.alloc, &self.config, true, line)? else {
-            return Ok(Taken::NoCall);
+        let refused = match self.submit_once(tally, line, Some(bell)) {
+            Ok(taken) => return Ok(taken),
+            Err(refused) => refused,
         };
-        match self.account.submit(&self.rt, tally, now, call, Some(bell)) {
-            Ok(ticket) => Ok(Taken::At(ticket)),
+        if refused.refusal != Refusal::OutOfMemory {
+            return untaken(&refused);
+        }
+        match self.submit_once(tally, line, refused.bell) {
+            Ok(taken) => Ok(taken),
             Err(refused) => untaken(&refused),
         }
     }
