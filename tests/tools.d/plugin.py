@@ -9,10 +9,11 @@ import tempfile
 
 ROOT = os.path.dirname(os.path.dirname(os.path.dirname(os.path.realpath(__file__))))
 TOOLS = os.path.join(ROOT, "tools")
-sys.path.insert(0, TOOLS)
+sys.path[:0] = [TOOLS, os.path.join(ROOT, "tests", "tools.d", "shared")]
+import counted  # noqa: E402
+from counted import check  # noqa: E402
 from pytest_lambda_local import FunctionError, LambdaLocal  # noqa: E402
 
-passed = failed = 0
 # What a user's tests may be like: the first ones hold, the last three don't.
 TESTS = '''import os, time
 import pytest
@@ -56,16 +57,6 @@ def test_whose_service_dies(lambda_local):
     lambda_local.service.process.kill()
     lambda_local.service.process.wait()
 '''
-
-
-def check(name, seen, wanted=True):
-    global passed, failed
-    if seen == wanted:
-        passed += 1
-        print("ok  ", name, flush=True)
-    else:
-        failed += 1
-        print("FAIL", name, "\n     seen  ", seen, "\n     wanted", wanted, flush=True)
 
 
 def by_itself():
@@ -125,7 +116,7 @@ def under_pytest():
         has_boto3 = bool(folder_of("boto3", sys.executable) or folder_of("boto3", python))
         check("which tests pass and fail", (status, counts), (1, {"failed": 2, "error": 1, "passed": 5} if has_boto3 else
                                                               {"failed": 2, "error": 1, "passed": 4, "skipped": 1}))
-        if failed:
+        if counted.failed:
             print(output)
         parts = re.split(r"^_{3,} ((?:ERROR at teardown of )?test_\w+) _{3,}$", output, flags=re.M)
         reports = dict(zip(parts[1::2], parts[2::2]))
@@ -142,15 +133,5 @@ def under_pytest():
         check("a test that passes has no history in the output", "test_in_this_process" not in reports)
 
 
-def main():
-    for part in (by_itself, under_pytest):
-        try:
-            part()
-        except Exception as fault:
-            check(f"{part.__name__} runs to its end", repr(fault), None)
-    print(f"{passed} passed, {failed} failed")
-    return failed != 0
-
-
 if __name__ == "__main__":
-    sys.exit(main())
+    sys.exit(counted.run(by_itself, under_pytest))

@@ -15,10 +15,11 @@ import urllib.request
 ROOT = os.path.dirname(os.path.dirname(os.path.dirname(os.path.realpath(__file__))))
 TOOLS = os.path.join(ROOT, "tools")
 FROM_TEMPLATE = os.path.join(TOOLS, "from_template")
-sys.path.insert(0, TOOLS)
+sys.path[:0] = [TOOLS, os.path.join(ROOT, "tests", "tools.d", "shared")]
+import counted  # noqa: E402
+from counted import check  # noqa: E402
 from pytest_lambda_local import FunctionError, LambdaLocal  # noqa: E402
 
-passed = failed = 0
 HANDLER = '''import os, sys, time
 def run(event):
     do = event.get("do")
@@ -28,16 +29,6 @@ def run(event):
     if do == "name": return [os.environ[name] for name in ("AWS_LAMBDA_FUNCTION_NAME", "_HANDLER", "GREETING")]
     return os.getpid()
 '''
-
-
-def check(name, seen, wanted=True):
-    global passed, failed
-    if seen == wanted:
-        passed += 1
-        print("ok  ", name, flush=True)
-    else:
-        failed += 1
-        print("FAIL", name, "\n     seen  ", seen, "\n     wanted", wanted, flush=True)
 
 
 class Up:
@@ -276,15 +267,5 @@ def places():
         check("tools/up runs it from a third folder", (done.returncode, done.stdout), (0, json.dumps(os.path.join(root, "app", "src"))))
 
 
-def main():
-    for part in (templates, places, runtimes, commands, extensions, reload, debug):
-        try:
-            part()
-        except Exception as fault:
-            check(f"{part.__name__} runs to its end", repr(fault), None)
-    print(f"{passed} passed, {failed} failed")
-    return failed != 0
-
-
 if __name__ == "__main__":
-    sys.exit(main())
+    sys.exit(counted.run(templates, places, runtimes, commands, extensions, reload, debug))
