@@ -1,5 +1,5 @@
 -- What a call that was taken leaves of a desk.
-use Rattle.std.proofs.Common.{◌≡◌, ℕ, ◌+◌, ◌-◌, ◌≤◌, ◌++◌, true, List, drop, length, length-append, reverse, Option, sym, ap, ◌∙◌, arith}
+use Rattle.std.proofs.Common.{◌≡◌, ℕ, ◌+◌, ◌-◌, ◌≤◌, ◌++◌, true, List, drop, length, length-append, reverse, Option, refl, sym, ap, ◌∙◌, arith}
 use Rattle.std.specs.List.{list_all}
 use Rattle.call_model.specs.declared.call.Call.{Call}
 use Rattle.call_model.specs.declared.stats.Stats.{Stats}
@@ -12,11 +12,12 @@ use Rattle.account_book.specs.Book.{Kept as Booked}
 use Rattle.account_book.proofs.Reaching.{no_expiry}
 use Rattle.usage_ledger.specs.declared.counts.Counts.{Counts}
 use Rattle.usage_ledger.specs.Counts.{counts, plus}
-use Rattle.account_lock.specs.Bells.{bells_after, own_bell, answers_of, given}
+use Rattle.account_lock.specs.Bells.{are_rising, bells_after, own_bell, answers_of, given}
 use Rattle.account_lock.specs.Counting.{counts_of}
 use Rattle.account_lock.specs.Desks.{IsDesk, opened, added_to, next_book}
 use Rattle.account_lock.proofs.Stepping.{next_is, newest, risen, rises_are, counts_next}
 use Rattle.account_lock.proofs.Waiting.{still_waiting}
+use Rattle.account_lock.proofs.Searching.{after_rise, with_own}
 
 -- the answers of what was added
 pub behind : (book after : Booked) (now : ℕ) (call : Call) (n : ℕ) → after ≡ next_book book now call → n ≡ length book.history → answers_of (drop n (reverse after.history)) ≡ given (added_to book now call)
@@ -39,6 +40,12 @@ rise_by book after now call before was step w =
     (λ i. counts 1 (admitted (step i).history - (was i).admitted) (throttled (step i).history - (was i).throttled) (failed (step i).history - (was i).failed))
     ∙ rises_are book.config book.history now call w
 
+-- all bells are in rising order, that of the call behind those of the tickets that waited before
+pub rising_by : {B : Type 0} (book after : Booked) (now : ℕ) (call : Call) (t : ℕ) (bells stored : List (ℕ × B)) (bell : Option B) (totals : Counts)
+    → IsDesk (opened book bells totals) → after ≡ next_book book now call → t + 1 ≡ length after.history → stored ≡ bells ++ own_bell t bell → are_rising stored ≡ true
+rising_by book after now call t bells stored bell totals d step last all =
+    ap are_rising all ∙ with_own book.config book.history now call t bells bell (last ∙ ap (λ (b : Booked). length b.history) step) d.waiting d.rising
+
 -- what the type of a desk keeps is kept
 pub desk_kept : {B : Type 0} (book after : Booked) (now : ℕ) (call : Call) (t : ℕ) (bells left : List (ℕ × B)) (bell : Option B) (totals sums : Counts)
     → IsDesk (opened book bells totals) → IsWithin book.config call → after ≡ next_book book now call → t + 1 ≡ length after.history
@@ -50,5 +57,6 @@ desk_kept book after now call t bells left bell totals sums d w step last stay s
     record {
       legal = coe 1 0 (i. IsLegal (step i).config (step i).history) (legal_next book.config h now call d.legal called);
       waiting = coe 1 0 (i. list_all (λ b. pending (step i).history b.0) (stay i) ≡ true) (still_waiting book.config h now call t bells bell d.legal called (last ∙ ap (λ (b : Booked). length b.history) step) d.waiting);
+      rising = ap are_rising stay ∙ after_rise (given (added_to book now call)) (bells ++ own_bell t bell) (rising_by book after now call t bells (bells ++ own_bell t bell) bell totals d step last refl);
       counted = sum ∙ ap (λ (c : Counts). plus c (counts_of (added_to book now call))) d.counted ∙ counts_next book.config h now call ∙ sym (ap (λ (b : Booked). counts_of b.history) step);
     }

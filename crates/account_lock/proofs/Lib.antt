@@ -4,6 +4,8 @@ pub mod Turns
 pub mod Stepping
 -- The bells that stay are those of tickets that wait.
 pub mod Waiting
+-- Where a ticket's bell stands among bells in rising order, and that what stays of them is in that order.
+pub mod Searching
 -- What a call that was taken leaves of a desk.
 pub mod AfterCall
 -- The least ticket at which one of several properties fails.

@@ -16,14 +16,14 @@ use Rattle.call_model.proofs.AfterEntry.{answer_of_append}
 use Rattle.call_model.proofs.Once.{fresh}
 use Rattle.account_lock.specs.Bells.{other_bells, bells_after, own_bell, answers_of, given}
 
-and_true : (a b : Bool) → (a && b) ≡ true → (a ≡ true) × (b ≡ true)
+pub and_true : (a b : Bool) → (a && b) ≡ true → (a ≡ true) × (b ≡ true)
 and_true true b e = (refl, e)
 and_true false b e = cc
 
-both_true : (a b : Bool) → a ≡ true → b ≡ true → (a && b) ≡ true
+pub both_true : (a b : Bool) → a ≡ true → b ≡ true → (a && b) ≡ true
 both_true a b p q = ap (λ x. x && b) p ∙ q
 
-not_true : (b : Bool) → not b ≡ true → b ≡ false
+pub not_true : (b : Bool) → not b ≡ true → b ≡ false
 not_true true e = cc
 not_true false e = refl
 
@@ -34,11 +34,11 @@ neither false b e = (refl, e)
 not_either : (a b : Bool) → a ≡ false → b ≡ false → not (a || b) ≡ true
 not_either a b p q = ap (λ x. not (x || b)) p ∙ ap not q
 
-all_by : {X : Type 0} (p q : X → Bool) (xs : List X) → ((x : X) → p x ≡ true → q x ≡ true) → list_all p xs ≡ true → list_all q xs ≡ true
+pub all_by : {X : Type 0} (p q : X → Bool) (xs : List X) → ((x : X) → p x ≡ true → q x ≡ true) → list_all p xs ≡ true → list_all q xs ≡ true
 all_by p q [] f w = refl
 all_by p q (x ∷ xs) f w = let s = and_true _ _ w in both_true _ _ (f x s.0) (all_by p q xs f s.1)
 
-all_both : {X : Type 0} (p : X → Bool) (xs ys : List X) → list_all p xs ≡ true → list_all p ys ≡ true → list_all p (xs ++ ys) ≡ true
+pub all_both : {X : Type 0} (p : X → Bool) (xs ys : List X) → list_all p xs ≡ true → list_all p ys ≡ true → list_all p (xs ++ ys) ≡ true
 all_both p [] ys v w = w
 all_both p (x ∷ xs) ys v w = let s = and_true _ _ v in both_true _ _ s.0 (all_both p xs ys s.1 w)
 
@@ -86,7 +86,7 @@ left (a ∷ answers) p bells w =
     (left answers (λ t. p t && not (a.0 == t)) (other_bells a.0 bells) (apart p a.0 bells w))
 
 -- a ticket whose call is none of the clock's stands in the history
-known : (h : List Entry) (t : ℕ) → is_expiry (call_of h t) ≡ false → t < length h
+pub known : (h : List Entry) (t : ℕ) → is_expiry (call_of h t) ≡ false → t < length h
 known [] t e = cc
 known (entry ∷ h) t e = go (λ k. known h t k) (t == length h) refl e
   where
@@ -142,7 +142,7 @@ own_call config h now call t q =
     let es = expiries config m (due config h m) h in
     own_head (entry_of config (es ++ h) m call) (es ++ h) t q
 
-past : (config : Config) (h : List Entry) (now : ℕ) (call : Call) (t : ℕ) → t + 1 ≡ length (added config h now call ++ h) → length h ≤ t
+pub past : (config : Config) (h : List Entry) (now : ℕ) (call : Call) (t : ℕ) → t + 1 ≡ length (added config h now call ++ h) → length h ≤ t
 unfolding added
 past config h now call t q =
     let m = moment_at h now in

@@ -1,5 +1,6 @@
 -- The bells of those who wait, and which of them ring.
-use Rattle.std.specs.Prelude.{ℕ, ◌==◌, if◌then◌else◌, List, [], ◌∷◌, ◌++◌, Option, Some, None, flat_map, reverse}
+use Rattle.std.specs.Prelude.{ℕ, Bool, true, ◌&&◌, ◌==◌, nat_lt, if◌then◌else◌, List, [], ◌∷◌, ◌++◌, Option, Some, None, flat_map, reverse}
+use Rattle.std.specs.List.{list_all}
 use Rattle.call_model.specs.declared.answer.Answer.{Answer}
 use Rattle.call_model.specs.declared.call.Entry.{Entry}
 
@@ -12,6 +13,11 @@ of_ticket t (bell ∷ bells) = if bell.0 == t then bell.1 ∷ of_ticket t bells 
 abbrev pub other_bells : {B : Type 0} → ℕ → List (ℕ × B) → List (ℕ × B)
 other_bells t [] = []
 other_bells t (bell ∷ bells) = if bell.0 == t then other_bells t bells else bell ∷ other_bells t bells
+
+-- whether each bell belongs to a lower ticket than those behind it; so a ticket has one bell at most
+abbrev pub are_rising : {B : Type 0} → List (ℕ × B) → Bool
+are_rising [] = true
+are_rising (bell ∷ bells) = list_all (λ other. nat_lt bell.0 other.0) bells && are_rising bells
 
 -- The bells that answers ring: those of the tickets that are answered, in the order of the answers.
 abbrev pub rings_of : {B : Type 0} → List (ℕ × Answer) → List (ℕ × B) → List B

@@ -8,7 +8,7 @@ use Rattle.call_model.specs.History.{pending}
 use Rattle.call_model.specs.Next.{IsLegal, added, next}
 use Rattle.usage_ledger.specs.Counts.{plus}
 use Rattle.usage_ledger.specs.declared.counts.Counts.{Counts}
-use Rattle.account_lock.specs.Bells.{bells_after, own_bell, given}
+use Rattle.account_lock.specs.Bells.{are_rising, bells_after, own_bell, given}
 use Rattle.account_lock.specs.Counting.{counts_of}
 
 -- Its book, the bells of those who wait, each with the ticket whose answer it waits for, and the totals of its ledgers.
@@ -21,11 +21,12 @@ pub record Opened (B : Type 0) : Type 0 where
 abbrev pub opened : {B : Type 0} → Booked → List (ℕ × B) → Counts → Opened B
 opened book bells totals = record { book = book; bells = bells; totals = totals }
 
--- What the type of a desk keeps: its history is legal, each bell belongs to a pending ticket, and the totals are what
--- the history counts.
+-- What the type of a desk keeps: its history is legal, each bell belongs to a pending ticket, which no other has, and
+-- they stand in the order of their tickets; and the totals are what the history counts.
 pub record IsDesk {B : Type 0} (desk : Opened B) : Type 0 where
   pub legal : IsLegal desk.book.config desk.book.history
   pub waiting : list_all (λ bell. pending desk.book.history bell.0) desk.bells ≡ true
+  pub rising : are_rising desk.bells ≡ true
   pub counted : desk.totals ≡ counts_of desk.book.history
 
 -- the entries that a call adds to a book, the newest first

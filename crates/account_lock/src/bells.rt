@@ -1,7 +1,8 @@
-//! The bells of those who wait for an answer.
+//! The bells of those who wait for an answer, in rising order of their tickets.
 
-ghost use Rattle.std.specs.Prelude.{◌≡◌, ◌+◌, ◌<◌, ◌≤◌, ◌++◌, vec_len, vec_capacity};
-ghost use Rattle.account_lock.specs.Bells.{of_ticket, other_bells, own_bell};
+ghost use Rattle.std.specs.Prelude.{◌≡◌, ◌+◌, ◌<◌, ◌≤◌, ◌++◌, true, false, nat_lt, length, vec_len, vec_capacity};
+ghost use Rattle.std.specs.List.Sorted.{IsPartitionPoint};
+ghost use Rattle.account_lock.specs.Bells.{of_ticket, other_bells, own_bell, are_rising};
 
 use call_model::Ticket;
 
@@ -23,20 +24,27 @@ pub(crate) fn store<B>(bells: &mut Vec<(Ticket, B)>, ticket: Ticket, bell: Optio
     }
 }
 
-/// Moves the bells of a ticket to those that are to ring.
-pub(crate) fn take_bells<B>(bells: &mut Vec<(Ticket, B)>, ticket: Ticket, rings: &mut Vec<B>)
-    requires { vec_len rings.old + vec_len bells.old ≤ vec_capacity rings.old }
+/// Behind how many bells that of a ticket stands, if there is one: those of lower tickets.
+fn find_bell<B>(bells: &[(Ticket, B)], ticket: Ticket) -> usize
+    requires { are_rising bells.now ≡ true }
+    ensures within { result ≤ length bells.now }
+    ensures between { IsPartitionPoint (λ bell. nat_lt bell.0 ticket ≡ true) (λ bell. nat_lt bell.0 ticket ≡ false) bells.now result }
+{
+    bells.partition_point(|bell| bell.0 < ticket)
+}
+
+/// Moves the bell of a ticket, if there is one, to those that are to ring.
+pub(crate) fn take_bell<B>(bells: &mut Vec<(Ticket, B)>, ticket: Ticket, rings: &mut Vec<B>)
+    requires rising { are_rising bells.old.items ≡ true }
+    requires room { vec_len rings.old < vec_capacity rings.old }
     ensures rings { rings.new.items ≡ rings.old.items ++ of_ticket ticket bells.old.items }
     ensures bells { bells.new.items ≡ other_bells ticket bells.old.items }
-    ensures room { (vec_len rings.new + vec_len bells.new ≤ vec_len rings.old + vec_len bells.old) × (vec_capacity rings.new ≡ vec_capacity rings.old) }
+    ensures rising { are_rising bells.new.items ≡ true }
+    ensures room { (vec_len rings.new ≤ vec_len rings.old + 1) × (vec_capacity rings.new ≡ vec_capacity rings.old) }
 {
-    let mut index = 0;
-    while index < bells.len() {
-        if bells[index].0 == ticket {
-            let (_, bell) = bells.remove(index);
-            rings.push_reserved(bell);
-        } else {
-            index += 1;
-        }
+    let place = find_bell(bells, ticket);
+    if place < bells.len() && bells[place].0 == ticket {
+        let (_, bell) = bells.remove(place);
+        rings.push_reserved(bell);
     }
 }

@@ -20,7 +20,7 @@ pub(crate) fn most_given(book: &Book, now: u64, call: &Call) -> usize
 }
 
 /// Makes room for a bell among those that wait, for so many answers in the tally and for one call,
-/// and for all bells that may ring. What is held is as before in any case.
+/// and for the bells that so many answers ring. What is held is as before in any case.
 pub(crate) fn make_room<B, K: Keep, C: Ledger, A: Ledger, T: Ledger, F: Ledger>(
     alloc: Global,
     bells: &mut Vec<(Ticket, B)>,
@@ -28,12 +28,11 @@ pub(crate) fn make_room<B, K: Keep, C: Ledger, A: Ledger, T: Ledger, F: Ledger>(
     most: usize,
 ) -> Result<Vec<B>, AllocError>
     ensures same { (bells.new.items ≡ bells.old.items) × (tally.new.held ≡ tally.old.held) }
-    ensures rings { IfOk result (λ rings. (rings.items ≡ []) × (vec_len bells.new + 1 ≤ vec_capacity rings)) }
+    ensures rings { IfOk result (λ rings. (rings.items ≡ []) × (most ≤ vec_capacity rings)) }
     ensures bells { OnOk result (vec_len bells.new + 1 ≤ vec_capacity bells.new) }
     ensures tally { OnOk result ((most ≤ tally.new.spare_notes) × (1 ≤ tally.new.spare_calls)) }
 {
     bells.reserve(1)?;
     tally.room(most.max(1))?;
-    let waiting = bells.len();
-    Vec::with_capacity(alloc, waiting + 1)
+    Vec::with_capacity(alloc, most)
 }

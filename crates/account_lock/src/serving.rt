@@ -1,12 +1,12 @@
 //! What the answers of a step's entries do: they ring bells, and the tally notes them.
 
-ghost use Rattle.std.specs.Prelude.{◌≡◌, ◌+◌, ◌-◌, ◌≤◌, ◌++◌, drop, reverse, length, vec_len, vec_capacity};
+ghost use Rattle.std.specs.Prelude.{◌≡◌, ◌+◌, ◌-◌, ◌≤◌, ◌++◌, true, drop, reverse, length, vec_len, vec_capacity};
 ghost use Rattle.call_model.specs.Counts.{admitted, throttled, failed};
 ghost use Rattle.usage_ledger.specs.Counts.{counts, plus};
 ghost use Rattle.usage_ledger.specs.Keeping.{Steps};
-ghost use Rattle.account_lock.specs.Bells.{rings_of, bells_after, answers_of};
+ghost use Rattle.account_lock.specs.Bells.{are_rising, rings_of, bells_after, answers_of};
 
-use crate::bells::take_bells;
+use crate::bells::take_bell;
 use crate::rises::rises;
 use account_book::Book;
 use call_model::{Answer, Entry, Stats, Ticket};
@@ -20,7 +20,8 @@ fn serve_answers<B, K: Keep, C: Ledger, A: Ledger, T: Ledger, F: Ledger>(
     rings: &mut Vec<B>,
     tally: &mut Tally<K, C, A, T, F>,
 )
-    requires bells { vec_len rings.old + vec_len bells.old ≤ vec_capacity rings.old }
+    requires rising { are_rising bells.old.items ≡ true }
+    requires room { vec_len rings.old + length answers.now ≤ vec_capacity rings.old }
     requires notes { length answers.now ≤ tally.old.spare_notes }
     ensures rings { rings.new.items ≡ rings.old.items ++ rings_of answers.now bells.old.items }
     ensures bells { bells.new.items ≡ bells_after answers.now bells.old.items }
@@ -28,10 +29,11 @@ fn serve_answers<B, K: Keep, C: Ledger, A: Ledger, T: Ledger, F: Ledger>(
     ensures same { tally.new.held ≡ record tally.old.held { kept = tally.new.held.kept } }
     ensures calls { tally.old.spare_calls ≤ tally.new.spare_calls }
     ensures notes { tally.old.spare_notes ≤ tally.new.spare_notes + length answers.now }
-    ensures room { vec_len rings.new + vec_len bells.new ≤ vec_capacity rings.new }
+    ensures rising { are_rising bells.new.items ≡ true }
+    ensures room { (vec_len rings.new ≤ vec_len rings.old + length answers.now) × (vec_capacity rings.new ≡ vec_capacity rings.old) }
 {
     for pair in answers {
-        take_bells(bells, pair.0, rings);
+        take_bell(bells, pair.0, rings);
         tally.note(pair.0, pair.1);
     }
 }
@@ -43,7 +45,8 @@ pub(crate) fn serve_entries<B, K: Keep, C: Ledger, A: Ledger, T: Ledger, F: Ledg
     rings: &mut Vec<B>,
     tally: &mut Tally<K, C, A, T, F>,
 )
-    requires bells { vec_len rings.old + vec_len bells.old ≤ vec_capacity rings.old }
+    requires rising { are_rising bells.old.items ≡ true }
+    requires room { vec_len rings.old + length (answers_of entries.now) ≤ vec_capacity rings.old }
     requires notes { length (answers_of entries.now) ≤ tally.old.spare_notes }
     ensures rings { rings.new.items ≡ rings.old.items ++ rings_of (answers_of entries.now) bells.old.items }
     ensures bells { bells.new.items ≡ bells_after (answers_of entries.now) bells.old.items }
@@ -68,7 +71,8 @@ pub(crate) fn serve_step<B, K: Keep, C: Ledger, A: Ledger, T: Ledger, F: Ledger>
     tally: &mut Tally<K, C, A, T, F>,
 )
     requires start { start ≤ length book.now.history }
-    requires bells { vec_len rings.old + vec_len bells.old ≤ vec_capacity rings.old }
+    requires rising { are_rising bells.old.items ≡ true }
+    requires room { vec_len rings.old + length (answers_of (drop start (reverse book.now.history))) ≤ vec_capacity rings.old }
     requires notes { length (answers_of (drop start (reverse book.now.history))) ≤ tally.old.spare_notes }
     requires risen { (before.admitted ≤ admitted book.now.history) × (before.throttled ≤ throttled book.now.history) × (before.failed ≤ failed book.now.history) }
     ensures rings { rings.new.items ≡ rings.old.items ++ rings_of (answers_of (drop start (reverse book.now.history))) bells.old.items }

@@ -21,7 +21,8 @@ loop-entry-preserved g c =
     record {
       rings = ap (λ r. r ++ rings_of rest c.serve_answers.new.bells.items) c.serve_answers.ensures.rings ∙ append_assoc c.loop-entry.rings.items (rings_of given bells) (rings_of rest c.serve_answers.new.bells.items) ∙ ap (λ x. c.loop-entry.rings.items ++ (rings_of given bells ++ rings_of rest x)) became ∙ ap (λ x. c.loop-entry.rings.items ++ x) (sym one_rings) ∙ inv.rings;
       bells = ap (bells_after rest) became ∙ sym one_bells ∙ inv.bells;
-      room = c.serve_answers.ensures.room;
+      rising = c.serve_answers.ensures.rising;
+      room = omega (arith, ap length split, length-append given rest, inv.room, c.serve_answers.ensures.room.0, c.serve_answers.ensures.room.1);
       kept = λ k s. inv.kept k (subst (λ xs. Steps g.K.Keep.notes c.loop-entry.tally.held.kept xs k) (sym split) (Steps-append g.K.Keep.notes given rest _ _ k c.serve_answers.ensures.kept s));
       same = c.serve_answers.ensures.same ∙ ap (λ (s : Held). record s { kept = c.serve_answers.new.tally.held.kept }) inv.same;
       calls = omega (arith, inv.calls, c.serve_answers.ensures.calls);

@@ -5,7 +5,7 @@ use Rattle.usage_ledger.specs.Tallies.{Held}
 use Rattle.account_lock.specs.Bells.{rings_of, bells_after, own_bell, given}
 use Rattle.account_lock.specs.Counting.{counts_of}
 use Rattle.account_lock.specs.Desks.{opened, added_to, all_bells, after_step}
-use Rattle.account_lock.proofs.AfterCall.{behind, within, risen_by, rise_by, desk_kept}
+use Rattle.account_lock.proofs.AfterCall.{behind, within, risen_by, rise_by, rising_by, desk_kept}
 use Rattle.account_lock.proofs.desk.Desk.apply.Goals as goal
 
 pub serve_step-requires-clause-start : goal.serve_step-requires-clause-start
@@ -15,6 +15,17 @@ pub serve_step-requires-clause-notes : goal.serve_step-requires-clause-notes
 serve_step-requires-clause-notes g c =
     let few = behind c.self.inside.book c.apply.new.self c.args.now c.args.call c.len-start.result c.in-Ok-apply.ensures.step c.len-start.ensures.value in
     omega (arith, ap length few, c.most_given-most.ensures, c.in-Ok.ensures.tally.0)
+
+pub serve_step-requires-clause-room : goal.serve_step-requires-clause-room
+serve_step-requires-clause-room g c =
+    let few = behind c.self.inside.book c.apply.new.self c.args.now c.args.call c.len-start.result c.in-Ok-apply.ensures.step c.len-start.ensures.value in
+    omega (arith, ap length few, c.most_given-most.ensures, c.in-Ok.ensures.rings.1, ap length c.in-Ok.ensures.rings.0)
+
+pub serve_step-requires-clause-rising : goal.serve_step-requires-clause-rising
+serve_step-requires-clause-rising g c =
+    let old = c.self.inside in
+    let all = c.store.ensures.items ∙ ap (λ bells. bells ++ own_bell c.in-Ok-apply.ticket c.args.bell) c.make_room.ensures.same.0 in
+    rising_by old.book c.apply.new.self c.args.now c.args.call c.in-Ok-apply.ticket old.bells.items c.store.new.bells.items c.args.bell old.totals c.self.invariant c.in-Ok-apply.ensures.step c.in-Ok-apply.ensures.ticket all
 
 pub serve_step-requires-clause-risen : goal.serve_step-requires-clause-risen
 serve_step-requires-clause-risen g c = risen_by c.self.inside.book c.apply.new.self c.args.now c.args.call c.stats-before.result c.stats-before.ensures c.in-Ok-apply.ensures.step
