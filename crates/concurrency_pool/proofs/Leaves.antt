@@ -1,8 +1,7 @@
--- The reservations leave the least remainder, and so no function has more in flight than the account's limit.
-use Rattle.std.proofs.Common.{◌≡◌, ℕ, ◌+◌, ◌-◌, ◌<◌, ◌≤◌, Bool, true, false, ◌&&◌, length, Option, Some, None, set, sum_by, nat_le, unwrap_or, refl, ◌∙◌, arith, if◌then◌else◌}
+-- The reservations leave the least remainder, and so no function that a limit admits has as many in flight as the account's limit.
+use Rattle.std.proofs.Common.{◌≡◌, ℕ, ◌+◌, ◌-◌, ◌<◌, ◌≤◌, Bool, true, false, ◌&&◌, length, Option, Some, None, sum_by, nat_le, unwrap_or, refl, ◌∙◌, arith, if◌then◌else◌}
 use Rattle.std.proofs.lemmas.Bool.Decides.{nat_tests}
-use Rattle.std.proofs.lemmas.List.{length-set}
-use Rattle.std.proofs.lemmas.List.Sums.{sum_by-set, get_or-le-sum_by}
+use Rattle.std.proofs.lemmas.List.Sums.{get_or-le-sum_by}
 use Rattle.arn_ids.specs.declared.config.Config.{Config}
 use Rattle.arn_ids.specs.Faults.{first_fault, reservation_of}
 use Rattle.arn_ids.proofs.Bounds.{reservations_fit}
@@ -11,7 +10,7 @@ use Rattle.call_model.specs.declared.answer.Throttle.TheVariants.{Function as By
 use Rattle.concurrency_pool.specs.declared.pool.Usage.{Usage}
 use Rattle.concurrency_pool.specs.Numbers.{Numbers}
 use Rattle.concurrency_pool.specs.Usages.{usage_of, reserved_by, unreserved_by, no_usage}
-use Rattle.concurrency_pool.specs.Pools.{opened, usage_at, remainder, unreserved_in_flight, throttle, throttle_by, may_reserve, taken_with, with_in_flight, with_reserved}
+use Rattle.concurrency_pool.specs.Pools.{opened, usage_at, reserved_in_all, remainder, unreserved_in_flight, throttle, throttle_by, may_reserve, taken_with}
 use Rattle.concurrency_pool.proofs.Numbered.{usage_is_at, sum_map, sum_same}
 
 -- a configuration without a fault leaves its least remainder
@@ -26,39 +25,15 @@ opened_leaves config none =
     same (Some n) = refl
 
 -- a function's number of what is summed up is within the sum
-within_sum : (r : Usage → ℕ) (pool : Numbers) (f : ℕ) → 1 ≤ f → f ≤ length pool.functions → r (usage_at pool f) ≤ sum_by r pool.functions
+pub within_sum : (r : Usage → ℕ) (pool : Numbers) (f : ℕ) → 1 ≤ f → f ≤ length pool.functions → r (usage_at pool f) ≤ sum_by r pool.functions
 within_sum r pool f from_one there =
     rw (usage_is_at pool f no_usage from_one there) (get_or-le-sum_by r pool.functions (f - 1) no_usage (omega (arith, from_one, there)))
 
--- the sum with another usage of a function
-sum_with : (pool : Numbers) (f : ℕ) (usage : Usage) → 1 ≤ f → f ≤ length pool.functions
-    → sum_by reserved_by (set pool.functions (f - 1) usage) + reserved_by (usage_at pool f) ≡ sum_by reserved_by pool.functions + reserved_by usage
-sum_with pool f usage from_one there =
-    rw (usage_is_at pool f no_usage from_one there) (sum_by-set reserved_by pool.functions (f - 1) usage no_usage (omega (arith, from_one, there)))
-
--- what holds of every pool
-abbrev pub Within : Numbers → Type 0
-Within pool = (length pool.functions ≤ 64) × (pool.account_limit ≤ 1000000) × (pool.least_remainder + sum_by reserved_by pool.functions ≤ pool.account_limit)
-
-set_few : (pool : Numbers) (f : ℕ) (usage : Usage) → length pool.functions ≤ 64 → length (set pool.functions (f - 1) usage) ≤ 64
-set_few pool f usage few = rw length-set few
-
--- what is in flight reserves nothing
-pub in_flight_within : (pool : Numbers) (f n : ℕ) → 1 ≤ f → f ≤ length pool.functions → Within pool → Within (with_in_flight pool f n)
-in_flight_within pool f n from_one there within =
-    let usage : Usage = record (usage_at pool f) { in_flight = n } in
-    (set_few pool f usage within.0, within.1, omega (arith, sum_with pool f usage from_one there, within.2))
-
 -- a reservation that the pool may take leaves the least remainder
-pub reserved_within : (pool : Numbers) (f : ℕ) (count : Option ℕ) → 1 ≤ f → f ≤ length pool.functions → may_reserve pool f count ≡ true → Within pool → Within (with_reserved pool f count)
+pub allowed_leaves : (pool : Numbers) (f : ℕ) (count : Option ℕ) (n : ℕ) → may_reserve pool f count ≡ true → n < or_zero count → taken_with pool f (or_zero count) ≤ pool.account_limit
 unfolding may_reserve
-reserved_within pool f None from_one there may within =
-    let usage : Usage = record (usage_at pool f) { reserved = None } in
-    (set_few pool f usage within.0, within.1, omega (arith, sum_with pool f usage from_one there, within.2))
-reserved_within pool f (Some count) from_one there may within =
-    let usage : Usage = record (usage_at pool f) { reserved = Some count } in
-    let fits : taken_with pool f count ≤ pool.account_limit = both (nat_le count (usage_at pool f).environments) (taken_with pool f count) pool.account_limit may in
-    (set_few pool f usage within.0, within.1, omega (arith, sum_with pool f usage from_one there, fits, within_sum reserved_by pool f from_one there))
+allowed_leaves pool f None n may less = absurd (omega (arith, less))
+allowed_leaves pool f (Some count) n may less = both (nat_le count (usage_at pool f).environments) (taken_with pool f count) pool.account_limit may
   where
     both : (b : Bool) (m n : ℕ) → (b && nat_le m n) ≡ true → m ≤ n
     both true m n h = grind (arith, nat_tests, h)
@@ -66,10 +41,10 @@ reserved_within pool f (Some count) from_one there may within =
 
 -- a function that its limit admits has less in flight than the account's limit
 pub admitted_below : (pool : Numbers) (f : ℕ) → 1 ≤ f → f ≤ length pool.functions
-    → Within pool → throttle pool f ≡ None → (usage_at pool f).in_flight < pool.account_limit
+    → pool.least_remainder + reserved_in_all pool ≤ pool.account_limit → throttle pool f ≡ None → (usage_at pool f).in_flight < pool.account_limit
 unfolding throttle
-admitted_below pool f from_one there within admitted =
-    go (usage_at pool f).reserved within.2 (within_sum reserved_by pool f from_one there) (λ none. rw none at (within_sum unreserved_by pool f from_one there)) admitted
+admitted_below pool f from_one there leaves admitted =
+    go (usage_at pool f).reserved leaves (within_sum reserved_by pool f from_one there) (λ none. rw none at (within_sum unreserved_by pool f from_one there)) admitted
   where
     below : {A : Type 0} (reason : A) (m n : ℕ) → (if nat_le m n then Some reason else None) ≡ None → n < m
     below reason m n h = case (nat_le m n) refl h

@@ -1,3 +1,4 @@
 pub mod Numbered
 pub mod Leaves
+pub mod Totals
 pub mod History

@@ -34,6 +34,11 @@ pub sum_same : {A : Type 0} (r s : A → ℕ) → ((x : A) → r x ≡ s x) → 
 sum_same r s same [] = refl
 sum_same r s same (x ∷ xs) = sum_by-cons r x xs ∙ ap₂ ◌+◌ (same x) (sum_same r s same xs) ∙ sym (sum_by-cons s x xs)
 
+-- a sum of nothings
+pub sum_nothing : {A : Type 0} (r : A → ℕ) → ((x : A) → r x ≡ 0) → (xs : List A) → sum_by r xs ≡ 0
+sum_nothing r none [] = refl
+sum_nothing r none (x ∷ xs) = sum_by-cons r x xs ∙ ap₂ ◌+◌ (none x) (sum_nothing r none xs)
+
 -- what is said of a list's elements, in the order of their numbers
 map_behind : {A B : Type 0} (d : A) (r : A → B) (before xs : List A) → map (λ f. r (numbered d (before ++ xs) f)) (count_from (suc (length before)) (length xs)) ≡ map r xs
 map_behind d r before [] = refl

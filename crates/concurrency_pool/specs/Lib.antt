@@ -1,4 +1,5 @@
 pub mod Usages
 pub mod Numbers
 pub mod Pools
+pub mod Totals
 pub mod Meets

@@ -2,7 +2,6 @@
 #![tactic(auto)]
 
 pub mod laws;
-mod limits;
 mod pool;
 
 pub use pool::{Pool, Usage};

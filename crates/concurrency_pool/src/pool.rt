@@ -1,10 +1,10 @@
-//! The functions of an account by what they may have and what they have in flight.
+//! The functions of an account by what they may have and what they have in flight. Their totals are
+//! kept beside them, so that a question or a change goes over no other function.
 
-ghost use Rattle.std.specs.Prelude.{◌≡◌, ◌+◌, ◌-◌, ◌<◌, ◌≤◌, length, MatchResult, IfOk, None, Some, true};
-ghost use Rattle.concurrency_pool.specs.Usages.{usage_of};
-ghost use Rattle.concurrency_pool.specs.Pools.{usage_at, opened, remainder, in_flight_in_all, throttle, may_reserve, with_in_flight, with_reserved};
+ghost use Rattle.std.specs.Prelude.{◌≡◌, ◌+◌, ◌-◌, ◌*◌, ◌^◌, ◌<◌, ◌≤◌, length, slice_set, MatchResult, IfOk, None, Some, true};
+ghost use Rattle.concurrency_pool.specs.Usages.{usage_of, reserved_by, unreserved_by};
+ghost use Rattle.concurrency_pool.specs.Pools.{usage_at, opened, reserved_in_all, remainder, in_flight_in_all, throttle, taken_with, may_reserve, with_in_flight, with_reserved};
 
-use crate::limits::{in_flight_in_all, reserved_in_all, unreserved_in_flight};
 use arn_ids::{Checked, FnNo, Function};
 use call_model::Throttle;
 use std::alloc::{AllocError, Global};
@@ -26,24 +26,52 @@ pub struct Usage {
 /// (Lambda Developer Guide, "Understanding Lambda function scaling", "Configuring reserved
 /// concurrency for a function")
 ///
-/// It is seen as a record of the limits and of the functions in the order of their numbers.
+/// It is seen as a record of the limits and of the functions in the order of their numbers. The
+/// totals beside them are the sums over the functions: only [`Pool::open`] goes over all of them and
+/// takes memory.
 #[derive(Debug, Drop)]
 pub struct Pool {
     account_limit: u32,
     least_remainder: u32,
     functions: Vec<Usage>,
+    /// All reservations in force together.
+    reserved: u64,
+    /// What the functions without a reservation have in flight together.
+    unreserved: u64,
+    /// What all functions have in flight together.
+    in_flight: u64,
 }
 
 impl Model for Pool {
-    ghost use Rattle.std.specs.Prelude.{◌+◌, ◌≤◌, length, sum_by};
     ghost use Rattle.concurrency_pool.specs.Numbers.{Numbers};
-    ghost use Rattle.concurrency_pool.specs.Usages.{reserved_by};
 
     ghost Value = { Numbers };
 
+    ghost use Rattle.concurrency_pool.specs.Totals.{Totals};
+
     ghost view = { λ pool. record { account_limit = pool.account_limit; least_remainder = pool.least_remainder; functions = pool.functions.items } };
 
-    ghost invariant = { λ pool. (length pool.functions.items ≤ 64) × (pool.account_limit ≤ 1000000) × (pool.least_remainder + sum_by reserved_by pool.functions.items ≤ pool.account_limit) };
+    ghost invariant = { λ pool. Totals (record { account_limit = pool.account_limit; least_remainder = pool.least_remainder; functions = pool.functions.items }) pool.reserved pool.unreserved pool.in_flight };
+}
+
+impl Usage {
+    /// What it takes of the account's limit.
+    fn taken_of_limit(&self) -> u32
+        ensures { result ≡ reserved_by self.now }
+    {
+        self.reserved.unwrap_or(0)
+    }
+
+    /// What it has in flight of the remainder.
+    fn taken_of_remainder(&self) -> u32
+        ensures { result ≡ unreserved_by self.now }
+    {
+        if self.reserved.is_none() {
+            self.in_flight
+        } else {
+            0
+        }
+    }
 }
 
 /// What a function has before any invocation.
@@ -57,6 +85,15 @@ fn unused(function: &Function) -> Usage
     }
 }
 
+/// A total with a part in place of its last one.
+fn moved(total: u64, last: u32, part: u32) -> u64
+    requires within { last ≤ total }
+    requires fits { total ≤ 64 * 2 ^ 32 }
+    ensures { result + last ≡ total + part }
+{
+    total - u64::from(last) + u64::from(part)
+}
+
 impl Pool {
     /// The pool of a configuration, with its reservations and nothing in flight.
     ///
@@ -66,13 +103,19 @@ impl Pool {
         ensures { IfOk result (λ pool. pool ≡ opened config.now) }
     {
         let mut functions = Vec::with_capacity(alloc, config.functions().len())?;
+        let mut reserved = 0;
         for function in config.functions() {
-            functions.push(unused(function))?;
+            let usage = unused(function);
+            reserved += u64::from(usage.taken_of_limit());
+            functions.push(usage)?;
         }
         Ok(Pool {
             account_limit: config.account_limit(),
             least_remainder: config.least_remainder(),
             functions,
+            reserved,
+            unreserved: 0,
+            in_flight: 0,
         })
     }
 
@@ -83,7 +126,8 @@ impl Pool {
         self.functions.len() as u32
     }
 
-    /// Whether the limits admit one more invocation of a function.
+    /// Whether the limits admit one more invocation of a function. It takes the same time however
+    /// many functions there are.
     ///
     /// # Errors
     /// [`Throttle::Function`] where the function has a reservation and as many in flight or more,
@@ -98,9 +142,7 @@ impl Pool {
         let usage = self.usage(function);
         match usage.reserved {
             Some(limit) if limit <= usage.in_flight => Err(Throttle::Function),
-            None if self.remainder() <= unreserved_in_flight(&self.functions) => {
-                Err(Throttle::Account)
-            }
+            None if self.remainder() <= self.unreserved => Err(Throttle::Account),
             _ => Ok(()),
         }
     }
@@ -113,10 +155,11 @@ impl Pool {
         ensures { self.new ≡ with_in_flight self.old function ((usage_at self.old function).in_flight + 1) }
     {
         let usage = self.usage(function);
-        self.functions[function as usize - 1] = Usage {
+        let one_more = Usage {
             in_flight: usage.in_flight + 1,
             ..usage
         };
+        self.put(function, one_more);
     }
 
     /// Counts one invocation less of a function that has some in flight.
@@ -127,10 +170,11 @@ impl Pool {
         ensures { self.new ≡ with_in_flight self.old function ((usage_at self.old function).in_flight - 1) }
     {
         let usage = self.usage(function);
-        self.functions[function as usize - 1] = Usage {
+        let one_less = Usage {
             in_flight: usage.in_flight - 1,
             ..usage
         };
+        self.put(function, one_less);
     }
 
     /// How many invocations of a function are in flight: the charges less the releases.
@@ -146,7 +190,7 @@ impl Pool {
     pub fn in_flight_in_all(&self) -> u64
         ensures { result ≡ in_flight_in_all self.now }
     {
-        in_flight_in_all(&self.functions)
+        self.in_flight
     }
 
     /// A function's reservation in force.
@@ -171,8 +215,8 @@ impl Pool {
             return true;
         };
         let usage = self.usage(function);
-        let own = u64::from(usage.reserved.unwrap_or(0));
-        let others = reserved_in_all(&self.functions).saturating_sub(own);
+        let own = u64::from(usage.taken_of_limit());
+        let others = self.reserved.saturating_sub(own);
         let kept = others + u64::from(count) + u64::from(self.least_remainder);
         count as usize <= usage.environments && kept <= u64::from(self.account_limit)
     }
@@ -187,25 +231,47 @@ impl Pool {
         ensures { self.new ≡ with_reserved self.old function count }
     {
         let usage = self.usage(function);
-        self.functions[function as usize - 1] = Usage {
+        let limited = Usage {
             reserved: count,
             ..usage
         };
+        self.put(function, limited);
     }
 
     /// What a function may have and has.
     fn usage(&self, function: FnNo) -> Usage
         requires from_one { 1 ≤ function }
         requires there { function ≤ length self.now.functions }
-        ensures { result ≡ usage_at self.now function }
+        ensures value { result ≡ usage_at self.now function }
+        ensures limited { self.now.account_limit ≤ 1000000 }
+        ensures leaves { self.now.least_remainder + reserved_in_all self.now ≤ self.now.account_limit }
     {
         self.functions[function as usize - 1]
+    }
+
+    /// Puts a function's numbers in place of its last ones, and what they add into the totals. A
+    /// greater reservation has to leave the least remainder.
+    fn put(&mut self, function: FnNo, usage: Usage)
+        requires from_one { 1 ≤ function }
+        requires there { function ≤ length self.old.functions }
+        requires leaves { reserved_by (usage_at self.old function) < reserved_by usage → taken_with self.old function (reserved_by usage) ≤ self.old.account_limit }
+        ensures { self.new ≡ record self.old { functions = slice_set self.old.functions (function - 1) usage } }
+    {
+        let last = self.usage(function);
+        self.functions[function as usize - 1] = usage;
+        self.reserved = moved(self.reserved, last.taken_of_limit(), usage.taken_of_limit());
+        self.unreserved = moved(
+            self.unreserved,
+            last.taken_of_remainder(),
+            usage.taken_of_remainder(),
+        );
+        self.in_flight = moved(self.in_flight, last.in_flight, usage.in_flight);
     }
 
     /// What the reservations leave of the account's limit.
     fn remainder(&self) -> u64
         ensures { result ≡ remainder self.now }
     {
-        u64::from(self.account_limit).saturating_sub(reserved_in_all(&self.functions))
+        u64::from(self.account_limit) - self.reserved
     }
 }

@@ -3,8 +3,8 @@ use Rattle.concurrency_pool.specs.declared.pool.Usage.{Usage}
 use Rattle.concurrency_pool.proofs.Numbered.{usage_is_at}
 use Rattle.concurrency_pool.proofs.pool.Pool.usage.Goals as goal
 
-pub returns : goal.returns
-returns c =
+pub returns-clause-value : goal.returns-clause-value
+returns-clause-value c =
     let found : Usage = c.index.result.now in
     c.index.ensures
     ∙ ap (λ pool. get_or pool.functions (c.args.function - 1) found) c.self.view_is
