@@ -67,6 +67,7 @@ numbers_from e (deadline ∷ deadlines) = sooner_from e (numbered e deadline) (f
     own : (deadline : Option ℕ) → IfSome (numbered e deadline) (λ a. e ≤ a.1)
     own None = tt
     own (Some d) = omega arith
+
     behind : (rest : Option (ℕ × ℕ)) → IfSome rest (λ a. suc e ≤ a.1) → IfSome rest (λ a. e ≤ a.1)
     behind None p = tt
     behind (Some a) p = omega arith

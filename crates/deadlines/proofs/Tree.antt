@@ -62,6 +62,7 @@ leaves f (deadline ∷ deadlines) a e each =
         let node : a ≡ a + 0 = omega arith in
         let number : e + 0 ≡ e = omega arith in
         ap f node ∙ each 0 (omega arith) ∙ rw number refl
+
     behind : (i : ℕ) → i < length deadlines → f (suc a + i) ≡ numbered (suc e + i) (get_or deadlines i None)
     behind i inner =
         let node : suc a + i ≡ a + suc i = omega arith in
@@ -102,6 +103,7 @@ mends deadlines firsts h positive there others i from_one inner differs = go (ca
   where
     x : Option (ℕ × ℕ)
     x = sooner (first_below deadlines firsts (2 * h)) (first_below deadlines firsts (2 * h + 1))
+
     go : (i ≡ h) ⊎ (i ≢ h) → IsNode deadlines (set firsts h x) i
     go (inl same) = rw same (get_or-set_same firsts h x None there ∙ rw (other_node deadlines firsts h x (2 * h) (omega arith), other_node deadlines firsts h x (2 * h + 1) (omega arith)) refl)
     go (inr other) = get_or-set_other firsts h i x None other ∙ others i from_one inner other ∙ rw (other_node deadlines firsts h x (2 * i) (not_below i h differs).0, other_node deadlines firsts h x (2 * i + 1) (not_below i h differs).1) refl

@@ -125,25 +125,16 @@ fn first_below(
         return firsts[node];
     }
     let index = node - firsts.len();
-    match deadlines[index] {
-        Some(deadline) => Some((deadline, index as u32 + 1)),
-        None => None,
-    }
+    Some((deadlines[index]?, index as u32 + 1))
 }
 
 /// Whichever of two comes first: by deadline, and by number where that is the same.
 fn sooner(one: Option<(u64, EnvNo)>, other: Option<(u64, EnvNo)>) -> Option<(u64, EnvNo)>
     ensures { result ≡ sooner one other }
 {
-    let Some(a) = one else {
-        return other;
-    };
-    let Some(b) = other else {
-        return one;
-    };
-    if b.0 < a.0 || b.0 == a.0 && b.1 < a.1 {
-        other
-    } else {
-        one
+    match (one, other) {
+        (Some(a), Some(b)) if b.0 < a.0 || b.0 == a.0 && b.1 < a.1 => other,
+        (None, _) => other,
+        _ => one,
     }
 }
