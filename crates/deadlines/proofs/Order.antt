@@ -1,5 +1,5 @@
 -- The first of what is due, one environment after the other.
-use Rattle.std.proofs.Common.{◌≡◌, ℕ, zero, suc, ◌+◌, ◌<◌, Bool, true, false, not, List, [], ◌∷◌, length, map, filter_map, get_or, drop, Option, Some, None, refl, ap, ◌∙◌, arith, nat_le, nat_lt, if◌then◌else◌, option_map, replicate, add-one, drop-cons}
+use Rattle.std.proofs.Common.{◌≡◌, ℕ, zero, suc, ◌≤◌, Bool, true, false, not, List, [], ◌∷◌, length, map, filter_map, Option, Some, None, IfSome, refl, ap, ◌∙◌, arith, nat_le, nat_lt, if◌then◌else◌, option_map, replicate}
 use Rattle.std.specs.List.{cons_option}
 use Rattle.std.proofs.lemmas.Bool.Decides.{nat_tests}
 use Rattle.arn_ids.specs.declared.config.Config.{Config}
@@ -7,8 +7,19 @@ use Rattle.arn_ids.specs.Environments.{environments, count_from, owners}
 use Rattle.call_model.specs.declared.call.Entry.{Entry}
 use Rattle.call_model.specs.Life.{phase, life}
 use Rattle.call_model.specs.Next.{due, due_at, deadline_of, in_order, by_deadline}
-use Rattle.deadlines.specs.Due.{first, come, due_among, first_due, earlier, earlier_of}
+use Rattle.deadlines.specs.Due.{first, come, due_among, first_due}
+use Rattle.deadlines.specs.Tree.{comes_before, sooner, numbered, first_of}
 use Rattle.deadlines.specs.Meets.{deadlines}
+
+-- an environment with a deadline that has come, or the best of those with greater numbers, whichever is due first
+abbrev earlier_of : ℕ → ℕ → Option (ℕ × ℕ) → Option (ℕ × ℕ)
+earlier_of deadline e None = Some (deadline, e)
+earlier_of deadline e (Some best) = if nat_lt best.0 deadline then Some best else Some (deadline, e)
+
+-- the same, whatever its deadline
+abbrev earlier : ℕ → Option ℕ → ℕ → Option (ℕ × ℕ) → Option (ℕ × ℕ)
+earlier now None e best = best
+earlier now (Some deadline) e best = if nat_lt now deadline then best else earlier_of deadline e best
 
 in_order_first : (a : ℕ × ℕ) (xs : List (ℕ × ℕ)) → first (in_order a xs) ≡ earlier_of a.0 a.1 (first xs)
 in_order_first a [] = refl
@@ -30,10 +41,47 @@ first_of_more now e (Some d) rest = rw (not_less d now) (go (nat_lt now d) refl)
     go true q = refl
     go false q = in_order_first (d, e) (by_deadline rest)
 
--- the environment at an index before those behind it
-pub first_step : (now : ℕ) (ds : List (Option ℕ)) (i : ℕ) (d : Option ℕ) → i < length ds → first (due_among now (i + 1) (drop i ds)) ≡ earlier now (get_or ds i d) (i + 1) (first (due_among now (i + 1 + 1) (drop (i + 1) ds)))
-first_step now ds i d lt =
-    rw (add-one i, add-one (suc i), drop-cons ds i d lt) (first_of_more now (suc i) (get_or ds i d) (come now (suc (suc i)) (drop (suc i) ds)))
+-- a deadline with its environment, where it has come
+abbrev pub if_come : ℕ → Option (ℕ × ℕ) → Option (ℕ × ℕ)
+if_come now None = None
+if_come now (Some a) = if nat_lt now a.0 then None else Some a
+
+earlier_come : (now e : ℕ) (deadline : Option ℕ) (rest : Option (ℕ × ℕ)) → IfSome rest (λ a. suc e ≤ a.1) → earlier now deadline e (if_come now rest) ≡ if_come now (sooner (numbered e deadline) rest)
+earlier_come now e None rest from = refl
+earlier_come now e (Some d) None from = refl
+earlier_come now e (Some d) (Some b) from = grind (arith, nat_tests)
+
+sooner_from : (e : ℕ) (a b : Option (ℕ × ℕ)) → IfSome a (λ x. e ≤ x.1) → IfSome b (λ x. e ≤ x.1) → IfSome (sooner a b) (λ x. e ≤ x.1)
+sooner_from e None b p q = q
+sooner_from e (Some a) None p q = p
+sooner_from e (Some a) (Some b) p q = go (comes_before b a)
+  where
+    go : (c : Bool) → IfSome (if c then Some b else Some a) (λ x. e ≤ x.1)
+    go true = q
+    go false = p
+
+numbers_from : (e : ℕ) (deadlines : List (Option ℕ)) → IfSome (first_of e deadlines) (λ a. e ≤ a.1)
+numbers_from e [] = tt
+numbers_from e (deadline ∷ deadlines) = sooner_from e (numbered e deadline) (first_of (suc e) deadlines) (own deadline) (behind (first_of (suc e) deadlines) (numbers_from (suc e) deadlines))
+  where
+    own : (deadline : Option ℕ) → IfSome (numbered e deadline) (λ a. e ≤ a.1)
+    own None = tt
+    own (Some d) = omega arith
+
+    behind : (rest : Option (ℕ × ℕ)) → IfSome rest (λ a. suc e ≤ a.1) → IfSome rest (λ a. e ≤ a.1)
+    behind None p = tt
+    behind (Some a) p = omega arith
+
+-- the first of those that have come is the first of all, where that has come
+first_come : (now e : ℕ) (deadlines : List (Option ℕ)) → first (due_among now e deadlines) ≡ if_come now (first_of e deadlines)
+first_come now e [] = refl
+first_come now e (deadline ∷ deadlines) =
+    first_of_more now e deadline (come now (suc e) deadlines) ∙ ap (earlier now deadline e) (first_come now (suc e) deadlines)
+    ∙ earlier_come now e deadline (first_of (suc e) deadlines) (numbers_from (suc e) deadlines)
+
+pub due_is : (now : ℕ) (deadlines : List (Option ℕ)) → first_due now deadlines ≡ option_map (λ a. a.1) (if_come now (first_of 1 deadlines))
+unfolding first_due
+due_is now deadlines = ap (option_map (λ a. a.1)) (first_come now 1 deadlines)
 
 -- what has come of the phases' deadlines
 come_is : (now : ℕ) (D : ℕ → Option ℕ) (a n : ℕ) → come now a (map D (count_from a n)) ≡ filter_map (λ e. due_at now e (D e)) (count_from a n)

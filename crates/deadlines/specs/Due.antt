@@ -1,5 +1,5 @@
 -- Which environment is due first, of a list of deadlines.
-use Rattle.std.specs.Prelude.{ℕ, suc, nat_lt, if◌then◌else◌, List, [], ◌∷◌, Option, Some, None, option_map}
+use Rattle.std.specs.Prelude.{ℕ, suc, List, [], ◌∷◌, Option, Some, None, option_map}
 use Rattle.std.specs.List.{cons_option}
 use Rattle.call_model.specs.Next.{due_at, by_deadline}
 
@@ -20,13 +20,3 @@ due_among now e deadlines = by_deadline (come now e deadlines)
 -- The environment that is due first.
 unfoldable pub first_due : ℕ → List (Option ℕ) → Option ℕ
 first_due now deadlines = option_map (λ a. a.1) (first (due_among now 1 deadlines))
-
--- an environment with a deadline that has come, or the best of those with greater numbers, whichever is due first
-abbrev pub earlier_of : ℕ → ℕ → Option (ℕ × ℕ) → Option (ℕ × ℕ)
-earlier_of deadline e None = Some (deadline, e)
-earlier_of deadline e (Some best) = if nat_lt best.0 deadline then Some best else Some (deadline, e)
-
--- the same, whatever its deadline
-abbrev pub earlier : ℕ → Option ℕ → ℕ → Option (ℕ × ℕ) → Option (ℕ × ℕ)
-earlier now None e best = best
-earlier now (Some deadline) e best = if nat_lt now deadline then best else earlier_of deadline e best

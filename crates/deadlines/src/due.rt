@@ -1,7 +1,8 @@
 //! The deadline of each environment.
 
-ghost use Rattle.std.specs.Prelude.{◌≡◌, ◌+◌, ◌-◌, ◌<◌, ◌≤◌, ◌^◌, length, replicate, slice_set, IfOk};
-ghost use Rattle.deadlines.specs.Due.{first, first_due, due_among, earlier};
+ghost use Rattle.std.specs.Prelude.{◌≡◌, ◌+◌, ◌-◌, ◌*◌, ◌<◌, ◌≤◌, ◌^◌, length, replicate, slice_set, IfOk};
+ghost use Rattle.deadlines.specs.Due.{first_due};
+ghost use Rattle.deadlines.specs.Tree.{sooner, first_of, first_below, IsMended, IsMendedBut};
 
 use arn_ids::EnvNo;
 use std::alloc::{AllocError, Global};
@@ -9,19 +10,26 @@ use std::marker::Model;
 
 /// The deadline of each environment, in milliseconds, or none where its phase has none.
 /// It is seen as the list of these, in the order of the environments' numbers.
+///
+/// A tree stands over them, so that asking for the first reads its root alone. Node 1 is the root,
+/// nodes 2 i and 2 i + 1 are below node i, and behind the inner nodes come the environments, one
+/// node each: that is a tree for any number of them.
 #[derive(Debug, Drop)]
 pub struct Due {
     deadlines: Vec<Option<u64>>,
+    /// At each inner node's number, the first of the environments below it; nothing at 0.
+    firsts: Vec<Option<(u64, EnvNo)>>,
 }
 
 impl Model for Due {
-    ghost use Rattle.std.specs.Prelude.{ℕ, List, Option, ◌<◌, ◌^◌, length};
+    ghost use Rattle.std.specs.Prelude.{◌≡◌, ℕ, List, Option, ◌<◌, ◌^◌, length};
+    ghost use Rattle.deadlines.specs.Tree.{IsMended};
 
     ghost Value = { List (Option ℕ) };
 
     ghost view = { λ due. due.deadlines.items };
 
-    ghost invariant = { λ due. length due.deadlines.items < 2 ^ 32 };
+    ghost invariant = { λ due. (length due.deadlines.items < 2 ^ 32) × (length due.firsts.items ≡ length due.deadlines.items) × IsMended due.deadlines.items due.firsts.items };
 }
 
 impl Due {
@@ -33,7 +41,8 @@ impl Due {
         ensures { IfOk result (λ due. due ≡ replicate environments None) }
     {
         let deadlines = Vec::from_elem(alloc, None, environments as usize)?;
-        Ok(Due { deadlines })
+        let firsts = Vec::from_elem(alloc, None, environments as usize)?;
+        Ok(Due { deadlines, firsts })
     }
 
     /// How many environments there are.
@@ -50,52 +59,82 @@ impl Due {
         ensures { self.new ≡ slice_set self.old (env - 1) deadline }
     {
         self.deadlines[env as usize - 1] = deadline;
+        mend_above(
+            &self.deadlines,
+            &mut self.firsts,
+            self.deadlines.len() + env as usize - 1,
+        );
     }
 
     /// The environment whose deadline came first, up to this moment, with the lowest number of
     /// several with one deadline; none where no deadline has come.
-    #[tactic(auto, unfolding(crate::specs::Due::first_due))]
+    #[tactic(auto, using(crate::proofs::Order::due_is))]
     pub fn first_due(&self, now: u64) -> Option<EnvNo>
         ensures { result ≡ first_due now self.now }
     {
-        match first_of(&self.deadlines, now) {
-            Some((_, env)) => Some(env),
-            None => None,
+        match self.first() {
+            Some((deadline, env)) if deadline <= now => Some(env),
+            _ => None,
         }
     }
-}
 
-/// The first deadline that has come, with the number of its environment.
-fn first_of(deadlines: &[Option<u64>], now: u64) -> Option<(u64, EnvNo)>
-    requires { length deadlines.now < 2 ^ 32 }
-    ensures { result ≡ first (due_among now 1 deadlines.now) }
-{
-    let mut best = None;
-    let mut index = deadlines.len();
-    while index > 0 {
-        index -= 1;
-        best = earlier(now, deadlines[index], index as u32 + 1, best);
+    /// The first of all the environments that have a deadline.
+    #[tactic(auto, using(crate::proofs::Tree::root_is))]
+    fn first(&self) -> Option<(u64, EnvNo)>
+        ensures { result ≡ first_of 1 self.now }
+    {
+        if self.deadlines.is_empty() {
+            return None;
+        }
+        first_below(&self.deadlines, &self.firsts, 1)
     }
-    best
 }
 
-/// An environment's deadline, where it has come and is no later than the best of those behind it.
-fn earlier(
-    now: u64,
-    deadline: Option<u64>,
-    env: EnvNo,
-    best: Option<(u64, EnvNo)>,
+/// Mends the nodes above one that has changed.
+fn mend_above(deadlines: &[Option<u64>], firsts: &mut [Option<(u64, EnvNo)>], changed: usize)
+    requires small { length deadlines.now < 2 ^ 32 }
+    requires row { length firsts.old ≡ length deadlines.now }
+    requires node { 1 ≤ changed }
+    requires there { changed < 2 * length deadlines.now }
+    requires others { IsMendedBut deadlines.now firsts.old changed }
+    ensures row { length firsts.new ≡ length firsts.old }
+    ensures mended { IsMended deadlines.now firsts.new }
+{
+    let mut node = changed;
+    while node > 1 {
+        node /= 2;
+        firsts[node] = sooner(
+            first_below(deadlines, firsts, 2 * node),
+            first_below(deadlines, firsts, 2 * node + 1),
+        );
+    }
+}
+
+/// The first of the environments below a node, or the environment that the node is.
+fn first_below(
+    deadlines: &[Option<u64>],
+    firsts: &[Option<(u64, EnvNo)>],
+    node: usize,
 ) -> Option<(u64, EnvNo)>
-    ensures { result ≡ earlier now deadline env best }
+    requires small { length deadlines.now < 2 ^ 32 }
+    requires row { length firsts.now ≡ length deadlines.now }
+    requires there { node < 2 * length deadlines.now }
+    ensures { result ≡ first_below deadlines.now firsts.now node }
 {
-    let Some(deadline) = deadline else {
-        return best;
-    };
-    if now < deadline {
-        return best;
+    if node < firsts.len() {
+        return firsts[node];
     }
-    match best {
-        Some(other) if other.0 < deadline => best,
-        _ => Some((deadline, env)),
+    let index = node - firsts.len();
+    Some((deadlines[index]?, index as u32 + 1))
+}
+
+/// Whichever of two comes first: by deadline, and by number where that is the same.
+fn sooner(one: Option<(u64, EnvNo)>, other: Option<(u64, EnvNo)>) -> Option<(u64, EnvNo)>
+    ensures { result ≡ sooner one other }
+{
+    match (one, other) {
+        (Some(a), Some(b)) if b.0 < a.0 || b.0 == a.0 && b.1 < a.1 => other,
+        (None, _) => other,
+        _ => one,
     }
 }
