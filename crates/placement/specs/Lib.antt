@@ -1,3 +1,4 @@
 pub mod Class
 pub mod Places
+pub mod Sets
 pub mod Meets

@@ -2,6 +2,8 @@
 #![tactic(auto)]
 
 mod class;
+mod env_set;
+mod free;
 pub mod laws;
 mod places;
 

@@ -1,10 +1,15 @@
 //! The environments of an account by function and class.
+//!
+//! Beside the row of environments each function has three sets of them, by their classes. So a note
+//! writes one place and three words, a choice reads twelve words at most, however many environments
+//! there are, and neither takes memory.
 
 ghost use Rattle.std.specs.Prelude.{◌≡◌, ◌+◌, ◌-◌, ◌<◌, ◌≤◌, ◌^◌, suc, length, map, position, option_map, slice_set, IfOk, IfSome};
 ghost use Rattle.arn_ids.specs.Environments.{count_from};
 ghost use Rattle.placement.specs.Places.{is_of, lowest_of, place_among, place_at, opened};
 
 use crate::Class;
+use crate::free::Free;
 use arn_ids::{Checked, EnvNo, FnNo};
 use std::alloc::{AllocError, Global};
 use std::marker::Model;
@@ -22,17 +27,20 @@ pub struct Place {
 #[derive(Debug, Drop)]
 pub struct Places {
     places: Vec<Place>,
+    // Of each function the environments that take an invocation, by its number; none has number 0.
+    free: Vec<Free>,
 }
 
 impl Model for Places {
     ghost use Rattle.std.specs.Prelude.{List, ◌<◌, ◌^◌, length};
+    ghost use Rattle.placement.specs.Sets.{Follows};
     ghost use Rattle.placement.specs.declared.places.Place.{Place};
 
     ghost Value = { List Place };
 
     ghost view = { λ places. places.places.items };
 
-    ghost invariant = { λ places. length places.places.items < 2 ^ 32 };
+    ghost invariant = { λ places. Follows places.free.items places.places.items };
 }
 
 impl Places {
@@ -44,14 +52,16 @@ impl Places {
         ensures { IfOk result (λ places. places ≡ opened config.now) }
     {
         let mut places = Vec::with_capacity(alloc, config.environments() as usize)?;
+        let mut free = vec![in alloc; Free::none(); config.functions().len() + 1]?;
         for index in 0..config.environments() {
             let function = config.function_of(index + 1);
             places.push(Place {
                 function,
                 class: Class::StartingFree,
             })?;
+            free[function as usize].note(index + 1, Class::StartingFree);
         }
-        Ok(Places { places })
+        Ok(Places { places, free })
     }
 
     /// How many environments there are.
@@ -61,7 +71,7 @@ impl Places {
         self.places.len() as u32
     }
 
-    /// Notes an environment's class, in place of the one noted before.
+    /// Notes an environment's class, in place of the one noted before, in constant time.
     pub fn note(&mut self, env: EnvNo, class: Class)
         requires from_one { 1 ≤ env }
         requires there { env ≤ length self.old }
@@ -69,37 +79,20 @@ impl Places {
     {
         let place = &mut self.places[env as usize - 1];
         place.class = class;
+        let function = place.function;
+        self.free[function as usize].note(env, class);
     }
 
     /// Where the function's next invocation goes: to its lowest numbered environment that is idle,
     /// else to one that starts, else to one that closes, with nothing bound; none where all are
-    /// taken.
-    #[tactic(auto, unfolding(crate::specs::Places::place_among))]
+    /// taken. Takes constant time.
     pub fn choose(&self, function: FnNo) -> Option<EnvNo>
         ensures { result ≡ place_among self.now function }
     {
-        let places = self.places.as_slice();
-        lowest(places, function, Class::Idle)
-            .or(lowest(places, function, Class::StartingFree))
-            .or(lowest(places, function, Class::ClosingFree))
+        let free = self.free.get(function as usize)?;
+        free.idle
+            .lowest()
+            .or(free.starting.lowest())
+            .or(free.closing.lowest())
     }
-}
-
-/// The function's lowest numbered environment of a class.
-fn lowest(places: &[Place], function: FnNo, class: Class) -> Option<EnvNo>
-    requires { length places.now < 2 ^ 32 }
-    ensures { result ≡ lowest_of function class places.now }
-{
-    match find(places, function, class) {
-        None => None,
-        Some(index) => Some(index as u32 + 1),
-    }
-}
-
-/// Where that environment stands in the list.
-fn find(places: &[Place], function: FnNo, class: Class) -> Option<usize>
-    ensures value { result ≡ position (is_of function class) places.now }
-    ensures within { IfSome result (λ index. index < length places.now) }
-{
-    places.iter().position(|place| place.function == function && place.class.is(class))
 }

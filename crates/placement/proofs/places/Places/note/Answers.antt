@@ -1,8 +1,14 @@
-use Rattle.std.proofs.Common.{◌≡◌, ◌∙◌, ◌-◌, List, sym, ap, ap₂, get_or, set}
+use Rattle.std.proofs.Common.{◌≡◌, ◌∙◌, ◌-◌, List, sym, ap, ap₂, get_or, set, rules}
 use Rattle.placement.specs.declared.places.Place.{Place}
 use Rattle.placement.specs.Places.{place_at}
 use Rattle.placement.proofs.Numbered.{place_is_at}
+use Rattle.placement.proofs.Noted.{note_follows}
 use Rattle.placement.proofs.places.Places.note.Goals as goal
+
+pub invariant_of-self : goal.invariant_of-self
+invariant_of-self c =
+    note_follows c.self.inside.free.items c.self.inside.places.items (c.args.env - 1) c.index_mut-place.result.now c.args.class c.index_mut.result.now c.note.new.self
+    c.self.invariant (search rules) c.index_mut-place.ensures.value c.index_mut.ensures.value c.note.ensures.whole c.note.ensures.here c.note.ensures.others
 
 pub returns : goal.returns
 returns c =
