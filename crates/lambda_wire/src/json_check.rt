@@ -76,12 +76,8 @@ fn check_value(reader: &mut Reader<'_>, depth: usize) -> Result<(), Invalid>
 {
     let token = reader.next().ok_or(Invalid)?;
     match token {
-        Token::String(_) | Token::Bool(_) | Token::Null => Ok(()),
-        Token::Number(number) => if is_readable(number) {
-            Ok(())
-        } else {
-            Err(Invalid)
-        },
+        Token::Number(number) if !is_readable(number) => Err(Invalid),
+        Token::String(_) | Token::Number(_) | Token::Bool(_) | Token::Null => Ok(()),
         Token::EndObject | Token::EndArray | Token::Key(_) | Token::Bad => Err(Invalid),
         Token::BeginArray => if depth == 0 {
             Err(Invalid)

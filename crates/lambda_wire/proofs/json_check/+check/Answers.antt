@@ -23,7 +23,7 @@ check_items-returns-in_err-check_value-clause-value t c =
     let going : (after_end_array l.reader ≡ None) × (c.take_end_array.new.self ≡ l.reader) = grind arith in
     let absent : all_in_range l.reader ≡ true → skip_value c.args.depth l.reader ≡ None = rw (← going.1) c.in_err-check_value.ensures.value in
     let none : all_in_range c.args.reader.now ≡ true → skip_items c.args.depth c.args.reader.now ≡ None =
-        λ h. l.invariant.2 ∙ ap left (items_fail p n l.reader going.0 (left_none _ (absent (sym l.invariant.4 ∙ h)))) in
+    λ h. l.invariant.2 ∙ ap left (items_fail p n l.reader going.0 (left_none _ (absent (sym l.invariant.4 ∙ h)))) in
     grind (arith, none)
 
 pub check_items-returns-clause-value : goal.check_items-returns-clause-value
@@ -39,7 +39,7 @@ check_members-returns-in_err-next_key-clause-value t c =
     let l = c.loop-reader in
     let n = l.invariant.0 in
     let none : all_in_range c.args.reader.now ≡ true → skip_members c.args.depth c.args.reader.now ≡ None =
-        λ h. l.invariant.2 ∙ ap left (members_no_key p n l.reader c.in_err-next_key.ensures.value) in
+    λ h. l.invariant.2 ∙ ap left (members_no_key p n l.reader c.in_err-next_key.ensures.value) in
     grind (arith, none)
 
 pub check_members-loop-reader-preserved : goal.check_members-loop-reader-preserved
@@ -65,7 +65,7 @@ check_members-returns-in_err-check_value-clause-value t c =
     let key : read_key l.reader ≡ Some (Some k, s) = grind arith in
     let same = l.invariant.4 ∙ ap all_in_range (read_key_is l.reader (Some k) s key) in
     let none : all_in_range c.args.reader.now ≡ true → skip_members c.args.depth c.args.reader.now ≡ None =
-        λ h. l.invariant.2 ∙ ap left (members_fail p n k l.reader s key (left_none _ (c.in_err-check_value.ensures.value (sym same ∙ h)))) in
+    λ h. l.invariant.2 ∙ ap left (members_fail p n k l.reader s key (left_none _ (c.in_err-check_value.ensures.value (sym same ∙ h)))) in
     grind (arith, none)
 
 pub check_members-returns-clause-value : goal.check_members-returns-clause-value
@@ -86,8 +86,8 @@ check_value-returns-in-String-clause-value t c =
     let first : c.args.reader.now ≡ token_of c.in_ok-token.token ∷ c.next.new.self = grind arith in
     rw (value_is c.args.depth c.args.reader.now, first) (grind arith)
 
-pub check_value-returns-then-is_readable-clause-value : goal.check_value-returns-then-is_readable-clause-value
-check_value-returns-then-is_readable-clause-value t c =
+pub check_value-returns-in-String-2-clause-value : goal.check_value-returns-in-String-2-clause-value
+check_value-returns-in-String-2-clause-value t c =
     let first : c.args.reader.now ≡ token_of c.in_ok-token.token ∷ c.next.new.self = grind arith in
     rw (value_is c.args.depth c.args.reader.now, first) (grind arith)
 
@@ -108,7 +108,7 @@ check_value-returns-else-depth-eq0-clause-value t c =
     let first : c.args.reader.now ≡ token_of c.in_ok-token.token ∷ c.next.new.self = grind arith in
     let opened : c.args.reader.now ≡ token.begin_array ∷ c.next.new.self = first ∙ ap (λ k. token_of k ∷ c.next.new.self) c.in-BeginArray.is in
     let same : skip_value c.args.depth c.args.reader.now ≡ skip_items (c.args.depth - 1) c.next.new.self =
-        ap (skip_value c.args.depth) opened ∙ ap left (value-begin_array c.args.depth c.next.new.self (omega arith)) ∙ left-parse_map _ _ in
+    ap (skip_value c.args.depth) opened ∙ ap left (value-begin_array c.args.depth c.next.new.self (omega arith)) ∙ left-parse_map _ _ in
     rw (same, ap all_in_range opened) c.check_items.ensures.value
 
 pub check_value-returns-then-depth-eq0-2-clause-value : goal.check_value-returns-then-depth-eq0-2-clause-value
@@ -123,5 +123,5 @@ check_value-returns-else-depth-eq0-2-clause-value t c =
     let first : c.args.reader.now ≡ token_of c.in_ok-token.token ∷ c.next.new.self = grind arith in
     let opened : c.args.reader.now ≡ token.begin_object ∷ c.next.new.self = first ∙ ap (λ k. token_of k ∷ c.next.new.self) c.in-BeginObject.is in
     let same : skip_value c.args.depth c.args.reader.now ≡ skip_members (c.args.depth - 1) c.next.new.self =
-        ap (skip_value c.args.depth) opened ∙ ap left (value-begin_object c.args.depth c.next.new.self (omega arith)) ∙ left-parse_map _ _ in
+    ap (skip_value c.args.depth) opened ∙ ap left (value-begin_object c.args.depth c.next.new.self (omega arith)) ∙ left-parse_map _ _ in
     rw (same, ap all_in_range opened) c.check_members.ensures.value
