@@ -65,7 +65,7 @@ fn is_readable(text: &str) -> bool
 }
 
 /// Passes one value whose arrays and objects nest `depth` deep at most, and looks at the range of each
-/// number on the way. It stops at the first fault, so what an error leaves of the tokens means nothing.
+/// number on the way. It stops at the first fault: after an error the reader is of no use.
 #[cycle(check)]
 #[inline(always)]
 fn check_value(reader: &mut Reader<'_>, depth: usize) -> Result<(), Invalid>
