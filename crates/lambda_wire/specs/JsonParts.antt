@@ -1,5 +1,6 @@
 -- What makes a text JSON: one value of the grammar, whose numbers are all in range.
 use Rattle.std.specs.Prelude.{ℕ, List, Bool, true, Option, option_and_then, is_some}
+use Rattle.std.specs.List.{list_all}
 use Rattle.json.specs.Token.{Token}
 use Rattle.json.specs.Lex.{tokens}
 use Rattle.json.specs.Json as json
@@ -21,3 +22,7 @@ is_in_range (Token.number s) = is_some (number_of s)
 is_in_range (Token.boolean b) = true
 is_in_range Token.null = true
 is_in_range Token.bad = true
+
+-- all numbers of these tokens are in range
+abbrev pub all_in_range : List Token → Bool
+all_in_range = list_all is_in_range

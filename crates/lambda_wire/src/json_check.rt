@@ -1,28 +1,20 @@
 //! Whether bytes are JSON, found without building their value: the value of a payload may take many
 //! times the memory of its text.
 
-ghost use Rattle.std.specs.Prelude.{◌≡◌, ◌<◌, length, ◌==◌, slice_index, IfOk, IsOk, IsTrue, MatchResult, true, false, is_some};
-ghost use Rattle.std.specs.List.{list_all};
-ghost use Rattle.json.specs.Lex.{tokens};
+ghost use Rattle.std.specs.Prelude.{◌≡◌, ◌<◌, length, ◌==◌, slice_index, Some, None, IfOk, IsOk, OnOk, IsTrue, MatchResult, true, false, is_some};
+ghost use Rattle.json.specs.Json.{skip_value};
+ghost use Rattle.json.specs.Reads.{skip_items, skip_members};
 ghost use Rattle.serde_json.specs.Read.{number_of, number_from, float_of, read};
 ghost use Rattle.lambda_wire.specs.Reading as spec;
-ghost use Rattle.lambda_wire.specs.JsonParts.{form, is_in_range};
+ghost use Rattle.lambda_wire.specs.JsonParts.{all_in_range};
 
 use crate::fault::WireFault;
 use fast_float::Numeral;
-use json::{Reader, Scratch, Token};
+use json::{Invalid, Reader, Scratch, Token};
 use std::alloc::{AllocError, Global};
 
 /// How deep arrays and objects may nest, as where a value is built.
 const MAX_DEPTH: usize = 127;
-
-/// Whether the text is one value of JSON, whose numbers may be of any size.
-fn is_one_value(text: &str, scratch: &mut Scratch) -> Result<bool, AllocError>
-    ensures { IfOk result (λ one. one ≡ is_some (form text.now)) }
-{
-    let mut reader = Reader::new(text, scratch)?;
-    Ok(reader.skip_value(MAX_DEPTH).is_ok() && reader.next().is_none())
-}
 
 /// Whether the float next to the number is finite.
 fn is_near_float(negative: bool, numeral: &Numeral<'_>) -> bool
@@ -72,19 +64,62 @@ fn is_readable(text: &str) -> bool
     }
 }
 
-/// Whether each number of the text is in range.
-fn has_readable_numbers(text: &str, scratch: &mut Scratch) -> Result<bool, AllocError>
-    ensures { IfOk result (λ all. all ≡ list_all is_in_range (tokens text.now)) }
+/// Passes one value whose arrays and objects nest `depth` deep at most, and looks at the range of each
+/// number on the way. It stops at the first fault: after an error the reader is of no use.
+#[cycle(check)]
+#[inline(always)]
+fn check_value(reader: &mut Reader<'_>, depth: usize) -> Result<(), Invalid>
+    ensures value { MatchResult result (λ _. skip_value depth reader.old ≡ Some reader.new)
+        (λ _. all_in_range reader.old ≡ true → skip_value depth reader.old ≡ None) }
+    ensures numbers { OnOk result (all_in_range reader.old ≡ all_in_range reader.new) }
+    ensures shorter { OnOk result (length reader.new < length reader.old) }
 {
-    let mut reader = Reader::new(text, scratch)?;
-    while let Some(token) = reader.next() {
-        if let Token::Number(number) = token {
-            if !is_readable(number) {
-                return Ok(false);
-            }
-        }
+    let token = reader.next().ok_or(Invalid)?;
+    match token {
+        Token::Number(number) if !is_readable(number) => Err(Invalid),
+        Token::String(_) | Token::Number(_) | Token::Bool(_) | Token::Null => Ok(()),
+        Token::EndObject | Token::EndArray | Token::Key(_) | Token::Bad => Err(Invalid),
+        Token::BeginArray => if depth == 0 {
+            Err(Invalid)
+        } else {
+            check_items(reader, depth - 1)
+        },
+        Token::BeginObject => if depth == 0 {
+            Err(Invalid)
+        } else {
+            check_members(reader, depth - 1)
+        },
     }
-    Ok(true)
+}
+
+/// Passes the items of an array and the bracket that closes it.
+#[cycle(check)]
+#[inline(never)]
+fn check_items(reader: &mut Reader<'_>, depth: usize) -> Result<(), Invalid>
+    ensures value { MatchResult result (λ _. skip_items depth reader.old ≡ Some reader.new)
+        (λ _. all_in_range reader.old ≡ true → skip_items depth reader.old ≡ None) }
+    ensures numbers { OnOk result (all_in_range reader.old ≡ all_in_range reader.new) }
+    ensures shorter { OnOk result (length reader.new < length reader.old) }
+{
+    while !reader.take_end_array() {
+        check_value(reader, depth)?;
+    }
+    Ok(())
+}
+
+/// Passes the members of an object and the brace that closes it.
+#[cycle(check)]
+#[inline(never)]
+fn check_members(reader: &mut Reader<'_>, depth: usize) -> Result<(), Invalid>
+    ensures value { MatchResult result (λ _. skip_members depth reader.old ≡ Some reader.new)
+        (λ _. all_in_range reader.old ≡ true → skip_members depth reader.old ≡ None) }
+    ensures numbers { OnOk result (all_in_range reader.old ≡ all_in_range reader.new) }
+    ensures shorter { OnOk result (length reader.new < length reader.old) }
+{
+    while let Some(_) = reader.next_key()? {
+        check_value(reader, depth)?;
+    }
+    Ok(())
 }
 
 /// Whether a value can be built of the text.
@@ -92,7 +127,8 @@ fn has_readable_numbers(text: &str, scratch: &mut Scratch) -> Result<bool, Alloc
 fn is_readable_json(text: &str, scratch: &mut Scratch) -> Result<bool, AllocError>
     ensures { IfOk result (λ readable. readable ≡ is_some (read text.now)) }
 {
-    Ok(is_one_value(text, scratch)? && has_readable_numbers(text, scratch)?)
+    let mut reader = Reader::new(text, scratch)?;
+    Ok(check_value(&mut reader, MAX_DEPTH).is_ok() && reader.next().is_none())
 }
 
 /// Ok where `json_of` reads the bytes; else the fault with which it doesn't, want of memory aside.
