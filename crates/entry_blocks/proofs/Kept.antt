@@ -1,10 +1,9 @@
 -- What appending an item, or beginning a block, keeps.
-use Rattle.std.proofs.Common.{◌≡◌, sym, ◌∙◌, ap, ap₂, arith, subst, ℕ, suc, ◌+◌, ◌*◌, ◌<◌, ◌≤◌, ◌-◌, ◌/◌, ◌%◌, List, [], ◌∷◌, ◌++◌, length, map, take, drop, set, get_or, All, vec_items, vec_capacity, Some, slice_get}
+use Rattle.std.proofs.Common.{◌≡◌, sym, ◌∙◌, ap, ap₂, arith, subst, ℕ, suc, ◌+◌, ◌*◌, ◌<◌, ◌≤◌, ◌-◌, ◌/◌, ◌%◌, List, [], ◌∷◌, ◌++◌, length, map, take, drop, set, get_or, All, vec_items, vec_capacity}
 use Rattle.std.specs.List.{flat_map}
 use Rattle.std.specs.declared.vec.Vec.{Vec}
-use Rattle.std.proofs.lemmas.List.{get_or-map, get_or-take, get_or-drop, length-drop, length-set, length-take, length_push, map-set, map_push}
+use Rattle.std.proofs.lemmas.List.{get_or-map, get_or_default, get_or-take, get_or-drop, length-drop, length-set, length-take, length_push, map-set, map_push}
 use Rattle.std.proofs.lemmas.List.Elements.{All-set, All-push, All-get_or}
-use Rattle.std.proofs.lemmas.Option.{slice_get-get_or}
 use Rattle.std.proofs.lemmas.List.Folds.{flat_map-map}
 use Rattle.entry_blocks.specs.Rows.{block_length, cut, joined, AreBlocks, IsRow}
 use Rattle.entry_blocks.proofs.Cuts.{get_or-cut, set-cut, set-in_cut, cut_more, joined_cut}
@@ -78,17 +77,17 @@ place_within blocks i block are lt is =
     omega (arith, holds, length-take block_length (drop (block_length * (i / block_length)) (joined blocks)), length-drop (block_length * (i / block_length)) (joined blocks))
 
 -- in that place stands the item
-pub item_at : {X Z : Type 0} (blocks : List (Vec X Z)) (i : ℕ) (block : Vec X Z) (x : X) → AreBlocks blocks → i < length (joined blocks) → block ≡ get_or blocks (i / block_length) block → x ≡ get_or (vec_items block) (i % block_length) x → slice_get (joined blocks) i ≡ Some x
-item_at blocks i block x are lt is item =
+pub item_at : {X Z : Type 0} (blocks : List (Vec X Z)) (i : ℕ) (block : Vec X Z) (x : X) → AreBlocks blocks → i < length (joined blocks) → block ≡ get_or blocks (i / block_length) block → x ≡ get_or (vec_items block) (i % block_length) x → (d : X) → x ≡ get_or (joined blocks) i d
+item_at blocks i block x are lt is item d =
     let begun : i / block_length < length blocks = omega (arith, are.within) in
     let inside : i % block_length < block_length = omega arith in
     let place : block_length * (i / block_length) + i % block_length ≡ i = omega arith in
-    slice_get-get_or (joined blocks) i x lt
-    ∙ ap Some (sym (item
+    item
     ∙ ap (λ a. get_or a (i % block_length) x) (ap vec_items is ∙ block_holds blocks (i / block_length) block are begun)
     ∙ get_or-take block_length (drop (block_length * (i / block_length)) (joined blocks)) (i % block_length) x inside
     ∙ get_or-drop (block_length * (i / block_length)) (joined blocks) (i % block_length) x
-    ∙ ap (λ n. get_or (joined blocks) n x) place))
+    ∙ ap (λ n. get_or (joined blocks) n x) place
+    ∙ get_or_default (joined blocks) i x d lt
 
 -- where there is room, the block of the next item has room, and was reserved whole
 pub block_has_room : {X Z : Type 0} (blocks : List (Vec X Z)) (count room : ℕ) (block : Vec X Z) → IsRow blocks count room → 0 < room → block ≡ get_or blocks (count / block_length) block → (length (vec_items block) < block_length) × (block_length ≤ vec_capacity block)

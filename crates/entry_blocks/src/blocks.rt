@@ -1,6 +1,6 @@
 //! A row of items in blocks, with room made beforehand.
 
-ghost use Rattle.std.specs.Prelude.{◌≡◌, ◌-◌, ◌<◌, ◌≤◌, ◌++◌, ◌∷◌, [], length, vec_len, vec_capacity, OnOk, OnErr, option_copied, slice_get, slice_set};
+ghost use Rattle.std.specs.Prelude.{◌≡◌, ◌-◌, ◌<◌, ◌≤◌, ◌++◌, ◌∷◌, [], length, vec_len, vec_capacity, OnOk, OnErr, option_copied, slice_get, slice_index_or, slice_set};
 ghost use Rattle.entry_blocks.specs.Rows.{joined, AreBlocks};
 
 use std::alloc::{AllocError, Global};
@@ -56,10 +56,18 @@ impl<T> Blocks<T> {
         ensures { option_copied result ≡ slice_get self.now.0 index }
     {
         if index < self.length {
-            Some(&self.blocks[index / BLOCK_LENGTH][index % BLOCK_LENGTH])
+            Some(self.at(index))
         } else {
             None
         }
+    }
+
+    /// The item at an index that is there.
+    pub fn at(&self, index: usize) -> &T
+        requires { index < length self.now.0 }
+        ensures { (default : T) → result.now ≡ slice_index_or self.now.0 index default }
+    {
+        &self.blocks[index / BLOCK_LENGTH][index % BLOCK_LENGTH]
     }
 
     /// The item that was appended last.
