@@ -18,20 +18,21 @@ use crate::reach::Reach;
 use crate::room::Roomy;
 use arn_ids::{Checked, EnvNo, Text};
 use call_model::{Answer, Call, Entry, Ticket};
+use entry_blocks::Blocks;
 
 /// Counts an Invoke for its function; gives the count in its request identifier, 0 for another call.
 pub fn count_call(
     config: &Checked,
-    entries: &[Entry],
+    entries: &Blocks<Entry>,
     requests: &mut [u64],
     moment: u64,
     call: &Call,
 ) -> u64
     requires known { IsKnown config.now call.now }
-    requires short { length entries.now < 2 ^ 32 }
-    requires counts { requests.old ≡ request_counts config.now (reverse entries.now) }
-    ensures counts { requests.new ≡ request_counts config.now (entered config.now (reverse entries.now) moment call.now) }
-    ensures count { result ≡ request_count (entered config.now (reverse entries.now) moment call.now) call.now }
+    requires short { length entries.now.0 < 2 ^ 32 }
+    requires counts { requests.old ≡ request_counts config.now (reverse entries.now.0) }
+    ensures counts { requests.new ≡ request_counts config.now (entered config.now (reverse entries.now.0) moment call.now) }
+    ensures count { result ≡ request_count (entered config.now (reverse entries.now.0) moment call.now) call.now }
 {
     match call {
         Call::Invoke {
@@ -54,7 +55,7 @@ pub fn count_call(
 /// name.
 pub fn answer_call(
     config: &Checked,
-    entries: &[Entry],
+    entries: &Blocks<Entry>,
     fleet: &mut Fleet,
     visit: Visit<'_>,
     place: Option<EnvNo>,
@@ -63,24 +64,24 @@ pub fn answer_call(
     answers: &mut Roomy<(Ticket, Answer)>,
 )
     requires moment { visit.moment < 2 ^ 53 }
-    requires short { length entries.now < 2 ^ 32 }
-    requires ticket { visit.ticket ≡ length entries.now }
-    requires legal { IsLegal config.now (reverse entries.now) }
-    requires all_known { AllKnown config.now (reverse entries.now) }
-    requires follows { Follows config.now (reverse entries.now) (entry_of config.now (reverse entries.now) visit.moment visit.call.now) }
+    requires short { length entries.now.0 < 2 ^ 32 }
+    requires ticket { visit.ticket ≡ length entries.now.0 }
+    requires legal { IsLegal config.now (reverse entries.now.0) }
+    requires all_known { AllKnown config.now (reverse entries.now.0) }
+    requires follows { Follows config.now (reverse entries.now.0) (entry_of config.now (reverse entries.now.0) visit.moment visit.call.now) }
     requires known { IsKnown config.now visit.call.now }
-    requires placed { place ≡ place_for config.now (reverse entries.now) visit.call.now }
-    requires own { own ≡ book_answer config.now (reverse entries.now) visit.call.now }
+    requires placed { place ≡ place_for config.now (reverse entries.now.0) visit.call.now }
+    requires own { own ≡ book_answer config.now (reverse entries.now.0) visit.call.now }
     requires named { name ≡ registered_name visit.call.now }
-    requires sites { fleet.old.sites ≡ sites_in config.now (reverse entries.now) }
-    requires pool { fleet.old.pool ≡ numbers config.now (reverse entries.now) }
-    requires counts { visit.requests.now ≡ request_counts config.now (entered config.now (reverse entries.now) visit.moment visit.call.now) }
+    requires sites { fleet.old.sites ≡ sites_in config.now (reverse entries.now.0) }
+    requires pool { fleet.old.pool ≡ numbers config.now (reverse entries.now.0) }
+    requires counts { visit.requests.now ≡ request_counts config.now (entered config.now (reverse entries.now.0) visit.moment visit.call.now) }
     requires room { most_answers fleet.old.widest (length (owners config.now)) visit.call.now ≤ answers.old.1 }
     requires empty { answers.old.0 ≡ [] }
-    ensures sites { fleet.new.sites ≡ sites_in config.now (entered config.now (reverse entries.now) visit.entry.moment visit.entry.call.now) }
-    ensures pool { fleet.new.pool ≡ numbers config.now (entered config.now (reverse entries.now) visit.entry.moment visit.entry.call.now) }
+    ensures sites { fleet.new.sites ≡ sites_in config.now (entered config.now (reverse entries.now.0) visit.entry.moment visit.entry.call.now) }
+    ensures pool { fleet.new.pool ≡ numbers config.now (entered config.now (reverse entries.now.0) visit.entry.moment visit.entry.call.now) }
     ensures widest { registered_name visit.entry.call.now ≡ None → fleet.new.widest ≡ fleet.old.widest }
-    ensures answers { answers.new.0 ≡ answers_to config.now (reverse entries.now) visit.entry.moment visit.entry.call.now }
+    ensures answers { answers.new.0 ≡ answers_to config.now (reverse entries.now.0) visit.entry.moment visit.entry.call.now }
 {
     visit_environments(config, entries, fleet, visit, place, name, answers);
     put_in_force(fleet, visit.call, own);
@@ -92,7 +93,7 @@ pub fn answer_call(
 /// Hands a call to the environments that it concerns.
 fn visit_environments(
     config: &Checked,
-    entries: &[Entry],
+    entries: &Blocks<Entry>,
     fleet: &mut Fleet,
     visit: Visit<'_>,
     place: Option<EnvNo>,
@@ -100,23 +101,23 @@ fn visit_environments(
     answers: &mut Roomy<(Ticket, Answer)>,
 )
     requires moment { visit.moment < 2 ^ 53 }
-    requires short { length entries.now < 2 ^ 32 }
-    requires ticket { visit.ticket ≡ length entries.now }
-    requires legal { IsLegal config.now (reverse entries.now) }
-    requires all_known { AllKnown config.now (reverse entries.now) }
-    requires follows { Follows config.now (reverse entries.now) (entry_of config.now (reverse entries.now) visit.moment visit.call.now) }
+    requires short { length entries.now.0 < 2 ^ 32 }
+    requires ticket { visit.ticket ≡ length entries.now.0 }
+    requires legal { IsLegal config.now (reverse entries.now.0) }
+    requires all_known { AllKnown config.now (reverse entries.now.0) }
+    requires follows { Follows config.now (reverse entries.now.0) (entry_of config.now (reverse entries.now.0) visit.moment visit.call.now) }
     requires known { IsKnown config.now visit.call.now }
-    requires placed { place ≡ place_for config.now (reverse entries.now) visit.call.now }
+    requires placed { place ≡ place_for config.now (reverse entries.now.0) visit.call.now }
     requires named { name ≡ registered_name visit.call.now }
-    requires sites { fleet.old.sites ≡ sites_in config.now (reverse entries.now) }
-    requires pool { fleet.old.pool ≡ numbers config.now (reverse entries.now) }
-    requires counts { visit.requests.now ≡ request_counts config.now (entered config.now (reverse entries.now) visit.moment visit.call.now) }
+    requires sites { fleet.old.sites ≡ sites_in config.now (reverse entries.now.0) }
+    requires pool { fleet.old.pool ≡ numbers config.now (reverse entries.now.0) }
+    requires counts { visit.requests.now ≡ request_counts config.now (entered config.now (reverse entries.now.0) visit.moment visit.call.now) }
     requires room { most_answers fleet.old.widest (length (owners config.now)) visit.call.now ≤ answers.old.1 }
     requires empty { answers.old.0 ≡ [] }
-    ensures sites { fleet.new.sites ≡ sites_in config.now (entered config.now (reverse entries.now) visit.entry.moment visit.entry.call.now) }
+    ensures sites { fleet.new.sites ≡ sites_in config.now (entered config.now (reverse entries.now.0) visit.entry.moment visit.entry.call.now) }
     ensures pool { fleet.new.pool ≡ flown fleet.new.sites fleet.old.pool }
     ensures widest { registered_name visit.entry.call.now ≡ None → fleet.new.widest ≡ fleet.old.widest }
-    ensures answers { answers.new.0 ≡ homed (reverse entries.now) (entry_of config.now (reverse entries.now) visit.entry.moment visit.entry.call.now) }
+    ensures answers { answers.new.0 ≡ homed (reverse entries.now.0) (entry_of config.now (reverse entries.now.0) visit.entry.moment visit.entry.call.now) }
     ensures room { 0 < answers.new.1 }
 {
     fleet.facts();

@@ -30,6 +30,7 @@ use crate::rendering::render;
 use crate::room::Roomy;
 use arn_ids::{Checked, FnNo, Text};
 use call_model::{Answer, Call, Entry, Stats, Ticket};
+use entry_blocks::Blocks;
 use lambda_wire::Reply;
 use script::{Past, push_entry};
 use std::alloc::{AllocError, Global};
@@ -274,8 +275,8 @@ impl Book {
     }
 
     /// The entries, the oldest first.
-    pub fn entries(&self) -> &[Entry]
-        ensures { result.now ≡ reverse self.now.history }
+    pub fn entries(&self) -> &Blocks<Entry>
+        ensures { result.now.0 ≡ reverse self.now.history }
     {
         self.journal.entries()
     }
@@ -288,8 +289,8 @@ impl Book {
     }
 
     /// For each entry the count in its request identifier, 0 where its call is no Invoke.
-    pub fn counts(&self) -> &[u64]
-        ensures { reverse result.now ≡ call_counts self.now.history }
+    pub fn counts(&self) -> &Blocks<u64>
+        ensures { reverse result.now.0 ≡ call_counts self.now.history }
     {
         self.journal.counts()
     }

@@ -28,6 +28,7 @@ use crate::opening::open_counts;
 use crate::room::Roomy;
 use arn_ids::{Checked, EnvNo, FnNo, Text};
 use call_model::{Answer, Call, Entry, Refusal, Stats, Ticket};
+use entry_blocks::Blocks;
 use std::alloc::{AllocError, Global};
 use std::marker::Model;
 
@@ -97,16 +98,16 @@ impl Journal {
     }
 
     /// The entries, the oldest first.
-    pub fn entries(&self) -> &[Entry]
-        ensures value { result.now ≡ reverse self.now.history }
+    pub fn entries(&self) -> &Blocks<Entry>
+        ensures value { result.now.0 ≡ reverse self.now.history }
         ensures few { length self.now.history ≤ 2 ^ 32 }
     {
         self.ledger.entries()
     }
 
     /// For each entry the count in its request identifier, 0 where its call is no Invoke.
-    pub fn counts(&self) -> &[u64]
-        ensures { reverse result.now ≡ call_counts self.now.history }
+    pub fn counts(&self) -> &Blocks<u64>
+        ensures { reverse result.now.0 ≡ call_counts self.now.history }
     {
         self.ledger.counts()
     }

@@ -7,21 +7,21 @@ ghost use Rattle.script.specs.CallCounts.{call_counts, request_count};
 ghost use Rattle.account_book.specs.Indexes.{noted};
 ghost use Rattle.account_book.specs.Ledgers.{answer_limit, totals};
 
-use crate::room::Roomy;
 use crate::totals::Totals;
 use arn_ids::EnvNo;
 use call_model::{Answer, Answers, Call, Entry, Ticket};
+use entry_blocks::Blocks;
 use std::alloc::{AllocError, Global};
 use std::marker::Model;
 
 /// The entries, the oldest first, with what is read off them. Room for an entry is made beforehand.
 #[derive(Debug, Drop)]
 pub struct Ledger {
-    entries: Roomy<Entry>,
+    entries: Blocks<Entry>,
     /// For each entry the count in its request identifier, 0 where its call is no Invoke.
-    counts: Roomy<u64>,
+    counts: Blocks<u64>,
     /// For each ticket what it was answered.
-    given: Roomy<Option<Answer>>,
+    given: Blocks<Option<Answer>>,
     totals: Totals,
     /// Whether a Stop stands among the entries.
     stopped: bool,
@@ -39,7 +39,7 @@ impl Model for Ledger {
 }
 
 /// Notes the answers of an entry.
-fn note(given: &mut Roomy<Option<Answer>>, answers: &[(Ticket, Answer)])
+fn note(given: &mut Blocks<Option<Answer>>, answers: &[(Ticket, Answer)])
     requires { All (λ a. a.0 < length given.old.0) answers.now }
     ensures { given.new ≡ (noted answers.now given.old.0, given.old.1) }
 {
@@ -60,17 +60,17 @@ fn stops(stopped: bool, call: &Call) -> bool
 
 /// Makes room for so many in each of the lists.
 fn make_rooms(
-    entries: &mut Roomy<Entry>,
-    counts: &mut Roomy<u64>,
-    given: &mut Roomy<Option<Answer>>,
+    entries: &mut Blocks<Entry>,
+    counts: &mut Blocks<u64>,
+    given: &mut Blocks<Option<Answer>>,
     room: usize,
 ) -> Result<(), AllocError>
     ensures values { (entries.new.0 ≡ entries.old.0) × (counts.new.0 ≡ counts.old.0) × (given.new.0 ≡ given.old.0) }
     ensures made { OnOk result ((entries.new.1 ≡ room) × (counts.new.1 ≡ room) × (given.new.1 ≡ room)) }
 {
-    entries.make_room(room)?;
-    counts.make_room(room)?;
-    given.make_room(room)
+    entries.reserve(room)?;
+    counts.reserve(room)?;
+    given.reserve(room)
 }
 
 impl Ledger {
@@ -79,9 +79,9 @@ impl Ledger {
         ensures { result ≡ record { history = []; room = 0 } }
     {
         Ledger {
-            entries: Roomy::new(alloc),
-            counts: Roomy::new(alloc),
-            given: Roomy::new(alloc),
+            entries: Blocks::open(alloc),
+            counts: Blocks::open(alloc),
+            given: Blocks::open(alloc),
             totals: Totals::new(),
             stopped: false,
         }
@@ -137,19 +137,19 @@ impl Ledger {
     }
 
     /// The entries, the oldest first.
-    pub fn entries(&self) -> &[Entry]
-        ensures value { result.now ≡ reverse self.now.history }
+    pub fn entries(&self) -> &Blocks<Entry>
+        ensures value { result.now.0 ≡ reverse self.now.history }
         ensures few { length self.now.history ≤ 2 ^ 32 }
         ensures room { length self.now.history + self.now.room ≤ 2 ^ 32 }
     {
-        self.entries.as_slice()
+        &self.entries
     }
 
     /// For each entry the count in its request identifier, 0 where its call is no Invoke.
-    pub fn counts(&self) -> &[u64]
-        ensures { reverse result.now ≡ call_counts self.now.history }
+    pub fn counts(&self) -> &Blocks<u64>
+        ensures { reverse result.now.0 ≡ call_counts self.now.history }
     {
-        self.counts.as_slice()
+        &self.counts
     }
 
     /// The answer to a ticket; none where nothing was answered.
@@ -158,7 +158,7 @@ impl Ledger {
         requires { (t : ℕ) → length self.now.history ≤ t → answer_of self.now.history t ≡ None }
         ensures { result ≡ answer_of self.now.history ticket }
     {
-        match self.given.as_slice().get(ticket as usize) {
+        match self.given.get(ticket as usize) {
             None => None,
             Some(answer) => *answer,
         }

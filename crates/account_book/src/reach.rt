@@ -6,6 +6,7 @@ ghost use Rattle.call_model.specs.History.{call_of, env_of};
 
 use arn_ids::EnvNo;
 use call_model::{Call, Entry, Ticket};
+use entry_blocks::Blocks;
 
 /// The environments that a call concerns.
 #[derive(Clone, Copy, Debug, PartialEq, Eq)]
@@ -30,8 +31,8 @@ impl Reach {
     }
 
     /// What a call reaches that is placed here, or nowhere.
-    pub fn of(entries: &[Entry], place: Option<EnvNo>, call: &Call) -> Reach
-        ensures { result ≡ reach (reverse entries.now) place call.now }
+    pub fn of(entries: &Blocks<Entry>, place: Option<EnvNo>, call: &Call) -> Reach
+        ensures { result ≡ reach (reverse entries.now.0) place call.now }
     {
         match call {
             Call::Stop => Reach::Everywhere,
@@ -43,8 +44,8 @@ impl Reach {
 
 /// The environment of the Next with a ticket, where it is one.
 #[tactic(auto, using(script::proofs::PastLemmas::call_here, script::proofs::PastLemmas::no_call_here))]
-fn poll_env_at(entries: &[Entry], ticket: Ticket) -> Option<EnvNo>
-    ensures { result ≡ poll_env (call_of (reverse entries.now) ticket) }
+fn poll_env_at(entries: &Blocks<Entry>, ticket: Ticket) -> Option<EnvNo>
+    ensures { result ≡ poll_env (call_of (reverse entries.now.0) ticket) }
 {
     match entries.get(ticket as usize) {
         None => None,

@@ -27,10 +27,10 @@ fn source_of(ticket: Ticket, answer: Answer) -> Ticket
 
 /// The call with a ticket.
 fn call_at<'a>(past: &Past<'a>, ticket: Ticket) -> &'a Call
-    requires { ticket < length past.now.entries.now }
-    ensures { result.now ≡ call_of (reverse past.now.entries.now) ticket }
+    requires { ticket < length past.now.entries.now.0 }
+    ensures { result.now ≡ call_of (reverse past.now.entries.now.0) ticket }
 {
-    &past.entries[ticket as usize].call
+    &past.entries.at(ticket as usize).call
 }
 
 /// The reply to a ticket with its answer. The only error is want of memory.
@@ -41,10 +41,10 @@ pub(crate) fn render(
     ticket: Ticket,
     answer: Answer,
 ) -> Result<Reply, AllocError>
-    requires answered { answer_of (reverse past.now.entries.now) ticket ≡ Some answer }
-    requires legal { IsLegal config.now (reverse past.now.entries.now) }
-    requires known { AllKnown config.now (reverse past.now.entries.now) }
-    ensures { IfOk result (λ reply. Some reply ≡ reply_text config.now past.now.salt (reverse past.now.entries.now) ticket) }
+    requires answered { answer_of (reverse past.now.entries.now.0) ticket ≡ Some answer }
+    requires legal { IsLegal config.now (reverse past.now.entries.now.0) }
+    requires known { AllKnown config.now (reverse past.now.entries.now.0) }
+    ensures { IfOk result (λ reply. Some reply ≡ reply_text config.now past.now.salt (reverse past.now.entries.now.0) ticket) }
 {
     let source = source_of(ticket, answer);
     let gist = Gist {

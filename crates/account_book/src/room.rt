@@ -1,6 +1,6 @@
 //! A list with room made beforehand.
 
-ghost use Rattle.std.specs.Prelude.{◌≡◌, ◌+◌, ◌-◌, ◌<◌, ◌≤◌, ◌++◌, ◌∷◌, [], List, ℕ, length, IfOk, OnOk, OnErr, slice_set};
+ghost use Rattle.std.specs.Prelude.{◌≡◌, ◌+◌, ◌-◌, ◌<◌, ◌≤◌, ◌++◌, ◌∷◌, [], List, ℕ, length, IfOk};
 ghost use Rattle.call_model.specs.After.{put};
 
 use call_model::{Answer, Ticket};
@@ -26,16 +26,6 @@ impl<T> Model for Roomy<T> {
 }
 
 impl<T> Roomy<T> {
-    /// No values and no room.
-    pub fn new(alloc: Global) -> Roomy<T>
-        ensures { result ≡ ([], 0) }
-    {
-        Roomy {
-            items: Vec::new(alloc),
-            room: 0,
-        }
-    }
-
     /// No values, and room for this many.
     pub fn with_room(alloc: Global, room: usize) -> Result<Roomy<T>, AllocError>
         ensures { IfOk result (λ r. r ≡ ([], room)) }
@@ -44,31 +34,6 @@ impl<T> Roomy<T> {
             items: Vec::with_capacity(alloc, room)?,
             room,
         })
-    }
-
-    /// Makes room for this many values; a refusal leaves the list and its room.
-    pub fn make_room(&mut self, room: usize) -> Result<(), AllocError>
-        ensures values { self.new.0 ≡ self.old.0 }
-        ensures made { OnOk result (self.new.1 ≡ room) }
-        ensures refused { OnErr result (self.new.1 ≡ self.old.1) }
-    {
-        self.items.try_reserve(room)?;
-        self.room = room;
-        Ok(())
-    }
-
-    /// Gives up the room; the values stay.
-    pub fn give_up_room(&mut self)
-        ensures { self.new ≡ (self.old.0, 0) }
-    {
-        self.room = 0;
-    }
-
-    /// The values.
-    pub fn as_slice(&self) -> &[T]
-        ensures { result.now ≡ self.now.0 }
-    {
-        &self.items
     }
 
     /// Gives the values, and the memory of the room back.
@@ -82,14 +47,6 @@ impl<T> Roomy<T> {
 }
 
 impl<T: Drop> Roomy<T> {
-    /// Puts a value in the place of another.
-    pub fn set(&mut self, index: usize, value: T)
-        requires { index < length self.old.0 }
-        ensures { self.new ≡ (slice_set self.old.0 index value, self.old.1) }
-    {
-        self.items[index] = value;
-    }
-
     /// Adds a value where there is room.
     pub fn push(&mut self, value: T)
         requires { 0 < self.old.1 }

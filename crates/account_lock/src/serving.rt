@@ -10,6 +10,7 @@ use crate::bells::take_bell;
 use crate::rises::rises;
 use account_book::Book;
 use call_model::{Answer, Entry, Stats, Ticket};
+use entry_blocks::Blocks;
 use std::sync::ledger::Ledger;
 use usage_ledger::{Keep, Tally, Totals};
 
@@ -38,24 +39,26 @@ fn serve_answers<B, K: Keep, C: Ledger, A: Ledger, T: Ledger, F: Ledger>(
     }
 }
 
-/// The same for the answers of these entries, the oldest first.
+/// The same for the answers of the entries from a place on, the oldest first.
 pub(crate) fn serve_entries<B, K: Keep, C: Ledger, A: Ledger, T: Ledger, F: Ledger>(
-    entries: &[Entry],
+    entries: &Blocks<Entry>,
+    start: usize,
     bells: &mut Vec<(Ticket, B)>,
     rings: &mut Vec<B>,
     tally: &mut Tally<K, C, A, T, F>,
 )
+    requires start { start ≤ length entries.now.0 }
     requires rising { are_rising bells.old.items ≡ true }
-    requires room { vec_len rings.old + length (answers_of entries.now) ≤ vec_capacity rings.old }
-    requires notes { length (answers_of entries.now) ≤ tally.old.spare_notes }
-    ensures rings { rings.new.items ≡ rings.old.items ++ rings_of (answers_of entries.now) bells.old.items }
-    ensures bells { bells.new.items ≡ bells_after (answers_of entries.now) bells.old.items }
-    ensures kept { Steps K.notes tally.old.held.kept (answers_of entries.now) tally.new.held.kept }
+    requires room { vec_len rings.old + length (answers_of (drop start entries.now.0)) ≤ vec_capacity rings.old }
+    requires notes { length (answers_of (drop start entries.now.0)) ≤ tally.old.spare_notes }
+    ensures rings { rings.new.items ≡ rings.old.items ++ rings_of (answers_of (drop start entries.now.0)) bells.old.items }
+    ensures bells { bells.new.items ≡ bells_after (answers_of (drop start entries.now.0)) bells.old.items }
+    ensures kept { Steps K.notes tally.old.held.kept (answers_of (drop start entries.now.0)) tally.new.held.kept }
     ensures same { tally.new.held ≡ record tally.old.held { kept = tally.new.held.kept } }
     ensures calls { tally.old.spare_calls ≤ tally.new.spare_calls }
 {
-    for entry in entries {
-        serve_answers(entry.answers.as_slice(), bells, rings, tally);
+    for number in start..entries.len() {
+        serve_answers(entries.at(number).answers.as_slice(), bells, rings, tally);
     }
 }
 
@@ -82,7 +85,6 @@ pub(crate) fn serve_step<B, K: Keep, C: Ledger, A: Ledger, T: Ledger, F: Ledger>
     ensures held { tally.new.held ≡ record tally.old.held { counts = plus tally.old.held.counts (counts 1 (admitted book.now.history - before.admitted) (throttled book.now.history - before.throttled) (failed book.now.history - before.failed)); kept = tally.new.held.kept } }
     ensures calls { tally.old.spare_calls ≤ tally.new.spare_calls }
 {
-    let entries = book.entries();
-    serve_entries(&entries[start as usize..], bells, rings, tally);
+    serve_entries(book.entries(), start as usize, bells, rings, tally);
     totals.count(tally, rises(before, book.stats()));
 }

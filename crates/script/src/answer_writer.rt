@@ -13,6 +13,7 @@ use crate::past::Past;
 use crate::words::{Word, end_line, push_spaced, push_word, push_words};
 use arn_ids::{Checked, IdKind};
 use call_model::{Answer, Entry, Reason, Refusal, Throttle, Ticket};
+use entry_blocks::Blocks;
 use std::alloc::AllocError;
 
 fn reason_text(reason: Reason) -> &'static str
@@ -60,7 +61,7 @@ fn push_answer_words(
     ticket: Ticket,
     answer: Answer,
 ) -> Result<(), AllocError>
-    ensures { Adds result (spaced (answer_words past.now.salt (reverse past.now.entries.now) ticket answer)) out.old.items out.new.items }
+    ensures { Adds result (spaced (answer_words past.now.salt (reverse past.now.entries.now.0) ticket answer)) out.old.items out.new.items }
 {
     match answer {
         Answer::Delivered { invoke, deadline } => push_words(
@@ -142,7 +143,7 @@ fn push_answer(
     ticket: Ticket,
     answer: Answer,
 ) -> Result<(), AllocError>
-    ensures { Adds result (mark.now ++ answer_line past.now.salt (reverse past.now.entries.now) number ticket answer) out.old.items out.new.items }
+    ensures { Adds result (mark.now ++ answer_line past.now.salt (reverse past.now.entries.now.0) number ticket answer) out.old.items out.new.items }
 {
     push_word(out, &Word::Plain(mark))?;
     push_word(out, &Word::Number(number as u64))?;
@@ -161,7 +162,7 @@ fn push_lines(
     number: usize,
     answers: &[(Ticket, Answer)],
 ) -> Result<(), AllocError>
-    ensures { Adds result (marked_lines past.now.salt (reverse past.now.entries.now) mark.now number answers.now) out.old.items out.new.items }
+    ensures { Adds result (marked_lines past.now.salt (reverse past.now.entries.now.0) mark.now number answers.now) out.old.items out.new.items }
 {
     for (ticket, answer) in answers {
         push_answer(out, past, mark, number, *ticket, *answer)?;
@@ -196,13 +197,13 @@ fn push_lines(
 pub fn push_answers(
     out: &mut Vec<u8>,
     salt: u64,
-    entries: &[Entry],
-    counts: &[u64],
+    entries: &Blocks<Entry>,
+    counts: &Blocks<u64>,
     number: usize,
 ) -> Result<(), AllocError>
-    requires counted { reverse counts.now ≡ call_counts (reverse entries.now) }
-    requires there { number < length entries.now }
-    ensures ok { OnOk result ((d : Entry) → out.new.items ≡ out.old.items ++ answer_lines salt (reverse entries.now) number (slice_index_or entries.now number d)) }
+    requires counted { reverse counts.now.0 ≡ call_counts (reverse entries.now.0) }
+    requires there { number < length entries.now.0 }
+    ensures ok { OnOk result ((d : Entry) → out.new.items ≡ out.old.items ++ answer_lines salt (reverse entries.now.0) number (slice_index_or entries.now.0 number d)) }
     ensures err { OnErr result (out.new.items ≡ out.old.items) }
 {
     let start = out.len();
@@ -211,7 +212,7 @@ pub fn push_answers(
         entries,
         counts,
     };
-    let entry = &entries[number];
+    let entry = entries.at(number);
     match push_lines(out, &past, "", number, entry.answers.as_slice()) {
         Ok(()) => Ok(()),
         Err(error) => {
@@ -229,7 +230,7 @@ fn push_whole_entry(
     number: usize,
     entry: &Entry,
 ) -> Result<(), AllocError>
-    ensures { Adds result (entry_text config.now past.now.salt (reverse past.now.entries.now) number entry.now) out.old.items out.new.items }
+    ensures { Adds result (entry_text config.now past.now.salt (reverse past.now.entries.now.0) number entry.now) out.old.items out.new.items }
 {
     push_call(out, config, entry.moment, &entry.call)?;
     end_line(out)?;
@@ -247,13 +248,13 @@ pub fn push_entry(
     out: &mut Vec<u8>,
     config: &Checked,
     salt: u64,
-    entries: &[Entry],
-    counts: &[u64],
+    entries: &Blocks<Entry>,
+    counts: &Blocks<u64>,
     number: usize,
 ) -> Result<(), AllocError>
-    requires counted { reverse counts.now ≡ call_counts (reverse entries.now) }
-    requires there { number < length entries.now }
-    ensures ok { OnOk result ((d : Entry) → out.new.items ≡ out.old.items ++ entry_text config.now salt (reverse entries.now) number (slice_index_or entries.now number d)) }
+    requires counted { reverse counts.now.0 ≡ call_counts (reverse entries.now.0) }
+    requires there { number < length entries.now.0 }
+    ensures ok { OnOk result ((d : Entry) → out.new.items ≡ out.old.items ++ entry_text config.now salt (reverse entries.now.0) number (slice_index_or entries.now.0 number d)) }
     ensures err { OnErr result (out.new.items ≡ out.old.items) }
 {
     let start = out.len();
@@ -262,7 +263,7 @@ pub fn push_entry(
         entries,
         counts,
     };
-    let entry = &entries[number];
+    let entry = entries.at(number);
     match push_whole_entry(out, config, &past, number, entry) {
         Ok(()) => Ok(()),
         Err(error) => {

@@ -11,6 +11,7 @@ use crate::calls::{body_of, env_of, invoked};
 use crate::words::Word;
 use arn_ids::{IdKind, event_id, extension_id, request_id};
 use call_model::{Call, Entry, Ticket};
+use entry_blocks::Blocks;
 
 /// The entries of a history, the oldest first, with the count in the request identifier of each
 /// Invoke.
@@ -19,10 +20,10 @@ pub struct Past<'a> {
     /// What every identifier is made with.
     pub salt: u64,
     /// The entries, the oldest first.
-    pub entries: &'a [Entry],
+    pub entries: &'a Blocks<Entry>,
     /// For each entry the count in its request identifier, 0 where its call is no Invoke.
-    pub counts: &'a [u64],
-    ghost counted: { reverse counts.now ≡ call_counts (reverse entries.now) },
+    pub counts: &'a Blocks<u64>,
+    ghost counted: { reverse counts.now.0 ≡ call_counts (reverse entries.now.0) },
 }
 
 /// An identifier; a dash for a number or a count that no identifier has.
@@ -47,30 +48,30 @@ impl<'a> Past<'a> {
     /// The call with a ticket, where there is one.
     #[tactic(auto, using(crate::proofs::PastLemmas::call_here, crate::proofs::PastLemmas::no_call_here))]
     fn call(&self, ticket: Ticket) -> Option<&'a Call>
-        ensures { MatchOption result (call_of (reverse self.now.entries.now) ticket ≡ NoCall 0) (λ call. call.now ≡ call_of (reverse self.now.entries.now) ticket) }
+        ensures { MatchOption result (call_of (reverse self.now.entries.now.0) ticket ≡ NoCall 0) (λ call. call.now ≡ call_of (reverse self.now.entries.now.0) ticket) }
     {
         let place = ticket as usize;
         if place >= self.entries.len() {
             return None;
         }
-        Some(&self.entries[place].call)
+        Some(&self.entries.at(place).call)
     }
 
     /// The count in the request identifier of the Invoke with a ticket; 0 where there is none.
     #[tactic(auto, using(crate::proofs::PastLemmas::count_here, crate::proofs::PastLemmas::no_count_here))]
     pub fn count(&self, ticket: Ticket) -> u64
-        ensures { let h = reverse self.now.entries.now in result ≡ request_count (upto h ticket) (call_of h ticket) }
+        ensures { let h = reverse self.now.entries.now.0 in result ≡ request_count (upto h ticket) (call_of h ticket) }
     {
         let place = ticket as usize;
         if place >= self.counts.len() {
             return 0;
         }
-        self.counts[place]
+        *self.counts.at(place)
     }
 
     /// The request identifier of the Invoke with a ticket.
     pub(crate) fn request(&self, ticket: Ticket) -> Word<'static>
-        ensures { word_text result ≡ spec.request_word self.now.salt (reverse self.now.entries.now) ticket }
+        ensures { word_text result ≡ spec.request_word self.now.salt (reverse self.now.entries.now.0) ticket }
     {
         let function = match self.call(ticket) {
             None => 0,
@@ -81,7 +82,7 @@ impl<'a> Past<'a> {
 
     /// The identifier of an event or an extension at the environment of the call with a ticket.
     pub(crate) fn at_env(&self, kind: IdKind, ticket: Ticket, count: u64) -> Word<'static>
-        ensures { word_text result ≡ spec.env_word self.now.salt kind (reverse self.now.entries.now) ticket count }
+        ensures { word_text result ≡ spec.env_word self.now.salt kind (reverse self.now.entries.now.0) ticket count }
     {
         let env = match self.call(ticket) {
             None => 0,
@@ -92,7 +93,7 @@ impl<'a> Past<'a> {
 
     /// The bytes of the call with a ticket.
     pub(crate) fn body(&self, ticket: Ticket) -> Word<'a>
-        ensures { word_text result ≡ spec.body_word (reverse self.now.entries.now) ticket }
+        ensures { word_text result ≡ spec.body_word (reverse self.now.entries.now.0) ticket }
     {
         match self.call(ticket) {
             None => Word::Text(&[]),

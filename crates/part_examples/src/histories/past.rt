@@ -7,6 +7,7 @@ ghost use Rattle.script.specs.CallCounts.{call_counts, request_count};
 
 use arn_ids::FnNo;
 use call_model::{Call, Entry};
+use entry_blocks::Blocks;
 use std::alloc::{AllocError, Global};
 use std::marker::Model;
 
@@ -14,8 +15,8 @@ use std::marker::Model;
 /// and 0 for each other one.
 #[derive(Drop)]
 pub struct Past {
-    entries: Vec<Entry>,
-    counts: Vec<u64>,
+    entries: Blocks<Entry>,
+    counts: Blocks<u64>,
 }
 
 impl Model for Past {
@@ -25,9 +26,9 @@ impl Model for Past {
 
     ghost Value = { List TheEntry };
 
-    ghost view = { λ p. p.entries.items };
+    ghost view = { λ p. p.entries.0 };
 
-    ghost invariant = { λ p. reverse p.counts.items ≡ call_counts (reverse p.entries.items) };
+    ghost invariant = { λ p. reverse p.counts.0 ≡ call_counts (reverse p.entries.0) };
 }
 
 fn invokes(call: &Call, function: FnNo) -> bool
@@ -43,13 +44,13 @@ fn invokes(call: &Call, function: FnNo) -> bool
 }
 
 /// How many of these entries invoke a function.
-fn count_of(entries: &[Entry], function: FnNo) -> u64
-    ensures value { result ≡ count_by (λ entry. is_invoke_of function entry.call) entries.now }
-    ensures few { result ≤ length entries.now }
+fn count_of(entries: &Blocks<Entry>, function: FnNo) -> u64
+    ensures value { result ≡ count_by (λ entry. is_invoke_of function entry.call) entries.now.0 }
+    ensures few { result ≤ length entries.now.0 }
 {
     let mut count = 0;
-    for entry in entries {
-        if invokes(&entry.call, function) {
+    for number in 0..entries.len() {
+        if invokes(&entries.at(number).call, function) {
             count += 1;
         }
     }
@@ -58,8 +59,8 @@ fn count_of(entries: &[Entry], function: FnNo) -> u64
 
 /// The count of an entry that follows these.
 #[tactic(auto, using(crate::proofs::Counting::one_more, crate::proofs::Counting::count_reversed))]
-fn next_count(entries: &[Entry], entry: &Entry) -> u64
-    ensures { result ≡ request_count (entry.now ∷ reverse entries.now) entry.now.call }
+fn next_count(entries: &Blocks<Entry>, entry: &Entry) -> u64
+    ensures { result ≡ request_count (entry.now ∷ reverse entries.now.0) entry.now.call }
 {
     match &entry.call {
         Call::Invoke { function, .. } => count_of(entries, *function) + 1,
@@ -71,8 +72,8 @@ impl Past {
     /// No entries.
     pub fn new(alloc: Global) -> Past {
         Past {
-            entries: Vec::new(alloc),
-            counts: Vec::new(alloc),
+            entries: Blocks::open(alloc),
+            counts: Blocks::open(alloc),
         }
     }
 
@@ -80,23 +81,23 @@ impl Past {
     pub fn add(&mut self, entry: Entry) -> Result<(), AllocError> {
         self.entries.reserve(1)?;
         self.counts.reserve(1)?;
-        let count = next_count(self.entries.as_slice(), &entry);
-        self.entries.push_reserved(entry);
-        self.counts.push_reserved(count);
+        let count = next_count(&self.entries, &entry);
+        self.entries.push(entry);
+        self.counts.push(count);
         Ok(())
     }
 
     /// The entries.
-    pub fn entries(&self) -> &[Entry]
-        ensures { result.now ≡ self.now }
+    pub fn entries(&self) -> &Blocks<Entry>
+        ensures { result.now.0 ≡ self.now }
     {
-        self.entries.as_slice()
+        &self.entries
     }
 
     /// Their counts.
-    pub fn counts(&self) -> &[u64]
-        ensures { reverse result.now ≡ call_counts (reverse self.now) }
+    pub fn counts(&self) -> &Blocks<u64>
+        ensures { reverse result.now.0 ≡ call_counts (reverse self.now) }
     {
-        self.counts.as_slice()
+        &self.counts
     }
 }

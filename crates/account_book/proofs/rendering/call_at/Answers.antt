@@ -1,5 +1,7 @@
+use Rattle.std.proofs.Common.{◌∙◌, ap}
+use Rattle.call_model.specs.declared.call.Entry.{Entry}
 use Rattle.script.proofs.PastLemmas.{call_here}
 use Rattle.account_book.proofs.rendering.call_at.Goals as goal
 
 pub returns : goal.returns
-returns c = call_here c.args.past.now.entries.now c.args.ticket c.index-past-ticket.result c.requires
+returns c = ap (λ (entry : Entry). entry.call) (c.at.ensures c.at.result.now) ∙ call_here c.args.past.now.entries.now.0 c.args.ticket c.at.result.now c.requires

@@ -1,7 +1,4 @@
-use Rattle.std.proofs.lemmas.List.{get_or_read}
 use Rattle.script.proofs.answer_writer.push_entry.Goals as goal
 
 pub returns-in-Ok-clause-ok : goal.returns-in-Ok-clause-ok
-returns-in-Ok-clause-ok c = λ d.
-    let is = get_or_read c.args.entries.now c.args.number _ c.requires.there c.index-entries-number.is d in
-    rw (← is) c.in-Ok.ensures
+returns-in-Ok-clause-ok c = λ d. rw (← c.at-entry.ensures d) c.in-Ok.ensures
