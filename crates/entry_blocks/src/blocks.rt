@@ -1,6 +1,7 @@
 //! A row of items in blocks, with room made beforehand.
 
 ghost use Rattle.std.specs.Prelude.{◌≡◌, ◌-◌, ◌<◌, ◌≤◌, ◌++◌, ◌∷◌, [], length, vec_len, vec_capacity, OnOk, OnErr, option_copied, slice_get, slice_index_or, slice_set};
+ghost use Rattle.std.specs.Slice.{IsGetResult, IsItemAt};
 ghost use Rattle.entry_blocks.specs.Rows.{joined, AreBlocks};
 
 use std::alloc::{AllocError, Global};
@@ -53,7 +54,8 @@ impl<T> Blocks<T> {
 
     /// The item at an index; none past the last.
     pub fn get(&self, index: usize) -> Option<&T>
-        ensures { option_copied result ≡ slice_get self.now.0 index }
+        ensures value { option_copied result ≡ slice_get self.now.0 index }
+        ensures item { IsItemAt self.now.0 index result }
     {
         if index < self.length {
             Some(self.at(index))
@@ -72,7 +74,8 @@ impl<T> Blocks<T> {
 
     /// The item that was appended last.
     pub fn last(&self) -> Option<&T>
-        ensures { option_copied result ≡ slice_get self.now.0 (length self.now.0 - 1) }
+        ensures value { option_copied result ≡ slice_get self.now.0 (length self.now.0 - 1) }
+        ensures item { IsGetResult self.now.0 0 (length self.now.0 - 1) result }
     {
         if self.length == 0 {
             return None;

@@ -46,7 +46,7 @@ fn id_word(salt: u64, kind: IdKind, number: u32, count: u64) -> Word<'static>
 
 impl<'a> Past<'a> {
     /// The call with a ticket, where there is one.
-    #[tactic(auto, using(crate::proofs::PastLemmas::call_here, crate::proofs::PastLemmas::no_call_here))]
+    #[tactic(auto, using(crate::proofs::PastLemmas::no_call_here))]
     fn call(&self, ticket: Ticket) -> Option<&'a Call>
         ensures { MatchOption result (call_of (reverse self.now.entries.now.0) ticket ≡ NoCall 0) (λ call. call.now ≡ call_of (reverse self.now.entries.now.0) ticket) }
     {
@@ -58,7 +58,7 @@ impl<'a> Past<'a> {
     }
 
     /// The count in the request identifier of the Invoke with a ticket; 0 where there is none.
-    #[tactic(auto, using(crate::proofs::PastLemmas::count_here, crate::proofs::PastLemmas::no_count_here))]
+    #[tactic(auto, using(crate::proofs::PastLemmas::no_count_here))]
     pub fn count(&self, ticket: Ticket) -> u64
         ensures { let h = reverse self.now.entries.now.0 in result ≡ request_count (upto h ticket) (call_of h ticket) }
     {
