@@ -3,9 +3,12 @@ use Rattle.std.specs.Prelude.{◌≡◌, List}
 use Rattle.arn_ids.specs.declared.config.Config.{Config}
 use Rattle.call_model.specs.declared.call.Entry.{Entry}
 use Rattle.call_model.specs.declared.stats.Stats.{Stats}
-use Rattle.call_model.specs.Counts.{stats}
-use Rattle.call_model.specs.Next.{IsLegal}
+use Rattle.usage_ledger.specs.Tallies.{Tallied}
+use Rattle.account_lock.specs.Counting.{counts_of}
+use Rattle.account_lock.specs.Gathered.{counts_in}
+use Rattle.headline.specs.Headline.{Headline}
 
--- the counts of some legal history of the configuration
-abbrev pub AreCounts : Config → Stats → Type 0
-AreCounts config counts = (h : List Entry) × IsLegal config h × (counts ≡ stats config h)
+-- The counts are those of a history of the configuration, of which the headline holds; and what these tallies have
+-- counted together is what that history counts.
+abbrev pub AreSettled : Config → List Tallied → Stats → Type 0
+AreSettled config tallies counts = (h : List Entry) × Headline config h counts × (counts_in tallies ≡ counts_of h)

@@ -1,7 +1,8 @@
 //! Serving a configuration over HTTP.
 
-ghost use Rattle.std.specs.Prelude.{◌≡◌, ◌^◌, IfOk};
-ghost use Rattle.lambda_local.specs.Ending.{AreCounts};
+ghost use Rattle.std.specs.Prelude.{◌≡◌, ◌^◌, List, IfOk};
+ghost use Rattle.usage_ledger.specs.Tallies.{Tallied};
+ghost use Rattle.lambda_local.specs.Ending.{AreSettled};
 
 use crate::clock::UnixClock;
 use crate::serve_fault::ServeFault;
@@ -36,9 +37,23 @@ where
     Ok(Plan::check(rt.alloc(), setup)?)
 }
 
-/// Serves a plan until it is stopped, settles, and gives the account's counts: those of a legal
-/// history of the plan's configuration. `S` names the configuration, and the others the account's
-/// ledgers.
+/// The counts of an account that was served, once what all its threads have counted is found to be what
+/// its history counts.
+///
+/// # Errors
+/// `Settlement` where it is not, else `OutOfMemory`.
+fn settled<S: Setup, C: Ledger, A: Ledger, T: Ledger, F: Ledger>(
+    hosted: Hosted<S, KeepNone, C, A, T, F>,
+) -> Result<Stats, ServeFault>
+    ensures { IfOk result (AreSettled S.config hosted.tallies.items) }
+{
+    let Hosted { account, tallies } = hosted;
+    let Settled { stats, .. } = headline::settle(account, tallies)?;
+    Ok(stats)
+}
+
+/// Serves a plan until it is stopped, settles, and gives the account's counts: those that the tallies
+/// of all its threads add up to. `S` names the configuration, and the others the account's ledgers.
 fn serve_plan<
     R: Machine + Log,
     S: Setup + Drop + Send + Sync + 'static,
@@ -60,7 +75,7 @@ fn serve_plan<
     requires admitted { (admitted.name ≡ A.name) × (admitted.parts ≡ A.parts) × (A.parts ≡ 2 ^ 32) }
     requires throttled { (throttled.name ≡ T.name) × (throttled.parts ≡ T.parts) × (T.parts ≡ 2 ^ 32) }
     requires failed { (failed.name ≡ F.name) × (failed.parts ≡ F.parts) × (F.parts ≡ 2 ^ 32) }
-    ensures { IfOk result (AreCounts plan.config) }
+    ensures { IfOk result (λ counts. (tallies : List Tallied) × AreSettled plan.config tallies counts) }
 {
     let clock = UnixClock::new(rt);
     let host: Host<R, S, UnixClock<R>, KeepNone, C, A, T, F> = Host::open(
@@ -77,15 +92,12 @@ fn serve_plan<
     info!(rt; "listening");
     let served = host.run();
     info!(rt; "stopped");
-    let Hosted { account, tallies } = served?;
-    let Settled { book, stats } = account.settle(tallies)?;
-    book.facts();
-    Ok(stats)
+    settled(served?)
 }
 
 /// Names the configuration and the ledgers.
 fn serve_by_brand<R: Machine + Log>(rt: R, plan: Plan, patience: u32) -> Result<Stats, ServeFault>
-    ensures { IfOk result (AreCounts plan.config) }
+    ensures { IfOk result (λ counts. (tallies : List Tallied) × AreSettled plan.config tallies counts) }
 {
     serve_plan::<R, Brand, Brand, Brand, Brand, Brand>(
         rt,

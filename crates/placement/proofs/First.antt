@@ -38,6 +38,11 @@ lowest_none f class places none =
     position_or_len_is (is_of f class) places (length places) no_place (omega arith) none (λ within. absurd (omega arith)) in
     rw (end, le-ltb (length places) (length places) (omega arith)) refl
 
+-- what is said of the lowest of a set
+pub record Finds (set : EnvSet) (o : Option ℕ) : Type 0 where
+  pub some : IfSome o (IsLowest set)
+  pub none : IfNone o ((i : ℕ) → i < 256 → has_at set i ≡ false)
+
 module _ (set : EnvSet) (f : ℕ) (class : Class) (free : is_class class Taken ≡ false) (places : List Place) (fits : length places ≤ 256)
     (marked : (i : ℕ) → i < 256 → has_at set i ≡ is_class class (class_for f (get_or places i no_place)))
   where
@@ -69,9 +74,9 @@ module _ (set : EnvSet) (f : ℕ) (class : Class) (free : is_class class Taken �
     none_is none = lowest_none f class places (λ i there. let within : i < 256 = omega (arith, there, fits) in has_is i within ∙ none i within)
 
     -- the lowest numbered environment of a set is the function's lowest of the class
-    first_is : (o : Option ℕ) → IfSome o (IsLowest set) → IfNone o ((i : ℕ) → i < 256 → has_at set i ≡ false) → o ≡ lowest_of f class places
-    first_is None some none = sym (none_is none)
-    first_is (Some e) some none = sym (some_is e some)
+    first_is : (o : Option ℕ) → Finds set o → o ≡ lowest_of f class places
+    first_is None finds = sym (none_is finds.none)
+    first_is (Some e) finds = sym (some_is e finds.some)
 
 -- the first of three
 either_of : (a b c : Option ℕ) → option_or (option_or a b) c ≡ or_else a (or_else b c)
@@ -79,20 +84,15 @@ either_of None None c = refl
 either_of None (Some y) c = refl
 either_of (Some x) b c = refl
 
--- what is said of the lowest of a set
-pub record Finds (set : EnvSet) (o : Option ℕ) : Type 0 where
-  pub some : IfSome o (IsLowest set)
-  pub none : IfNone o ((i : ℕ) → i < 256 → has_at set i ≡ false)
-
 -- where a function's next invocation goes, by its sets
 pub place_found : (free : Free) (f : ℕ) (places : List Place) → length places ≤ 256 → Marks free f places
     → (idle starting closing : Option ℕ) → Finds free.idle idle → Finds free.starting starting → Finds free.closing closing
     → option_or (option_or idle starting) closing ≡ place_among places f
 unfolding place_among
 place_found free f places fits marks idle starting closing in_idle in_starting in_closing =
-    let first : idle ≡ lowest_of f Idle places = first_is free.idle f Idle refl places fits (λ i within. (marks.marked i within).idle) idle in_idle.some in_idle.none in
-    let second : starting ≡ lowest_of f StartingFree places = first_is free.starting f StartingFree refl places fits (λ i within. (marks.marked i within).starting) starting in_starting.some in_starting.none in
-    let third : closing ≡ lowest_of f ClosingFree places = first_is free.closing f ClosingFree refl places fits (λ i within. (marks.marked i within).closing) closing in_closing.some in_closing.none in
+    let first : idle ≡ lowest_of f Idle places = first_is free.idle f Idle refl places fits (λ i within. (marks.marked i within).idle) idle in_idle in
+    let second : starting ≡ lowest_of f StartingFree places = first_is free.starting f StartingFree refl places fits (λ i within. (marks.marked i within).starting) starting in_starting in
+    let third : closing ≡ lowest_of f ClosingFree places = first_is free.closing f ClosingFree refl places fits (λ i within. (marks.marked i within).closing) closing in_closing in
     either_of idle starting closing ∙ ap₂ or_else first (ap₂ or_else second third)
 
 -- the sets of a function

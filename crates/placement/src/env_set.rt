@@ -1,6 +1,6 @@
-//! A set of environments: four words, of which each call reads or writes four at most.
+//! A set of environments as four words: a call takes constant time, and no memory.
 
-ghost use Rattle.std.specs.Prelude.{◌≡◌, ◌≢◌, ℕ, ◌-◌, ◌<◌, ◌≤◌, Bool, false, length, IfSome, IfNone};
+ghost use Rattle.std.specs.Prelude.{◌≡◌, ◌≢◌, ℕ, ◌-◌, ◌<◌, ◌≤◌, false, length, IfSome, IfNone};
 ghost use Rattle.std.specs.Int.{bit_at};
 ghost use Rattle.placement.specs.Sets.{digit, has_at, IsLowest};
 

@@ -1,12 +1,11 @@
 //! The environments of an account by function and class.
 //!
-//! Beside the row of environments each function has three sets of them, by their classes. So a note
-//! writes one place and three words, a choice reads twelve words at most, however many environments
-//! there are, and neither takes memory.
+//! Beside the row of environments each function has three sets of them, one for each class that
+//! takes an invocation. So a note writes one place and three words, and a choice reads twelve words,
+//! however many environments there are. Neither takes memory.
 
-ghost use Rattle.std.specs.Prelude.{◌≡◌, ◌+◌, ◌-◌, ◌<◌, ◌≤◌, ◌^◌, suc, length, map, position, option_map, slice_set, IfOk, IfSome};
-ghost use Rattle.arn_ids.specs.Environments.{count_from};
-ghost use Rattle.placement.specs.Places.{is_of, lowest_of, place_among, place_at, opened};
+ghost use Rattle.std.specs.Prelude.{◌≡◌, ◌-◌, ◌≤◌, length, slice_set, IfOk};
+ghost use Rattle.placement.specs.Places.{place_among, place_at, opened};
 
 use crate::Class;
 use crate::free::Free;
@@ -27,12 +26,12 @@ pub struct Place {
 #[derive(Debug, Drop)]
 pub struct Places {
     places: Vec<Place>,
-    // Of each function the environments that take an invocation, by its number; none has number 0.
+    // By the number of a function, its environments that take an invocation; none has number 0.
     free: Vec<Free>,
 }
 
 impl Model for Places {
-    ghost use Rattle.std.specs.Prelude.{List, ◌<◌, ◌^◌, length};
+    ghost use Rattle.std.specs.Prelude.{List};
     ghost use Rattle.placement.specs.Sets.{Follows};
     ghost use Rattle.placement.specs.declared.places.Place.{Place};
 
