@@ -41,7 +41,7 @@ take-requires-clause-none_due c =
     rw (c.expire_due.ensures, c.in_ok-make_room.ensures.same.0, c.in_ok-make_room.ensures.same.1) ((legal_expired j.config c.max-moment.result (due j.config j.history c.max-moment.result) j.history c.facts.ensures.legal later refl).1.1)
 
 -- the history after the call
-stepped : (c : goal.After-entries) → (c.take.new.self.config ≡ c.self.inside.journal.config) × (c.take.new.self.history ≡ next c.self.inside.journal.config c.self.inside.journal.history c.args.now c.args.call)
+stepped : (c : goal.After-len-2) → (c.take.new.self.config ≡ c.self.inside.journal.config) × (c.take.new.self.history ≡ next c.self.inside.journal.config c.self.inside.journal.history c.args.now c.args.call)
 stepped c =
     let j = c.self.inside.journal in
     let moment : c.max-moment.result ≡ moment_at j.history c.args.now = c.max-moment.ensures ∙ ap (max c.args.now) c.last_moment.ensures.value in
