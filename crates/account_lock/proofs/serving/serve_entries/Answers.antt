@@ -28,3 +28,11 @@ loop-number-preserved g c =
       calls = omega (arith, inv.calls, c.serve_answers.ensures.calls);
       notes = omega (arith, ap length split, length-append given rest, inv.notes, c.serve_answers.ensures.notes);
     }
+
+-- the tally has room for the answers of the entry, among those of the rest
+pub serve_answers-requires-clause-notes : goal.serve_answers-requires-clause-notes
+serve_answers-requires-clause-notes g c =
+    let entries = c.args.entries.now.0 in
+    let rest = answers_of (drop (c.loop-number.number + 1) entries) in
+    let split = turn entries c.loop-number.number c.at.result.now (omega arith) (c.at.ensures c.at.result.now) in
+    omega (arith, ap length split, length-append c.at.result.now.answers rest, c.loop-number.invariant.notes, ap length c.as_slice.ensures)
