@@ -36,3 +36,11 @@ serve_answers-requires-clause-notes g c =
     let rest = answers_of (drop (c.loop-number.number + 1) entries) in
     let split = turn entries c.loop-number.number c.at.result.now (omega arith) (c.at.ensures c.at.result.now) in
     omega (arith, ap length split, length-append c.at.result.now.answers rest, c.loop-number.invariant.notes, ap length c.as_slice.ensures)
+
+-- and the rings too
+pub serve_answers-requires-clause-room : goal.serve_answers-requires-clause-room
+serve_answers-requires-clause-room g c =
+    let entries = c.args.entries.now.0 in
+    let rest = answers_of (drop (c.loop-number.number + 1) entries) in
+    let split = turn entries c.loop-number.number c.at.result.now (omega arith) (c.at.ensures c.at.result.now) in
+    omega (arith, ap length split, length-append c.at.result.now.answers rest, c.loop-number.invariant.room, ap length c.as_slice.ensures)
