@@ -1,6 +1,6 @@
 //! Entries with the counts in their request identifiers.
 
-ghost use Rattle.std.specs.Prelude.{◌≡◌, ◌≤◌, ◌∷◌, length, reverse};
+ghost use Rattle.std.specs.Prelude.{◌≡◌, ◌+◌, ◌^◌, ◌<◌, ◌≤◌, ◌∷◌, length, reverse};
 ghost use Rattle.std.specs.List.{count_by};
 ghost use Rattle.call_model.specs.History.{is_invoke_of};
 ghost use Rattle.script.specs.CallCounts.{call_counts, request_count};
@@ -60,6 +60,7 @@ fn count_of(entries: &Blocks<Entry>, function: FnNo) -> u64
 /// The count of an entry that follows these.
 #[tactic(auto, using(crate::proofs::Counting::one_more, crate::proofs::Counting::count_reversed))]
 fn next_count(entries: &Blocks<Entry>, entry: &Entry) -> u64
+    requires { length entries.now.0 + 1 < 2 ^ 64 }
     ensures { result ≡ request_count (entry.now ∷ reverse entries.now.0) entry.now.call }
 {
     match &entry.call {
@@ -81,6 +82,9 @@ impl Past {
     pub fn add(&mut self, entry: Entry) -> Result<(), AllocError> {
         self.entries.reserve(1)?;
         self.counts.reserve(1)?;
+        if self.entries.len() == usize::MAX {
+            return Err(AllocError);
+        }
         let count = next_count(&self.entries, &entry);
         self.entries.push(entry);
         self.counts.push(count);
