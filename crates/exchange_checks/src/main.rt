@@ -22,7 +22,19 @@ use std::time::Clock;
 const TABLES: [&str; 4] = ["calls.txt", "polls.txt", "bodies.txt", "services.txt"];
 
 /// Runs the cases of a table, and says whether all agree.
-fn run_table<R: Wait + Threads + Clock + RandomSource + AllocGlobal + Copy + Send + Sync + Drop + Files + Print>(rt: R, file: &'static str) -> Result<bool, TableFault>
+fn run_table<
+    R: Wait
+        + Threads
+        + Clock
+        + RandomSource
+        + AllocGlobal
+        + Copy
+        + Send
+        + Sync
+        + Drop
+        + Files
+        + Print,
+>(rt: R, file: &'static str) -> Result<bool, TableFault>
 where
     R::File: Read + Drop,
 {
@@ -41,7 +53,19 @@ where
     Ok(agree)
 }
 
-fn run<R: Wait + Threads + Clock + RandomSource + AllocGlobal + Copy + Send + Sync + Drop + Files + Print>(rt: R) -> Result<bool, TableFault>
+fn run<
+    R: Wait
+        + Threads
+        + Clock
+        + RandomSource
+        + AllocGlobal
+        + Copy
+        + Send
+        + Sync
+        + Drop
+        + Files
+        + Print,
+>(rt: R) -> Result<bool, TableFault>
 where
     R::File: Read + Drop,
 {

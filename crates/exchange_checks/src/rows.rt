@@ -120,7 +120,10 @@ impl<S: Setup> Decide for Rows<S> {
             "/history" => Ok(Decision::Show(Shown::History)),
             "/reservation" => Ok(Decision::Show(Shown::Reservation { function: 1 })),
             "/echo" => shown(alloc, body.clone()?),
-            _ => shown(alloc, Bytes::from_string(format!(in alloc; "{}", body.len())?)?),
+            _ => shown(
+                alloc,
+                Bytes::from_string(format!(in alloc; "{}", body.len())?)?,
+            ),
         }
     }
 }

@@ -52,7 +52,10 @@ struct Scene<
 }
 
 /// What came of an exchange.
-type Came<R, X, C, A, T, F> = Result<Outcome<HistoryBody<R, X, KeepNone, C, A, T, F>>, ExchangeFault>;
+type Came<R, X, C, A, T, F> = Result<
+    Outcome<HistoryBody<R, X, KeepNone, C, A, T, F>>,
+    ExchangeFault,
+>;
 
 /// What an executor gave, which fails for want of memory alone.
 fn ran<O>(came: io::Result<O>) -> Result<O, CaseFault> {
@@ -195,8 +198,9 @@ impl<
     /// Polls for the answer of a ticket; what came of that, as a line.
     fn poll(&self, ticket: Ticket, heard: Heard) -> Result<String, CaseFault> {
         let service = Arc::try_clone(&self.service)?;
-        let poll: Poll<R, X, Heard, KeepNone, C, A, T, F> =
-            Poll::new(self.rt, service, ticket, heard);
+        let poll: Poll<R, X, Heard, KeepNone, C, A, T, F> = Poll::new(
+            self.rt, service, ticket, heard,
+        );
         let came = ran(block_on(&self.rt, poll))?;
         Ok(format!(in self.alloc; "poll {ticket}: {came:?}\n")?)
     }
@@ -238,11 +242,7 @@ fn poll_across<
     A: Ledger + Send + Sync,
     T: Ledger + Send + Sync,
     F: Ledger + Send + Sync,
->(
-    scene: &Scene<R, X, S, C, A, T, F>,
-    part: &Part,
-    given: &mut String,
-) -> Result<(), CaseFault> {
+>(scene: &Scene<R, X, S, C, A, T, F>, part: &Part, given: &mut String) -> Result<(), CaseFault> {
     let (ticket, heard) = scene.park()?;
     let (told, asked) = thread::join(
         &scene.rt,
