@@ -66,10 +66,10 @@ impl<S: Setup> Board<S> {
             let refusal = Refusal::JournalFull;
             return Err(Refused { refusal, bell });
         }
-        if let Some(bell) = bell
-            && let Mood::Answers(_) = self.mood
-        {
-            bell.ring();
+        if let Some(bell) = bell {
+            if let Mood::Answers(_) = self.mood {
+                bell.ring();
+            }
         }
         Ok(TICKET)
     }
@@ -117,7 +117,10 @@ impl<S: Setup, K: Keep, C: Ledger, A: Ledger, T: Ledger, F: Ledger> Service<K, C
         if matches!(self.mood, Mood::Answers(count) if before < count) {
             return Err(Declined::Premature { call, bell });
         }
-        self.take(now, bell).map_err(Declined::Refused)
+        match self.take(now, bell) {
+            Ok(ticket) => Ok(ticket),
+            Err(refused) => Err(Declined::Refused(refused)),
+        }
     }
 
     fn look<R: Wait>(&self, _rt: &R, _ticket: Ticket) -> Look {
