@@ -105,16 +105,12 @@ impl<
     T: Ledger,
     F: Ledger,
 > Scene<R, X, S, C, A, T, F> {
-    /// The exchange of a line, over a new connection with this note of its open Next.
-    fn exchange(
+    /// A new connection, whose clock stands at a moment, with the note of its open Next.
+    fn connection(
         &self,
-        line: u64,
-        text: &str,
+        at: At,
         open: &Arc<OpenPoll>,
-    ) -> Result<Exchange<R, X, Rows<S>, At, Pieces, KeepNone, C, A, T, F>, CaseFault>
-        ensures { IfOk result (λ exchange. CanGoOn (λ _. ⊤) exchange.stage) }
-    {
-        let Ask { at, parts, body } = ask_in(self.alloc, line, text)?;
+    ) -> Result<Arc<Connection<R, X, Rows<S>, At, KeepNone, C, A, T, F>>, AllocError> {
         let connection = Connection::new(
             self.rt,
             self.alloc,
@@ -125,8 +121,20 @@ impl<
             Arc::try_clone(open)?,
             self.patience,
         );
-        let connection = Arc::new(self.alloc, connection)?;
-        Ok(Exchange::new(connection, parts, body))
+        Ok(Arc::new(self.alloc, connection)?)
+    }
+
+    /// The exchange of a line, over a new connection.
+    fn exchange(
+        &self,
+        line: u64,
+        text: &str,
+        open: &Arc<OpenPoll>,
+    ) -> Result<Exchange<R, X, Rows<S>, At, Pieces, KeepNone, C, A, T, F>, CaseFault>
+        ensures { IfOk result (λ exchange. CanGoOn (λ _. ⊤) exchange.stage) }
+    {
+        let Ask { at, parts, body } = ask_in(self.alloc, line, text)?;
+        Ok(Exchange::new(self.connection(at, open)?, parts, body))
     }
 
     /// Adds the line of a request, what came of it, and the Next that its connection has open then.
@@ -187,8 +195,10 @@ impl<
             self.exchange(line, second, &open)?.map(with_memory),
             self.exchange(line, third, &open)?.map(with_memory),
         );
-        let Ok((one, other, last)) = ran(block_on(&self.rt, three))? else {
-            return Err(CaseFault::Memory);
+        let (one, other, last) = match ran(block_on(&self.rt, three))? {
+            Ok(replies) => replies,
+            Err(ExchangeFault::OutOfMemory) => return Err(CaseFault::Memory),
+            Err(_) => return Err(malformed(line, "three that are answered are wanted")),
         };
         self.tell(given, first, Some(Ok(one)), &open)?;
         self.tell(given, second, Some(Ok(other)), &open)?;
