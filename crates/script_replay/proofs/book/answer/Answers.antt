@@ -14,12 +14,12 @@ grown_ok (Err e) new grown kept is = tt
 pub push_from-requires : goal.push_from-requires
 push_from-requires c =
     let is = ap (λ (b : Kept). b.history) c.in-Ok.ensures.step in
-    record { there = rw (c.entries-before.ensures, length-reverse, is) (next_longer _ _ _ _) }
+    record { there = rw (c.len-before.ensures, c.entries.ensures, length-reverse, is) (next_longer _ _ _ _) }
 
 pub returns-in-Ok-clause-text : goal.returns-in-Ok-clause-text
 returns-in-Ok-clause-text c =
     let free = not_true _ (λ yes. let never = sym c.in-Ok.is ∙ c.apply.ensures.full.1 yes in cc) in
-    let before = ap length c.entries-before.ensures ∙ length-reverse _ in
+    let before = c.len-before.ensures ∙ ap length c.entries.ensures ∙ length-reverse _ in
     on_ok_weaker c.push_from.result (λ wrote. wrote ∙ ap (λ (text : List ℕ). c.args.out.now.items ++ text) (lines_answered _ _ _ _ _ free c.in-Ok.ensures.step before)) c.push_from.ensures
 
 pub returns-in-Err-JournalFull-clause-text : goal.returns-in-Err-JournalFull-clause-text

@@ -11,5 +11,5 @@ push_answers-requires-clause-counted c =
 pub loop-number-preserved : goal.loop-number-preserved
 loop-number-preserved c = record {
   within = omega arith;
-  written = lines_step _ _ _ _ _ _ c.loop-number-test.true c.in_ok-push_answers.ensures.ok ∙ c.loop-number.invariant.written;
+  written = lines_step _ _ c.entries-entries.result.now.0 c.loop-number.number _ _ (omega (arith, c.loop-number-test.true, c.len.ensures)) c.in_ok-push_answers.ensures.ok ∙ c.loop-number.invariant.written;
 }
