@@ -1,6 +1,6 @@
 //! What is done with a request, as a line.
 
-ghost use Rattle.std.specs.Prelude.{◌≡◌, [], ◌∷◌};
+ghost use Rattle.std.specs.Prelude.{◌≡◌, [], ◌∷◌, IfOk};
 ghost use Rattle.script.specs.CallCounts.{request_count};
 
 use crate::port::Door;
@@ -8,6 +8,7 @@ use arn_ids::Checked;
 use bytes::Bytes;
 use call_model::{Answers, Call, Entry};
 use case_tables::CaseFault;
+use entry_blocks::Blocks;
 use http::request::Parts;
 use http_routes::{Decision, Shown};
 use lambda_wire::Reply;
@@ -46,6 +47,16 @@ fn count_of(entry: &Entry) -> u64
     }
 }
 
+/// A row of one item.
+fn row_of<T: Drop>(alloc: Global, item: T) -> Result<Blocks<T>, AllocError>
+    ensures { IfOk result (λ row. row.0 ≡ item ∷ []) }
+{
+    let mut row = Blocks::open(alloc);
+    row.reserve(1)?;
+    row.push(item);
+    Ok(row)
+}
+
 /// The line of a script that a call is read from.
 fn line_of(alloc: Global, config: &Checked, call: Call) -> Result<Vec<u8>, AllocError> {
     let entry = Entry {
@@ -56,7 +67,9 @@ fn line_of(alloc: Global, config: &Checked, call: Call) -> Result<Vec<u8>, Alloc
     };
     let mut line = Vec::new(alloc);
     let count = count_of(&entry);
-    push_entry(&mut line, config, 0, &[entry], &[count], 0)?;
+    let entries = row_of(alloc, entry)?;
+    let counts = row_of(alloc, count)?;
+    push_entry(&mut line, config, 0, &entries, &counts, 0)?;
     Ok(line)
 }
 
