@@ -1,5 +1,5 @@
 -- A settled account's counts, of one of two configurations that are the same.
-use Rattle.std.specs.Prelude.{◌≡◌, List, Result, Ok, Err, IfOk, sym, subst, tt}
+use Rattle.std.proofs.Common.{◌≡◌, List, Result, Ok, Err, IfOk, sym, subst}
 use Rattle.arn_ids.specs.declared.config.Config.{Config}
 use Rattle.call_model.specs.declared.stats.Stats.{Stats}
 use Rattle.usage_ledger.specs.Tallies.{Tallied}
