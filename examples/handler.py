@@ -1,5 +1,5 @@
 """A handler of your own: `examples/runtime.py handler:greet` serves it, and so does `tools/up examples/up.json`."""
 
 
-def greet(event):
+def greet(event, context):
     return {"greeting": f"Hello, {event.get('name', 'world')}!"}

@@ -5,10 +5,10 @@ coverage and monkeypatches work. As a pytest plugin (PYTHONPATH=tools pytest -p 
         lambda_local.start(greet=lambda event: {"hello": event["name"]})
         assert lambda_local.invoke("greet", {"name": "Ada"}) == {"hello": "Ada"}
 
-and without pytest: `with LambdaLocal(greet=handler) as service: ..`. A handler takes the event, or the event and the
-headers of its invocation. The end stops the service and checks its counts, and that its history replays to itself.
-The report of a failed test has the history and its timeline, and names the files where both stand whole.
-The program is LAMBDA_LOCAL_PROGRAM, else the repository's ./lambda_local."""
+and without pytest: `with LambdaLocal(greet=handler) as service: ..`. A handler takes the event, or the event and
+its context, as Lambda calls it; `context.headers` are those of the invocation. The end stops the service and checks
+its counts, and that its history replays to itself. The report of a failed test has the history and its timeline, and
+names the files where both stand whole. The program is LAMBDA_LOCAL_PROGRAM, else the repository's ./lambda_local."""
 import http.client
 import inspect
 import json
@@ -17,6 +17,7 @@ import subprocess
 import sys
 import threading
 import time
+import types
 import urllib.error
 import urllib.request
 
@@ -51,6 +52,13 @@ class LambdaLocal:
                     self.threads[-1].start()
         return self
 
+    def _context(self, headers):
+        arn, deadline = headers["Lambda-Runtime-Invoked-Function-Arn"], int(headers["Lambda-Runtime-Deadline-Ms"])
+        return types.SimpleNamespace(
+            headers=headers, aws_request_id=headers["Lambda-Runtime-Aws-Request-Id"], invoked_function_arn=arn,
+            function_name=arn.split(":")[6], function_version="$LATEST", memory_limit_in_mb="128",
+            get_remaining_time_in_millis=lambda: max(0, deadline - int(1000 * time.time())))
+
     def _serve(self, port, handler):
         both = len(inspect.signature(handler).parameters) > 1
         connection = http.client.HTTPConnection("127.0.0.1", port)
@@ -67,7 +75,7 @@ class LambdaLocal:
                     continue
                 path = f"{RUNTIME}invocation/{headers['Lambda-Runtime-Aws-Request-Id']}/"
                 try:
-                    output, end = json.dumps(handler(*([json.loads(payload), headers] if both else [json.loads(payload)]))), "response"
+                    output, end = json.dumps(handler(*([json.loads(payload), self._context(headers)] if both else [json.loads(payload)]))), "response"
                 except Exception as fault:  # what the handler raises is the invocation's error
                     output, end = json.dumps({"errorMessage": str(fault), "errorType": type(fault).__name__}), "error"
                 connection.request("POST", path + end, output)

@@ -20,8 +20,8 @@ import pytest
 
 WORD = "plain"
 
-def greet(event, headers):
-    return {"hello": event["name"], "word": WORD, "process": os.getpid(), "has": "Lambda-Runtime-Deadline-Ms" in headers}
+def greet(event, context):
+    return {"hello": event["name"], "word": WORD, "process": os.getpid(), "has": 0 < context.get_remaining_time_in_millis() <= 3000}
 
 def test_in_this_process(lambda_local, monkeypatch):
     monkeypatch.setattr(f"{__name__}.WORD", "patched")
