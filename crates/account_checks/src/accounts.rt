@@ -14,9 +14,8 @@ use case_tables::{Case, CaseFault};
 use std::alloc::Global;
 use std::marker::Brand;
 use std::sync::Wait;
-use std::sync::ledger::{Blank, Ledger};
 use std::thread::Threads;
-use usage_ledger::{Keep, KeepAll, KeepNone};
+use usage_ledger::{Blanks, Keep, KeepAll, KeepNone};
 
 /// Whether a case is run by an account or by a desk.
 #[derive(Clone, Copy)]
@@ -30,16 +29,7 @@ fn run_case<
     R: Wait + Threads + Copy + Send + Sync + Drop + 'static,
     S: Setup + Send + Sync + Drop,
     K: Keep + Send + Sync,
-    C: Ledger + Send + Sync,
-    A: Ledger + Send + Sync,
-    T: Ledger + Send + Sync,
-    F: Ledger + Send + Sync,
->(
-    alloc: Global,
-    case: &Case,
-    seats: Seats<R, S, K, C, A, T, F>,
-    given: &mut String,
-) -> Result<(), CaseFault> {
+>(alloc: Global, case: &Case, seats: Seats<R, S, K>, given: &mut String) -> Result<(), CaseFault> {
     let mut seats = seats;
     let mut bells = Bells::new(alloc)?;
     for part in case.parts() {
@@ -57,15 +47,11 @@ fn play_opened<
     R: Wait + Threads + Copy + Send + Sync + Drop + 'static,
     S: Setup + Send + Sync + Drop,
     K: Keep + Send + Sync,
-    C: Ledger + Send + Sync,
-    A: Ledger + Send + Sync,
-    T: Ledger + Send + Sync,
-    F: Ledger + Send + Sync,
 >(
     alloc: Global,
     case: &Case,
     way: Way,
-    opened: Result<Opened<R, S, K, C, A, T, F>, OpenFault>,
+    opened: Result<Opened<R, S, K>, OpenFault>,
     given: &mut String,
 ) -> Result<(), CaseFault> {
     match opened {
@@ -83,31 +69,21 @@ fn play<
     R: Wait + Threads + Copy + Send + Sync + Drop + 'static,
     S: Setup + Send + Sync + Drop,
     K: Keep + Send + Sync,
-    C: Ledger + Send + Sync,
-    A: Ledger + Send + Sync,
-    T: Ledger + Send + Sync,
-    F: Ledger + Send + Sync,
 >(
     rt: R,
     alloc: Global,
     case: &Case,
     way: Way,
     opening: Opening,
-    calls: Blank,
-    admitted: Blank,
-    throttled: Blank,
-    failed: Blank,
+    blanks: Blanks,
     given: &mut String,
 ) -> Result<(), CaseFault>
     requires configured { opening.config ≡ S.config }
-    requires calls { (calls.name ≡ C.name) × (calls.parts ≡ C.parts) × (C.parts ≡ 2 ^ 32) }
-    requires admitted { (admitted.name ≡ A.name) × (admitted.parts ≡ A.parts) × (A.parts ≡ 2 ^ 32) }
-    requires throttled { (throttled.name ≡ T.name) × (throttled.parts ≡ T.parts) × (T.parts ≡ 2 ^ 32) }
-    requires failed { (failed.name ≡ F.name) × (failed.parts ≡ F.parts) × (F.parts ≡ 2 ^ 32) }
+    requires named { blanks ≡ S.names }
 {
-    let opened: Result<Opened<R, S, K, C, A, T, F>, OpenFault> = match way {
-        Way::Account => open_account(rt, alloc, opening, calls, admitted, throttled, failed),
-        Way::Desk => open_desk(rt, alloc, opening, calls, admitted, throttled, failed),
+    let opened: Result<Opened<R, S, K>, OpenFault> = match way {
+        Way::Account => open_account(rt, alloc, opening, blanks),
+        Way::Desk => open_desk(rt, alloc, opening, blanks),
     };
     play_opened(alloc, case, way, opened, given)
 }
@@ -121,18 +97,7 @@ fn play_by_brand<R: Wait + Threads + Copy + Send + Sync + Drop + 'static, K: Kee
     opening: Opening,
     given: &mut String,
 ) -> Result<(), CaseFault> {
-    play::<R, Brand, K, Brand, Brand, Brand, Brand>(
-        rt,
-        alloc,
-        case,
-        way,
-        opening,
-        Blank::new(1 << 32),
-        Blank::new(1 << 32),
-        Blank::new(1 << 32),
-        Blank::new(1 << 32),
-        given,
-    )
+    play::<R, Brand, K>(rt, alloc, case, way, opening, Blanks::new(), given)
 }
 
 /// Whether the tallies of a case keep everything.

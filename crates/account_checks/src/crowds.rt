@@ -11,17 +11,16 @@ use call_model::Ticket;
 use case_tables::CaseFault;
 use std::alloc::{AllocError, Global};
 use std::sync::Wait;
-use std::sync::ledger::Ledger;
 use std::thread::{self, Threads};
-use usage_ledger::{Keep, Tally};
+use usage_ledger::{Keep, Ledgers, Tally};
 
 /// How many milliseconds go by in a turn.
 const TURN: u64 = 500;
 
 /// What a thread works with: its tally, and the environment at which it polls.
 #[derive(Drop)]
-struct Job<K: Keep, C: Ledger, A: Ledger, T: Ledger, F: Ledger> {
-    tally: Tally<K, C, A, T, F>,
+struct Job<K: Keep, L: Ledgers> {
+    tally: Tally<K, L>,
     env: u64,
 }
 
@@ -52,9 +51,9 @@ fn line_with(alloc: Global, line: &str, words: Words) -> Result<String, AllocErr
 }
 
 /// Makes the call of a line; its ticket.
-fn one_call<R: Wait, S: Setup, K: Keep, C: Ledger, A: Ledger, T: Ledger, F: Ledger>(
-    place: &Place<R, S, C, A, T, F>,
-    tally: &mut Tally<K, C, A, T, F>,
+fn one_call<R: Wait, S: Setup, K: Keep>(
+    place: &Place<R, S>,
+    tally: &mut Tally<K, S>,
     bells: &Bells,
     number: u64,
     line: &str,
@@ -67,9 +66,9 @@ fn one_call<R: Wait, S: Setup, K: Keep, C: Ledger, A: Ledger, T: Ledger, F: Ledg
 }
 
 /// Makes the calls of all lines once; the ticket of the last Next.
-fn one_turn<R: Wait, S: Setup, K: Keep, C: Ledger, A: Ledger, T: Ledger, F: Ledger>(
-    place: &Place<R, S, C, A, T, F>,
-    tally: &mut Tally<K, C, A, T, F>,
+fn one_turn<R: Wait, S: Setup, K: Keep>(
+    place: &Place<R, S>,
+    tally: &mut Tally<K, S>,
     bells: &Bells,
     turns: Turns<'_>,
     words: Words,
@@ -88,12 +87,12 @@ fn one_turn<R: Wait, S: Setup, K: Keep, C: Ledger, A: Ledger, T: Ledger, F: Ledg
 }
 
 /// The calls of a thread; its tally.
-fn work<R: Wait, S: Setup, K: Keep, C: Ledger, A: Ledger, T: Ledger, F: Ledger>(
-    place: &Place<R, S, C, A, T, F>,
+fn work<R: Wait, S: Setup, K: Keep>(
+    place: &Place<R, S>,
     bells: &Bells,
     turns: Turns<'_>,
-    job: Job<K, C, A, T, F>,
-) -> Result<Tally<K, C, A, T, F>, CaseFault> {
+    job: Job<K, S>,
+) -> Result<Tally<K, S>, CaseFault> {
     let Job { tally, env } = job;
     let mut tally = tally;
     let mut parked = 0;
@@ -109,10 +108,10 @@ fn work<R: Wait, S: Setup, K: Keep, C: Ledger, A: Ledger, T: Ledger, F: Ledger>(
 }
 
 /// A job for each of four environments.
-fn jobs_of<K: Keep, C: Ledger, A: Ledger, T: Ledger, F: Ledger>(
+fn jobs_of<K: Keep, L: Ledgers>(
     alloc: Global,
-    tallies: &mut [Tally<K, C, A, T, F>],
-) -> Result<Vec<Job<K, C, A, T, F>>, CaseFault> {
+    tallies: &mut [Tally<K, L>],
+) -> Result<Vec<Job<K, L>>, CaseFault> {
     let mut jobs = Vec::with_capacity(alloc, 4)?;
     for env in 1..5 {
         let Ok(tally) = part_of(tallies.first_mut()) else {
@@ -124,17 +123,9 @@ fn jobs_of<K: Keep, C: Ledger, A: Ledger, T: Ledger, F: Ledger>(
 }
 
 /// Makes the calls of four threads at once. Their tallies are put behind the others.
-pub fn crowd_of<
-    R: Wait + Threads + Sync,
-    S: Setup + Send + Sync,
-    K: Keep + Send + Sync,
-    C: Ledger + Send + Sync,
-    A: Ledger + Send + Sync,
-    T: Ledger + Send + Sync,
-    F: Ledger + Send + Sync,
->(
-    place: &Place<R, S, C, A, T, F>,
-    tallies: &mut Vec<Tally<K, C, A, T, F>>,
+pub fn crowd_of<R: Wait + Threads + Sync, S: Setup + Send + Sync, K: Keep + Send + Sync>(
+    place: &Place<R, S>,
+    tallies: &mut Vec<Tally<K, S>>,
     bells: &Bells,
     turns: Turns<'_>,
 ) -> Result<(), CaseFault> {

@@ -12,8 +12,7 @@ use lambda_wire::Reply;
 use script::read_call;
 use std::alloc::{AllocError, Global};
 use std::sync::Wait;
-use std::sync::ledger::{Blank, Ledger};
-use usage_ledger::{Keep, Tally, root};
+use usage_ledger::{Blanks, Keep, Tally, root};
 
 /// What became of a line.
 #[derive(Clone, Copy)]
@@ -57,11 +56,11 @@ pub enum Said {
 
 /// An account, and its configuration, by which the lines of its calls are read.
 #[derive(Drop)]
-pub struct Place<R, S: Setup, C: Ledger, A: Ledger, T: Ledger, F: Ledger> {
+pub struct Place<R, S: Setup> {
     pub rt: R,
     pub alloc: Global,
     pub config: Checked,
-    pub account: Account<S, Numbered, C, A, T, F>,
+    pub account: Account<S, Numbered>,
     ghost configured: { config ≡ S.config },
 }
 
@@ -74,11 +73,11 @@ fn untaken(refused: &Refused<Numbered>) -> Result<Taken, AllocError> {
     }
 }
 
-impl<R: Wait, S: Setup, C: Ledger, A: Ledger, T: Ledger, F: Ledger> Place<R, S, C, A, T, F> {
+impl<R: Wait, S: Setup> Place<R, S> {
     /// Submits the call of a line by a tally, with a bell, which comes back where it is refused.
     fn submit_once<K: Keep>(
         &self,
-        tally: &mut Tally<K, C, A, T, F>,
+        tally: &mut Tally<K, S>,
         line: &[u8],
         bell: Option<Numbered>,
     ) -> Result<Taken, Refused<Numbered>> {
@@ -101,7 +100,7 @@ impl<R: Wait, S: Setup, C: Ledger, A: Ledger, T: Ledger, F: Ledger> Place<R, S, 
     /// where memory was refused: account and tally are then as they were.
     pub fn submit<K: Keep>(
         &self,
-        tally: &mut Tally<K, C, A, T, F>,
+        tally: &mut Tally<K, S>,
         line: &[u8],
         bell: Numbered,
     ) -> Result<Taken, AllocError> {
@@ -144,26 +143,20 @@ impl<R: Wait, S: Setup, C: Ledger, A: Ledger, T: Ledger, F: Ledger> Place<R, S, 
 
 /// An account and the tally that has all parts.
 #[derive(Drop)]
-pub struct Opened<R, S: Setup, K: Keep, C: Ledger, A: Ledger, T: Ledger, F: Ledger> {
-    pub place: Place<R, S, C, A, T, F>,
-    pub root: Tally<K, C, A, T, F>,
+pub struct Opened<R, S: Setup, K: Keep> {
+    pub place: Place<R, S>,
+    pub root: Tally<K, S>,
 }
 
 /// Opens an account.
-pub fn open_account<R: Drop, S: Setup, K: Keep, C: Ledger, A: Ledger, T: Ledger, F: Ledger>(
+pub fn open_account<R: Drop, S: Setup, K: Keep>(
     rt: R,
     alloc: Global,
     opening: Opening,
-    calls: Blank,
-    admitted: Blank,
-    throttled: Blank,
-    failed: Blank,
-) -> Result<Opened<R, S, K, C, A, T, F>, OpenFault>
+    blanks: Blanks,
+) -> Result<Opened<R, S, K>, OpenFault>
     requires configured { opening.config ≡ S.config }
-    requires calls { (calls.name ≡ C.name) × (calls.parts ≡ C.parts) × (C.parts ≡ 2 ^ 32) }
-    requires admitted { (admitted.name ≡ A.name) × (admitted.parts ≡ A.parts) × (A.parts ≡ 2 ^ 32) }
-    requires throttled { (throttled.name ≡ T.name) × (throttled.parts ≡ T.parts) × (T.parts ≡ 2 ^ 32) }
-    requires failed { (failed.name ≡ F.name) × (failed.parts ≡ F.parts) × (F.parts ≡ 2 ^ 32) }
+    requires named { blanks ≡ S.names }
 {
     let Opening {
         config,
@@ -171,16 +164,7 @@ pub fn open_account<R: Drop, S: Setup, K: Keep, C: Ledger, A: Ledger, T: Ledger,
         salt,
         max_entries,
     } = opening;
-    let (account, root) = match Account::open(
-        alloc,
-        config,
-        salt,
-        max_entries,
-        calls,
-        admitted,
-        throttled,
-        failed,
-    ) {
+    let (account, root) = match Account::open(alloc, config, salt, max_entries, blanks) {
         Ok(opened) => opened,
         Err(fault) => return Err(fault),
     };
@@ -196,20 +180,14 @@ pub fn open_account<R: Drop, S: Setup, K: Keep, C: Ledger, A: Ledger, T: Ledger,
 }
 
 /// Opens a desk, and puts it behind a lock.
-pub fn open_desk<R: Drop, S: Setup, K: Keep, C: Ledger, A: Ledger, T: Ledger, F: Ledger>(
+pub fn open_desk<R: Drop, S: Setup, K: Keep>(
     rt: R,
     alloc: Global,
     opening: Opening,
-    calls: Blank,
-    admitted: Blank,
-    throttled: Blank,
-    failed: Blank,
-) -> Result<Opened<R, S, K, C, A, T, F>, OpenFault>
+    blanks: Blanks,
+) -> Result<Opened<R, S, K>, OpenFault>
     requires configured { opening.config ≡ S.config }
-    requires calls { (calls.name ≡ C.name) × (calls.parts ≡ C.parts) × (C.parts ≡ 2 ^ 32) }
-    requires admitted { (admitted.name ≡ A.name) × (admitted.parts ≡ A.parts) × (A.parts ≡ 2 ^ 32) }
-    requires throttled { (throttled.name ≡ T.name) × (throttled.parts ≡ T.parts) × (T.parts ≡ 2 ^ 32) }
-    requires failed { (failed.name ≡ F.name) × (failed.parts ≡ F.parts) × (F.parts ≡ 2 ^ 32) }
+    requires named { blanks ≡ S.names }
 {
     let Opening {
         config,
@@ -221,7 +199,7 @@ pub fn open_desk<R: Drop, S: Setup, K: Keep, C: Ledger, A: Ledger, T: Ledger, F:
         Ok(book) => book,
         Err(fault) => return Err(fault),
     };
-    let (totals, root) = root(alloc, calls, admitted, throttled, failed);
+    let (totals, root) = root(alloc, blanks);
     Ok(Opened {
         place: Place {
             rt,

@@ -10,23 +10,22 @@ use call_model::Stats;
 use case_tables::CaseFault;
 use std::alloc::AllocError;
 use std::sync::Wait;
-use std::sync::ledger::Ledger;
 use std::thread::Threads;
-use usage_ledger::{JoinFault, Keep, Tally};
+use usage_ledger::{JoinFault, Keep, Ledgers, Tally};
 
 /// An account with its tallies, and with the one that is held back.
 #[derive(Drop)]
-pub struct Seats<R, S: Setup, K: Keep, C: Ledger, A: Ledger, T: Ledger, F: Ledger> {
-    place: Place<R, S, C, A, T, F>,
-    tallies: Vec<Tally<K, C, A, T, F>>,
-    held_back: Option<Tally<K, C, A, T, F>>,
+pub struct Seats<R, S: Setup, K: Keep> {
+    place: Place<R, S>,
+    tallies: Vec<Tally<K, S>>,
+    held_back: Option<Tally<K, S>>,
     settles_desk: bool,
 }
 
 /// A new tally with a part of another one.
-pub fn part_of<K: Keep, C: Ledger, A: Ledger, T: Ledger, F: Ledger>(
-    tally: Option<&mut Tally<K, C, A, T, F>>,
-) -> Result<Tally<K, C, A, T, F>, SeatFault> {
+pub fn part_of<K: Keep, L: Ledgers>(
+    tally: Option<&mut Tally<K, L>>,
+) -> Result<Tally<K, L>, SeatFault> {
     let Some(tally) = tally else {
         return Err(SeatFault::NoTally);
     };
@@ -37,10 +36,10 @@ pub fn part_of<K: Keep, C: Ledger, A: Ledger, T: Ledger, F: Ledger>(
 }
 
 /// Takes a tally out of these.
-fn taken_out<K: Keep, C: Ledger, A: Ledger, T: Ledger, F: Ledger>(
-    tallies: &mut Vec<Tally<K, C, A, T, F>>,
+fn taken_out<K: Keep, L: Ledgers>(
+    tallies: &mut Vec<Tally<K, L>>,
     seat: usize,
-) -> Result<Tally<K, C, A, T, F>, SeatFault> {
+) -> Result<Tally<K, L>, SeatFault> {
     if seat >= tallies.len() {
         return Err(SeatFault::NoTally);
     }
@@ -48,8 +47,8 @@ fn taken_out<K: Keep, C: Ledger, A: Ledger, T: Ledger, F: Ledger>(
 }
 
 /// Notes receipts.
-fn note_receipts<K: Keep, C: Ledger, A: Ledger, T: Ledger, F: Ledger>(
-    tally: &mut Tally<K, C, A, T, F>,
+fn note_receipts<K: Keep, L: Ledgers>(
+    tally: &mut Tally<K, L>,
     kept: &Kept,
 ) -> Result<(), AllocError> {
     for receipt in kept.receipts.iter() {
@@ -60,10 +59,7 @@ fn note_receipts<K: Keep, C: Ledger, A: Ledger, T: Ledger, F: Ledger>(
 }
 
 /// Notes calls.
-fn note_calls<K: Keep, C: Ledger, A: Ledger, T: Ledger, F: Ledger>(
-    tally: &mut Tally<K, C, A, T, F>,
-    kept: &Kept,
-) -> Result<(), AllocError> {
+fn note_calls<K: Keep, L: Ledgers>(tally: &mut Tally<K, L>, kept: &Kept) -> Result<(), AllocError> {
     for call in kept.calls.iter() {
         tally.room(1)?;
         tally.made(call.0, call.1);
@@ -72,10 +68,10 @@ fn note_calls<K: Keep, C: Ledger, A: Ledger, T: Ledger, F: Ledger>(
 }
 
 /// Two tallies as one.
-fn joined<K: Keep, C: Ledger, A: Ledger, T: Ledger, F: Ledger>(
-    one: Tally<K, C, A, T, F>,
-    other: Tally<K, C, A, T, F>,
-) -> Result<Tally<K, C, A, T, F>, SeatFault> {
+fn joined<K: Keep, L: Ledgers>(
+    one: Tally<K, L>,
+    other: Tally<K, L>,
+) -> Result<Tally<K, L>, SeatFault> {
     match one.join(other) {
         Ok(joined) => Ok(joined),
         Err(JoinFault::OutOfMemory { .. }) => Err(SeatFault::Memory),
@@ -91,10 +87,10 @@ fn counted(settled: Result<Settled, SettleFault>) -> Result<(Stats, u64), Settle
 }
 
 /// Settles an account, or its desk.
-fn settle_account<S: Setup, K: Keep, C: Ledger, A: Ledger, T: Ledger, F: Ledger>(
-    account: Account<S, Numbered, C, A, T, F>,
+fn settle_account<S: Setup, K: Keep>(
+    account: Account<S, Numbered>,
     settles_desk: bool,
-    tallies: Vec<Tally<K, C, A, T, F>>,
+    tallies: Vec<Tally<K, S>>,
 ) -> Result<Settled, SettleFault> {
     if settles_desk {
         account.into_desk().settle(tallies)
@@ -103,20 +99,9 @@ fn settle_account<S: Setup, K: Keep, C: Ledger, A: Ledger, T: Ledger, F: Ledger>
     }
 }
 
-impl<R: Drop, S: Setup + Drop, K: Keep, C: Ledger, A: Ledger, T: Ledger, F: Ledger> Seats<
-    R,
-    S,
-    K,
-    C,
-    A,
-    T,
-    F,
-> {
+impl<R: Drop, S: Setup + Drop, K: Keep> Seats<R, S, K> {
     /// An account with its first tally.
-    pub fn new(
-        opened: Opened<R, S, K, C, A, T, F>,
-        settles_desk: bool,
-    ) -> Result<Seats<R, S, K, C, A, T, F>, AllocError> {
+    pub fn new(opened: Opened<R, S, K>, settles_desk: bool) -> Result<Seats<R, S, K>, AllocError> {
         let Opened { place, root } = opened;
         let mut tallies = Vec::with_capacity(place.alloc, 1)?;
         tallies.push(root)?;
@@ -130,24 +115,15 @@ impl<R: Drop, S: Setup + Drop, K: Keep, C: Ledger, A: Ledger, T: Ledger, F: Ledg
 }
 
 /// Makes the calls of four threads at once, each by a tally of its own.
-pub fn crowd<
-    R: Wait + Threads + Sync,
-    S: Setup + Send + Sync,
-    K: Keep + Send + Sync,
-    C: Ledger + Send + Sync,
-    A: Ledger + Send + Sync,
-    T: Ledger + Send + Sync,
-    F: Ledger + Send + Sync,
->(
-    seats: &mut Seats<R, S, K, C, A, T, F>,
+pub fn crowd<R: Wait + Threads + Sync, S: Setup + Send + Sync, K: Keep + Send + Sync>(
+    seats: &mut Seats<R, S, K>,
     bells: &Bells,
     turns: Turns<'_>,
 ) -> Result<(), CaseFault> {
     crowd_of(&seats.place, &mut seats.tallies, bells, turns)
 }
 
-impl<R: Wait + Drop, S: Setup + Drop, K: Keep, C: Ledger, A: Ledger, T: Ledger, F: Ledger> Stand
-    for Seats<R, S, K, C, A, T, F> {
+impl<R: Wait + Drop, S: Setup + Drop, K: Keep> Stand for Seats<R, S, K> {
     fn make_seat(&mut self, seat: usize) -> Result<(), SeatFault> {
         for _ in self.tallies.len()..seat.saturating_add(1) {
             let tally = part_of(self.tallies.first_mut())?;

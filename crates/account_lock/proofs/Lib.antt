@@ -20,3 +20,5 @@ pub mod Agreeing
 pub mod Noting
 -- The text of an entry, as it is shown under the lock.
 pub mod ShownTexts
+-- Where nothing is kept, and nothing need be, all that is kept is right.
+pub mod KeepingNothing

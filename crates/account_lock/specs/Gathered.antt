@@ -1,5 +1,5 @@
 -- What tallies have together.
-use Rattle.std.specs.Prelude.{ℕ, ◌==◌, List, count_by, sum_by}
+use Rattle.std.specs.Prelude.{ℕ, Bool, ◌==◌, ◌&&◌, List, length, count_by, sum_by}
 use Rattle.usage_ledger.specs.Counts.{counts}
 use Rattle.usage_ledger.specs.Tallies.{Tallied}
 use Rattle.usage_ledger.specs.declared.counts.Counts.{Counts}
@@ -25,3 +25,7 @@ receipts_of t tallies = sum_by (λ tally. times t tally.held.kept.receipts) tall
 -- how many calls they keep with a ticket
 abbrev pub calls_of : ℕ → List Tallied → ℕ
 calls_of t tallies = sum_by (λ tally. times t tally.held.kept.calls) tallies
+
+-- whether a tally keeps neither receipts nor calls
+abbrev pub keeps_nothing : Tallied → Bool
+keeps_nothing tally = (length tally.held.kept.receipts == 0) && (length tally.held.kept.calls == 0)

@@ -1,6 +1,7 @@
 -- What comes back of a call that was offered and not taken.
 use Rattle.std.specs.Prelude.{◌≡◌, Bool, true, false, Option}
 use Rattle.call_model.specs.declared.call.Call.{Call}
+use Rattle.account_book.specs.declared.book.Refusal.{Refusal}
 use Rattle.account_lock.specs.declared.offering.Declined.{Declined}
 use Rattle.account_lock.specs.declared.offering.Declined.TheVariants.{Premature, Refused}
 
@@ -13,3 +14,8 @@ is_premature (Refused refused) = false
 abbrev pub IsBack : {B : Type 0} → Call → Option B → Declined B → Type 0
 IsBack call bell (Premature other back) = (other ≡ call) × (back ≡ bell)
 IsBack call bell (Refused refused) = refused.bell ≡ bell
+
+-- of a call that was refused
+abbrev pub IfRefused : {B : Type 0} → Declined B → (Refusal → Type 0) → Type 0
+IfRefused (Premature call bell) P = Unit {0}
+IfRefused (Refused refused) P = P refused.refusal

@@ -1,6 +1,7 @@
 //! The account: a desk that threads share.
 
-ghost use Rattle.std.specs.Prelude.{◌≡◌, ◌≢◌, ◌+◌, ◌<◌, ◌≤◌, ◌^◌, ◌↔◌, ℕ, List, is_some, length, option_map, IfOk, IfErr, OnOk, IsErrOf};
+ghost use Rattle.std.specs.Prelude.{◌≡◌, ◌≢◌, ◌+◌, ◌<◌, ◌≤◌, ◌^◌, ◌↔◌, ℕ, List, true, false, is_some, length, option_map, IfOk, IfErr, OnOk, IsErrOf};
+ghost use Rattle.std.specs.List.{list_all};
 ghost use Rattle.arn_ids.specs.Environments.{owners};
 ghost use Rattle.account_book.specs.declared.book.OpenFault.TheVariants.{EntriesOutOfRange};
 ghost use Rattle.call_model.specs.declared.answer.Answer.{Answer as Told};
@@ -18,7 +19,7 @@ ghost use Rattle.account_book.specs.ReplyText.{reply_text};
 ghost use Rattle.usage_ledger.specs.Keeping.{Steps, Kept};
 ghost use Rattle.usage_ledger.specs.Tallies.{fresh};
 ghost use Rattle.account_lock.specs.Counting.{counts_of};
-ghost use Rattle.account_lock.specs.Gathered.{counts_in};
+ghost use Rattle.account_lock.specs.Gathered.{counts_in, keeps_nothing};
 ghost use Rattle.account_lock.specs.Looks.{look_of};
 ghost use Rattle.account_lock.specs.Offers.{IsBack};
 ghost use Rattle.account_lock.specs.Settlement.{IsSettled, IsFault};
@@ -32,12 +33,12 @@ use call_model::{Call, Stats, Ticket};
 use lambda_wire::Reply;
 use std::alloc::{AllocError, Global};
 use std::marker::{Brand, PhantomData};
-use std::sync::ledger::{Blank, Ledger};
 use std::sync::{Mutex, Wait};
-use usage_ledger::{Keep, Tally, root};
+use usage_ledger::{Blanks, Keep, Ledgers, Tally, root};
 
-/// Stands for the configuration of an account in its type, so that callers know it without the lock.
-pub trait Setup {
+/// Stands for the ledgers and the configuration of an account in its type, so that callers know both
+/// without the lock.
+pub trait Setup: Ledgers {
     ghost use Rattle.arn_ids.specs.declared.config.Config.{Config};
 
     /// The configuration.
@@ -54,16 +55,16 @@ impl Setup for Brand {
 
 /// A desk whose configuration is the one that its type names.
 #[derive(Drop)]
-struct Locked<S: Setup, B, C: Ledger, A: Ledger, T: Ledger, F: Ledger> {
-    desk: Desk<B, C, A, T, F>,
+struct Locked<S: Setup, B> {
+    desk: Desk<B, S>,
     of: PhantomData<S>,
     ghost configured: { desk.book.config ≡ S.config },
 }
 
 /// One account, which threads share: its desk, of which one thread at a time makes a step or reads.
 #[derive(Drop)]
-pub struct Account<S: Setup, B, C: Ledger, A: Ledger, T: Ledger, F: Ledger> {
-    locked: Mutex<Locked<S, B, C, A, T, F>>,
+pub struct Account<S: Setup, B> {
+    locked: Mutex<Locked<S, B>>,
 }
 
 /// Rings the bells of a step, once the lock is free, and gives the call's ticket.
@@ -77,12 +78,12 @@ fn ring_out<B: Bell>(step: Step<B>) -> Ticket
     ticket
 }
 
-impl<S: Setup, B: Bell, C: Ledger, A: Ledger, T: Ledger, F: Ledger> Locked<S, B, C, A, T, F> {
+impl<S: Setup, B: Bell> Locked<S, B> {
     /// One step of the desk.
     #[tactic(auto, using(crate::proofs::Stepping::one_call_within))]
     fn apply<K: Keep>(
         &mut self,
-        tally: &mut Tally<K, C, A, T, F>,
+        tally: &mut Tally<K, S>,
         now: u64,
         call: Call,
         bell: Option<B>,
@@ -101,7 +102,7 @@ impl<S: Setup, B: Bell, C: Ledger, A: Ledger, T: Ledger, F: Ledger> Locked<S, B,
     #[tactic(auto, using(crate::proofs::Stepping::one_call_within))]
     fn offer<K: Keep>(
         &mut self,
-        tally: &mut Tally<K, C, A, T, F>,
+        tally: &mut Tally<K, S>,
         now: u64,
         call: Call,
         bell: Option<B>,
@@ -174,10 +175,10 @@ impl<S: Setup, B: Bell, C: Ledger, A: Ledger, T: Ledger, F: Ledger> Locked<S, B,
     }
 }
 
-impl<S: Setup, B: Bell, C: Ledger, A: Ledger, T: Ledger, F: Ledger> Account<S, B, C, A, T, F> {
+impl<S: Setup, B: Bell> Account<S, B> {
     /// A new account, of at most so many entries: from the environments and one to 2^32. Its
     /// history is empty, and the tally has all parts of its four ledgers. Each blank becomes the
-    /// ledger that its type parameter names.
+    /// ledger that `S` names.
     ///
     /// # Errors
     /// As `Book::open`: `EntriesOutOfRange`, else `OutOfMemory`.
@@ -186,16 +187,10 @@ impl<S: Setup, B: Bell, C: Ledger, A: Ledger, T: Ledger, F: Ledger> Account<S, B
         config: Checked,
         salt: u64,
         max_entries: u64,
-        calls: Blank,
-        admitted: Blank,
-        throttled: Blank,
-        failed: Blank,
-    ) -> Result<(Account<S, B, C, A, T, F>, Tally<K, C, A, T, F>), OpenFault>
+        blanks: Blanks,
+    ) -> Result<(Account<S, B>, Tally<K, S>), OpenFault>
         requires configured { config ≡ S.config }
-        requires calls { (calls.name ≡ C.name) × (calls.parts ≡ C.parts) × (C.parts ≡ 2 ^ 32) }
-        requires admitted { (admitted.name ≡ A.name) × (admitted.parts ≡ A.parts) × (A.parts ≡ 2 ^ 32) }
-        requires throttled { (throttled.name ≡ T.name) × (throttled.parts ≡ T.parts) × (T.parts ≡ 2 ^ 32) }
-        requires failed { (failed.name ≡ F.name) × (failed.parts ≡ F.parts) × (F.parts ≡ 2 ^ 32) }
+        requires named { blanks ≡ S.names }
         ensures range { IsErrOf result EntriesOutOfRange ↔ ((length (owners config) + 1 ≤ max_entries) × (max_entries ≤ 2 ^ 32) → ⊥) }
         ensures tally { IfOk result (λ opened. opened.1.held ≡ fresh (2 ^ 32)) }
     {
@@ -203,12 +198,12 @@ impl<S: Setup, B: Bell, C: Ledger, A: Ledger, T: Ledger, F: Ledger> Account<S, B
             Ok(book) => book,
             Err(fault) => return Err(fault),
         };
-        let (totals, tally) = root(alloc, calls, admitted, throttled, failed);
+        let (totals, tally) = root(alloc, blanks);
         Ok((Account::share(Desk::open(alloc, book, totals)), tally))
     }
 
     /// Puts a desk behind a lock.
-    pub fn share(desk: Desk<B, C, A, T, F>) -> Account<S, B, C, A, T, F>
+    pub fn share(desk: Desk<B, S>) -> Account<S, B>
         requires { desk.book.config ≡ S.config }
     {
         Account {
@@ -227,7 +222,7 @@ impl<S: Setup, B: Bell, C: Ledger, A: Ledger, T: Ledger, F: Ledger> Account<S, B
     pub fn submit<K: Keep>(
         &self,
         rt: &impl Wait,
-        tally: &mut Tally<K, C, A, T, F>,
+        tally: &mut Tally<K, S>,
         now: u64,
         call: Call,
         bell: Option<B>,
@@ -255,7 +250,7 @@ impl<S: Setup, B: Bell, C: Ledger, A: Ledger, T: Ledger, F: Ledger> Account<S, B
     pub fn offer<K: Keep>(
         &self,
         rt: &impl Wait,
-        tally: &mut Tally<K, C, A, T, F>,
+        tally: &mut Tally<K, S>,
         now: u64,
         call: Call,
         bell: Option<B>,
@@ -345,11 +340,13 @@ impl<S: Setup, B: Bell, C: Ledger, A: Ledger, T: Ledger, F: Ledger> Account<S, B
     ///
     /// # Errors
     /// As `Desk::settle`; account and tallies are then gone. The fault is one of a history that calls
-    /// led to, and where no tally was missing, of one whose counts the tallies have.
-    pub fn settle<K: Keep>(self, tallies: Vec<Tally<K, C, A, T, F>>) -> Result<Settled, SettleFault>
+    /// led to, and where no tally was missing, of one whose counts the tallies have. Where nothing is
+    /// kept and nothing need be, a missing tally is the only one.
+    pub fn settle<K: Keep>(self, tallies: Vec<Tally<K, S>>) -> Result<Settled, SettleFault>
         ensures book { IfOk result (λ settled. (settled.book.config ≡ S.config) × (settled.stats ≡ stats S.config settled.book.history)) }
         ensures settled { IfOk result (λ settled. IsSettled K.ALL settled.book.history tallies.items) }
         ensures fault { IfErr result (λ fault. Shown S.config (λ h. IsFault K.ALL fault h tallies.items × (fault ≢ TallyMissing → counts_in tallies.items ≡ counts_of h))) }
+        ensures nothing { IfErr result (λ fault. K.ALL ≡ false → list_all keeps_nothing tallies.items ≡ true → fault ≡ TallyMissing) }
     {
         let desk = self.into_desk();
         desk.facts();
@@ -357,7 +354,7 @@ impl<S: Setup, B: Bell, C: Ledger, A: Ledger, T: Ledger, F: Ledger> Account<S, B
     }
 
     /// The desk, once no thread shares the account.
-    pub fn into_desk(self) -> Desk<B, C, A, T, F>
+    pub fn into_desk(self) -> Desk<B, S>
         ensures { result.book.config ≡ S.config }
     {
         let Locked { desk, .. } = self.locked.into_inner();

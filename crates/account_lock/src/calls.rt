@@ -9,8 +9,7 @@ use crate::least::lesser;
 use crate::marks::mark_calls;
 use account_book::Book;
 use call_model::{Call, Head, Ticket};
-use std::sync::ledger::Ledger;
-use usage_ledger::{Keep, Tally};
+use usage_ledger::{Keep, Ledgers, Tally};
 
 /// The head of a call that somebody made; none of an expiry.
 fn made(call: &Call) -> Option<Head>
@@ -67,10 +66,7 @@ fn wrong_head(book: &Book, calls: &[(Ticket, Head)]) -> Option<Ticket>
 }
 
 /// The same of the heads of all tallies.
-fn head_differs<K: Keep, C: Ledger, A: Ledger, T: Ledger, F: Ledger>(
-    book: &Book,
-    tallies: &[Tally<K, C, A, T, F>],
-) -> Option<Ticket>
+fn head_differs<K: Keep, L: Ledgers>(book: &Book, tallies: &[Tally<K, L>]) -> Option<Ticket>
     ensures { FirstFailure (λ t. All (λ tally. Agree (head_at book.now.history) tally.held.kept.calls t) tallies.now) result }
 {
     let mut wrong = None;
@@ -101,9 +97,7 @@ fn fallen(calls: &[(Ticket, Head)]) -> Option<Ticket>
 }
 
 /// The same, if no join made the tally.
-fn fallen_in<K: Keep, C: Ledger, A: Ledger, T: Ledger, F: Ledger>(
-    tally: &Tally<K, C, A, T, F>,
-) -> Option<Ticket>
+fn fallen_in<K: Keep, L: Ledgers>(tally: &Tally<K, L>) -> Option<Ticket>
     ensures { FirstFailure (λ t. tally.now.held.joined ≡ false → Rises tally.now.held.kept.calls t) result }
 {
     if tally.joined() {
@@ -114,9 +108,7 @@ fn fallen_in<K: Keep, C: Ledger, A: Ledger, T: Ledger, F: Ledger>(
 }
 
 /// The same of all tallies.
-fn order_differs<K: Keep, C: Ledger, A: Ledger, T: Ledger, F: Ledger>(
-    tallies: &[Tally<K, C, A, T, F>],
-) -> Option<Ticket>
+fn order_differs<K: Keep, L: Ledgers>(tallies: &[Tally<K, L>]) -> Option<Ticket>
     ensures { FirstFailure (λ t. All (λ tally. tally.held.joined ≡ false → Rises tally.held.kept.calls t) tallies.now) result }
 {
     let mut least = None;
@@ -153,10 +145,10 @@ fn call_missing(book: &Book, marks: &[bool], all: bool) -> Option<Ticket>
 
 /// The least ticket at which what the tallies keep of its call is wrong; where all are kept, also
 /// that of a call of which nothing is kept. The marks are blank.
-pub(crate) fn call_differs<K: Keep, C: Ledger, A: Ledger, T: Ledger, F: Ledger>(
+pub(crate) fn call_differs<K: Keep, L: Ledgers>(
     book: &Book,
     marks: Vec<bool>,
-    tallies: &[Tally<K, C, A, T, F>],
+    tallies: &[Tally<K, L>],
     all: bool,
 ) -> Option<Ticket>
     requires len { vec_len marks ≡ length book.now.history }

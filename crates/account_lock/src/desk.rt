@@ -32,8 +32,7 @@ use call_model::{Answer, Call, Stats, Ticket};
 use lambda_wire::Reply;
 use std::alloc::{AllocError, Global};
 use std::marker::Model;
-use std::sync::ledger::Ledger;
-use usage_ledger::{Keep, Tally, Totals};
+use usage_ledger::{Keep, Ledgers, Tally, Totals};
 
 /// What a desk knows of a ticket.
 #[derive(Clone, Copy, Debug, PartialEq, Eq)]
@@ -66,14 +65,14 @@ pub struct Refused<B> {
 /// ledgers. What its type keeps: the history is legal, each bell belongs to a ticket that waits,
 /// and the totals are what the history counts.
 #[derive(Drop)]
-pub struct Desk<B, C: Ledger, A: Ledger, T: Ledger, F: Ledger> {
+pub struct Desk<B, L: Ledgers> {
     pub(crate) alloc: Global,
     pub(crate) book: Book,
     pub(crate) bells: Vec<(Ticket, B)>,
-    pub(crate) totals: Totals<C, A, T, F>,
+    pub(crate) totals: Totals<L>,
 }
 
-impl<B, C: Ledger, A: Ledger, T: Ledger, F: Ledger> Model for Desk<B, C, A, T, F> {
+impl<B, L: Ledgers> Model for Desk<B, L> {
     ghost use Rattle.account_lock.specs.Desks.{Opened, IsDesk, opened};
 
     ghost Value = { Opened B };
@@ -83,9 +82,9 @@ impl<B, C: Ledger, A: Ledger, T: Ledger, F: Ledger> Model for Desk<B, C, A, T, F
     ghost invariant = { λ d. IsDesk (opened d.book d.bells.items d.totals) };
 }
 
-impl<B: Bell, C: Ledger, A: Ledger, T: Ledger, F: Ledger> Desk<B, C, A, T, F> {
+impl<B: Bell, L: Ledgers> Desk<B, L> {
     /// The desk of an empty book, before anything was counted.
-    pub fn open(alloc: Global, book: Book, totals: Totals<C, A, T, F>) -> Desk<B, C, A, T, F>
+    pub fn open(alloc: Global, book: Book, totals: Totals<L>) -> Desk<B, L>
         requires empty { book.history ≡ [] }
         requires none { totals ≡ no_counts }
         ensures { result ≡ opened book [] no_counts }
@@ -108,7 +107,7 @@ impl<B: Bell, C: Ledger, A: Ledger, T: Ledger, F: Ledger> Desk<B, C, A, T, F> {
     /// are then as they were, and the bell comes back.
     pub fn apply<K: Keep>(
         &mut self,
-        tally: &mut Tally<K, C, A, T, F>,
+        tally: &mut Tally<K, L>,
         now: u64,
         call: Call,
         bell: Option<B>,

@@ -8,8 +8,7 @@ ghost use Rattle.account_lock.specs.Marking.{marked, is_at};
 use crate::least::lesser;
 use call_model::Ticket;
 use std::alloc::{AllocError, Global};
-use std::sync::ledger::Ledger;
-use usage_ledger::{Keep, Tally};
+use usage_ledger::{Keep, Ledgers, Tally};
 
 /// So many marks, none set.
 pub(crate) fn blank_marks(alloc: Global, count: usize) -> Result<Vec<bool>, AllocError>
@@ -53,10 +52,7 @@ fn mark_pairs<X>(marks: &mut Vec<bool>, pairs: &[(Ticket, X)]) -> Option<Ticket>
 }
 
 /// Sets the marks of all receipts' tickets; none is set before.
-pub(crate) fn mark_receipts<K: Keep, C: Ledger, A: Ledger, T: Ledger, F: Ledger>(
-    marks: &mut Vec<bool>,
-    tallies: &[Tally<K, C, A, T, F>],
-)
+pub(crate) fn mark_receipts<K: Keep, L: Ledgers>(marks: &mut Vec<bool>, tallies: &[Tally<K, L>])
     requires { (t : ℕ) → marked t marks.old.items ≡ 0 }
     ensures len { vec_len marks.new ≡ vec_len marks.old }
     ensures marks { (t : ℕ) → t < vec_len marks.old → marked t marks.new.items ≡ min 1 (receipts_of t tallies.now) }
@@ -67,9 +63,9 @@ pub(crate) fn mark_receipts<K: Keep, C: Ledger, A: Ledger, T: Ledger, F: Ledger>
 }
 
 /// Sets the marks of all calls' tickets; none is set before. Gives the least that stands twice.
-pub(crate) fn mark_calls<K: Keep, C: Ledger, A: Ledger, T: Ledger, F: Ledger>(
+pub(crate) fn mark_calls<K: Keep, L: Ledgers>(
     marks: &mut Vec<bool>,
-    tallies: &[Tally<K, C, A, T, F>],
+    tallies: &[Tally<K, L>],
 ) -> Option<Ticket>
     requires { (t : ℕ) → marked t marks.old.items ≡ 0 }
     ensures len { vec_len marks.new ≡ vec_len marks.old }

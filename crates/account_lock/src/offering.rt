@@ -1,20 +1,21 @@
 //! A call that is offered: it is taken, unless it is premature.
 
-ghost use Rattle.std.specs.Prelude.{◌≡◌, ◌+◌, ◌<◌, ◌^◌, false, length, IfOk, IfErr, MatchResult};
+ghost use Rattle.std.specs.Prelude.{◌≡◌, ◌+◌, ◌<◌, ◌^◌, ◌↔◌, true, false, length, IfOk, IfErr, MatchResult};
+ghost use Rattle.call_model.specs.Counts.{full};
 ghost use Rattle.call_model.specs.Heads.{head_of};
 ghost use Rattle.script.specs.Limits.{IsWithin};
 ghost use Rattle.account_book.specs.Premature.{premature};
+ghost use Rattle.account_book.specs.declared.book.Refusal.TheVariants.{JournalFull};
 ghost use Rattle.usage_ledger.specs.Counts.{plus};
 ghost use Rattle.usage_ledger.specs.Keeping.{Steps, Kept};
 ghost use Rattle.account_lock.specs.Bells.{rings_of, given};
 ghost use Rattle.account_lock.specs.Counting.{counts_of};
 ghost use Rattle.account_lock.specs.Desks.{added_to, all_bells, after_step};
-ghost use Rattle.account_lock.specs.Offers.{is_premature, IsBack};
+ghost use Rattle.account_lock.specs.Offers.{is_premature, IsBack, IfRefused};
 
 use crate::{Bell, Desk, Refused, Step};
 use call_model::Call;
-use std::sync::ledger::Ledger;
-use usage_ledger::{Keep, Tally};
+use usage_ledger::{Keep, Ledgers, Tally};
 
 /// Why a call that was offered was not taken. Nothing has changed then.
 #[derive(Drop)]
@@ -31,7 +32,7 @@ pub enum Declined<B> {
     Refused(Refused<B>),
 }
 
-impl<B: Bell, C: Ledger, A: Ledger, T: Ledger, F: Ledger> Desk<B, C, A, T, F> {
+impl<B: Bell, L: Ledgers> Desk<B, L> {
     /// Takes a call as [`Desk::apply`] does, unless it is premature at this moment
     /// ([`account_book::Book::is_premature`]).
     ///
@@ -40,7 +41,7 @@ impl<B: Bell, C: Ledger, A: Ledger, T: Ledger, F: Ledger> Desk<B, C, A, T, F> {
     /// bell comes back, from a premature call with the call.
     pub fn offer<K: Keep>(
         &mut self,
-        tally: &mut Tally<K, C, A, T, F>,
+        tally: &mut Tally<K, L>,
         now: u64,
         call: Call,
         bell: Option<B>,
@@ -54,6 +55,7 @@ impl<B: Bell, C: Ledger, A: Ledger, T: Ledger, F: Ledger> Desk<B, C, A, T, F> {
         ensures counts { IfOk result (λ step. tally.new.held ≡ record tally.old.held { counts = plus tally.old.held.counts (counts_of (added_to self.old.book now call)); kept = tally.new.held.kept }) }
         ensures kept { IfOk result (λ step. (between : Kept) × Steps K.notes tally.old.held.kept (given (added_to self.old.book now call)) between × K.makes between step.ticket (head_of call) tally.new.held.kept) }
         ensures declined { IfErr result (λ declined. IsBack call bell declined × (self.new ≡ self.old) × (tally.new.held ≡ tally.old.held)) }
+        ensures full { MatchResult result (λ step. full self.old.book.config self.old.book.max_entries self.old.book.history call ≡ false) (λ declined. IfRefused declined (λ refusal. (refusal ≡ JournalFull) ↔ (full self.old.book.config self.old.book.max_entries self.old.book.history call ≡ true))) }
     {
         if self.book.is_premature(now, &call) {
             return Err(Declined::Premature { call, bell });

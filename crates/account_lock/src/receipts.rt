@@ -10,8 +10,7 @@ use crate::least::lesser;
 use crate::marks::mark_receipts;
 use account_book::Book;
 use call_model::{Answer, Ticket};
-use std::sync::ledger::Ledger;
-use usage_ledger::{Keep, Tally};
+use usage_ledger::{Keep, Ledgers, Tally};
 
 /// Whether the history answers a ticket so.
 fn is_answer(book: &Book, ticket: Ticket, answer: Answer) -> bool
@@ -47,9 +46,9 @@ fn wrong_receipt(book: &Book, receipts: &[(Ticket, Answer)]) -> Option<Ticket>
 }
 
 /// The same of the receipts of all tallies.
-pub(crate) fn receipt_differs<K: Keep, C: Ledger, A: Ledger, T: Ledger, F: Ledger>(
+pub(crate) fn receipt_differs<K: Keep, L: Ledgers>(
     book: &Book,
-    tallies: &[Tally<K, C, A, T, F>],
+    tallies: &[Tally<K, L>],
 ) -> Option<Ticket>
     ensures { FirstFailure (ReceiptsAgree book.now.history tallies.now) result }
 {
@@ -74,10 +73,10 @@ fn unmarked(book: &Book, marks: &[bool]) -> Option<Ticket>
 }
 
 /// The least ticket that was answered and has no receipt. The marks are blank.
-fn first_missing<K: Keep, C: Ledger, A: Ledger, T: Ledger, F: Ledger>(
+fn first_missing<K: Keep, L: Ledgers>(
     book: &Book,
     marks: Vec<bool>,
-    tallies: &[Tally<K, C, A, T, F>],
+    tallies: &[Tally<K, L>],
 ) -> Option<Ticket>
     requires len { vec_len marks ≡ length book.now.history }
     requires blank { (t : ℕ) → marked t marks.items ≡ 0 }
@@ -91,10 +90,10 @@ fn first_missing<K: Keep, C: Ledger, A: Ledger, T: Ledger, F: Ledger>(
 
 /// The least ticket that was answered and has no receipt, where all receipts are said to be kept.
 /// The marks are blank.
-pub(crate) fn receipt_missing<K: Keep, C: Ledger, A: Ledger, T: Ledger, F: Ledger>(
+pub(crate) fn receipt_missing<K: Keep, L: Ledgers>(
     book: &Book,
     marks: Vec<bool>,
-    tallies: &[Tally<K, C, A, T, F>],
+    tallies: &[Tally<K, L>],
     all: bool,
 ) -> Option<Ticket>
     requires len { vec_len marks ≡ length book.now.history }

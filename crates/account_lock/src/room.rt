@@ -8,8 +8,7 @@ ghost use Rattle.account_lock.specs.Desks.{added_to};
 use account_book::Book;
 use call_model::{Call, Ticket};
 use std::alloc::{AllocError, Global};
-use std::sync::ledger::Ledger;
-use usage_ledger::{Keep, Tally};
+use usage_ledger::{Keep, Ledgers, Tally};
 
 /// For how many answers a step wants room.
 pub(crate) fn most_given(book: &Book, now: u64, call: &Call) -> usize
@@ -21,10 +20,10 @@ pub(crate) fn most_given(book: &Book, now: u64, call: &Call) -> usize
 
 /// Makes room for a bell among those that wait, for so many answers in the tally and for one call,
 /// and for the bells that so many answers ring. What is held is as before in any case.
-pub(crate) fn make_room<B, K: Keep, C: Ledger, A: Ledger, T: Ledger, F: Ledger>(
+pub(crate) fn make_room<B, K: Keep, L: Ledgers>(
     alloc: Global,
     bells: &mut Vec<(Ticket, B)>,
-    tally: &mut Tally<K, C, A, T, F>,
+    tally: &mut Tally<K, L>,
     most: usize,
 ) -> Result<Vec<B>, AllocError>
     ensures same { (bells.new.items ≡ bells.old.items) × (tally.new.held ≡ tally.old.held) }

@@ -11,15 +11,14 @@ use crate::rises::rises;
 use account_book::Book;
 use call_model::{Answer, Entry, Stats, Ticket};
 use entry_blocks::Blocks;
-use std::sync::ledger::Ledger;
-use usage_ledger::{Keep, Tally, Totals};
+use usage_ledger::{Keep, Ledgers, Tally, Totals};
 
 /// Takes the bells of answered tickets, and notes each answer.
-fn serve_answers<B, K: Keep, C: Ledger, A: Ledger, T: Ledger, F: Ledger>(
+fn serve_answers<B, K: Keep, L: Ledgers>(
     answers: &[(Ticket, Answer)],
     bells: &mut Vec<(Ticket, B)>,
     rings: &mut Vec<B>,
-    tally: &mut Tally<K, C, A, T, F>,
+    tally: &mut Tally<K, L>,
 )
     requires rising { are_rising bells.old.items ≡ true }
     requires room { vec_len rings.old + length answers.now ≤ vec_capacity rings.old }
@@ -40,12 +39,12 @@ fn serve_answers<B, K: Keep, C: Ledger, A: Ledger, T: Ledger, F: Ledger>(
 }
 
 /// The same for the answers of the entries from a place on, the oldest first.
-pub(crate) fn serve_entries<B, K: Keep, C: Ledger, A: Ledger, T: Ledger, F: Ledger>(
+pub(crate) fn serve_entries<B, K: Keep, L: Ledgers>(
     entries: &Blocks<Entry>,
     start: usize,
     bells: &mut Vec<(Ticket, B)>,
     rings: &mut Vec<B>,
-    tally: &mut Tally<K, C, A, T, F>,
+    tally: &mut Tally<K, L>,
 )
     requires start { start ≤ length entries.now.0 }
     requires rising { are_rising bells.old.items ≡ true }
@@ -64,14 +63,14 @@ pub(crate) fn serve_entries<B, K: Keep, C: Ledger, A: Ledger, T: Ledger, F: Ledg
 
 /// What a call has added is counted and noted, and its bells are taken: the entries from a place on,
 /// where the account showed these counts before.
-pub(crate) fn serve_step<B, K: Keep, C: Ledger, A: Ledger, T: Ledger, F: Ledger>(
+pub(crate) fn serve_step<B, K: Keep, L: Ledgers>(
     book: &Book,
     start: u64,
     before: Stats,
     bells: &mut Vec<(Ticket, B)>,
     rings: &mut Vec<B>,
-    totals: &mut Totals<C, A, T, F>,
-    tally: &mut Tally<K, C, A, T, F>,
+    totals: &mut Totals<L>,
+    tally: &mut Tally<K, L>,
 )
     requires start { start ≤ length book.now.history }
     requires rising { are_rising bells.old.items ≡ true }

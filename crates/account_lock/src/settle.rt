@@ -1,9 +1,10 @@
 //! The end of an account: its tallies against its book.
 
-ghost use Rattle.std.specs.Prelude.{◌≡◌, ◌≢◌, ◌==◌, ◌^◌, ℕ, length, vec_len, IfOk, IfErr, IfSome, IfNone};
+ghost use Rattle.std.specs.Prelude.{◌≡◌, ◌≢◌, ◌==◌, ◌^◌, ℕ, true, false, None, length, vec_len, IfOk, IfErr, IfSome, IfNone};
+ghost use Rattle.std.specs.List.{list_all};
 ghost use Rattle.call_model.specs.Counts.{stats};
 ghost use Rattle.account_lock.specs.Counting.{counts_of};
-ghost use Rattle.account_lock.specs.Gathered.{parts_in, counts_in};
+ghost use Rattle.account_lock.specs.Gathered.{parts_in, counts_in, keeps_nothing};
 ghost use Rattle.account_lock.specs.Marking.{marked};
 ghost use Rattle.account_lock.specs.Settlement.{IsKept, IsSettled, IsFault};
 ghost use Rattle.account_lock.specs.declared.fault.SettleFault.TheVariants.{TallyMissing};
@@ -15,8 +16,7 @@ use crate::{Bell, Desk, SettleFault};
 use account_book::Book;
 use call_model::Stats;
 use std::alloc::Global;
-use std::sync::ledger::Ledger;
-use usage_ledger::{Keep, Tally};
+use usage_ledger::{Keep, Ledgers, Tally};
 
 /// A settled account: what was counted is what its book says.
 #[derive(Debug, Drop)]
@@ -28,9 +28,7 @@ pub struct Settled {
 }
 
 /// Whether the tallies have all parts.
-fn all_parts<K: Keep, C: Ledger, A: Ledger, T: Ledger, F: Ledger>(
-    tallies: &[Tally<K, C, A, T, F>],
-) -> bool
+fn all_parts<K: Keep, L: Ledgers>(tallies: &[Tally<K, L>]) -> bool
     ensures { result ≡ (parts_in tallies.now == 2 ^ 32) }
 {
     let mut sum: u64 = 0;
@@ -41,9 +39,7 @@ fn all_parts<K: Keep, C: Ledger, A: Ledger, T: Ledger, F: Ledger>(
 }
 
 /// All shares in one tally; none where there is no tally.
-fn gather<K: Keep, C: Ledger, A: Ledger, T: Ledger, F: Ledger>(
-    tallies: Vec<Tally<K, C, A, T, F>>,
-) -> Option<Tally<K, C, A, T, F>>
+fn gather<K: Keep, L: Ledgers>(tallies: Vec<Tally<K, L>>) -> Option<Tally<K, L>>
     ensures some { IfSome result (λ tally. (tally.held.parts ≡ parts_in tallies.items) × (tally.held.counts ≡ counts_in tallies.items)) }
     ensures none { IfNone result (parts_in tallies.items ≡ 0) }
 {
@@ -57,9 +53,9 @@ fn gather<K: Keep, C: Ledger, A: Ledger, T: Ledger, F: Ledger>(
 
 /// The first fault of the receipts and calls, in the order in which the faults are declared. All
 /// marks are blank.
-fn compare<K: Keep, C: Ledger, A: Ledger, T: Ledger, F: Ledger>(
+fn compare<K: Keep, L: Ledgers>(
     book: &Book,
-    tallies: &[Tally<K, C, A, T, F>],
+    tallies: &[Tally<K, L>],
     receipts: Vec<bool>,
     calls: Vec<bool>,
 ) -> Option<SettleFault>
@@ -81,17 +77,35 @@ fn compare<K: Keep, C: Ledger, A: Ledger, T: Ledger, F: Ledger>(
     None
 }
 
+/// Whether a tally keeps neither receipts nor calls.
+fn keeps_nothing<K: Keep, L: Ledgers>(tally: &Tally<K, L>) -> bool
+    ensures { result ≡ keeps_nothing tally.now }
+{
+    tally.kept().is_empty() && tally.calls().is_empty()
+}
+
+/// The same of all tallies.
+fn keep_nothing<K: Keep, L: Ledgers>(tallies: &[Tally<K, L>]) -> bool
+    ensures { result ≡ list_all keeps_nothing tallies.now }
+{
+    tallies.iter().all(|tally| keeps_nothing(tally))
+}
+
 /// The first fault of what tallies keep that have all parts. All memory is asked for before the first
-/// comparison.
-fn fault_of_keeping<K: Keep, C: Ledger, A: Ledger, T: Ledger, F: Ledger>(
+/// comparison; none where nothing is kept and nothing need be.
+fn fault_of_keeping<K: Keep, L: Ledgers>(
     alloc: Global,
     book: &Book,
-    tallies: &[Tally<K, C, A, T, F>],
+    tallies: &[Tally<K, L>],
 ) -> Option<SettleFault>
     requires parts { parts_in tallies.now ≡ 2 ^ 32 }
     ensures none { IfNone result (IsKept K.ALL book.now.history tallies.now) }
     ensures some { IfSome result (λ fault. IsFault K.ALL fault book.now.history tallies.now) }
+    ensures nothing { K.ALL ≡ false → list_all keeps_nothing tallies.now ≡ true → result ≡ None }
 {
+    if !K::ALL && keep_nothing(tallies) {
+        return None;
+    }
     let entries = book.len() as usize;
     let Ok(receipts) = blank_marks(alloc, entries) else {
         return Some(SettleFault::OutOfMemory);
@@ -102,19 +116,21 @@ fn fault_of_keeping<K: Keep, C: Ledger, A: Ledger, T: Ledger, F: Ledger>(
     compare(book, tallies, receipts, calls)
 }
 
-impl<B: Bell, C: Ledger, A: Ledger, T: Ledger, F: Ledger> Desk<B, C, A, T, F> {
+impl<B: Bell, L: Ledgers> Desk<B, L> {
     /// Adds the shares of all tallies up, and compares what they keep with the history. The time is
     /// that of one look at each receipt, call and entry.
     ///
     /// # Errors
     /// The first `SettleFault` that holds, in the order in which they are declared; desk and tallies
     /// are then gone. Where no tally was missing, they have counted what the history counts all the
-    /// same.
-    pub fn settle<K: Keep>(self, tallies: Vec<Tally<K, C, A, T, F>>) -> Result<Settled, SettleFault>
+    /// same. Where nothing is kept and nothing need be, no memory is asked for, and a missing tally is
+    /// the only fault.
+    pub fn settle<K: Keep>(self, tallies: Vec<Tally<K, L>>) -> Result<Settled, SettleFault>
         ensures book { IfOk result (λ settled. (settled.book ≡ self.book) × (settled.stats ≡ stats self.book.config self.book.history)) }
         ensures settled { IfOk result (λ settled. IsSettled K.ALL self.book.history tallies.items) }
         ensures fault { IfErr result (λ fault. IsFault K.ALL fault self.book.history tallies.items) }
         ensures counted { IfErr result (λ fault. fault ≢ TallyMissing → counts_in tallies.items ≡ counts_of self.book.history) }
+        ensures nothing { IfErr result (λ fault. K.ALL ≡ false → list_all keeps_nothing tallies.items ≡ true → fault ≡ TallyMissing) }
     {
         if !all_parts(&tallies) {
             return Err(SettleFault::TallyMissing);

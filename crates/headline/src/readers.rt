@@ -12,8 +12,7 @@ use crate::laws;
 use account_book::Book;
 use account_lock::{Account, Bell, Desk, SettleFault, Settled, Setup};
 use call_model::Stats;
-use std::sync::ledger::Ledger;
-use usage_ledger::{Keep, Tally};
+use usage_ledger::{Keep, Ledgers, Tally};
 
 /// The counts of a book, of whose history the headline holds.
 pub fn of_book(book: &Book) -> Stats
@@ -26,9 +25,7 @@ pub fn of_book(book: &Book) -> Stats
 
 /// The counts of a desk, of whose history the headline holds: whatever stands behind an account's lock
 /// is such a desk.
-pub fn of_desk<B: Bell, C: Ledger, A: Ledger, T: Ledger, F: Ledger>(
-    desk: &Desk<B, C, A, T, F>,
-) -> Stats
+pub fn of_desk<B: Bell, L: Ledgers>(desk: &Desk<B, L>) -> Stats
     ensures { Headline desk.now.book.config desk.now.book.history result }
 {
     desk.facts();
@@ -43,9 +40,9 @@ pub fn of_desk<B: Bell, C: Ledger, A: Ledger, T: Ledger, F: Ledger>(
 /// The first `SettleFault` that holds, in the order in which they are declared; account and tallies
 /// are then gone. Where no tally was missing, they have counted what a history counts of which the
 /// fault speaks.
-pub fn settle<S: Setup, B: Bell, K: Keep, C: Ledger, A: Ledger, T: Ledger, F: Ledger>(
-    account: Account<S, B, C, A, T, F>,
-    tallies: Vec<Tally<K, C, A, T, F>>,
+pub fn settle<S: Setup, B: Bell, K: Keep>(
+    account: Account<S, B>,
+    tallies: Vec<Tally<K, S>>,
 ) -> Result<Settled, SettleFault>
     ensures configured { IfOk result (λ settled. settled.book.config ≡ S.config) }
     ensures headline { IfOk result (λ settled. Headline S.config settled.book.history settled.stats) }

@@ -10,7 +10,6 @@ use long_poll::{Clock, Connection, OneShotBell, OpenPoll};
 use std::alloc::AllocError;
 use std::io;
 use std::net::TcpStream;
-use std::sync::ledger::Ledger;
 use std::sync::{Arc, Mutex};
 use usage_ledger::{Keep, Tally};
 
@@ -29,29 +28,20 @@ impl Park for OpenNext {
 /// A connection that is to be served: its socket and its port, the account and the clock, the tally
 /// in which its calls count, the signals that end it, and where it tells how it stands.
 #[derive(Drop)]
-pub(crate) struct Visit<R, S: Setup, N, K: Keep, C: Ledger, A: Ledger, T: Ledger, F: Ledger> {
+pub(crate) struct Visit<R, S: Setup, N, K: Keep> {
     pub(crate) rt: R,
     pub(crate) socket: TcpStream,
     pub(crate) door: Door<S>,
-    pub(crate) account: Arc<Account<S, OneShotBell, C, A, T, F>>,
+    pub(crate) account: Arc<Account<S, OneShotBell>>,
     pub(crate) clock: Arc<N>,
-    pub(crate) tally: Arc<Mutex<Tally<K, C, A, T, F>>>,
+    pub(crate) tally: Arc<Mutex<Tally<K, S>>>,
     pub(crate) signals: Signals,
     pub(crate) pulse: Arc<Pulse>,
     // For how many milliseconds a premature call is held back at most.
     pub(crate) patience: u32,
 }
 
-impl<
-    R: Machine,
-    S: Setup + Drop,
-    N: Clock + Drop,
-    K: Keep,
-    C: Ledger,
-    A: Ledger,
-    T: Ledger,
-    F: Ledger,
-> Visit<R, S, N, K, C, A, T, F> {
+impl<R: Machine, S: Setup + Drop, N: Clock + Drop, K: Keep> Visit<R, S, N, K> {
     /// Serves the connection, and then withdraws its open Next (Runtime API, Next invocation), whose
     /// ticket `open` has. Where the Withdraw is refused the Next stays pending.
     pub(crate) fn run(self) -> Result<(), AllocError> {

@@ -10,53 +10,40 @@ use crate::ResponseFault;
 use crate::codings::is_plainly_coded;
 use crate::responding::Responding;
 use bytes::Bytes;
+use decisions::Decide;
 use http::request::Parts;
 use http::{Request, Response};
 use http_body_util::{Either, Full};
 use hyper::body::Incoming;
 use hyper::service;
-use long_poll::{Clock, Connection, Decide, Exchange, HistoryBody, Service};
+use long_poll::{Clock, Connection, Exchange, HistoryBody, Service};
 use std::alloc::Global;
-use std::sync::ledger::Ledger;
 use std::sync::{Arc, Wait};
 use std::time;
-use usage_ledger::Keep;
+use usage_ledger::{Keep, Ledgers};
 
 /// A port, for one connection: each request is an exchange. Who decides the exchanges knows whose port
 /// it is: an environment's (Runtime API 2018-06-01, Extensions API 2020-01-01), or the account's
 /// (Lambda API: Invoke, PutFunctionConcurrency, GetFunctionConcurrency; and this service's own routes).
 #[derive(Drop)]
-pub struct Front<
-    R,
-    S: Service<K, C, A, T, F>,
-    D: Decide,
-    N,
-    K: Keep,
-    C: Ledger,
-    A: Ledger,
-    T: Ledger,
-    F: Ledger,
-> {
+pub struct Front<R, S: Service<K, L>, D: Decide, N, K: Keep, L: Ledgers> {
     alloc: Global,
-    connection: Arc<Connection<R, S, D, N, K, C, A, T, F>>,
+    connection: Arc<Connection<R, S, D, N, K, L>>,
 }
 
 impl<
     R: Wait + time::Clock + Copy + Drop,
-    S: Service<K, C, A, T, F>,
+    S: Service<K, L>,
     D: Decide + Drop,
     N: Clock + Drop,
     K: Keep,
-    C: Ledger,
-    A: Ledger,
-    T: Ledger,
-    F: Ledger,
-> Front<R, S, D, N, K, C, A, T, F> {
+    L: Ledgers,
+> Front<R, S, D, N, K, L> {
     /// The port for a connection. It takes no memory.
     pub fn new(
         alloc: Global,
-        connection: Arc<Connection<R, S, D, N, K, C, A, T, F>>,
-    ) -> Front<R, S, D, N, K, C, A, T, F>
+        connection: Arc<Connection<R, S, D, N, K, L>>,
+    ) -> Front<R, S, D, N, K, L>
         ensures { result.connection ≡ connection }
     {
         Front { alloc, connection }
@@ -67,7 +54,7 @@ impl<
         &self,
         parts: Parts,
         body: Incoming<I>,
-    ) -> Option<Exchange<R, S, D, N, Incoming<I>, K, C, A, T, F>>
+    ) -> Option<Exchange<R, S, D, N, Incoming<I>, K, L>>
         ensures { IfSome result (λ e. (arc_value e.connection ≡ arc_value self.now.connection) × (e.stage ≡ Collecting parts (record { alloc = (arc_value self.now.connection).alloc; body = body; held = [] }))) }
     {
         let connection = Arc::try_clone(&self.connection).ok()?;
@@ -80,7 +67,7 @@ impl<
         &self,
         parts: Parts,
         body: Incoming<I>,
-    ) -> Responding<R, S, D, N, Incoming<I>, K, C, A, T, F>
+    ) -> Responding<R, S, D, N, Incoming<I>, K, L>
         ensures coding { result.is_foreign ≡ not (coded parts) }
         ensures exchange { IfSome result.exchange (λ e. IsTrue (coded parts) × (arc_value e.connection ≡ arc_value self.now.connection) × (e.stage ≡ Collecting parts (record { alloc = (arc_value self.now.connection).alloc; body = body; held = [] }))) }
     {
@@ -100,28 +87,22 @@ impl<
 
 impl<
     R: Wait + time::Clock + Copy + Drop,
-    S: Service<K, C, A, T, F>,
+    S: Service<K, L>,
     D: Decide + Drop,
     N: Clock + Drop,
     I: Drop,
     K: Keep,
-    C: Ledger,
-    A: Ledger,
-    T: Ledger,
-    F: Ledger,
-> service::Service<Request<Incoming<I>>> for Front<R, S, D, N, K, C, A, T, F> {
-    type Response = Response<Either<Full<Bytes>, HistoryBody<R, S, K, C, A, T, F>>>;
+    L: Ledgers,
+> service::Service<Request<Incoming<I>>> for Front<R, S, D, N, K, L> {
+    type Response = Response<Either<Full<Bytes>, HistoryBody<R, S, K, L>>>;
 
     type Error = ResponseFault;
 
-    type Future = Responding<R, S, D, N, Incoming<I>, K, C, A, T, F>;
+    type Future = Responding<R, S, D, N, Incoming<I>, K, L>;
 
     ghost calls = { λ port request future. (future.is_foreign ≡ not (coded (head_of request))) × IfSome future.exchange (λ e. IsTrue (coded (head_of request)) × (arc_value e.connection ≡ arc_value port.connection) × (e.stage ≡ Collecting (head_of request) (record { alloc = (arc_value port.connection).alloc; body = body_of request; held = [] }))) };
 
-    fn call(
-        &self,
-        request: Request<Incoming<I>>,
-    ) -> Responding<R, S, D, N, Incoming<I>, K, C, A, T, F> {
+    fn call(&self, request: Request<Incoming<I>>) -> Responding<R, S, D, N, Incoming<I>, K, L> {
         let (parts, body) = request.into_parts();
         self.respond(parts, body)
     }

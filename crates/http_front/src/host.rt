@@ -18,23 +18,22 @@ use std::alloc::AllocError;
 use std::sync::Arc;
 use std::sync::atomic::AtomicBool;
 use std::sync::atomic::Ordering::SeqCst;
-use std::sync::ledger::{Blank, Ledger};
 use std::thread;
 use std::thread::JoinHandle;
 use std::time::Duration;
-use usage_ledger::{Keep, Tally};
+use usage_ledger::{Blanks, Keep, Tally};
 
 /// An account that is served over HTTP/1.1 on 127.0.0.1: on the invoke port for callers, and on a
 /// port of each environment for its runtime and its extensions. `S` names the configuration, `N` is
 /// the clock, in Unix milliseconds, `K` what each tally keeps, and the others are the account's
 /// ledgers.
 #[derive(Drop)]
-pub struct Host<R, S: Setup, N, K: Keep, C: Ledger, A: Ledger, T: Ledger, F: Ledger> {
+pub struct Host<R, S: Setup, N, K: Keep> {
     rt: R,
-    account: Arc<Account<S, OneShotBell, C, A, T, F>>,
+    account: Arc<Account<S, OneShotBell>>,
     clock: Arc<N>,
-    root: Tally<K, C, A, T, F>,
-    ticking: Tally<K, C, A, T, F>,
+    root: Tally<K, S>,
+    ticking: Tally<K, S>,
     entrance: Entrance<S>,
     most: u32,
     patience: u32,
@@ -42,11 +41,11 @@ pub struct Host<R, S: Setup, N, K: Keep, C: Ledger, A: Ledger, T: Ledger, F: Led
 
 /// What a host leaves: its account, and all the tallies in which its calls count.
 #[derive(Drop)]
-pub struct Hosted<S: Setup, K: Keep, C: Ledger, A: Ledger, T: Ledger, F: Ledger> {
+pub struct Hosted<S: Setup, K: Keep> {
     /// The account.
-    pub account: Account<S, OneShotBell, C, A, T, F>,
+    pub account: Account<S, OneShotBell>,
     /// The tallies: that of the root, that of the ticker, and those of the connections.
-    pub tallies: Vec<Tally<K, C, A, T, F>>,
+    pub tallies: Vec<Tally<K, S>>,
 }
 
 impl<
@@ -54,11 +53,7 @@ impl<
     S: Setup + Drop + Send + Sync + 'static,
     N: Clock + Drop + Send + Sync + 'static,
     K: Keep + Send + 'static,
-    C: Ledger + Send + Sync + 'static,
-    A: Ledger + Send + Sync + 'static,
-    T: Ledger + Send + Sync + 'static,
-    F: Ledger + Send + Sync + 'static,
-> Host<R, S, N, K, C, A, T, F> {
+> Host<R, S, N, K> {
     /// Opens the account of a plan and listens on every port. It takes `most` connections at once; a
     /// further one is closed. An Invoke that would be throttled while an environment that stands in
     /// its way has answered and is about to ask for the next one is held back for `patience`
@@ -74,16 +69,10 @@ impl<
         clock: N,
         most: u32,
         patience: u32,
-        calls: Blank,
-        admitted: Blank,
-        throttled: Blank,
-        failed: Blank,
-    ) -> Result<Host<R, S, N, K, C, A, T, F>, HostFault>
+        blanks: Blanks,
+    ) -> Result<Host<R, S, N, K>, HostFault>
         requires configured { plan.config ≡ S.config }
-        requires calls { (calls.name ≡ C.name) × (calls.parts ≡ C.parts) × (C.parts ≡ 2 ^ 32) }
-        requires admitted { (admitted.name ≡ A.name) × (admitted.parts ≡ A.parts) × (A.parts ≡ 2 ^ 32) }
-        requires throttled { (throttled.name ≡ T.name) × (throttled.parts ≡ T.parts) × (T.parts ≡ 2 ^ 32) }
-        requires failed { (failed.name ≡ F.name) × (failed.parts ≡ F.parts) × (F.parts ≡ 2 ^ 32) }
+        requires named { blanks ≡ S.names }
         ensures range { IsErrOf result (Config BadEntries) ↔ ((length (owners plan.config) + 1 ≤ plan.max_entries) × (plan.max_entries ≤ 2 ^ 32) → ⊥) }
     {
         let alloc = rt.alloc();
@@ -93,16 +82,7 @@ impl<
             salt,
             max_entries,
         } = plan;
-        let (account, mut root) = match Account::open(
-            alloc,
-            config,
-            salt,
-            max_entries,
-            calls,
-            admitted,
-            throttled,
-            failed,
-        ) {
+        let (account, mut root) = match Account::open(alloc, config, salt, max_entries, blanks) {
             Ok(opened) => opened,
             Err(fault) => return Err(HostFault::from(fault)),
         };
@@ -129,7 +109,7 @@ impl<
     /// # Errors
     /// `Network` where the ports failed, `OutOfMemory` where there was none to begin with, or
     /// `StillShared`. The account and the tallies are then gone.
-    pub fn run(self) -> Result<Hosted<S, K, C, A, T, F>, HostFault> {
+    pub fn run(self) -> Result<Hosted<S, K>, HostFault> {
         let Host {
             rt,
             account,
@@ -170,17 +150,13 @@ fn start_ticker<
     S: Setup + Drop + Send + Sync + 'static,
     N: Clock + Drop + Send + Sync + 'static,
     K: Keep + Send + 'static,
-    C: Ledger + Send + Sync + 'static,
-    A: Ledger + Send + Sync + 'static,
-    T: Ledger + Send + Sync + 'static,
-    F: Ledger + Send + Sync + 'static,
 >(
     rt: R,
-    account: Arc<Account<S, OneShotBell, C, A, T, F>>,
+    account: Arc<Account<S, OneShotBell>>,
     clock: Arc<N>,
-    tally: Tally<K, C, A, T, F>,
+    tally: Tally<K, S>,
     is_over: Arc<AtomicBool>,
-) -> Result<JoinHandle<Tally<K, C, A, T, F>>, AllocError> {
+) -> Result<JoinHandle<Tally<K, S>>, AllocError> {
     let here = rt;
     let ticker = thread::spawn(&rt, move || {
         tick_on(&here, &*account, &*clock, tally, &is_over)

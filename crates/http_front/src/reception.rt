@@ -1,5 +1,8 @@
 //! Who takes connections in, and sees them out.
 
+ghost use Rattle.std.specs.Prelude.{◌≡◌, IfErr};
+ghost use Rattle.http_front.specs.declared.host_fault.HostFault.TheVariants.{StillShared};
+
 use crate::connection::Visit;
 use crate::door::Door;
 use crate::entrance::{Entrance, Gate};
@@ -15,7 +18,6 @@ use std::net::TcpStream;
 use std::sync::Arc;
 use std::sync::atomic::AtomicBool;
 use std::sync::atomic::Ordering::SeqCst;
-use std::sync::ledger::Ledger;
 use std::thread::JoinHandle;
 use std::time::Duration;
 use std::{io, thread};
@@ -55,15 +57,7 @@ fn start_thread<
     S: Setup + Drop + Send + Sync + 'static,
     N: Clock + Drop + Send + Sync + 'static,
     K: Keep + Send + 'static,
-    C: Ledger + Send + Sync + 'static,
-    A: Ledger + Send + Sync + 'static,
-    T: Ledger + Send + Sync + 'static,
-    F: Ledger + Send + Sync + 'static,
->(
-    visit: Visit<R, S, N, K, C, A, T, F>,
-    ended: Arc<Ended>,
-    at: usize,
-) -> io::Result<JoinHandle<()>> {
+>(visit: Visit<R, S, N, K>, ended: Arc<Ended>, at: usize) -> io::Result<JoinHandle<()>> {
     let rt = visit.rt;
     thread::Builder::new()
         .stack_size(STACK)
@@ -76,12 +70,12 @@ fn start_thread<
 /// Takes connections in, each on a thread of its own, and sees them out: the account and the clock,
 /// the tally from which those of the connections are split, and the places of the connections.
 #[derive(Drop)]
-pub(crate) struct Reception<R, S: Setup, N, K: Keep, C: Ledger, A: Ledger, T: Ledger, F: Ledger> {
+pub(crate) struct Reception<R, S: Setup, N, K: Keep> {
     pub(crate) rt: R,
-    pub(crate) account: Arc<Account<S, OneShotBell, C, A, T, F>>,
+    pub(crate) account: Arc<Account<S, OneShotBell>>,
     pub(crate) clock: Arc<N>,
-    pub(crate) root: Tally<K, C, A, T, F>,
-    pub(crate) slots: Slots<Tally<K, C, A, T, F>>,
+    pub(crate) root: Tally<K, S>,
+    pub(crate) slots: Slots<Tally<K, S>>,
     // A descriptor that is given up where none is left, so that the newcomer can be turned away.
     pub(crate) spare: Option<Poll>,
     // For how many milliseconds a premature call is held back at most.
@@ -95,11 +89,7 @@ impl<
     S: Setup + Drop + Send + Sync + 'static,
     N: Clock + Drop + Send + Sync + 'static,
     K: Keep + Send + 'static,
-    C: Ledger + Send + Sync + 'static,
-    A: Ledger + Send + Sync + 'static,
-    T: Ledger + Send + Sync + 'static,
-    F: Ledger + Send + Sync + 'static,
-> Reception<R, S, N, K, C, A, T, F> {
+> Reception<R, S, N, K> {
     /// A place for a newcomer: one that is free, or else another one with a tally of its own.
     fn place(&mut self) -> Option<usize> {
         if let Some(at) = self.slots.take() {
@@ -266,22 +256,20 @@ impl<
     /// The account, and all tallies with that of the ticker, once every thread was joined.
     ///
     /// # Errors
-    /// `StillShared`, or `OutOfMemory`.
-    pub(crate) fn into_hosted(
-        self,
-        ticked: Tally<K, C, A, T, F>,
-    ) -> Result<Hosted<S, K, C, A, T, F>, HostFault> {
+    /// `StillShared`.
+    pub(crate) fn into_hosted(self, ticked: Tally<K, S>) -> Result<Hosted<S, K>, HostFault>
+        ensures { IfErr result (λ fault. fault ≡ StillShared) }
+    {
         let Reception {
-            rt,
             account,
             root,
             slots,
             ..
         } = self;
-        let mut tallies = Vec::new(rt.alloc());
-        tallies.push(root).map_err(AllocError::from)?;
-        tallies.push(ticked).map_err(AllocError::from)?;
-        slots.into_tallies(&mut tallies)?;
+        let tallies = match slots.into_tallies(root, ticked) {
+            Ok(tallies) => tallies,
+            Err(fault) => return Err(fault),
+        };
         match Arc::into_inner(account) {
             Some(account) => Ok(Hosted { account, tallies }),
             None => Err(HostFault::StillShared),

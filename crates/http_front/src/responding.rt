@@ -9,51 +9,37 @@ use crate::ResponseFault;
 use crate::codings::foreign_coding_reply;
 use crate::response::response_to;
 use bytes::Bytes;
+use decisions::Decide;
 use futures::Future;
 use futures::task::{Context, Poll};
 use http::Response;
 use http_body::Body;
 use http_body_util::{Either, Full};
-use long_poll::{Clock, Decide, Exchange, HistoryBody, Outcome, Service};
+use long_poll::{Clock, Exchange, HistoryBody, Outcome, Service};
 use std::alloc::Global;
 use std::sync::Wait;
-use std::sync::ledger::Ledger;
 use std::time;
-use usage_ledger::Keep;
+use usage_ledger::{Keep, Ledgers};
 
 /// The response to one request, by its exchange.
 #[derive(Drop)]
-pub struct Responding<
-    R,
-    S: Service<K, C, A, T, F>,
-    D: Decide,
-    N,
-    B,
-    K: Keep,
-    C: Ledger,
-    A: Ledger,
-    T: Ledger,
-    F: Ledger,
-> {
+pub struct Responding<R, S: Service<K, L>, D: Decide, N, B, K: Keep, L: Ledgers> {
     pub(crate) alloc: Global,
     // None where there was no memory for it, or where the request's body is coded in another way.
-    pub(crate) exchange: Option<Exchange<R, S, D, N, B, K, C, A, T, F>>,
+    pub(crate) exchange: Option<Exchange<R, S, D, N, B, K, L>>,
     // Whether it is the coding.
     pub(crate) is_foreign: bool,
 }
 
 impl<
     R: Wait + time::Clock + Copy + Drop,
-    S: Service<K, C, A, T, F>,
+    S: Service<K, L>,
     D: Decide + Drop,
     N: Clock + Drop,
     B: Body,
     K: Keep,
-    C: Ledger,
-    A: Ledger,
-    T: Ledger,
-    F: Ledger,
-> Future for Responding<R, S, D, N, B, K, C, A, T, F>
+    L: Ledgers,
+> Future for Responding<R, S, D, N, B, K, L>
 where
     B::Data: Into<Bytes>,
 {
@@ -62,16 +48,13 @@ where
     ghost use Rattle.http_front.specs.Responses.{IsResponseTo};
     ghost use Rattle.long_poll.specs.declared.outcome.Outcome.TheVariants as outcome;
 
-    type Output = Result<
-        Response<Either<Full<Bytes>, HistoryBody<R, S, K, C, A, T, F>>>,
-        ResponseFault,
-    >;
+    type Output = Result<Response<Either<Full<Bytes>, HistoryBody<R, S, K, L>>>, ResponseFault>;
 
-    ghost can_poll = { λ r. IfSome r.exchange (⟦<Exchange<R, S, D, N, B, K, C, A, T, F> as Future>⟧.can_poll) };
+    ghost can_poll = { λ r. IfSome r.exchange (⟦<Exchange<R, S, D, N, B, K, L> as Future>⟧.can_poll) };
 
     ghost gives = { λ r answer. IfOk answer (λ response. MatchBool r.is_foreign (IsResponseTo (outcome.Reply foreign_coding_reply) response)
         (IsSomeAnd r.exchange (λ exchange. (made : _)
-        × ⟦<Exchange<R, S, D, N, B, K, C, A, T, F> as Future>⟧.gives exchange (Ok made) × IsResponseTo made response))) };
+        × ⟦<Exchange<R, S, D, N, B, K, L> as Future>⟧.gives exchange (Ok made) × IsResponseTo made response))) };
 
     fn poll(&mut self, cx: &mut Context<'_>) -> Poll<Self::Output> {
         if self.is_foreign {

@@ -1,7 +1,8 @@
 //! Places for the connections that are open, as many as the limit at most.
 
-ghost use Rattle.std.specs.Prelude.{◌≡◌, ◌+◌, ◌<◌, nat_lt, IfOk, IfErr};
+ghost use Rattle.std.specs.Prelude.{◌≡◌, ◌+◌, ◌<◌, nat_lt, vec_len, IfOk, IfErr};
 ghost use Rattle.http_front.specs.Places.{Places};
+ghost use Rattle.http_front.specs.declared.host_fault.HostFault.TheVariants.{StillShared};
 
 use crate::HostFault;
 use futures::channel::oneshot::Sender;
@@ -52,7 +53,9 @@ struct Slot<Y> {
 pub(crate) type Ended = Mutex<Vec<usize>>;
 
 /// The places: by their type never more than there may be, so no more connections are open at once.
-/// Those that nobody has are `free`; room for each stands ready there and in `ended`.
+/// Those that nobody has are `free`; room for each stands ready there and in `ended`, and in
+/// `gathered` for the tallies of all of them and two more, so that the end of the service wants no
+/// memory.
 #[derive(Drop)]
 pub(crate) struct Slots<Y> {
     alloc: Global,
@@ -60,17 +63,18 @@ pub(crate) struct Slots<Y> {
     slots: Vec<Slot<Y>>,
     free: Vec<usize>,
     ended: Arc<Ended>,
+    gathered: Vec<Y>,
 }
 
 impl<Y> Model for Slots<Y> {
-    ghost use Rattle.std.specs.Prelude.{◌≤◌, length};
+    ghost use Rattle.std.specs.Prelude.{◌≡◌, ◌+◌, ◌≤◌, length, vec_len, vec_capacity};
     ghost use Rattle.http_front.specs.Places.{Places};
 
     ghost Value = { Places };
 
     ghost view = { λ s. record { most = s.most; made = length s.slots.items } };
 
-    ghost invariant = { λ s. length s.slots.items ≤ s.most };
+    ghost invariant = { λ s. (length s.slots.items ≤ s.most) × (vec_len s.gathered ≡ 0) × (length s.slots.items + 2 ≤ vec_capacity s.gathered) };
 }
 
 impl<Y: Drop> Slots<Y> {
@@ -84,6 +88,7 @@ impl<Y: Drop> Slots<Y> {
             slots: Vec::new(alloc),
             free: Vec::new(alloc),
             ended: Arc::new(alloc, Mutex::new(Vec::new(alloc)))?,
+            gathered: Vec::with_capacity(alloc, 2)?,
         })
     }
 
@@ -111,10 +116,14 @@ impl<Y: Drop> Slots<Y> {
         ensures refused { IfErr result (λ _. self.new ≡ self.old) }
     {
         let at = self.slots.len();
-        let room = self.slots.len().saturating_add(1);
+        let room = at.saturating_add(1);
+        let Some(tallies) = at.checked_add(3) else {
+            return Err(tally);
+        };
         if self.slots.reserve(1).is_err()
             || self.free.reserve(room).is_err()
             || self.ended.lock(rt).reserve(room).is_err()
+            || self.gathered.reserve(tallies).is_err()
         {
             return Err(tally);
         }
@@ -220,18 +229,30 @@ impl<Y: Drop> Slots<Y> {
         }
     }
 
-    /// Adds the tallies to these, once every thread was joined.
+    /// These two tallies and those of all places, once every thread was joined.
     ///
     /// # Errors
-    /// `StillShared` where a thread has one yet, or `OutOfMemory`; the tallies are then gone.
-    pub(crate) fn into_tallies(self, tallies: &mut Vec<Y>) -> Result<(), HostFault> {
-        for slot in self.slots {
+    /// `StillShared` where a thread has one yet; the tallies are then gone.
+    pub(crate) fn into_tallies(self, one: Y, other: Y) -> Result<Vec<Y>, HostFault>
+        ensures all { IfOk result (λ tallies. vec_len tallies ≡ self.made + 2) }
+        ensures shared { IfErr result (λ fault. fault ≡ StillShared) }
+    {
+        let Slots {
+            slots,
+            gathered,
+            ..
+        } = self;
+        let mut slots = slots;
+        let mut tallies = gathered;
+        tallies.push_reserved(one);
+        tallies.push_reserved(other);
+        while let Some(slot) = slots.pop() {
             let Slot { tally, .. } = slot;
             let Some(tally) = Arc::into_inner(tally) else {
                 return Err(HostFault::StillShared);
             };
-            tallies.push(tally.into_inner()).map_err(AllocError::from)?;
+            tallies.push_reserved(tally.into_inner());
         }
-        Ok(())
+        Ok(tallies)
     }
 }

@@ -9,7 +9,6 @@ use long_poll::{Clock, OneShotBell};
 use std::sync::Wait;
 use std::sync::atomic::AtomicBool;
 use std::sync::atomic::Ordering::SeqCst;
-use std::sync::ledger::Ledger;
 use std::time::Duration;
 use std::{thread, time};
 use usage_ledger::{Keep, Tally};
@@ -29,11 +28,11 @@ pub(crate) fn moment<N: Clock>(clock: &N) -> u64
 }
 
 /// Submits a `Tick` where something is due. Gives whether that was refused for a full journal.
-fn tick<S: Setup, N: Clock, K: Keep, C: Ledger, A: Ledger, T: Ledger, F: Ledger>(
+fn tick<S: Setup, N: Clock, K: Keep>(
     rt: &impl Wait,
-    account: &Account<S, OneShotBell, C, A, T, F>,
+    account: &Account<S, OneShotBell>,
     clock: &N,
-    tally: &mut Tally<K, C, A, T, F>,
+    tally: &mut Tally<K, S>,
 ) -> bool {
     let now = moment(clock);
     if !account.due(rt, now) {
@@ -48,22 +47,13 @@ fn tick<S: Setup, N: Clock, K: Keep, C: Ledger, A: Ledger, T: Ledger, F: Ledger>
 /// Ticks until the service has come to its end, and then says so, or until it is told that it has.
 /// After a Stop the end is there once every environment is off, or where a full journal lets no
 /// more time pass. Gives the tally back.
-pub(crate) fn tick_on<
-    R: Wait + time::Clock,
-    S: Setup,
-    N: Clock,
-    K: Keep,
-    C: Ledger,
-    A: Ledger,
-    T: Ledger,
-    F: Ledger,
->(
+pub(crate) fn tick_on<R: Wait + time::Clock, S: Setup, N: Clock, K: Keep>(
     rt: &R,
-    account: &Account<S, OneShotBell, C, A, T, F>,
+    account: &Account<S, OneShotBell>,
     clock: &N,
-    tally: Tally<K, C, A, T, F>,
+    tally: Tally<K, S>,
     is_over: &AtomicBool,
-) -> Tally<K, C, A, T, F> {
+) -> Tally<K, S> {
     let mut tally = tally;
     for _ in rt.forever() {
         let is_full = tick(rt, account, clock, &mut tally);

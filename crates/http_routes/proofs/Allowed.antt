@@ -15,10 +15,10 @@ use Rattle.lambda_wire.specs.declared.fault.WireFault.TheVariants as wire
 use Rattle.script.specs.Numbers.{greatest_reservation}
 use Rattle.script.specs.TextFields.{is_body}
 use Rattle.script.specs.Limits.{IsEnv, IsFunction, IsCount, IsTrace, IsWithin}
-use Rattle.long_poll.specs.Decisions.{IsAllowed}
-use Rattle.long_poll.specs.declared.decide.Decision.{Decision}
-use Rattle.long_poll.specs.declared.decide.Decision.TheVariants.{Submit, Show}
-use Rattle.long_poll.specs.declared.decide.Shown.TheVariants as shown
+use Rattle.decisions.specs.Decisions.{IsAllowed}
+use Rattle.decisions.specs.declared.decide.Decision.{Decision}
+use Rattle.decisions.specs.declared.decide.Decision.TheVariants.{Submit, Show}
+use Rattle.decisions.specs.declared.decide.Shown.TheVariants as shown
 use Rattle.http_routes.specs.Routes.{environment_rows, account_rows, route_in, is_environment_method, is_account_method, is_put}
 use Rattle.http_routes.specs.Paths.{name_of, qualifier_of}
 use Rattle.http_routes.specs.Heads.{header, extension_name, trace_of, asks_for_account, is_synchronous}

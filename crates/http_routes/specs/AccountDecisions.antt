@@ -9,9 +9,9 @@ use Rattle.call_model.specs.declared.call.Call.TheVariants as call
 use Rattle.lambda_wire.specs.Requests.{read_payload, read_count}
 use Rattle.lambda_wire.specs.declared.fault.WireFault.{WireFault}
 use Rattle.lambda_wire.specs.declared.fault.WireFault.TheVariants.{TooLong, NotJson, BadShape, BadEvent, OutOfMemory}
-use Rattle.long_poll.specs.declared.decide.Decision.{Decision}
-use Rattle.long_poll.specs.declared.decide.Decision.TheVariants.{Submit, Show}
-use Rattle.long_poll.specs.declared.decide.Shown.TheVariants as shown
+use Rattle.decisions.specs.declared.decide.Decision.{Decision}
+use Rattle.decisions.specs.declared.decide.Decision.TheVariants.{Submit, Show}
+use Rattle.decisions.specs.declared.decide.Shown.TheVariants as shown
 use Rattle.http_routes.specs.Routes.{account_rows, route_in, is_account_method, is_put}
 use Rattle.http_routes.specs.Paths.{path_part, name_of, qualifier_of}
 use Rattle.http_routes.specs.Heads.{trace_of, is_synchronous}

@@ -11,8 +11,8 @@ use Rattle.lambda_wire.specs.Requests.{read_events}
 use Rattle.lambda_wire.specs.declared.request_reader.Events.{Events}
 use Rattle.lambda_wire.specs.declared.fault.WireFault.{WireFault}
 use Rattle.lambda_wire.specs.declared.fault.WireFault.TheVariants.{TooLong, NotJson, BadShape, BadEvent, OutOfMemory}
-use Rattle.long_poll.specs.declared.decide.Decision.{Decision}
-use Rattle.long_poll.specs.declared.decide.Decision.TheVariants.{Submit}
+use Rattle.decisions.specs.declared.decide.Decision.{Decision}
+use Rattle.decisions.specs.declared.decide.Decision.TheVariants.{Submit}
 use Rattle.http_routes.specs.Routes.{environment_rows, route_in, is_environment_method}
 use Rattle.http_routes.specs.Heads.{has_header, extension_name, asks_for_account}
 use Rattle.http_routes.specs.Identifiers.{request_of, extension_of}

@@ -2,8 +2,8 @@
 use Rattle.std.specs.Prelude.{codes}
 use Rattle.lambda_wire.specs.Replies.{fault_reply, invoke_fault_reply}
 use Rattle.lambda_wire.specs.declared.body_writer.InvokeFault.TheVariants.{User, NotFound}
-use Rattle.long_poll.specs.declared.decide.Decision.{Decision}
-use Rattle.long_poll.specs.declared.decide.Decision.TheVariants.{Reply}
+use Rattle.decisions.specs.declared.decide.Decision.{Decision}
+use Rattle.decisions.specs.declared.decide.Decision.TheVariants.{Reply}
 
 -- No route has the path.
 unfoldable pub not_found : Decision

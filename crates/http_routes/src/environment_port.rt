@@ -16,9 +16,9 @@ use crate::routes::{EnvironmentRoute, environment_route};
 use arn_ids::{Checked, EnvNo, Text};
 use bytes::Bytes;
 use call_model::Call;
+use decisions::Decision;
 use http::request::Parts;
 use lambda_wire::{WireFault, read_register};
-use long_poll::Decision;
 use matchit::Router;
 use std::alloc::{AllocError, Global};
 

@@ -13,5 +13,5 @@ mod refusals;
 mod routes;
 mod side;
 
-pub use long_poll::{Decision, Shown};
+pub use decisions::{Decision, Shown};
 pub use side::{Port, Side};

@@ -5,10 +5,10 @@ ghost use Rattle.std.specs.List.{list_all};
 ghost use Rattle.http_header.specs.Token.{is_value_byte};
 ghost use Rattle.lambda_wire.specs.Replies as replies;
 ghost use Rattle.http_routes.specs.Refusals as spec;
-ghost use Rattle.long_poll.specs.declared.decide.Decision.TheVariants as decisions;
+ghost use Rattle.decisions.specs.declared.decide.Decision.TheVariants as decisions;
 
+use decisions::Decision;
 use lambda_wire::{InvokeFault, fault_reply, invoke_fault_reply};
-use long_poll::Decision;
 use std::alloc::{AllocError, Global};
 
 fn refused(alloc: Global, status: u16, kind: &str, message: &str) -> Result<Decision, AllocError>

@@ -4,15 +4,15 @@ ghost use Rattle.std.specs.Prelude.{◌≡◌, IfOk};
 ghost use Rattle.std.specs.Arc.{arc_value};
 ghost use Rattle.http_routes.specs.Decisions.{IsPortOf, decision};
 ghost use Rattle.http_routes.specs.Sides.{AreRoutesOf};
-ghost use Rattle.long_poll.specs.Decisions.{IsAllowed};
+ghost use Rattle.decisions.specs.Decisions.{IsAllowed};
 
 use crate::account_port::account_decision;
 use crate::environment_port::environment_decision;
 use crate::routes::{AccountRoute, EnvironmentRoute, account_routes, environment_routes};
 use arn_ids::{Checked, EnvNo};
 use bytes::Bytes;
+use decisions::{Decide, Decision};
 use http::request::Parts;
-use long_poll::{Decide, Decision};
 use matchit::Router;
 use std::alloc::{AllocError, Global};
 use std::marker::Model;

@@ -15,8 +15,7 @@ use std::fs;
 use std::io::{self, Read};
 use std::marker::Brand;
 use std::rt::Files;
-use std::sync::ledger::{Blank, Ledger};
-use usage_ledger::KeepNone;
+use usage_ledger::{Blanks, KeepNone};
 
 /// How many connections are served at once; a further one is closed.
 const MOST_CONNECTIONS: u32 = 1024;
@@ -42,9 +41,7 @@ where
 ///
 /// # Errors
 /// `Settlement` where it is not, else `OutOfMemory`.
-fn settled<S: Setup, C: Ledger, A: Ledger, T: Ledger, F: Ledger>(
-    hosted: Hosted<S, KeepNone, C, A, T, F>,
-) -> Result<Stats, ServeFault>
+fn settled<S: Setup>(hosted: Hosted<S, KeepNone>) -> Result<Stats, ServeFault>
     ensures { IfOk result (AreSettled S.config hosted.tallies.items) }
 {
     let Hosted { account, tallies } = hosted;
@@ -53,41 +50,25 @@ fn settled<S: Setup, C: Ledger, A: Ledger, T: Ledger, F: Ledger>(
 }
 
 /// Serves a plan until it is stopped, settles, and gives the account's counts: those that the tallies
-/// of all its threads add up to. `S` names the configuration, and the others the account's ledgers.
-fn serve_plan<
-    R: Machine + Log,
-    S: Setup + Drop + Send + Sync + 'static,
-    C: Ledger + Send + Sync + 'static,
-    A: Ledger + Send + Sync + 'static,
-    T: Ledger + Send + Sync + 'static,
-    F: Ledger + Send + Sync + 'static,
->(
+/// of all its threads add up to. `S` names the configuration and the account's ledgers.
+fn serve_plan<R: Machine + Log, S: Setup + Drop + Send + Sync + 'static>(
     rt: R,
     plan: Plan,
     patience: u32,
-    calls: Blank,
-    admitted: Blank,
-    throttled: Blank,
-    failed: Blank,
+    blanks: Blanks,
 ) -> Result<Stats, ServeFault>
     requires configured { plan.config ≡ S.config }
-    requires calls { (calls.name ≡ C.name) × (calls.parts ≡ C.parts) × (C.parts ≡ 2 ^ 32) }
-    requires admitted { (admitted.name ≡ A.name) × (admitted.parts ≡ A.parts) × (A.parts ≡ 2 ^ 32) }
-    requires throttled { (throttled.name ≡ T.name) × (throttled.parts ≡ T.parts) × (T.parts ≡ 2 ^ 32) }
-    requires failed { (failed.name ≡ F.name) × (failed.parts ≡ F.parts) × (F.parts ≡ 2 ^ 32) }
+    requires named { blanks ≡ S.names }
     ensures { IfOk result (λ counts. (tallies : List Tallied) × AreSettled plan.config tallies counts) }
 {
     let clock = UnixClock::new(rt);
-    let host: Host<R, S, UnixClock<R>, KeepNone, C, A, T, F> = Host::open(
+    let host: Host<R, S, UnixClock<R>, KeepNone> = Host::open(
         rt,
         plan,
         clock,
         MOST_CONNECTIONS,
         patience,
-        calls,
-        admitted,
-        throttled,
-        failed,
+        blanks,
     )?;
     info!(rt; "listening");
     let served = host.run();
@@ -99,15 +80,7 @@ fn serve_plan<
 fn serve_by_brand<R: Machine + Log>(rt: R, plan: Plan, patience: u32) -> Result<Stats, ServeFault>
     ensures { IfOk result (λ counts. (tallies : List Tallied) × AreSettled plan.config tallies counts) }
 {
-    serve_plan::<R, Brand, Brand, Brand, Brand, Brand>(
-        rt,
-        plan,
-        patience,
-        Blank::new(1 << 32),
-        Blank::new(1 << 32),
-        Blank::new(1 << 32),
-        Blank::new(1 << 32),
-    )
+    serve_plan::<R, Brand>(rt, plan, patience, Blanks::new())
 }
 
 /// Serves the configuration of a file until it is stopped, settles, and writes the account's counts

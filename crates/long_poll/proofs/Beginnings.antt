@@ -7,7 +7,7 @@ use Rattle.futures.specs.declared.task.Poll.{Poll}
 use Rattle.futures.specs.declared.task.Poll.TheVariants.{Ready, Pending}
 use Rattle.http_body.specs.declared.frame.Frame.{Frame}
 use Rattle.lambda_wire.specs.declared.reply.Reply.{Reply}
-use Rattle.long_poll.specs.declared.decide.Decision.TheVariants as decision
+use Rattle.decisions.specs.declared.decide.Decision.TheVariants as decision
 use Rattle.http.specs.declared.request.Parts.{Parts}
 use Rattle.long_poll.specs.Bodies.{Collects}
 use Rattle.long_poll.specs.Exchanges.{Awaits, Exchanges, IsBegun, HasBegun}
@@ -17,7 +17,7 @@ use Rattle.long_poll.specs.declared.bell.Heard.{Heard}
 use Rattle.long_poll.specs.declared.clock.Clock as Clock
 use Rattle.long_poll.specs.declared.connection.Begun.{Begun}
 use Rattle.long_poll.specs.declared.connection.Begun.TheVariants.{Replied, AsksForHistory, Parked}
-use Rattle.long_poll.specs.declared.decide.Decide as Decide
+use Rattle.decisions.specs.declared.decide.Decide as Decide
 use Rattle.long_poll.specs.declared.exchange.Stage.{Stage}
 use Rattle.long_poll.specs.declared.exchange.Stage.TheVariants.{Collecting, Waiting}
 use Rattle.long_poll.specs.declared.fault.ExchangeFault.{ExchangeFault}
@@ -49,14 +49,14 @@ awaits_later renders ticket new old same (Ok (outcome.History body)) h = h
 awaits_later renders ticket new old same (Err fault) h = (same h.0, h.1)
 
 -- a call was submitted, as was decided
-pub begun_submitted : {S K C A T F N D : Type 0} (service : Service.Ghosts S K C A T F) (clock : Clock.Ghosts N) (decider : Decide.Ghosts D)
+pub begun_submitted : {S K L N D : Type 0} (service : Service.Ghosts S K L) (clock : Clock.Ghosts N) (decider : Decide.Ghosts D)
     (s : S) (n : N) (d : D) (head : Parts) (body : List ℕ) (call : Call) → decider.decides d head body (decision.Submit call)
     → (begun : Begun) → IsBegun service clock s n call begun → HasBegun service clock decider s n d head body begun
 begun_submitted service clock decider s n d head body call made (Replied reply) h = (decision.Submit call, made, inr h)
 begun_submitted service clock decider s n d head body call made AsksForHistory h = absurd h
 begun_submitted service clock decider s n d head body call made (Parked ticket heard) h = (call, made, h)
 
-module _ {S K C A T F N D B P E : Type 0} (service : Service.Ghosts S K C A T F) (clock : Clock.Ghosts N) (decider : Decide.Ghosts D)
+module _ {S K L N D B P E : Type 0} (service : Service.Ghosts S K L) (clock : Clock.Ghosts N) (decider : Decide.Ghosts D)
     (yields : B → Runs (Result (Frame P) E)) (reads : P → List ℕ → Type 0) {H : Type 0} (shows : H → Type 0) (s : S) (n : N) (d : D) where
   -- what comes of a later body may come of this one
   pub exchanges_later : (parts : Parts) (new old : B) (later held : List ℕ)

@@ -17,11 +17,11 @@ use Rattle.long_poll.specs.declared.bell.OneShotBell.{OneShotBell}
 use Rattle.long_poll.specs.declared.clock.Clock as Clock
 use Rattle.long_poll.specs.declared.connection.Begun.{Begun}
 use Rattle.long_poll.specs.declared.connection.Begun.TheVariants.{Replied, AsksForHistory, Parked}
-use Rattle.long_poll.specs.declared.decide.Decide as Decide
-use Rattle.long_poll.specs.declared.decide.Decision.{Decision}
-use Rattle.long_poll.specs.declared.decide.Decision.TheVariants as decision
-use Rattle.long_poll.specs.declared.decide.Shown.{Shown}
-use Rattle.long_poll.specs.declared.decide.Shown.TheVariants.{Stats, History, Reservation}
+use Rattle.decisions.specs.declared.decide.Decide as Decide
+use Rattle.decisions.specs.declared.decide.Decision.{Decision}
+use Rattle.decisions.specs.declared.decide.Decision.TheVariants as decision
+use Rattle.decisions.specs.declared.decide.Shown.{Shown}
+use Rattle.decisions.specs.declared.decide.Shown.TheVariants.{Stats, History, Reservation}
 use Rattle.long_poll.specs.declared.fault.ExchangeFault.{ExchangeFault}
 use Rattle.long_poll.specs.declared.fault.ExchangeFault.TheVariants.{BodyFailed, OutOfMemory, BellLost}
 use Rattle.long_poll.specs.declared.outcome.Outcome.{Outcome}
@@ -41,7 +41,7 @@ Awaits renders ticket heard (Ok (outcome.Reply reply)) = WasHeard heard × Rende
 Awaits renders ticket heard (Ok (outcome.History body)) = ⊥
 Awaits renders ticket heard (Err fault) = WasHeard heard × Renders renders ticket (Err fault)
 
-module _ {S K C A T F : Type 0} (service : Service.Ghosts S K C A T F) where
+module _ {S K L : Type 0} (service : Service.Ghosts S K L) where
   -- The reply shows what is asked for, as the account gives it. A history is shown by a body, and by no reply.
   abbrev pub IsView : S → Shown → Reply → Type 0
   IsView s Stats reply = (stats : _) × service.counts s stats × (reply ≡ stats_reply stats)

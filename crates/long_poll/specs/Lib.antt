@@ -1,7 +1,6 @@
 pub mod Answers
 pub mod Attempts
 pub mod Bodies
-pub mod Decisions
 pub mod Exchanges
 pub mod HistoryFrames
 pub mod Moments

@@ -7,7 +7,7 @@ use Rattle.long_poll.specs.Exchanges.{Exchanges, HasBegun, Awaits}
 use Rattle.long_poll.specs.Ringing.{hears_at}
 use Rattle.long_poll.specs.declared.clock.Clock as Clock
 use Rattle.long_poll.specs.declared.connection.Begun.{Begun}
-use Rattle.long_poll.specs.declared.decide.Decide as Decide
+use Rattle.decisions.specs.declared.decide.Decide as Decide
 use Rattle.long_poll.specs.declared.exchange.Stage.{Stage}
 use Rattle.long_poll.specs.declared.exchange.Stage.TheVariants.{Collecting, Waiting}
 use Rattle.long_poll.specs.declared.fault.ExchangeFault.{ExchangeFault}
@@ -35,7 +35,7 @@ abbrev pub WaitsFor : {B : Type 0} → (B → ℕ → Type 0) → Stage B → �
 WaitsFor needs (Collecting parts collecting) source = needs collecting.body source
 WaitsFor needs (Waiting ticket heard) source = source ≡ hears_at heard
 
-module _ {S K C A T F N D B P E : Type 0} (service : Service.Ghosts S K C A T F) (clock : Clock.Ghosts N) (decider : Decide.Ghosts D)
+module _ {S K L N D B P E : Type 0} (service : Service.Ghosts S K L) (clock : Clock.Ghosts N) (decider : Decide.Ghosts D)
     (yields : B → Runs (Result (Frame P) E)) (reads : P → List ℕ → Type 0) (s : S) (n : N) (d : D) where
   -- What it may give, where these bodies show the history.
   abbrev pub Gives : {H : Type 0} → (H → Type 0) → Stage B → Result (Outcome H) ExchangeFault → Type 0

@@ -11,18 +11,18 @@ use crate::clock::moment;
 use crate::history_body::HistoryBody;
 use crate::refusal::{is_invoke, refusal_reply};
 use crate::views::{reservation_reply, stats_reply};
-use crate::{Clock, Decide, Decision, ExchangeFault, Heard, OneShotBell, OpenPoll, Service, Shown};
+use crate::{Clock, ExchangeFault, Heard, OneShotBell, OpenPoll, Service};
 use account_lock::{Declined, Refused};
 use bytes::Bytes;
 use call_model::{Call, Ticket};
+use decisions::{Decide, Decision, Shown};
 use http::request::Parts;
 use lambda_wire::Reply;
 use std::alloc::{AllocError, Global};
-use std::sync::ledger::Ledger;
 use std::sync::{Arc, Mutex, Wait};
 use std::time::Duration;
 use std::{thread, time};
-use usage_ledger::{Keep, Tally};
+use usage_ledger::{Keep, Ledgers, Tally};
 
 /// The longest pause between two looks whether a call is still premature, in milliseconds.
 const LONGEST_PAUSE: u32 = 8;
@@ -31,23 +31,13 @@ const LONGEST_PAUSE: u32 = 8;
 /// one configuration, a clock, the connection's tally, the note of its open Next, and its patience:
 /// for how many milliseconds a premature call is held back at most.
 #[derive(Drop)]
-pub struct Connection<
-    R,
-    S: Service<K, C, A, T, F>,
-    D: Decide,
-    N,
-    K: Keep,
-    C: Ledger,
-    A: Ledger,
-    T: Ledger,
-    F: Ledger,
-> {
+pub struct Connection<R, S: Service<K, L>, D: Decide, N, K: Keep, L: Ledgers> {
     rt: R,
     alloc: Global,
     pub(crate) service: Arc<S>,
     pub(crate) decider: Arc<D>,
     pub(crate) clock: Arc<N>,
-    tally: Arc<Mutex<Tally<K, C, A, T, F>>>,
+    tally: Arc<Mutex<Tally<K, L>>>,
     open: Arc<OpenPoll>,
     patience: u32,
     ghost agree: { S.serves (arc_value service) ≡ D.decides_for (arc_value decider) },
@@ -83,15 +73,12 @@ fn next_pause(pause: u32) -> u32
 
 impl<
     R: Wait + time::Clock + Copy + Drop,
-    S: Service<K, C, A, T, F>,
+    S: Service<K, L>,
     D: Decide + Drop,
     N: Clock + Drop,
     K: Keep,
-    C: Ledger,
-    A: Ledger,
-    T: Ledger,
-    F: Ledger,
-> Connection<R, S, D, N, K, C, A, T, F> {
+    L: Ledgers,
+> Connection<R, S, D, N, K, L> {
     /// A connection to this account, whose requests are decided for the same configuration. For one
     /// submit at a time its tally is locked, and then the account. A call that is premature is held
     /// back for `patience` milliseconds at most, in which the connection's thread sleeps.
@@ -101,10 +88,10 @@ impl<
         service: Arc<S>,
         decider: Arc<D>,
         clock: Arc<N>,
-        tally: Arc<Mutex<Tally<K, C, A, T, F>>>,
+        tally: Arc<Mutex<Tally<K, L>>>,
         open: Arc<OpenPoll>,
         patience: u32,
-    ) -> Connection<R, S, D, N, K, C, A, T, F>
+    ) -> Connection<R, S, D, N, K, L>
         requires { S.serves (arc_value service) ≡ D.decides_for (arc_value decider) }
         ensures { (result.service ≡ service) × (result.decider ≡ decider) × (result.clock ≡ clock) }
     {
@@ -235,7 +222,7 @@ impl<
     }
 
     /// The account's whole history.
-    pub(crate) fn history(&self) -> Result<HistoryBody<R, S, K, C, A, T, F>, AllocError>
+    pub(crate) fn history(&self) -> Result<HistoryBody<R, S, K, L>, AllocError>
         ensures { IfOk result (ShowsAllOf (arc_value self.now.service)) }
     {
         let service = Arc::try_clone(&self.service)?;

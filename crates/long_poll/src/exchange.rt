@@ -13,18 +13,18 @@ ghost use Rattle.long_poll.specs.declared.fault.ExchangeFault.TheVariants.{OutOf
 use crate::collecting::Collecting;
 use crate::connection::{Begun, Connection};
 use crate::history_body::HistoryBody;
-use crate::{Clock, Decide, ExchangeFault, Heard, Outcome, Service};
+use crate::{Clock, ExchangeFault, Heard, Outcome, Service};
 use bytes::Bytes;
 use call_model::Ticket;
+use decisions::Decide;
 use futures::future::Future;
 use futures::ready;
 use futures::task::{Context, Poll};
 use http::request::Parts;
 use http_body::Body;
-use std::sync::ledger::Ledger;
 use std::sync::{Arc, Wait};
 use std::time;
-use usage_ledger::Keep;
+use usage_ledger::{Keep, Ledgers};
 
 /// Where an exchange stands.
 #[derive(Drop)]
@@ -38,43 +38,29 @@ enum Stage<B> {
 /// One request: its body is collected, it is decided, its call is submitted, its answer awaited and
 /// rendered; or it is answered what is shown without a call.
 #[derive(Drop)]
-pub struct Exchange<
-    R,
-    S: Service<K, C, A, T, F>,
-    D: Decide,
-    N,
-    B,
-    K: Keep,
-    C: Ledger,
-    A: Ledger,
-    T: Ledger,
-    F: Ledger,
-> {
-    connection: Arc<Connection<R, S, D, N, K, C, A, T, F>>,
+pub struct Exchange<R, S: Service<K, L>, D: Decide, N, B, K: Keep, L: Ledgers> {
+    connection: Arc<Connection<R, S, D, N, K, L>>,
     stage: Stage<B>,
 }
 
 impl<
     R: Wait + time::Clock + Copy + Drop,
-    S: Service<K, C, A, T, F>,
+    S: Service<K, L>,
     D: Decide + Drop,
     N: Clock + Drop,
     B: Body,
     K: Keep,
-    C: Ledger,
-    A: Ledger,
-    T: Ledger,
-    F: Ledger,
-> Exchange<R, S, D, N, B, K, C, A, T, F>
+    L: Ledgers,
+> Exchange<R, S, D, N, B, K, L>
 where
     B::Data: Into<Bytes>,
 {
     /// The exchange of a request with this head and this body. It takes no memory.
     pub fn new(
-        connection: Arc<Connection<R, S, D, N, K, C, A, T, F>>,
+        connection: Arc<Connection<R, S, D, N, K, L>>,
         parts: Parts,
         body: B,
-    ) -> Exchange<R, S, D, N, B, K, C, A, T, F>
+    ) -> Exchange<R, S, D, N, B, K, L>
         ensures connection { result.connection ≡ connection }
         ensures stage { result.stage ≡ stage.Collecting parts (record { alloc = (arc_value connection).alloc; body = body; held = [] }) }
     {
@@ -90,7 +76,7 @@ where
         requires { IsCollecting B.can_poll self.old.stage }
         ensures value { IfReady result (Starts S.Service N.Clock D.Decide B.yields B.Data.converts (arc_value (arc_value self.old.connection).service) (arc_value (arc_value self.old.connection).clock) (arc_value (arc_value self.old.connection).decider) self.old.stage) }
         ensures again { OnPending result (IsCollecting B.can_poll self.new.stage) }
-        ensures same { OnPending result ((x : _) → Gives S.Service N.Clock D.Decide B.yields B.Data.converts (arc_value (arc_value self.new.connection).service) (arc_value (arc_value self.new.connection).clock) (arc_value (arc_value self.new.connection).decider) (ShowsAllOf {R = R} {S = S} {K = K} {C = C} {A = A} {T = T} {F = F} (arc_value (arc_value self.new.connection).service)) self.new.stage x → Gives S.Service N.Clock D.Decide B.yields B.Data.converts (arc_value (arc_value self.old.connection).service) (arc_value (arc_value self.old.connection).clock) (arc_value (arc_value self.old.connection).decider) (ShowsAllOf (arc_value (arc_value self.old.connection).service)) self.old.stage x) }
+        ensures same { OnPending result ((x : _) → Gives S.Service N.Clock D.Decide B.yields B.Data.converts (arc_value (arc_value self.new.connection).service) (arc_value (arc_value self.new.connection).clock) (arc_value (arc_value self.new.connection).decider) (ShowsAllOf {R = R} {S = S} {K = K} {L = L} (arc_value (arc_value self.new.connection).service)) self.new.stage x → Gives S.Service N.Clock D.Decide B.yields B.Data.converts (arc_value (arc_value self.old.connection).service) (arc_value (arc_value self.old.connection).clock) (arc_value (arc_value self.old.connection).decider) (ShowsAllOf (arc_value (arc_value self.old.connection).service)) self.old.stage x) }
         ensures registered { OnPending result (Covers cx.new (WaitsFor B.needs self.new.stage)) }
         ensures kept { Keeps cx.old cx.new }
         ensures connection { self.new.connection ≡ self.old.connection }
@@ -114,7 +100,7 @@ where
     }
 
     /// The account's whole history.
-    fn history(&self) -> Result<Outcome<HistoryBody<R, S, K, C, A, T, F>>, ExchangeFault>
+    fn history(&self) -> Result<Outcome<HistoryBody<R, S, K, L>>, ExchangeFault>
         ensures { MatchResult result (λ outcome. IsHistoryOf (arc_value (arc_value self.now.connection).service) outcome) (λ fault. fault ≡ OutOfMemory) }
     {
         Ok(Outcome::History(self.connection.history()?))
@@ -124,11 +110,11 @@ where
     fn poll_answer(
         &mut self,
         cx: &mut Context<'_>,
-    ) -> Poll<Result<Outcome<HistoryBody<R, S, K, C, A, T, F>>, ExchangeFault>>
+    ) -> Poll<Result<Outcome<HistoryBody<R, S, K, L>>, ExchangeFault>>
         requires { IsWaiting self.old.stage }
         ensures value { IfReady result (Gives S.Service N.Clock D.Decide B.yields B.Data.converts (arc_value (arc_value self.old.connection).service) (arc_value (arc_value self.old.connection).clock) (arc_value (arc_value self.old.connection).decider) (ShowsAllOf (arc_value (arc_value self.old.connection).service)) self.old.stage) }
         ensures again { OnPending result (IsWaiting self.new.stage) }
-        ensures same { OnPending result ((x : _) → Gives S.Service N.Clock D.Decide B.yields B.Data.converts (arc_value (arc_value self.new.connection).service) (arc_value (arc_value self.new.connection).clock) (arc_value (arc_value self.new.connection).decider) (ShowsAllOf {R = R} {S = S} {K = K} {C = C} {A = A} {T = T} {F = F} (arc_value (arc_value self.new.connection).service)) self.new.stage x → Gives S.Service N.Clock D.Decide B.yields B.Data.converts (arc_value (arc_value self.old.connection).service) (arc_value (arc_value self.old.connection).clock) (arc_value (arc_value self.old.connection).decider) (ShowsAllOf (arc_value (arc_value self.old.connection).service)) self.old.stage x) }
+        ensures same { OnPending result ((x : _) → Gives S.Service N.Clock D.Decide B.yields B.Data.converts (arc_value (arc_value self.new.connection).service) (arc_value (arc_value self.new.connection).clock) (arc_value (arc_value self.new.connection).decider) (ShowsAllOf {R = R} {S = S} {K = K} {L = L} (arc_value (arc_value self.new.connection).service)) self.new.stage x → Gives S.Service N.Clock D.Decide B.yields B.Data.converts (arc_value (arc_value self.old.connection).service) (arc_value (arc_value self.old.connection).clock) (arc_value (arc_value self.old.connection).decider) (ShowsAllOf (arc_value (arc_value self.old.connection).service)) self.old.stage x) }
         ensures registered { OnPending result (Covers cx.new (WaitsFor B.needs self.new.stage)) }
         ensures kept { Keeps cx.old cx.new }
     {
@@ -147,20 +133,17 @@ where
 
 impl<
     R: Wait + time::Clock + Copy + Drop,
-    S: Service<K, C, A, T, F>,
+    S: Service<K, L>,
     D: Decide + Drop,
     N: Clock + Drop,
     B: Body,
     K: Keep,
-    C: Ledger,
-    A: Ledger,
-    T: Ledger,
-    F: Ledger,
-> Future for Exchange<R, S, D, N, B, K, C, A, T, F>
+    L: Ledgers,
+> Future for Exchange<R, S, D, N, B, K, L>
 where
     B::Data: Into<Bytes>,
 {
-    type Output = Result<Outcome<HistoryBody<R, S, K, C, A, T, F>>, ExchangeFault>;
+    type Output = Result<Outcome<HistoryBody<R, S, K, L>>, ExchangeFault>;
 
     ghost can_poll = { λ exchange. CanGoOn B.can_poll exchange.stage };
 

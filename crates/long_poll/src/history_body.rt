@@ -11,9 +11,8 @@ use futures::task::{Context, Poll};
 use http_body::{Body, Frame};
 use std::alloc::AllocError;
 use std::marker::PhantomData;
-use std::sync::ledger::Ledger;
 use std::sync::{Arc, Wait};
-use usage_ledger::{Keep, Tally};
+use usage_ledger::{Keep, Ledgers, Tally};
 
 /// Which text comes next.
 #[derive(Clone, Copy, Debug, PartialEq, Eq)]
@@ -37,24 +36,16 @@ fn piece(bytes: Vec<u8>) -> Result<Bytes, AllocError>
 /// first that there is none of. Each is a frame of its own, and no more than one is in memory. Want of
 /// memory ends the body with an error.
 #[derive(Drop)]
-pub struct HistoryBody<R, S, K: Keep, C: Ledger, A: Ledger, T: Ledger, F: Ledger> {
+pub struct HistoryBody<R, S, K: Keep, L: Ledgers> {
     rt: R,
     service: Arc<S>,
     stage: Stage,
-    of: PhantomData<Tally<K, C, A, T, F>>,
+    of: PhantomData<Tally<K, L>>,
 }
 
-impl<
-    R: Wait + Drop,
-    S: Service<K, C, A, T, F>,
-    K: Keep,
-    C: Ledger,
-    A: Ledger,
-    T: Ledger,
-    F: Ledger,
-> HistoryBody<R, S, K, C, A, T, F> {
+impl<R: Wait + Drop, S: Service<K, L>, K: Keep, L: Ledgers> HistoryBody<R, S, K, L> {
     /// The whole history of a service. It takes no memory.
-    pub fn new(rt: R, service: Arc<S>) -> HistoryBody<R, S, K, C, A, T, F>
+    pub fn new(rt: R, service: Arc<S>) -> HistoryBody<R, S, K, L>
         ensures { (result.service ≡ service) × (result.stage ≡ Stage.Opening) }
     {
         HistoryBody {
@@ -96,15 +87,7 @@ impl<
     }
 }
 
-impl<
-    R: Wait + Drop,
-    S: Service<K, C, A, T, F>,
-    K: Keep,
-    C: Ledger,
-    A: Ledger,
-    T: Ledger,
-    F: Ledger,
-> Body for HistoryBody<R, S, K, C, A, T, F> {
+impl<R: Wait + Drop, S: Service<K, L>, K: Keep, L: Ledgers> Body for HistoryBody<R, S, K, L> {
     ghost use Rattle.std.specs.Arc.{arc_value};
     ghost use Rattle.long_poll.specs.HistoryFrames.{Frames};
 

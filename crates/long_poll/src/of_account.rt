@@ -18,13 +18,11 @@ use call_model::{Call, Stats, Ticket};
 use lambda_wire::Reply;
 use std::alloc::AllocError;
 use std::sync::Wait;
-use std::sync::ledger::Ledger;
 use usage_ledger::{Keep, Tally};
 
 // What its readers give is what a history says that calls led to in its configuration: which one it was
 // under the lock no clause can say. A submit says what it did to the tally.
-impl<S: Setup + Drop, K: Keep, C: Ledger, A: Ledger, T: Ledger, F: Ledger> Service<K, C, A, T, F>
-    for Account<S, OneShotBell, C, A, T, F> {
+impl<S: Setup + Drop, K: Keep> Service<K, S> for Account<S, OneShotBell> {
     ghost serves = { λ _. S.config };
 
     ghost submits = { λ _ before _ call bell result after. Submits K.notes K.makes before call bell result after };
@@ -44,7 +42,7 @@ impl<S: Setup + Drop, K: Keep, C: Ledger, A: Ledger, T: Ledger, F: Ledger> Servi
     fn submit<R: Wait>(
         &self,
         rt: &R,
-        tally: &mut Tally<K, C, A, T, F>,
+        tally: &mut Tally<K, S>,
         now: u64,
         call: Call,
         bell: Option<OneShotBell>,
@@ -55,7 +53,7 @@ impl<S: Setup + Drop, K: Keep, C: Ledger, A: Ledger, T: Ledger, F: Ledger> Servi
     fn offer<R: Wait>(
         &self,
         rt: &R,
-        tally: &mut Tally<K, C, A, T, F>,
+        tally: &mut Tally<K, S>,
         now: u64,
         call: Call,
         bell: Option<OneShotBell>,

@@ -11,9 +11,8 @@ use futures::future::Future;
 use futures::task;
 use futures::task::Context;
 use std::marker::PhantomData;
-use std::sync::ledger::Ledger;
 use std::sync::{Arc, Wait};
-use usage_ledger::{Keep, Tally};
+use usage_ledger::{Keep, Ledgers, Tally};
 
 /// The bell rang or was lost, and the ticket still waited.
 #[derive(Clone, Copy, Debug, PartialEq, Eq)]
@@ -21,27 +20,18 @@ pub struct BellLost;
 
 /// Waits until something is heard, and then looks once at what a ticket was answered.
 #[derive(Drop)]
-pub struct Poll<R, S, H, K: Keep, C: Ledger, A: Ledger, T: Ledger, F: Ledger> {
+pub struct Poll<R, S, H, K: Keep, L: Ledgers> {
     rt: R,
     service: Arc<S>,
     ticket: Ticket,
     heard: H,
-    of: PhantomData<Tally<K, C, A, T, F>>,
+    of: PhantomData<Tally<K, L>>,
 }
 
-impl<
-    R: Wait + Drop,
-    S: Service<K, C, A, T, F>,
-    H: Future,
-    K: Keep,
-    C: Ledger,
-    A: Ledger,
-    T: Ledger,
-    F: Ledger,
-> Poll<R, S, H, K, C, A, T, F> {
+impl<R: Wait + Drop, S: Service<K, L>, H: Future, K: Keep, L: Ledgers> Poll<R, S, H, K, L> {
     /// Waits for the answer of a ticket by what is heard once there is one, as the `Heard` of the
     /// bell that went with its call. It takes no memory.
-    pub fn new(rt: R, service: Arc<S>, ticket: Ticket, heard: H) -> Poll<R, S, H, K, C, A, T, F>
+    pub fn new(rt: R, service: Arc<S>, ticket: Ticket, heard: H) -> Poll<R, S, H, K, L>
         ensures { (result.service ≡ service) × (result.ticket ≡ ticket) × (result.heard ≡ heard) }
     {
         Poll {
@@ -54,16 +44,8 @@ impl<
     }
 }
 
-impl<
-    R: Wait + Drop,
-    S: Service<K, C, A, T, F>,
-    H: Future,
-    K: Keep,
-    C: Ledger,
-    A: Ledger,
-    T: Ledger,
-    F: Ledger,
-> Future for Poll<R, S, H, K, C, A, T, F>
+impl<R: Wait + Drop, S: Service<K, L>, H: Future, K: Keep, L: Ledgers> Future
+    for Poll<R, S, H, K, L>
 where
     H::Output: Drop,
 {

@@ -19,12 +19,11 @@ use call_model::{Call, Stats, Ticket};
 use lambda_wire::Reply;
 use std::alloc::AllocError;
 use std::sync::Wait;
-use std::sync::ledger::Ledger;
-use usage_ledger::{Keep, Tally};
+use usage_ledger::{Keep, Ledgers, Tally};
 
 /// An account that connections share. Each method has a relation of its arguments and its answer,
 /// which the implementer names. The type parameters are a tally's: what it keeps, and its ledgers.
-pub trait Service<K: Keep, C: Ledger, A: Ledger, T: Ledger, F: Ledger>: Drop {
+pub trait Service<K: Keep, L: Ledgers>: Drop {
     /// The configuration that it serves.
     ghost serves: { Self → Config };
 
@@ -57,7 +56,7 @@ pub trait Service<K: Keep, C: Ledger, A: Ledger, T: Ledger, F: Ledger>: Drop {
     fn submit<R: Wait>(
         &self,
         rt: &R,
-        tally: &mut Tally<K, C, A, T, F>,
+        tally: &mut Tally<K, L>,
         now: u64,
         call: Call,
         bell: Option<OneShotBell>,
@@ -74,7 +73,7 @@ pub trait Service<K: Keep, C: Ledger, A: Ledger, T: Ledger, F: Ledger>: Drop {
     fn offer<R: Wait>(
         &self,
         rt: &R,
-        tally: &mut Tally<K, C, A, T, F>,
+        tally: &mut Tally<K, L>,
         now: u64,
         call: Call,
         bell: Option<OneShotBell>,

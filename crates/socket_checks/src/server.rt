@@ -12,10 +12,9 @@ use std::marker::Brand;
 use std::sync::Arc;
 use std::sync::atomic::Ordering::SeqCst;
 use std::sync::atomic::{AtomicBool, AtomicU64};
-use std::sync::ledger::{Blank, Ledger};
 use std::thread;
 use std::thread::JoinHandle;
-use usage_ledger::{Keep, KeepAll, Tally};
+use usage_ledger::{Blanks, Keep, KeepAll, Ledgers, Tally};
 
 /// A clock that a check sets, in milliseconds.
 #[derive(Drop)]
@@ -61,9 +60,7 @@ pub struct Left {
 }
 
 /// Drops the first tally in whose steps a call was made.
-fn hold_one_back<K: Keep, C: Ledger, A: Ledger, T: Ledger, F: Ledger>(
-    tallies: &mut Vec<Tally<K, C, A, T, F>>,
-) {
+fn hold_one_back<K: Keep, L: Ledgers>(tallies: &mut Vec<Tally<K, L>>) {
     for place in 0..tallies.len() {
         if !tallies[place].calls().is_empty() {
             let _ = tallies.swap_remove(place);
@@ -73,9 +70,7 @@ fn hold_one_back<K: Keep, C: Ledger, A: Ledger, T: Ledger, F: Ledger>(
 }
 
 /// Adds up how many calls and how many receipts these tallies keep.
-fn count<K: Keep, C: Ledger, A: Ledger, T: Ledger, F: Ledger>(
-    tallies: &[Tally<K, C, A, T, F>],
-) -> (u64, u64) {
+fn count<K: Keep, L: Ledgers>(tallies: &[Tally<K, L>]) -> (u64, u64) {
     let mut calls = 0u64;
     let mut receipts = 0u64;
     for tally in tallies {
@@ -86,42 +81,26 @@ fn count<K: Keep, C: Ledger, A: Ledger, T: Ledger, F: Ledger>(
 }
 
 /// Opens a host, runs it to its end, and settles its account.
-fn run<
-    R: Machine,
-    S: Setup + Drop + Send + Sync + 'static,
-    C: Ledger + Send + Sync + 'static,
-    A: Ledger + Send + Sync + 'static,
-    T: Ledger + Send + Sync + 'static,
-    F: Ledger + Send + Sync + 'static,
->(
+fn run<R: Machine, S: Setup + Drop + Send + Sync + 'static>(
     rt: R,
     plan: Plan,
     order: &Order,
     board: Arc<Board>,
-    calls: Blank,
-    admitted: Blank,
-    throttled: Blank,
-    failed: Blank,
+    blanks: Blanks,
 ) -> Result<Left, HostFault>
     requires configured { plan.config ≡ S.config }
-    requires calls { (calls.name ≡ C.name) × (calls.parts ≡ C.parts) × (C.parts ≡ 2 ^ 32) }
-    requires admitted { (admitted.name ≡ A.name) × (admitted.parts ≡ A.parts) × (A.parts ≡ 2 ^ 32) }
-    requires throttled { (throttled.name ≡ T.name) × (throttled.parts ≡ T.parts) × (T.parts ≡ 2 ^ 32) }
-    requires failed { (failed.name ≡ F.name) × (failed.parts ≡ F.parts) × (F.parts ≡ 2 ^ 32) }
+    requires named { blanks ≡ S.names }
 {
     let clock = SetClock {
         board: Arc::try_clone(&board)?,
     };
-    let host: Host<R, S, SetClock, KeepAll, C, A, T, F> = Host::open(
+    let host: Host<R, S, SetClock, KeepAll> = Host::open(
         rt,
         plan,
         clock,
         order.places,
         order.patience,
-        calls,
-        admitted,
-        throttled,
-        failed,
+        blanks,
     )?;
     board.listens.store(true, SeqCst);
     let Hosted {
@@ -149,16 +128,7 @@ fn serve<R: Machine>(rt: R, order: &Order, board: Arc<Board>) -> Result<Left, Ho
         Err(_) => return Err(HostFault::OutOfMemory),
     };
     let plan = Plan::check(rt.alloc(), setup)?;
-    run::<R, Brand, Brand, Brand, Brand, Brand>(
-        rt,
-        plan,
-        order,
-        board,
-        Blank::new(1 << 32),
-        Blank::new(1 << 32),
-        Blank::new(1 << 32),
-        Blank::new(1 << 32),
-    )
+    run::<R, Brand>(rt, plan, order, board, Blanks::new())
 }
 
 /// A service on a thread of its own.

@@ -1,4 +1,5 @@
 pub mod Counts
 pub mod Keeping
+pub mod Ledgers
 pub mod Tallies
 pub mod Joining

@@ -3,21 +3,23 @@
 ghost use Rattle.std.specs.Prelude.{◌≡◌, ◌+◌, ◌-◌, ◌≤◌, ◌^◌};
 ghost use Rattle.usage_ledger.specs.Counts.{no_counts, plus};
 
+use crate::Ledgers;
+use crate::ledgers::{Admitted, Calls, Failed, Throttled};
 use std::marker::Model;
-use std::sync::ledger::{Ledger, Share};
+use std::sync::ledger::Share;
 
 /// A share of each of the four ledgers, with as many parts of each. The amounts take no bytes: they
 /// are known to contracts alone. Contracts see the parts and the amounts.
 #[derive(Drop)]
-pub(crate) struct Shares<C: Ledger, A: Ledger, T: Ledger, F: Ledger> {
+pub(crate) struct Shares<L: Ledgers> {
     parts: u64,
-    pub(crate) calls: Share<C>,
-    pub(crate) admitted: Share<A>,
-    pub(crate) throttled: Share<T>,
-    pub(crate) failed: Share<F>,
+    pub(crate) calls: Share<Calls<L>>,
+    pub(crate) admitted: Share<Admitted<L>>,
+    pub(crate) throttled: Share<Throttled<L>>,
+    pub(crate) failed: Share<Failed<L>>,
 }
 
-impl<C: Ledger, A: Ledger, T: Ledger, F: Ledger> Model for Shares<C, A, T, F> {
+impl<L: Ledgers> Model for Shares<L> {
     ghost use Rattle.std.specs.Prelude.{◌≡◌, ◌^◌, ◌<◌};
     ghost use Rattle.usage_ledger.specs.Counts.{counts};
     ghost use Rattle.usage_ledger.specs.Tallies.{Shared};
@@ -29,21 +31,21 @@ impl<C: Ledger, A: Ledger, T: Ledger, F: Ledger> Model for Shares<C, A, T, F> {
       counts = counts s.calls.amount s.admitted.amount s.throttled.amount s.failed.amount;
     } };
 
-    ghost invariant = { λ s. (s.calls.parts ≡ s.parts) × (s.admitted.parts ≡ s.parts) × (s.throttled.parts ≡ s.parts) × (s.failed.parts ≡ s.parts) × (C.parts ≡ 2 ^ 32) × (A.parts ≡ 2 ^ 32) × (T.parts ≡ 2 ^ 32) × (F.parts ≡ 2 ^ 32) × (0 < s.parts) };
+    ghost invariant = { λ s. (s.calls.parts ≡ s.parts) × (s.admitted.parts ≡ s.parts) × (s.throttled.parts ≡ s.parts) × (s.failed.parts ≡ s.parts) × (0 < s.parts) };
 }
 
-impl<C: Ledger, A: Ledger, T: Ledger, F: Ledger> Shares<C, A, T, F> {
+impl<L: Ledgers> Shares<L> {
     /// The shares that have all parts, before anything was counted.
     pub(crate) fn all(
-        calls: Share<C>,
-        admitted: Share<A>,
-        throttled: Share<T>,
-        failed: Share<F>,
-    ) -> Shares<C, A, T, F>
-        requires calls { (calls.parts ≡ 2 ^ 32) × (C.parts ≡ 2 ^ 32) × (calls.amount ≡ 0) }
-        requires admitted { (admitted.parts ≡ 2 ^ 32) × (A.parts ≡ 2 ^ 32) × (admitted.amount ≡ 0) }
-        requires throttled { (throttled.parts ≡ 2 ^ 32) × (T.parts ≡ 2 ^ 32) × (throttled.amount ≡ 0) }
-        requires failed { (failed.parts ≡ 2 ^ 32) × (F.parts ≡ 2 ^ 32) × (failed.amount ≡ 0) }
+        calls: Share<Calls<L>>,
+        admitted: Share<Admitted<L>>,
+        throttled: Share<Throttled<L>>,
+        failed: Share<Failed<L>>,
+    ) -> Shares<L>
+        requires calls { (calls.parts ≡ 2 ^ 32) × (calls.amount ≡ 0) }
+        requires admitted { (admitted.parts ≡ 2 ^ 32) × (admitted.amount ≡ 0) }
+        requires throttled { (throttled.parts ≡ 2 ^ 32) × (throttled.amount ≡ 0) }
+        requires failed { (failed.parts ≡ 2 ^ 32) × (failed.amount ≡ 0) }
         ensures { result ≡ record { parts = 2 ^ 32; counts = no_counts } }
     {
         Shares {
@@ -63,7 +65,7 @@ impl<C: Ledger, A: Ledger, T: Ledger, F: Ledger> Shares<C, A, T, F> {
     }
 
     /// Gives one part of each away, and nothing that was counted.
-    pub(crate) fn split(&mut self) -> Shares<C, A, T, F>
+    pub(crate) fn split(&mut self) -> Shares<L>
         requires { 2 ≤ self.old.parts }
         ensures new { result ≡ record { parts = 1; counts = no_counts } }
         ensures left { self.new ≡ record self.old { parts = self.old.parts - 1 } }
@@ -79,7 +81,7 @@ impl<C: Ledger, A: Ledger, T: Ledger, F: Ledger> Shares<C, A, T, F> {
     }
 
     /// Takes over other shares.
-    pub(crate) fn merge(&mut self, other: Shares<C, A, T, F>)
+    pub(crate) fn merge(&mut self, other: Shares<L>)
         ensures { self.new ≡ record { parts = self.old.parts + other.parts; counts = plus self.old.counts other.counts } }
     {
         let Shares {

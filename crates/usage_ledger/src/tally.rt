@@ -6,27 +6,27 @@ ghost use Rattle.usage_ledger.specs.Joining.{HandsBack};
 ghost use Rattle.usage_ledger.specs.Keeping.{Kept, Steps};
 ghost use Rattle.usage_ledger.specs.Tallies.{fresh, with_held};
 
+use crate::ledgers::{Admitted, Calls, Failed, Throttled};
 use crate::shares::Shares;
-use crate::{JoinFault, Keep};
+use crate::{JoinFault, Keep, Ledgers};
 use call_model::{Answer, Head, Ticket};
 use std::alloc::{AllocError, Global};
 use std::fmt;
 use std::marker::Model;
-use std::sync::ledger::{Ledger, Share};
+use std::sync::ledger::Share;
 
 /// A share of each of the four counts of one account, and what was kept of the steps that it was
-/// handed to. The type parameters `C`, `A`, `T` and `F` name the ledgers of the calls and of the
-/// admitted, throttled and failed invocations, so that only what belongs to one account meets.
-/// Contracts see what it holds, and beside it for how much more it has room.
+/// handed to. The type parameter `L` names the account's ledgers, so that only what belongs to one
+/// account meets. Contracts see what it holds, and beside it for how much more it has room.
 #[derive(Drop)]
-pub struct Tally<K: Keep, C: Ledger, A: Ledger, T: Ledger, F: Ledger> {
+pub struct Tally<K: Keep, L: Ledgers> {
     alloc: Global,
     joined: bool,
     keep: K,
-    pub(crate) shares: Shares<C, A, T, F>,
+    pub(crate) shares: Shares<L>,
 }
 
-impl<K: Keep, C: Ledger, A: Ledger, T: Ledger, F: Ledger> Model for Tally<K, C, A, T, F> {
+impl<K: Keep, L: Ledgers> Model for Tally<K, L> {
     ghost use Rattle.usage_ledger.specs.Tallies.{Tallied, held};
 
     ghost Value = { Tallied };
@@ -38,7 +38,7 @@ impl<K: Keep, C: Ledger, A: Ledger, T: Ledger, F: Ledger> Model for Tally<K, C, 
     } };
 }
 
-impl<K: Keep, C: Ledger, A: Ledger, T: Ledger, F: Ledger> fmt::Debug for Tally<K, C, A, T, F> {
+impl<K: Keep, L: Ledgers> fmt::Debug for Tally<K, L> {
     fn fmt<W: fmt::Write>(&self, f: &mut fmt::Formatter<W>) -> fmt::Result {
         write!(
             f,
@@ -49,19 +49,19 @@ impl<K: Keep, C: Ledger, A: Ledger, T: Ledger, F: Ledger> fmt::Debug for Tally<K
     }
 }
 
-impl<K: Keep, C: Ledger, A: Ledger, T: Ledger, F: Ledger> Tally<K, C, A, T, F> {
+impl<K: Keep, L: Ledgers> Tally<K, L> {
     /// The tally that has all parts, before anything was counted or kept.
     pub(crate) fn all(
         alloc: Global,
-        calls: Share<C>,
-        admitted: Share<A>,
-        throttled: Share<T>,
-        failed: Share<F>,
-    ) -> Tally<K, C, A, T, F>
-        requires calls { (calls.parts ≡ 2 ^ 32) × (C.parts ≡ 2 ^ 32) × (calls.amount ≡ 0) }
-        requires admitted { (admitted.parts ≡ 2 ^ 32) × (A.parts ≡ 2 ^ 32) × (admitted.amount ≡ 0) }
-        requires throttled { (throttled.parts ≡ 2 ^ 32) × (T.parts ≡ 2 ^ 32) × (throttled.amount ≡ 0) }
-        requires failed { (failed.parts ≡ 2 ^ 32) × (F.parts ≡ 2 ^ 32) × (failed.amount ≡ 0) }
+        calls: Share<Calls<L>>,
+        admitted: Share<Admitted<L>>,
+        throttled: Share<Throttled<L>>,
+        failed: Share<Failed<L>>,
+    ) -> Tally<K, L>
+        requires calls { (calls.parts ≡ 2 ^ 32) × (calls.amount ≡ 0) }
+        requires admitted { (admitted.parts ≡ 2 ^ 32) × (admitted.amount ≡ 0) }
+        requires throttled { (throttled.parts ≡ 2 ^ 32) × (throttled.amount ≡ 0) }
+        requires failed { (failed.parts ≡ 2 ^ 32) × (failed.amount ≡ 0) }
         ensures { result.held ≡ fresh (2 ^ 32) }
     {
         Tally {
@@ -102,7 +102,7 @@ impl<K: Keep, C: Ledger, A: Ledger, T: Ledger, F: Ledger> Tally<K, C, A, T, F> {
 
     /// A new tally with one of its parts. It has counted nothing and keeps nothing; what this one
     /// counted and keeps stays.
-    pub fn split(&mut self) -> Tally<K, C, A, T, F>
+    pub fn split(&mut self) -> Tally<K, L>
         requires { 2 ≤ self.old.held.parts }
         ensures new { result.held ≡ fresh 1 }
         ensures left { self.new ≡ with_held self.old (record self.old.held { parts = self.old.held.parts - 1 }) }
@@ -119,10 +119,7 @@ impl<K: Keep, C: Ledger, A: Ledger, T: Ledger, F: Ledger> Tally<K, C, A, T, F> {
     ///
     /// # Errors
     /// Only where memory is refused; both come back in the fault.
-    pub fn join(
-        self,
-        other: Tally<K, C, A, T, F>,
-    ) -> Result<Tally<K, C, A, T, F>, JoinFault<Tally<K, C, A, T, F>>>
+    pub fn join(self, other: Tally<K, L>) -> Result<Tally<K, L>, JoinFault<Tally<K, L>>>
         ensures parts { IfOk result (λ t. t.held.parts ≡ self.held.parts + other.held.parts) }
         ensures counts { IfOk result (λ t. t.held.counts ≡ plus self.held.counts other.held.counts) }
         ensures joined { IfOk result (λ t. t.held.joined ≡ true) }
@@ -141,7 +138,7 @@ impl<K: Keep, C: Ledger, A: Ledger, T: Ledger, F: Ledger> Tally<K, C, A, T, F> {
     }
 
     /// Takes over the shares of another tally, and drops what that one keeps.
-    pub fn absorb(&mut self, other: Tally<K, C, A, T, F>)
+    pub fn absorb(&mut self, other: Tally<K, L>)
         ensures { self.new ≡ with_held self.old (record { parts = self.old.held.parts + other.held.parts; joined = true; counts = plus self.old.held.counts other.held.counts; kept = self.old.held.kept }) }
     {
         let Tally { shares, .. } = other;

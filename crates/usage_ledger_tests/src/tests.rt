@@ -9,8 +9,9 @@ use std::alloc::Global;
 use std::fmt::Debug;
 use std::marker::Brand;
 use std::process::Abort;
-use std::sync::ledger::{Blank, Ledger};
-use usage_ledger::{Counts, JoinFault, Keep, KeepAll, KeepNone, Tally, Totals, root};
+use usage_ledger::{
+    Blanks, Counts, JoinFault, Keep, KeepAll, KeepNone, Ledgers, Tally, Totals, root,
+};
 
 const ALL_PARTS: u64 = 4_294_967_296;
 
@@ -52,10 +53,7 @@ fn response() -> (Ticket, Head) {
 }
 
 /// Room for one receipt and one call, asked for again where memory was refused.
-fn make_room<K: Keep, C: Ledger, A: Ledger, T: Ledger, F: Ledger>(
-    rt: &impl Abort,
-    tally: &mut Tally<K, C, A, T, F>,
-)
+fn make_room<K: Keep, L: Ledgers>(rt: &impl Abort, tally: &mut Tally<K, L>)
     ensures notes { 0 < tally.new.spare_notes }
     ensures calls { 0 < tally.new.spare_calls }
 {
@@ -67,9 +65,9 @@ fn make_room<K: Keep, C: Ledger, A: Ledger, T: Ledger, F: Ledger>(
     panic!(rt; "memory was refused four times")
 }
 
-fn note<K: Keep, C: Ledger, A: Ledger, T: Ledger, F: Ledger>(
+fn note<K: Keep, L: Ledgers>(
     rt: &impl Abort,
-    tally: &mut Tally<K, C, A, T, F>,
+    tally: &mut Tally<K, L>,
     receipts: &[(Ticket, Answer)],
 ) {
     for (ticket, answer) in receipts {
@@ -78,20 +76,16 @@ fn note<K: Keep, C: Ledger, A: Ledger, T: Ledger, F: Ledger>(
     }
 }
 
-fn make<K: Keep, C: Ledger, A: Ledger, T: Ledger, F: Ledger>(
-    rt: &impl Abort,
-    tally: &mut Tally<K, C, A, T, F>,
-    calls: &[(Ticket, Head)],
-) {
+fn make<K: Keep, L: Ledgers>(rt: &impl Abort, tally: &mut Tally<K, L>, calls: &[(Ticket, Head)]) {
     for (ticket, head) in calls {
         make_room(rt, tally);
         tally.made(*ticket, *head);
     }
 }
 
-fn keeps<K: Keep, C: Ledger, A: Ledger, T: Ledger, F: Ledger>(
+fn keeps<K: Keep, L: Ledgers>(
     rt: &impl Abort,
-    tally: &Tally<K, C, A, T, F>,
+    tally: &Tally<K, L>,
     receipts: &[(Ticket, Answer)],
     calls: &[(Ticket, Head)],
 ) {
@@ -101,14 +95,10 @@ fn keeps<K: Keep, C: Ledger, A: Ledger, T: Ledger, F: Ledger>(
 
 /// A tally with all but two parts, and two with one: the first of these was told the delivery, the
 /// second the output.
-fn three<K: Keep, C: Ledger, A: Ledger, T: Ledger, F: Ledger>(
+fn three<K: Keep, L: Ledgers>(
     rt: &impl Abort,
-    root: Tally<K, C, A, T, F>,
-) -> (
-    Tally<K, C, A, T, F>,
-    Tally<K, C, A, T, F>,
-    Tally<K, C, A, T, F>,
-) {
+    root: Tally<K, L>,
+) -> (Tally<K, L>, Tally<K, L>, Tally<K, L>) {
     let mut root = root;
     assert!(rt; root.parts() == ALL_PARTS);
     let mut one = root.split();
@@ -131,10 +121,7 @@ enum Scene {
     NoRoom,
 }
 
-fn all<C: Ledger, A: Ledger, T: Ledger, F: Ledger>(
-    rt: &impl Abort,
-    root: (Totals<C, A, T, F>, Tally<KeepAll, C, A, T, F>),
-) {
+fn all<L: Ledgers>(rt: &impl Abort, root: (Totals<L>, Tally<KeepAll, L>)) {
     let (mut totals, mut tally) = root;
     assert_eq!(rt; tally.parts(), ALL_PARTS);
     assert!(rt; !tally.joined());
@@ -164,10 +151,7 @@ fn all<C: Ledger, A: Ledger, T: Ledger, F: Ledger>(
     );
 }
 
-fn nothing<C: Ledger, A: Ledger, T: Ledger, F: Ledger>(
-    rt: &impl Abort,
-    root: Tally<KeepNone, C, A, T, F>,
-) {
+fn nothing<L: Ledgers>(rt: &impl Abort, root: Tally<KeepNone, L>) {
     let mut tally = root;
     note(rt, &mut tally, &[delivered(), output()]);
     make(rt, &mut tally, &[next(), invoke()]);
@@ -175,10 +159,7 @@ fn nothing<C: Ledger, A: Ledger, T: Ledger, F: Ledger>(
     assert_eq!(rt; tally.parts(), ALL_PARTS);
 }
 
-fn split<C: Ledger, A: Ledger, T: Ledger, F: Ledger>(
-    rt: &impl Abort,
-    root: Tally<KeepAll, C, A, T, F>,
-) {
+fn split<L: Ledgers>(rt: &impl Abort, root: Tally<KeepAll, L>) {
     let mut tally = root;
     note(rt, &mut tally, &[delivered()]);
     make(rt, &mut tally, &[next()]);
@@ -195,11 +176,11 @@ fn split<C: Ledger, A: Ledger, T: Ledger, F: Ledger>(
 }
 
 /// The tallies joined, tried again where memory was refused.
-fn joined<K: Keep, C: Ledger, A: Ledger, T: Ledger, F: Ledger>(
+fn joined<K: Keep, L: Ledgers>(
     rt: &impl Abort,
-    one: Tally<K, C, A, T, F>,
-    other: Tally<K, C, A, T, F>,
-) -> Tally<K, C, A, T, F> {
+    one: Tally<K, L>,
+    other: Tally<K, L>,
+) -> Tally<K, L> {
     let mut pair = (one, other);
     for _ in 0..4 {
         match pair.0.join(pair.1) {
@@ -210,10 +191,7 @@ fn joined<K: Keep, C: Ledger, A: Ledger, T: Ledger, F: Ledger>(
     panic!(rt; "memory was refused four times")
 }
 
-fn join<C: Ledger, A: Ledger, T: Ledger, F: Ledger>(
-    rt: &impl Abort,
-    root: Tally<KeepAll, C, A, T, F>,
-) {
+fn join<L: Ledgers>(rt: &impl Abort, root: Tally<KeepAll, L>) {
     let (root, one, other) = three(rt, root);
     let mut pair = joined(rt, one, other);
     assert!(rt; pair.parts() == 2);
@@ -254,11 +232,7 @@ fn shown<T: Debug>(rt: &impl Abort, alloc: Global, fault: &JoinFault<T>) -> Stri
     panic!(rt; "memory was refused four times")
 }
 
-fn refusal<C: Ledger, A: Ledger, T: Ledger, F: Ledger>(
-    rt: &impl Abort,
-    alloc: Global,
-    root: Tally<KeepGrudging, C, A, T, F>,
-) {
+fn refusal<L: Ledgers>(rt: &impl Abort, alloc: Global, root: Tally<KeepGrudging, L>) {
     let (_root, one, other) = three(rt, root);
     let Err(fault) = one.join(other) else {
         panic!(rt; "joined where memory is refused")
@@ -281,10 +255,7 @@ fn refusal<C: Ledger, A: Ledger, T: Ledger, F: Ledger>(
     );
 }
 
-fn no_room<C: Ledger, A: Ledger, T: Ledger, F: Ledger>(
-    rt: &impl Abort,
-    root: Tally<KeepAll, C, A, T, F>,
-) {
+fn no_room<L: Ledgers>(rt: &impl Abort, root: Tally<KeepAll, L>) {
     let mut tally = root;
     note(rt, &mut tally, &[delivered()]);
     make(rt, &mut tally, &[next()]);
@@ -295,51 +266,22 @@ fn no_room<C: Ledger, A: Ledger, T: Ledger, F: Ledger>(
     keeps(rt, &tally, &[delivered(), output()], &[next()]);
 }
 
-fn play<C: Ledger, A: Ledger, T: Ledger, F: Ledger>(
-    rt: &impl Abort,
-    alloc: Global,
-    scene: Scene,
-    calls: Blank,
-    admitted: Blank,
-    throttled: Blank,
-    failed: Blank,
-)
-    requires calls { (calls.name ≡ C.name) × (calls.parts ≡ C.parts) × (C.parts ≡ 2 ^ 32) }
-    requires admitted { (admitted.name ≡ A.name) × (admitted.parts ≡ A.parts) × (A.parts ≡ 2 ^ 32) }
-    requires throttled { (throttled.name ≡ T.name) × (throttled.parts ≡ T.parts) × (T.parts ≡ 2 ^ 32) }
-    requires failed { (failed.name ≡ F.name) × (failed.parts ≡ F.parts) × (F.parts ≡ 2 ^ 32) }
+fn play<L: Ledgers>(rt: &impl Abort, alloc: Global, scene: Scene, blanks: Blanks)
+    requires named { blanks ≡ L.names }
 {
     match scene {
-        Scene::All => all::<C, A, T, F>(rt, root(alloc, calls, admitted, throttled, failed)),
-        Scene::Nothing => nothing::<C, A, T, F>(
-            rt,
-            root(alloc, calls, admitted, throttled, failed).1,
-        ),
-        Scene::Split => split::<C, A, T, F>(rt, root(alloc, calls, admitted, throttled, failed).1),
-        Scene::Join => join::<C, A, T, F>(rt, root(alloc, calls, admitted, throttled, failed).1),
-        Scene::Refusal => refusal::<C, A, T, F>(
-            rt,
-            alloc,
-            root(alloc, calls, admitted, throttled, failed).1,
-        ),
-        Scene::NoRoom => no_room::<C, A, T, F>(
-            rt,
-            root(alloc, calls, admitted, throttled, failed).1,
-        ),
+        Scene::All => all::<L>(rt, root(alloc, blanks)),
+        Scene::Nothing => nothing::<L>(rt, root(alloc, blanks).1),
+        Scene::Split => split::<L>(rt, root(alloc, blanks).1),
+        Scene::Join => join::<L>(rt, root(alloc, blanks).1),
+        Scene::Refusal => refusal::<L>(rt, alloc, root(alloc, blanks).1),
+        Scene::NoRoom => no_room::<L>(rt, root(alloc, blanks).1),
     }
 }
 
 /// Plays a scene with a new account.
 fn account(rt: &impl Abort, alloc: Global, scene: Scene) {
-    play::<Brand, Brand, Brand, Brand>(
-        rt,
-        alloc,
-        scene,
-        Blank::new(ALL_PARTS),
-        Blank::new(ALL_PARTS),
-        Blank::new(ALL_PARTS),
-        Blank::new(ALL_PARTS),
-    );
+    play::<Brand>(rt, alloc, scene, Blanks::new());
 }
 
 #[test]

@@ -3,8 +3,8 @@
 ghost use Rattle.std.specs.Prelude.{ℕ, List, IfOk};
 ghost use Rattle.http.specs.declared.request.Parts.{Parts as Head};
 ghost use Rattle.arn_ids.specs.declared.config.Config.{Config};
-ghost use Rattle.long_poll.specs.declared.decide.Decision.{Decision as Decided};
-ghost use Rattle.long_poll.specs.Decisions.{IsAllowed};
+ghost use Rattle.decisions.specs.declared.decide.Decision.{Decision as Decided};
+ghost use Rattle.decisions.specs.Decisions.{IsAllowed};
 
 use arn_ids::FnNo;
 use bytes::Bytes;

@@ -1,10 +1,10 @@
 -- Which decisions an account can carry out.
 use Rattle.arn_ids.specs.declared.config.Config.{Config}
 use Rattle.script.specs.Limits.{IsWithin, IsFunction}
-use Rattle.long_poll.specs.declared.decide.Shown.{Shown}
-use Rattle.long_poll.specs.declared.decide.Shown.TheVariants.{Stats, History, Reservation}
-use Rattle.long_poll.specs.declared.decide.Decision.{Decision}
-use Rattle.long_poll.specs.declared.decide.Decision.TheVariants.{Submit, Reply, Show}
+use Rattle.decisions.specs.declared.decide.Shown.{Shown}
+use Rattle.decisions.specs.declared.decide.Shown.TheVariants.{Stats, History, Reservation}
+use Rattle.decisions.specs.declared.decide.Decision.{Decision}
+use Rattle.decisions.specs.declared.decide.Decision.TheVariants.{Submit, Reply, Show}
 
 -- what is shown is there
 abbrev pub IsThere : Config → Shown → Type 0

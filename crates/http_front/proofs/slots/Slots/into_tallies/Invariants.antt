@@ -1,0 +1,12 @@
+use Rattle.std.proofs.Common.{◌≡◌, ◌+◌, ◌≤◌, vec_len, vec_capacity}
+use Rattle.http_front.proofs.slots.Slots.into_tallies.Given as goal
+
+-- none is lost, and there is room for the tallies of the places that are left
+abbrev pub invariant-loop-slot : goal.invariant-loop-slot
+invariant-loop-slot g l = record {
+  all : vec_len l.tallies + vec_len l.slots ≡ l.fn.self.made + 2;
+  room : vec_len l.tallies + vec_len l.slots ≤ vec_capacity l.tallies;
+}
+
+abbrev pub decreases-loop-slot : goal.decreases-loop-slot
+decreases-loop-slot g l = vec_len l.slots
