@@ -3,6 +3,7 @@ use Rattle.std.specs.Prelude.{◌≡◌, ◌+◌, ◌≤◌, ◌^◌, Bool, true
 use Rattle.std.specs.List.{list_all}
 use Rattle.arn_ids.specs.declared.config.Config.{Config}
 use Rattle.arn_ids.specs.Environments.{environments, owners}
+use Rattle.lambda_wire.specs.Ranges.{IsConfigInRange}
 use Rattle.call_model.specs.declared.call.Call.TheVariants.{Stop}
 use Rattle.call_model.specs.declared.call.Entry.{Entry}
 use Rattle.call_model.specs.Counts.{full}
@@ -18,8 +19,10 @@ use Rattle.account_book.specs.declared.book.Life.TheVariants.{Open, Stopping, Of
 abbrev pub kept : Inside → Kept
 kept b = record { config = b.journal.config; salt = b.salt; max_entries = b.max_entries; history = b.journal.history }
 
--- Calls led to its history, each of which it takes; and while no Stop stands there, one finds room.
+-- Its configuration and its greatest number of entries are in their ranges; calls led to its history, each of which it
+-- takes; and while no Stop stands there, one finds room.
 pub record IsBook (b : Inside) : Type 0 where
+  pub in_range : IsConfigInRange b.journal.config
   pub room : length (owners b.journal.config) + 1 ≤ b.max_entries
   pub few : b.max_entries ≤ 2 ^ 32
   pub reached : IsReached b.journal.config b.max_entries b.journal.history

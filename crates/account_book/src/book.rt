@@ -18,7 +18,7 @@ ghost use Rattle.account_book.specs.Answering.{most_answers, answers_in};
 ghost use Rattle.account_book.specs.Books.{life};
 ghost use Rattle.account_book.specs.HistoryText.{opening_text};
 ghost use Rattle.account_book.specs.Premature.{premature};
-ghost use Rattle.account_book.specs.Reached.{IsReached};
+ghost use Rattle.account_book.specs.Reached.{IsBooked, IsReached};
 ghost use Rattle.account_book.specs.ReplyText.{reply_text};
 ghost use Rattle.account_book.specs.Room.{wanted};
 ghost use Rattle.account_book.specs.declared.book.OpenFault.TheVariants.{EntriesOutOfRange, OutOfMemory as NoMemory};
@@ -26,6 +26,7 @@ ghost use Rattle.account_book.specs.declared.book.Refusal.TheVariants.{JournalFu
 
 use crate::history_text::opening_text;
 use crate::journal::Journal;
+use crate::ranges::config_fits;
 use crate::rendering::render;
 use crate::room::Roomy;
 use arn_ids::{Checked, FnNo, Text};
@@ -196,6 +197,7 @@ impl Book {
         if max_entries <= u64::from(config.environments()) || max_entries > 1 << 32 {
             return Err(OpenFault::EntriesOutOfRange);
         }
+        config_fits(&config);
         Ok(Book {
             journal: Journal::open(alloc, config)?,
             salt,
@@ -427,14 +429,16 @@ impl Book {
         self.salt
     }
 
-    /// What the history of every book is: one that calls led to, each of which the book takes; so it
-    /// is a legal one. And there is always room for a first Stop.
+    /// What every book is made of, and what its history is: one that calls led to, each of which the
+    /// book takes; so it is a legal one. And there is always room for a first Stop.
     pub fn facts(&self)
         ensures sound { first_fault self.now.config ≡ None }
+        ensures booked { IsBooked self.now.config self.now.salt self.now.max_entries }
         ensures reached { IsReached self.now.config self.now.max_entries self.now.history }
         ensures legal { IsLegal self.now.config self.now.history }
         ensures stop { stopped self.now.history ≡ false → full self.now.config self.now.max_entries self.now.history Stop ≡ false }
     {
         self.journal.facts();
+        let _salt = self.salt;
     }
 }

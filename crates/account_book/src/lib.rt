@@ -10,6 +10,7 @@ pub mod laws;
 mod ledger;
 mod opening;
 mod premature;
+mod ranges;
 mod reach;
 mod rendering;
 mod room;

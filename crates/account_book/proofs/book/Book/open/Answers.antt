@@ -2,6 +2,7 @@ use Rattle.std.proofs.Common.{◌≡◌, ◌≤◌, ◌+◌, ◌^◌, ℕ, lengt
 use Rattle.std.proofs.lemmas.Bool.Decides.{nat_tests}
 use Rattle.arn_ids.specs.declared.config.Config.{Config}
 use Rattle.arn_ids.specs.Environments.{owners}
+use Rattle.lambda_wire.specs.Ranges.{IsConfigInRange}
 use Rattle.call_model.specs.Counts.{full}
 use Rattle.call_model.specs.declared.call.Call.TheVariants.{Stop}
 use Rattle.account_book.specs.declared.book.Book.TheInside.{Inside}
@@ -17,8 +18,9 @@ empty_room config max le = full_is config max [] Stop ∙ less (length (owners c
     less : (n : ℕ) → n + 1 ≤ max → nat_lt max (0 + (n + 1)) ≡ false
     less n k = grind (arith, nat_tests, k)
 
-begun : (b : Inside) (config : Config) → b.journal ≡ record { config = config; history = []; room = 0; widest = 0 } → length (owners config) + 1 ≤ b.max_entries → b.max_entries ≤ 2 ^ 32 → IsBook b
-begun b config is le few = record {
+begun : (b : Inside) (config : Config) → b.journal ≡ record { config = config; history = []; room = 0; widest = 0 } → length (owners config) + 1 ≤ b.max_entries → b.max_entries ≤ 2 ^ 32 → IsConfigInRange config → IsBook b
+begun b config is le few fits = record {
+  in_range = rw (ap (λ (p : Pages). p.config) is) fits;
   room = rw (ap (λ (p : Pages). p.config) is) le;
   few = few;
   reached = rw (ap (λ (p : Pages). p.config) is, ap (λ (p : Pages). p.history) is) (reached_first config b.max_entries);
@@ -26,4 +28,4 @@ begun b config is le few = record {
 }
 
 pub invariant_of-result : goal.invariant_of-result
-invariant_of-result c = begun _ c.args.config c.in_ok-open.ensures (omega (arith, c.if-max_entries-from.false, c.from.ensures, c.environments.ensures)) (omega (arith, c.if-max_entries.false))
+invariant_of-result c = begun _ c.args.config c.in_ok-open.ensures (omega (arith, c.if-max_entries-from.false, c.from.ensures, c.environments.ensures)) (omega (arith, c.if-max_entries.false)) c.config_fits.ensures

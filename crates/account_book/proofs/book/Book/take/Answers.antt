@@ -56,6 +56,7 @@ returns-clause-step c = rw (sym c.self.view_is, (stepped c).0, (stepped c).1) re
 -- the book is one still, where its history is as it was
 as_before : (b after : Inside) → IsBook b → after.journal.config ≡ b.journal.config → after.journal.history ≡ b.journal.history → after.max_entries ≡ b.max_entries → IsBook after
 as_before b after k config history entries = record {
+  in_range = rw config k.in_range;
   room = rw (config, entries) k.room;
   few = rw entries k.few;
   reached = rw (config, entries, history) k.reached;
@@ -69,6 +70,7 @@ invariant_of-self c = as_before c.self.inside _ c.self.invariant c.in_err-make_r
 goes_on : (b after : Inside) (now : ℕ) (call : Call) → IsBook b → now < 2 ^ 53 → IsWithin b.journal.config call → All (λ x. x < 256) (body_of call) → full b.journal.config b.max_entries b.journal.history call ≡ false
     → after.journal.config ≡ b.journal.config → after.journal.history ≡ next b.journal.config b.journal.history now call → after.max_entries ≡ b.max_entries → IsBook after
 goes_on b after now call k early within bytes free config history entries = record {
+  in_range = rw config k.in_range;
   room = rw (config, entries) k.room;
   few = rw entries k.few;
   reached = rw (config, entries, history) (reached_next b.journal.config b.max_entries b.journal.history now call k.reached (record { timed = (omega (arith, early), within); bytes = bytes; room = free }));
