@@ -26,6 +26,7 @@ pub mod RoomMeets
 pub mod LineEnds
 pub mod FormsAgree
 pub mod HistoryLines
+pub mod TextParts
 pub mod GoingOn
 pub mod AnswersStay
 pub mod Reaching

@@ -1,15 +1,17 @@
 //! Laws of histories and their texts: functions with no work in them, whose contracts are proved.
 
-ghost use Rattle.std.specs.Prelude.{◌≡◌, ◌+◌, ℕ, true, false, List, [], ◌++◌, length, codes, None, Some};
+ghost use Rattle.std.specs.Prelude.{◌≡◌, ◌+◌, ℕ, true, false, List, [], ◌++◌, length, reverse, slice_index_or, codes, None, Some};
+ghost use Rattle.std.specs.List.{flat_map};
 ghost use Rattle.std.specs.Str.Lines.{lines};
-ghost use Rattle.arn_ids.specs.Environments.{function_at};
+ghost use Rattle.arn_ids.specs.Environments.{count_from, function_at};
 ghost use Rattle.arn_ids.specs.declared.config.Config.{Config};
 ghost use Rattle.call_model.specs.declared.call.Call.{Call};
 ghost use Rattle.call_model.specs.declared.call.Entry.{Entry};
 ghost use Rattle.call_model.specs.Isolation.{IsUnnamed, IsLegalSave};
 ghost use Rattle.call_model.specs.Next.{IsLegal, next};
 ghost use Rattle.call_model.specs.Own.{own, own_ticket};
-ghost use Rattle.account_book.specs.HistoryText.{answers_text, history_text};
+ghost use Rattle.script.specs.AnswerText.{entry_text};
+ghost use Rattle.account_book.specs.HistoryText.{answers_text, history_text, opening_text};
 ghost use Rattle.account_book.specs.Reached.{IsBooked, IsReached, IsTakenAfter};
 ghost use Rattle.account_book.specs.ReplyText.{reply_text};
 ghost use Rattle.account_book.specs.Run.{Taking, before, is_of_form_2, replay_from, run};
@@ -30,6 +32,14 @@ pub fn isolated()
     ensures legal { (config : Config) (max_entries : ℕ) (h : List Entry) (f limit : ℕ) → IsReached config max_entries h → (function_at config f).reserved ≡ Some limit → IsUnnamed f h → IsLegalSave config (own config h f) }
     // there each of its tickets has the same reply: status, headers and body, with all identifiers.
     ensures replies { (config : Config) (salt max_entries : ℕ) (h : List Entry) (f t : ℕ) → IsReached config max_entries h → own_ticket config h f t ≡ true → reply_text config salt (own config h f) t ≡ reply_text config salt h t }
+{}
+
+/// The text of a history is what its book gives of it part by part: the opening, and behind it the
+/// text of each entry, the oldest first. `Book::opening` gives the first part, `Book::history` with
+/// the tickets 0, 1 and so on the others.
+pub fn text_in_parts()
+    ensures { (config : Config) (salt max_entries : ℕ) (h : List Entry) (d : Entry) → history_text config salt max_entries h
+        ≡ opening_text config salt max_entries ++ flat_map (λ t. entry_text config salt h t (slice_index_or (reverse h) t d)) (count_from 0 (length h)) }
 {}
 
 /// A history replays to its own answers: the text of a history that calls led to is a script
