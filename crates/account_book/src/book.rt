@@ -1,6 +1,6 @@
 //! The book of an account: what callers hand their calls to.
 
-ghost use Rattle.std.specs.Prelude.{◌≡◌, ◌+◌, ◌<◌, ◌≤◌, ◌^◌, ◌↔◌, [], length, reverse, All, IfOk, IfErr, Err, Some, None, true, false, is_some, slice_get, slice_index_or, option_map, MatchOption};
+ghost use Rattle.std.specs.Prelude.{◌≡◌, ◌+◌, ◌*◌, ◌<◌, ◌≤◌, ◌^◌, ◌↔◌, [], length, reverse, All, IfOk, IfErr, Err, Some, None, true, false, is_some, slice_get, slice_index_or, option_map, MatchOption};
 ghost use Rattle.arn_ids.specs.Environments.{owners};
 ghost use Rattle.arn_ids.specs.Faults.{first_fault};
 ghost use Rattle.call_model.specs.declared.call.Call.TheVariants.{Stop};
@@ -8,7 +8,7 @@ ghost use Rattle.call_model.specs.declared.call.Entry.{Entry};
 ghost use Rattle.call_model.specs.Counts.{full, stats};
 ghost use Rattle.call_model.specs.History.{answer_of, stopped};
 ghost use Rattle.call_model.specs.Limits.{reservation};
-ghost use Rattle.call_model.specs.Next.{IsLegal, added, next, due};
+ghost use Rattle.call_model.specs.Next.{IsLegal, added, next, due, moment_at};
 ghost use Rattle.deadlines.specs.Due.{first};
 ghost use Rattle.env_phase.specs.Taking.{registered_name};
 ghost use Rattle.script.specs.AnswerText.{body_of, entry_text};
@@ -247,10 +247,13 @@ impl Book {
     }
 
     /// How many answers a call gives at most that is handed in at a moment: those of its own entry, and
-    /// of the expiries before it. Who notes answers makes room for so many.
+    /// of the expiries before it. Who notes answers makes room for so many. They are few: at most 14 for
+    /// each environment that is due, and 14 for the call itself; for a Stop 24 for each environment, and
+    /// one.
     pub fn most_given(&self, now: u64, call: &Call) -> usize
         requires within { IsWithin self.now.config call.now }
-        ensures { answers_in (added self.now.config self.now.history now call.now) ≤ result }
+        ensures enough { answers_in (added self.now.config self.now.history now call.now) ≤ result }
+        ensures few { result ≤ 14 * length (due self.now.config self.now.history (moment_at self.now.history now)) + most_answers 10 (length (owners self.now.config)) call.now }
     {
         self.journal.facts();
         let last = self.journal.last_moment();
