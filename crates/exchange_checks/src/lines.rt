@@ -1,0 +1,107 @@
+//! The requests in the lines of a part.
+
+use crate::rows::At;
+use bytes::Bytes;
+use case_tables::{CaseFault, Part};
+use futures::task::{Context, Poll};
+use http::request::Parts;
+use http_body::{Body, Frame};
+use http_uri::{Uri, UriError};
+use std::alloc::Global;
+
+/// The most letters of a piece.
+const MOST_LETTERS: u64 = 1 << 24;
+
+/// So many times the same piece; then it ends, or it fails.
+#[derive(Drop)]
+pub struct Pieces {
+    piece: Bytes,
+    left: u64,
+    is_broken: bool,
+}
+
+impl Body for Pieces {
+    type Data = Bytes;
+
+    type Error = ();
+
+    fn poll_frame(&mut self, _cx: &mut Context<'_>) -> Poll<Option<Result<Frame<Bytes>, ()>>> {
+        if self.left > 0 {
+            self.left -= 1;
+            if let Ok(piece) = self.piece.clone() {
+                return Poll::Ready(Some(Ok(Frame::data(piece))));
+            }
+        } else if !self.is_broken {
+            return Poll::Ready(None);
+        }
+        Poll::Ready(Some(Err(())))
+    }
+}
+
+/// What is asked: at which moment, with which head and body.
+#[derive(Drop)]
+pub struct Ask {
+    pub at: At,
+    pub parts: Parts,
+    pub body: Pieces,
+}
+
+/// That a line does not hold what it is to hold.
+pub fn malformed(line: u64, what: &'static str) -> CaseFault {
+    CaseFault::Malformed { line, what }
+}
+
+/// The text of a part without its last line feed.
+pub fn lines_in(part: &Part) -> &str {
+    let text = part.text();
+    text.strip_suffix('\n').unwrap_or(text)
+}
+
+/// The number that a text of a line says.
+pub fn number_of(line: u64, text: &str) -> Result<u64, CaseFault> {
+    text.parse::<u64>()
+        .map_err(|_| malformed(line, "a number is wanted"))
+}
+
+/// A body: a piece, or so many of them behind `pieces N` or `broken N`. A piece is `=TEXT` or
+/// `letters N`.
+fn body_in(alloc: Global, line: u64, text: &str) -> Result<Pieces, CaseFault> {
+    let (word, rest) = text.split_once(' ').unwrap_or((text, ""));
+    let is_broken = word == "broken";
+    let (count, text) = if is_broken || word == "pieces" {
+        rest.split_once(' ').unwrap_or((rest, ""))
+    } else {
+        ("1", text)
+    };
+    let left = number_of(line, count)?;
+    let mut piece = Vec::new(alloc);
+    if let Some(count) = text.strip_prefix("letters ") {
+        let count = number_of(line, count)?.min(MOST_LETTERS);
+        piece.resize(count as usize, b'x')?;
+    } else {
+        let text = text.strip_prefix('=').unwrap_or(text);
+        piece.extend_from_slice(text.as_bytes())?;
+    }
+    Ok(Pieces {
+        piece: Bytes::from_vec(piece)?,
+        left,
+        is_broken,
+    })
+}
+
+/// What a line asks: a moment, a path and a body.
+pub fn ask_in(alloc: Global, line: u64, text: &str) -> Result<Ask, CaseFault> {
+    let (moment, rest) = text.split_once(' ').unwrap_or((text, ""));
+    let (path, body) = rest.split_once(' ').unwrap_or((rest, ""));
+    let mut parts = Parts::new(alloc);
+    parts.uri = match Uri::from_str(alloc, path) {
+        Ok(uri) => uri,
+        Err(UriError::OutOfMemory) => return Err(CaseFault::Memory),
+        Err(_) => return Err(malformed(line, "a path is wanted")),
+    };
+    Ok(Ask {
+        at: At(number_of(line, moment)?),
+        parts,
+        body: body_in(alloc, line, body)?,
+    })
+}
