@@ -1,4 +1,5 @@
 use Rattle.usage_ledger_tests.proofs.tests.account.Given as goal
 
-abbrev pub ghosts-play-L-Ledgers : goal.ghosts-play-L-Ledgers
-ghosts-play-L-Ledgers g a = record { names = a.blanks }
+-- the ledgers are those of the blanks
+abbrev pub ghosts-play : goal.ghosts-play
+ghosts-play g a = record { names = a.blanks }
