@@ -1,11 +1,10 @@
 -- What a journal keeps before any call.
-use Rattle.std.proofs.Common.{◌≡◌, ℕ, zero, suc, ◌+◌, ◌≤◌, [], ◌∷◌, ◌++◌, length, map, sym, refl, ap, ap₂, ◌∙◌, arith, ◌<◌, None, All, get_or}
+use Rattle.std.proofs.Common.{◌≡◌, ℕ, zero, suc, ◌+◌, ◌≤◌, [], ◌∷◌, ◌++◌, length, map, sym, ap, ap₂, ◌∙◌, arith, ◌<◌, None, All, get_or}
 use Rattle.arn_ids.specs.declared.config.Config.{Config}
-use Rattle.arn_ids.specs.Environments.{function_of, function_at, owners, count_from}
+use Rattle.arn_ids.specs.Environments.{owners, count_from}
 use Rattle.arn_ids.proofs.Bounds.{owner_is_function}
 use Rattle.call_model.specs.Generation.{members}
 use Rattle.call_model.specs.Life.{seen, life}
-use Rattle.env_phase.specs.Taking.{opened}
 use Rattle.account_book.specs.Taking.{site, sites}
 use Rattle.std.proofs.lemmas.List.{length-map}
 use Rattle.std.proofs.lemmas.List.Elements.{All-map}
@@ -31,11 +30,6 @@ count_more g a n = ap (λ k. map g (count_from a k)) (plus n) ∙ next_number g 
   where
     plus : (n : ℕ) → n + 1 ≡ suc n
     plus n = omega arith
-
--- an environment before any call is an opened one
-pub site_unused : (config : Config) (e : ℕ) → 1 ≤ e → e ≤ length (owners config) → record { function = function_of config e; environment = opened (function_at config (function_of config e)) } ≡ site config [] e
-unfolding seen life members
-site_unused config e low high = let owner = owner_is_function config e low high in rw (sym owner.2) refl
 
 count_at : (a n i d : ℕ) → i < n → get_or (count_from a n) i d ≡ a + i
 count_at a zero i d lt = absurd (omega (arith, lt))

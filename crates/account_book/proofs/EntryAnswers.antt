@@ -13,27 +13,17 @@ use Rattle.call_model.specs.History.{answer_in, env_of, or_else, stopped}
 use Rattle.call_model.specs.Life.{is_event}
 use Rattle.call_model.specs.Limits.{place_for, Verdict, verdict, AfterStop, Refuses, Admits, admitted_to}
 use Rattle.call_model.specs.Next.{Follows}
-use Rattle.call_model.proofs.AfterEntry.{call_of_new, call_of_old, place_of_new, place_of_old}
 use Rattle.call_model.proofs.AnswerValues.{plain, valued}
 use Rattle.call_model.proofs.Basics.{eqb-self, some-none, none-some}
 use Rattle.call_model.proofs.Frame.{quiet_here}
-use Rattle.call_model.proofs.Once.{answers_at, answers_past}
+use Rattle.call_model.proofs.Once.{answers_at}
 use Rattle.call_model.proofs.Pairs.{eqb-other, is_some_none}
 use Rattle.call_model.proofs.Puts.{filter_rising, filter_answer}
 use Rattle.call_model.proofs.Rising.{IsRising, each_rising, numbered_rising, rising_same}
+use Rattle.env_phase.proofs.Homes.{home_new, home_old, past}
 use Rattle.account_book.specs.Reaches.{reach, reaches, book_answer, unless_named, with_own}
 use Rattle.account_book.proofs.Concerned.{concerns_reach}
 use Rattle.account_book.proofs.Merging.{last_rising, last_answer}
-
--- the environment of a ticket, older or the entry's own
-pub home_old : (entry : Entry) (h : List Entry) (t : ℕ) → t < length h → home (entry ∷ h) t ≡ home h t
-home_old entry h t lt = rw (call_of_old entry h t lt, place_of_old entry h t lt) refl
-
-pub home_new : (entry : Entry) (h : List Entry) → home (entry ∷ h) (length h) ≡ or_else entry.place (env_of entry.call)
-home_new entry h = rw (call_of_new entry h, place_of_new entry h) refl
-
-pub past : (config : Config) (h : List Entry) (entry : Entry) (t : ℕ) → Follows config h entry → length h < t → answer_in entry.answers t ≡ None
-past config h entry t w lt = ap (λ xs. answer_in xs t) w.answers ∙ answers_past config h entry.moment entry.call t lt
 
 pub answers_rising : (config : Config) (h : List Entry) (entry : Entry) → Follows config h entry → IsRising 0 entry.answers
 unfolding answers

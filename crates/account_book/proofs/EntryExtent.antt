@@ -13,6 +13,8 @@ use Rattle.call_model.specs.History.{answer_in}
 use Rattle.call_model.specs.Life.{stand}
 use Rattle.call_model.specs.Next.{IsLegal, Follows}
 use Rattle.call_model.proofs.Rising.{some_at}
+use Rattle.env_phase.proofs.Extent.{little}
+use Rattle.env_phase.proofs.Homes.{past}
 use Rattle.env_phase.proofs.Room.{moves_few}
 use Rattle.account_book.specs.declared.reach.Reach.{Reach}
 use Rattle.account_book.specs.declared.reach.Reach.TheVariants.{Nowhere, At, Everywhere}
@@ -20,9 +22,9 @@ use Rattle.account_book.specs.Fleets.{moves_at, step_at}
 use Rattle.account_book.specs.Ledgers.{answer_limit}
 use Rattle.account_book.specs.Reaches.{reach, book_answer, with_own, homed}
 use Rattle.account_book.specs.Taking.{site, sites, request_counts, IsKnown, AllKnown}
-use Rattle.account_book.proofs.EntryAnswers.{answers_parts, past}
+use Rattle.account_book.proofs.EntryAnswers.{answers_parts}
 use Rattle.account_book.proofs.EntryMoves.{homed_nowhere, homed_at, homed_everywhere}
-use Rattle.account_book.proofs.Extent.{little, put_all_length, merged_few}
+use Rattle.account_book.proofs.Extent.{put_all_length, merged_few}
 use Rattle.account_book.proofs.FleetMeets.{sites_length}
 use Rattle.account_book.proofs.Visiting.{reach_within}
 

@@ -18,6 +18,7 @@ use Rattle.call_model.proofs.Flight.{placed_between}
 use Rattle.call_model.proofs.Puts.{filter_answer}
 use Rattle.call_model.proofs.Rising.{IsRising, rising_same}
 use Rattle.call_model.proofs.StepLaws.{moves_are}
+use Rattle.env_phase.proofs.Homes.{home_new, home_old}
 use Rattle.script.specs.Limits.{IsEnv}
 use Rattle.account_book.specs.declared.reach.Reach.{Reach}
 use Rattle.account_book.specs.declared.reach.Reach.TheVariants.{Nowhere, At, Everywhere}
@@ -25,7 +26,7 @@ use Rattle.account_book.specs.Fleets.{moves_at, put_all, merged}
 use Rattle.account_book.specs.Reaches.{reach, reaches, at_most}
 use Rattle.account_book.specs.Taking.{site, sites, request_counts, IsKnown, AllKnown}
 use Rattle.account_book.proofs.Concerned.{concerns_reach, count_here}
-use Rattle.account_book.proofs.EntryAnswers.{Answered, Own, Older, part, part_same, part_rising, has_home, home_old, home_new}
+use Rattle.account_book.proofs.EntryAnswers.{Answered, Own, Older, part, part_same, part_rising, has_home}
 use Rattle.account_book.proofs.Merging.{merge_rising, merge_answer}
 
 -- the moves at an environment that is reached are the entry's answers to its tickets

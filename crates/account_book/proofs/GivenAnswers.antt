@@ -17,6 +17,7 @@ use Rattle.call_model.proofs.NextLegal.{legal_next}
 use Rattle.call_model.proofs.StepLaws.{stand_is}
 use Rattle.deadlines.specs.Due.{first}
 use Rattle.env_phase.specs.Taking.{registered_name}
+use Rattle.env_phase.proofs.Extent.{none_joins}
 use Rattle.script.specs.Limits.{IsWithin}
 use Rattle.account_book.specs.declared.reach.Reach.{Reach}
 use Rattle.account_book.specs.declared.reach.Reach.TheVariants.{Nowhere, At, Everywhere}
@@ -29,7 +30,7 @@ use Rattle.account_book.proofs.EntryAnswers.{answers_parts}
 use Rattle.account_book.proofs.EntryExtent.{few_moves}
 use Rattle.account_book.proofs.EntryMoves.{homed_nowhere, homed_at, homed_everywhere}
 use Rattle.account_book.proofs.Expiring.{due_within}
-use Rattle.account_book.proofs.Extent.{none_joins, put_all_length, merged_few}
+use Rattle.account_book.proofs.Extent.{put_all_length, merged_few}
 use Rattle.account_book.proofs.FleetMeets.{sites_length}
 use Rattle.account_book.proofs.Reaching.{AreExpiries, are_expiries, no_expiry}
 use Rattle.account_book.proofs.Visiting.{reach_within, site_of, no_stop, all_stop, few_there}

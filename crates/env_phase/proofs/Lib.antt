@@ -5,3 +5,7 @@ pub mod Welcome
 pub mod NoneServed
 -- How many answers and extensions there are.
 pub mod Room
+pub mod Extent
+-- The stand after every history.
+pub mod Homes
+pub mod Meets

@@ -3,6 +3,7 @@
 #![tactic(auto)]
 
 mod environment;
+pub mod laws;
 mod phases;
 mod step;
 

@@ -1,5 +1,8 @@
+use Rattle.std.proofs.Common.{ap}
+use Rattle.arn_ids.specs.Environments.{function_of}
 use Rattle.arn_ids.proofs.Bounds.{owner_is_function, timeout_between}
-use Rattle.account_book.proofs.BeforeCalls.{site_unused}
+use Rattle.call_model.specs.After.{Known}
+use Rattle.env_phase.proofs.Meets.{opens}
 use Rattle.account_book.proofs.opening.open_site.Goals as goal
 
 pub function-requires-clause-from_one : goal.function-requires-clause-from_one
@@ -15,4 +18,4 @@ open-requires c =
 
 pub returns : goal.returns
 returns c =
-    rw (c.in_ok-open.ensures, c.function.ensures, c.function_of-function.ensures) (site_unused c.args.config.now c.args.env c.requires.low c.requires.high)
+    rw (c.in_ok-open.ensures, c.function.ensures, c.function_of-function.ensures) (ap (λ (k : Known). record { function = function_of c.args.config.now c.args.env; environment = k }) (opens c.args.config.now c.args.env c.requires.low c.requires.high))

@@ -14,7 +14,7 @@ use Rattle.placement.specs.Places.{place_at}
 use Rattle.std.proofs.lemmas.List.Elements.{All-get_or}
 use Rattle.std.proofs.lemmas.List.{get_or_default}
 use Rattle.std.specs.Vec.{with_item}
-use Rattle.account_book.proofs.Extent.{none_joins}
+use Rattle.env_phase.proofs.Extent.{none_joins}
 use Rattle.account_book.proofs.Newly.{newly_taken}
 use Rattle.account_book.proofs.Visits.{IsChange, change_kept, change_pool, site_is_at, some_in_flight}
 use Rattle.account_book.proofs.fleet.Fleet.take_at.Goals as goal
