@@ -223,8 +223,11 @@ impl Book {
         Ok(self.take(now, call)?)
     }
 
-    /// Takes a call for which there is room in the journal.
-    fn take(&mut self, now: u64, call: Call) -> Result<Ticket, AllocError>
+    /// Takes a call as `apply` does, where there is room for it in the journal: who has asked whether that
+    /// is `full` doesn't ask again.
+    ///
+    /// The only error is want of memory. The book is then as it was.
+    pub fn take(&mut self, now: u64, call: Call) -> Result<Ticket, AllocError>
         requires moment { now < 2 ^ 53 }
         requires within { IsWithin self.old.config call }
         requires free { full self.old.config self.old.max_entries self.old.history call ≡ false }

@@ -145,9 +145,11 @@ impl<B: Bell, L: Ledgers> Desk<B, L> {
             totals,
             ..
         } = self;
-        let ticket = match book.apply(now, call) {
-            Err(refusal) => return Err(Refused { refusal, bell }),
-            Ok(ticket) => ticket,
+        let Ok(ticket) = book.take(now, call) else {
+            return Err(Refused {
+                refusal: Refusal::OutOfMemory,
+                bell,
+            });
         };
         store(bells, ticket, bell);
         serve_step(book, start, before, bells, &mut rings, totals, tally);

@@ -9,48 +9,48 @@ use Rattle.account_lock.proofs.AfterCall.{behind, within, risen_by, rise_by, ris
 use Rattle.account_lock.proofs.desk.Desk.apply.Goals as goal
 
 pub serve_step-requires-clause-start : goal.serve_step-requires-clause-start
-serve_step-requires-clause-start g c = within c.self.inside.book c.apply.new.self c.args.now c.args.call c.len-start.result c.in-Ok-apply.ensures.step c.len-start.ensures.value
+serve_step-requires-clause-start g c = within c.self.inside.book c.take.new.self c.args.now c.args.call c.len-start.result c.in-Ok-take.ensures.step c.len-start.ensures.value
 
 pub serve_step-requires-clause-notes : goal.serve_step-requires-clause-notes
 serve_step-requires-clause-notes g c =
-    let few = behind c.self.inside.book c.apply.new.self c.args.now c.args.call c.len-start.result c.in-Ok-apply.ensures.step c.len-start.ensures.value in
+    let few = behind c.self.inside.book c.take.new.self c.args.now c.args.call c.len-start.result c.in-Ok-take.ensures.step c.len-start.ensures.value in
     omega (arith, ap length few, c.most_given-most.ensures, c.in-Ok.ensures.tally.0)
 
 pub serve_step-requires-clause-room : goal.serve_step-requires-clause-room
 serve_step-requires-clause-room g c =
-    let few = behind c.self.inside.book c.apply.new.self c.args.now c.args.call c.len-start.result c.in-Ok-apply.ensures.step c.len-start.ensures.value in
+    let few = behind c.self.inside.book c.take.new.self c.args.now c.args.call c.len-start.result c.in-Ok-take.ensures.step c.len-start.ensures.value in
     omega (arith, ap length few, c.most_given-most.ensures, c.in-Ok.ensures.rings.1, ap length c.in-Ok.ensures.rings.0)
 
 pub serve_step-requires-clause-rising : goal.serve_step-requires-clause-rising
 serve_step-requires-clause-rising g c =
     let old = c.self.inside in
-    let all = c.store.ensures.items ∙ ap (λ bells. bells ++ own_bell c.in-Ok-apply.ticket c.args.bell) c.make_room.ensures.same.0 in
-    rising_by old.book c.apply.new.self c.args.now c.args.call c.in-Ok-apply.ticket old.bells.items c.store.new.bells.items c.args.bell old.totals c.self.invariant c.in-Ok-apply.ensures.step c.in-Ok-apply.ensures.ticket all
+    let all = c.store.ensures.items ∙ ap (λ bells. bells ++ own_bell c.in-Ok-take.ticket c.args.bell) c.make_room.ensures.same.0 in
+    rising_by old.book c.take.new.self c.args.now c.args.call c.in-Ok-take.ticket old.bells.items c.store.new.bells.items c.args.bell old.totals c.self.invariant c.in-Ok-take.ensures.step c.in-Ok-take.ensures.ticket all
 
 pub serve_step-requires-clause-risen : goal.serve_step-requires-clause-risen
-serve_step-requires-clause-risen g c = risen_by c.self.inside.book c.apply.new.self c.args.now c.args.call c.stats-before.result c.stats-before.ensures c.in-Ok-apply.ensures.step
+serve_step-requires-clause-risen g c = risen_by c.self.inside.book c.take.new.self c.args.now c.args.call c.stats-before.result c.stats-before.ensures c.in-Ok-take.ensures.step
 
 pub invariant_of-self-2 : goal.invariant_of-self-2
 invariant_of-self-2 g c =
     let old = c.self.inside in
-    let step = c.in-Ok-apply.ensures.step in
-    let t = c.in-Ok-apply.ticket in
-    let new = behind old.book c.apply.new.self c.args.now c.args.call c.len-start.result step c.len-start.ensures.value in
+    let step = c.in-Ok-take.ensures.step in
+    let t = c.in-Ok-take.ticket in
+    let new = behind old.book c.take.new.self c.args.now c.args.call c.len-start.result step c.len-start.ensures.value in
     let w = rw (← c.self.view_is) at c.requires.within in
-    let rose = rise_by old.book c.apply.new.self c.args.now c.args.call c.stats-before.result c.stats-before.ensures step w in
+    let rose = rise_by old.book c.take.new.self c.args.now c.args.call c.stats-before.result c.stats-before.ensures step w in
     let all = c.store.ensures.items ∙ ap (λ bells. bells ++ own_bell t c.args.bell) c.make_room.ensures.same.0 in
-    desk_kept old.book c.apply.new.self c.args.now c.args.call t old.bells.items c.serve_step.new.bells.items c.args.bell old.totals c.serve_step.new.totals c.self.invariant w step c.in-Ok-apply.ensures.ticket
+    desk_kept old.book c.take.new.self c.args.now c.args.call t old.bells.items c.serve_step.new.bells.items c.args.bell old.totals c.serve_step.new.totals c.self.invariant w step c.in-Ok-take.ensures.ticket
     (c.serve_step.ensures.bells ∙ (λ i. bells_after (new i) (all i)))
     (c.serve_step.ensures.totals ∙ ap (plus old.totals) rose)
 
 pub returns-clause-step : goal.returns-clause-step
 returns-clause-step g c =
     let old = c.self.inside in
-    let step = c.in-Ok-apply.ensures.step in
-    let t = c.in-Ok-apply.ticket in
-    let new = behind old.book c.apply.new.self c.args.now c.args.call c.len-start.result step c.len-start.ensures.value in
+    let step = c.in-Ok-take.ensures.step in
+    let t = c.in-Ok-take.ticket in
+    let new = behind old.book c.take.new.self c.args.now c.args.call c.len-start.result step c.len-start.ensures.value in
     let w = rw (← c.self.view_is) at c.requires.within in
-    let rose = rise_by old.book c.apply.new.self c.args.now c.args.call c.stats-before.result c.stats-before.ensures step w in
+    let rose = rise_by old.book c.take.new.self c.args.now c.args.call c.stats-before.result c.stats-before.ensures step w in
     let all = c.store.ensures.items ∙ ap (λ bells. bells ++ own_bell t c.args.bell) c.make_room.ensures.same.0 in
     let left = c.serve_step.ensures.bells ∙ (λ i. bells_after (new i) (all i)) in
     let sums = c.serve_step.ensures.totals ∙ ap (plus old.totals) rose in
@@ -59,8 +59,8 @@ returns-clause-step g c =
 pub returns-clause-rings : goal.returns-clause-rings
 returns-clause-rings g c =
     let old = c.self.inside in
-    let t = c.in-Ok-apply.ticket in
-    let new = behind old.book c.apply.new.self c.args.now c.args.call c.len-start.result c.in-Ok-apply.ensures.step c.len-start.ensures.value in
+    let t = c.in-Ok-take.ticket in
+    let new = behind old.book c.take.new.self c.args.now c.args.call c.len-start.result c.in-Ok-take.ensures.step c.len-start.ensures.value in
     let all = c.store.ensures.items ∙ ap (λ bells. bells ++ own_bell t c.args.bell) c.make_room.ensures.same.0 in
     let none = c.in-Ok.ensures.rings.0 in
     c.serve_step.ensures.rings ∙ (λ i. none i ++ rings_of (new i) (all i))
@@ -70,7 +70,7 @@ pub returns-clause-counts : goal.returns-clause-counts
 returns-clause-counts g c =
     let old = c.self.inside in
     let w = rw (← c.self.view_is) at c.requires.within in
-    let rose = rise_by old.book c.apply.new.self c.args.now c.args.call c.stats-before.result c.stats-before.ensures c.in-Ok-apply.ensures.step w in
+    let rose = rise_by old.book c.take.new.self c.args.now c.args.call c.stats-before.result c.stats-before.ensures c.in-Ok-take.ensures.step w in
     let was = c.make_room.ensures.same.1 in
     let k = c.made.new.self.held.kept in
     c.made.ensures.same
@@ -81,7 +81,7 @@ returns-clause-counts g c =
 pub returns-clause-kept : goal.returns-clause-kept
 returns-clause-kept g c =
     let old = c.self.inside in
-    let new = behind old.book c.apply.new.self c.args.now c.args.call c.len-start.result c.in-Ok-apply.ensures.step c.len-start.ensures.value in
+    let new = behind old.book c.take.new.self c.args.now c.args.call c.len-start.result c.in-Ok-take.ensures.step c.len-start.ensures.value in
     let answers = new ∙ ap (λ d. given (added_to d.book c.args.now c.args.call)) c.self.view_is in
     let from = ap (λ (s : Held). s.kept) c.make_room.ensures.same.1 in (
       c.serve_step.new.tally.held.kept,
