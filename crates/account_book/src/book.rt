@@ -223,8 +223,8 @@ impl Book {
         Ok(self.take(now, call)?)
     }
 
-    /// Takes a call as `apply` does, where there is room for it in the journal: who has asked whether that
-    /// is `full` doesn't ask again.
+    /// Takes a call as `apply` does. It requires that the journal isn't `full` for the call, so that whoever
+    /// has asked needn't ask twice.
     ///
     /// The only error is want of memory. The book is then as it was.
     pub fn take(&mut self, now: u64, call: Call) -> Result<Ticket, AllocError>

@@ -14,7 +14,7 @@ ghost use Rattle.call_model.specs.Stand.{is_number};
 ghost use Rattle.env_phase.specs.Taking.{opened, taken, given};
 
 /// An environment meets its stand: opened, and taking each call that concerns it, it is at every moment what a legal
-/// history says of it.
+/// history says of it. (An entry that doesn't concern it leaves its stand: `call_model::laws::step`.)
 pub fn meets()
     // An environment that is opened is what the empty history says of it.
     ensures opens { (config : Config) (e : ℕ) → 1 ≤ e → e ≤ length (owners config) → opened (function_at config (function_of config e)) ≡ record { fixed = fixed_of config e; stand = stand config [] e } }
