@@ -1,5 +1,5 @@
 -- The next history of a legal one is legal.
-use Rattle.std.proofs.Common.{◌≡◌, ℕ, ◌+◌, ◌<◌, ◌≤◌, Bool, true, false, cond, eqb, List, [], ◌∷◌, ◌++◌, length, Option, Some, None, sym, refl, ap, ◌∙◌, subst, inl, inr, arith, ◌≢◌, not, ◌&&◌, ◌||◌, ◌==◌, map, filter, filter_map, true≢false, if◌then◌else◌, count_by, nat_le, max}
+use Rattle.std.proofs.Common.{◌≡◌, ℕ, ◌+◌, ◌<◌, ◌≤◌, Bool, true, false, cond, eqb, List, [], ◌∷◌, ◌++◌, length, Option, Some, None, sym, refl, ap, ◌∙◌, subst, inl, inr, arith, ◌≢◌, not, ◌&&◌, ◌||◌, ◌==◌, map, filter, filter_map, true≢false, if◌then◌else◌, count_by, nat_le}
 use Rattle.std.proofs.lemmas.Bool.{eq-eqb}
 use Rattle.std.proofs.lemmas.Bool.Decides.{eqb_tells, nat_tests}
 use Rattle.std.specs.List.{cons_option}
@@ -19,7 +19,7 @@ use Rattle.call_model.specs.Laws.{is_due}
 use Rattle.call_model.specs.Life.{Life, phase, stand, seen, limit_of}
 use Rattle.call_model.specs.Answers.{answers}
 use Rattle.std.proofs.lemmas.List.{append_assoc}
-use Rattle.call_model.specs.Next.{entry_of, expiries, added, moment_at, due, due_at, deadline_of, by_deadline, entered, expired, next, last_moment, IsLegal, Follows, IsTimely, IsFirst}
+use Rattle.call_model.specs.Next.{entry_of, expiries, expiries_at, added, moment_at, due, due_at, deadline_of, by_deadline, entered, next, last_moment, IsLegal, Follows, IsTimely, IsFirst}
 use Rattle.call_model.proofs.Pairs.{eqb-other}
 use Rattle.call_model.proofs.Once.{fresh}
 use Rattle.call_model.proofs.Scans.{legal_silent}
@@ -172,15 +172,28 @@ legal_expiry config h m e rest l le q = (l, record { later = le; timely = subst 
 pub due_after_expiry : (config : Config) (h : List Entry) (m e : ℕ) (rest : List ℕ) → IsLegal config h → last_moment h ≤ m → due config h m ≡ e ∷ rest → due config (entered config h m (Expire e)) m ≡ rest
 due_after_expiry config h m e rest l le q = rest_due config h m e rest l ((legal_expiry config h m e rest l le q).1) q
 
--- what is due expires, one after the other, and then nothing is due
-pub legal_expired : (config : Config) (m : ℕ) (es : List ℕ) (h : List Entry) → IsLegal config h → last_moment h ≤ m → due config h m ≡ es → IsLegal config (expired config m es h) × ((last_moment (expired config m es h) ≤ m) × (due config (expired config m es h) m ≡ []))
-legal_expired config m [] h l le q = (l, (le, q))
-legal_expired config m (e ∷ rest) h l le q =
-    legal_expired config m rest (entered config h m (Expire e)) (legal_expiry config h m e rest l le q) (omega arith) (due_after_expiry config h m e rest l le q)
+-- an environment expires, and then the others do
+pub expiries_on : (config : Config) (m e : ℕ) (rest : List ℕ) (h : List Entry) → expiries config m rest (entered config h m (Expire e)) ++ entered config h m (Expire e) ≡ expiries config m (e ∷ rest) h ++ h
+expiries_on config m e rest h = sym (append_assoc (expiries config m rest (entered config h m (Expire e))) (entry_of config h m (Expire e) ∷ []) h)
 
--- The same, of all that is due at a moment.
-pub none_due_after : (config : Config) (h : List Entry) (m : ℕ) → IsLegal config h → last_moment h ≤ m → due config (expired config m (due config h m) h) m ≡ []
-none_due_after config h m l le = (legal_expired config m (due config h m) h l le refl).1.1
+-- a legal history at whose end nothing is due at a moment
+pub record HasNoneDue (config : Config) (m : ℕ) (h : List Entry) : Type 0 where
+  pub legal : IsLegal config h
+  pub later : last_moment h ≤ m
+  pub none_due : due config h m ≡ []
+
+-- what is due expires, one after the other, and then nothing is due
+none_due_by : (config : Config) (m : ℕ) (es : List ℕ) (h : List Entry) → IsLegal config h → last_moment h ≤ m → due config h m ≡ es → HasNoneDue config m (expiries config m es h ++ h)
+none_due_by config m [] h l le q = record { legal = l; later = le; none_due = q }
+none_due_by config m (e ∷ rest) h l le q =
+    subst (HasNoneDue config m) (expiries_on config m e rest h)
+    (none_due_by config m rest (entered config h m (Expire e)) (legal_expiry config h m e rest l le q) (omega arith) (due_after_expiry config h m e rest l le q))
+
+pub none_due_at : (config : Config) (h : List Entry) (m : ℕ) → IsLegal config h → last_moment h ≤ m → HasNoneDue config m (expiries_at config h m ++ h)
+none_due_at config h m l le = none_due_by config m (due config h m) h l le refl
+
+pub none_due_after : (config : Config) (h : List Entry) (m : ℕ) → IsLegal config h → last_moment h ≤ m → due config (expiries_at config h m ++ h) m ≡ []
+none_due_after config h m l le = (none_due_at config h m l le).none_due
 
 is_timely : (m : ℕ) (call : Call) (es : List ℕ) → is_expiry call ≡ false → es ≡ [] → IsTimely m call es
 is_timely m (Expire e) es x q = absurd (true≢false x)
@@ -190,22 +203,13 @@ is_timely m call es x q = q
 pub legal_entered : (config : Config) (h : List Entry) (m : ℕ) (call : Call) → IsLegal config h → last_moment h ≤ m → due config h m ≡ [] → is_expiry call ≡ false → IsLegal config (entered config h m call)
 legal_entered config h m call l le q x = (l, record { later = le; timely = is_timely m call (due config h m) x q; answers = refl; place = refl })
 
--- The expiries are the entries that expiring adds.
-pub expired_added : (config : Config) (m : ℕ) (es : List ℕ) (h : List Entry) → expired config m es h ≡ expiries config m es h ++ h
-expired_added config m [] h = refl
-expired_added config m (e ∷ rest) h = expired_added config m rest (entered config h m (Expire e)) ∙ sym (append_assoc (expiries config m rest (entered config h m (Expire e))) (entry_of config h m (Expire e) ∷ []) h)
-
 -- The next history is the one in which first everything due expires and then the call is entered.
-pub next_entered : (config : Config) (h : List Entry) (now : ℕ) (call : Call) → next config h now call ≡ entered config (expired config (moment_at h now) (due config h (moment_at h now)) h) (moment_at h now) call
+pub next_entered : (config : Config) (h : List Entry) (now : ℕ) (call : Call) → next config h now call ≡ entered config (expiries_at config h (moment_at h now) ++ h) (moment_at h now) call
 unfolding next added
-next_entered config h now call = ap (λ (k : List Entry). entered config k (moment_at h now) call) (sym (expired_added config (moment_at h now) (due config h (moment_at h now)) h))
+next_entered config h now call = refl
 
 -- The next history of a legal one is legal.
 pub legal_next : (config : Config) (h : List Entry) (now : ℕ) (call : Call) → IsLegal config h → is_expiry call ≡ false → IsLegal config (next config h now call)
 legal_next config h now call l x =
-    subst (IsLegal config) (sym (next_entered config h now call))
-    (let k : IsLegal config (expired config m (due config h m) h) × ((last_moment (expired config m (due config h m) h) ≤ m) × (due config (expired config m (due config h m) h) m ≡ [])) = legal_expired config m (due config h m) h l (omega arith) refl in
-    legal_entered config (expired config m (due config h m) h) m call (k.0) (k.1.0) (k.1.1) x)
-  where
-    m : ℕ
-    m = max now (last_moment h)
+    let k = none_due_at config h (moment_at h now) l (omega arith) in
+    subst (IsLegal config) (sym (next_entered config h now call)) (legal_entered config (expiries_at config h (moment_at h now) ++ h) (moment_at h now) call k.legal k.later k.none_due x)

@@ -46,15 +46,14 @@ entry_of config h m call = record { moment = m; call = call; answers = answers c
 abbrev pub entered : Config → List Entry → ℕ → Call → List Entry
 entered config h m call = entry_of config h m call ∷ h
 
--- the history in which environments expired, one after the other
-abbrev pub expired : Config → ℕ → List ℕ → List Entry → List Entry
-expired config m [] h = h
-expired config m (e ∷ rest) h = expired config m rest (entered config h m (Expire e))
-
--- the entries of those expiries, the newest first
+-- the entries by which environments expire at a moment, one after the other, the newest first
 abbrev pub expiries : Config → ℕ → List ℕ → List Entry → List Entry
 expiries config m [] h = []
 expiries config m (e ∷ rest) h = expiries config m rest (entered config h m (Expire e)) ++ (entry_of config h m (Expire e) ∷ [])
+
+-- those of all that is due
+abbrev pub expiries_at : Config → List Entry → ℕ → List Entry
+expiries_at config h m = expiries config m (due config h m) h
 
 -- the moment of the newest entry; 0 before the first
 abbrev pub last_moment : List Entry → ℕ
@@ -65,14 +64,13 @@ last_moment (entry ∷ h) = entry.moment
 abbrev pub moment_at : List Entry → ℕ → ℕ
 moment_at h now = max now (last_moment h)
 
--- the call's own entry, taken after those of the expiries
-abbrev pub after_expiries : Config → List Entry → ℕ → Call → List Entry → List Entry
-after_expiries config h m call es = entry_of config (es ++ h) m call ∷ es
+-- what is due at a moment expires, and then the call is taken
+abbrev pub added_at : Config → List Entry → ℕ → Call → List Entry
+added_at config h m call = entry_of config (expiries_at config h m ++ h) m call ∷ expiries_at config h m
 
--- The entries that a call adds, the newest first: what is due expires, and then the call is taken.
+-- The entries that a call adds, the newest first.
 unfoldable pub added : Config → List Entry → ℕ → Call → List Entry
-added config h now call =
-    after_expiries config h (moment_at h now) call (expiries config (moment_at h now) (due config h (moment_at h now)) h)
+added config h now call = added_at config h (moment_at h now) call
 
 -- The next history.
 unfoldable pub next : Config → List Entry → ℕ → Call → List Entry

@@ -1,6 +1,6 @@
 //! Laws over the definitions: what holds of every legal history. Each function does nothing; its clauses are the laws.
 
-ghost use Rattle.std.specs.Prelude.{◌≡◌, ◌≤◌, ℕ, Bool, true, false, cond, List, [], ◌∷◌, length, Option, Some, None, count_by, filter, is_some, not, ◌+◌, ◌&&◌, ◌==◌};
+ghost use Rattle.std.specs.Prelude.{◌≡◌, ◌≤◌, ℕ, Bool, true, false, cond, List, [], ◌∷◌, ◌++◌, length, Option, Some, None, count_by, filter, is_some, not, ◌+◌, ◌&&◌, ◌==◌};
 ghost use Rattle.call_model.specs.declared.call.Call.{Call};
 ghost use Rattle.call_model.specs.declared.call.Entry.{Entry};
 ghost use Rattle.call_model.specs.declared.answer.Answer.{Answer};
@@ -17,7 +17,7 @@ ghost use Rattle.call_model.specs.After.{ended_by, stand_after, moves_of, fixed_
 ghost use Rattle.call_model.specs.Isolation.{IsUnnamed, IsLegalSave, named, gist};
 ghost use Rattle.call_model.specs.Limits.{is_charged, verdict, Verdict, Refuses, reservation, remainder, in_flight, unreserved_in_flight};
 ghost use Rattle.call_model.specs.Laws.{lives, times, deliveries, is_outcome, poll_of, is_open, admits, re_reserved, charged_in, is_taken, IsWithinEnvironments, is_due, deadlines_of, are_in_order};
-ghost use Rattle.call_model.specs.Next.{IsLegal, next, due, last_moment, expired};
+ghost use Rattle.call_model.specs.Next.{IsLegal, next, due, last_moment, expiries_at};
 
 /// Where invocations live, how often they are answered and delivered, and where polls stand.
 pub fn safe()
@@ -52,7 +52,7 @@ pub fn expiring()
     // the earliest deadline first, of several that are one moment the environment with the lowest number first.
     ensures ordered { (config : Config) (h : List Entry) (m : ℕ) → are_in_order (deadlines_of config h (due config h m)) ≡ true }
     // Where they have expired, one after the other, nothing is due.
-    ensures done { (config : Config) (h : List Entry) (m : ℕ) → IsLegal config h → last_moment h ≤ m → due config (expired config m (due config h m) h) m ≡ [] }
+    ensures done { (config : Config) (h : List Entry) (m : ℕ) → IsLegal config h → last_moment h ≤ m → due config (expiries_at config h m ++ h) m ≡ [] }
 {}
 
 /// What admissions count: the limits, and the environments that are taken (reserved concurrency).
