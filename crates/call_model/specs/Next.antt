@@ -1,4 +1,4 @@
--- What is due, the next history, a whole run, and which histories are legal.
+-- What is due, and which histories are legal; the next history, and a whole run.
 use Rattle.std.specs.Prelude.{◌≡◌, ℕ, ◌≤◌, max, if◌then◌else◌, nat_le, List, [], ◌∷◌, ◌++◌, length, map, Option, Some, None, filter_map}
 use Rattle.call_model.specs.declared.call.Call.{Call}
 use Rattle.call_model.specs.declared.call.Call.TheVariants.{Expire}
@@ -38,6 +38,33 @@ by_deadline (a ∷ rest) = in_order a (by_deadline rest)
 unfoldable pub due : Config → List Entry → ℕ → List ℕ
 due config h m = map (λ a. a.1) (by_deadline (filter_map (λ e. due_at m e (deadline_of (phase config h e))) (environments config)))
 
+-- the moment of the newest entry; 0 before the first
+abbrev pub last_moment : List Entry → ℕ
+last_moment [] = 0
+last_moment (entry ∷ h) = entry.moment
+
+-- the first of a list
+abbrev pub IsFirst : ℕ → List ℕ → Type 0
+IsFirst e [] = ⊥
+IsFirst e (d ∷ rest) = e ≡ d
+
+-- what is due expires, in its order, before any other call is taken
+abbrev pub IsTimely : ℕ → Call → List ℕ → Type 0
+IsTimely m (Expire e) due = IsFirst e due
+IsTimely m _ due = due ≡ []
+
+-- an entry that the rules allow after a history: time doesn't go back, and answers and place are the ones defined
+pub record Follows (config : Config) (h : List Entry) (entry : Entry) : Type 0 where
+  pub later : last_moment h ≤ entry.moment
+  pub timely : IsTimely entry.moment entry.call (due config h entry.moment)
+  pub answers : entry.answers ≡ answers config h entry.moment entry.call
+  pub place : entry.place ≡ place_for config h entry.call
+
+-- Legal: a history each of whose entries follows the ones before it. This is the machine of one thread.
+abbrev pub IsLegal : Config → List Entry → Type 0
+IsLegal config [] = Unit {0}
+IsLegal config (entry ∷ h) = IsLegal config h × Follows config h entry
+
 -- the entry of a call that is taken at a moment
 abbrev pub entry_of : Config → List Entry → ℕ → Call → Entry
 entry_of config h m call = record { moment = m; call = call; answers = answers config h m call; place = place_for config h call }
@@ -54,11 +81,6 @@ expiries config m (e ∷ rest) h = expiries config m rest (entered config h m (E
 -- those of all that is due
 abbrev pub expiries_at : Config → List Entry → ℕ → List Entry
 expiries_at config h m = expiries config m (due config h m) h
-
--- the moment of the newest entry; 0 before the first
-abbrev pub last_moment : List Entry → ℕ
-last_moment [] = 0
-last_moment (entry ∷ h) = entry.moment
 
 -- the moment at which a call is taken: time never goes back
 abbrev pub moment_at : List Entry → ℕ → ℕ
@@ -85,25 +107,3 @@ run config h (c ∷ calls) = run config (next config h c.0 c.1) calls
 abbrev pub lines : List Entry → List (ℕ × ℕ × Answer)
 lines [] = []
 lines (entry ∷ h) = lines h ++ map (λ a. (length h, a.0, a.1)) entry.answers
-
--- the first of a list
-abbrev pub IsFirst : ℕ → List ℕ → Type 0
-IsFirst e [] = ⊥
-IsFirst e (d ∷ rest) = e ≡ d
-
--- what is due expires, in its order, before any other call is taken
-abbrev pub IsTimely : ℕ → Call → List ℕ → Type 0
-IsTimely m (Expire e) due = IsFirst e due
-IsTimely m _ due = due ≡ []
-
--- an entry that the rules allow after a history: time doesn't go back, and answers and place are the ones defined
-pub record Follows (config : Config) (h : List Entry) (entry : Entry) : Type 0 where
-  pub later : last_moment h ≤ entry.moment
-  pub timely : IsTimely entry.moment entry.call (due config h entry.moment)
-  pub answers : entry.answers ≡ answers config h entry.moment entry.call
-  pub place : entry.place ≡ place_for config h entry.call
-
--- Legal: a history each of whose entries follows the ones before it. This is the machine of one thread.
-abbrev pub IsLegal : Config → List Entry → Type 0
-IsLegal config [] = Unit {0}
-IsLegal config (entry ∷ h) = IsLegal config h × Follows config h entry
