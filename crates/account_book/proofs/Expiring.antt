@@ -1,5 +1,5 @@
 -- A loop in which the environments that are due expire, one after the other.
-use Rattle.std.proofs.Common.{◌≡◌, ℕ, zero, suc, ◌+◌, ◌<◌, ◌≤◌, Bool, true, false, List, [], ◌∷◌, ◌-◌, length, map, filter_map, All, Option, Some, None, sym, refl, ap, ◌∙◌, arith, nat_le, if◌then◌else◌}
+use Rattle.std.proofs.Common.{◌≡◌, ℕ, zero, suc, ◌+◌, ◌<◌, ◌≤◌, Bool, true, false, List, [], ◌∷◌, ◌++◌, ◌-◌, length, map, filter_map, All, Option, Some, None, sym, refl, ap, ◌∙◌, arith, nat_le, if◌then◌else◌}
 use Rattle.std.specs.List.{cons_option}
 use Rattle.arn_ids.specs.declared.config.Config.{Config}
 use Rattle.arn_ids.specs.Environments.{environments, count_from, owners}
@@ -9,8 +9,8 @@ use Rattle.call_model.specs.declared.answer.Phase.{Phase}
 use Rattle.call_model.specs.declared.call.Call.TheVariants.{Expire}
 use Rattle.call_model.specs.declared.call.Entry.{Entry}
 use Rattle.call_model.specs.Life.{phase}
-use Rattle.call_model.specs.Next.{IsLegal, due, due_at, deadline_of, in_order, by_deadline, expired, entered, last_moment}
-use Rattle.call_model.proofs.NextLegal.{due_after_expiry}
+use Rattle.call_model.specs.Next.{IsLegal, due, due_at, deadline_of, in_order, by_deadline, expiries, expiries_at, entered, last_moment}
+use Rattle.call_model.proofs.NextLegal.{due_after_expiry, expiries_on}
 use Rattle.deadlines.specs.Due.{first}
 use Rattle.script.specs.Limits.{IsEnv}
 use Rattle.account_book.specs.Answering.{IsRoom, first_or_0}
@@ -72,7 +72,7 @@ pub record IsExpiring (m : ℕ) (first now : Pages) (first_rooms rooms : List (L
   pub supplied : All (IsRoom first.widest) rooms
   pub enough : length rooms ≤ now.room
   pub room : now.room + length first_rooms ≡ first.room + length rooms
-  pub runs : expired now.config m (due now.config now.history m) now.history ≡ expired first.config m (due first.config first.history m) first.history
+  pub runs : expiries_at now.config now.history m ++ now.history ≡ expiries_at first.config first.history m ++ first.history
 
 -- one environment more has expired
 pub expires_one : (m : ℕ) (first now after : Pages) (all rooms rest : List (List (ℕ × Answer) × ℕ)) → IsExpiring m first now all rooms → suc (length rest) ≡ length rooms → All (IsRoom first.widest) rest
@@ -94,5 +94,5 @@ expires_one m first now after all rooms rest k longer empty became legal = go (d
           supplied = empty;
           enough = omega (arith, longer, k.enough);
           room = omega (arith, longer, k.room, k.enough);
-          runs = rw later (ap (λ ds. expired now.config m ds now.history) (sym q) ∙ k.runs);
+          runs = rw later (expiries_on now.config m e es now.history ∙ ap (λ ds. expiries now.config m ds now.history ++ now.history) (sym q) ∙ k.runs);
         })

@@ -8,10 +8,11 @@ use Rattle.arn_ids.specs.Environments.{environments, function_of, count_from, ow
 use Rattle.call_model.proofs.Basics.{map_map, none-some}
 use Rattle.call_model.specs.declared.answer.Phase.{Phase}
 use Rattle.call_model.specs.declared.call.Entry.{Entry}
-use Rattle.call_model.specs.Laws.{is_taken}
+use Rattle.call_model.specs.Laws.{is_taken, has_come}
 use Rattle.call_model.specs.Life.{phase, seen}
 use Rattle.call_model.specs.Limits.{in_flight, by_limits, reservation}
-use Rattle.call_model.specs.Next.{IsLegal, due, due_at, deadline_of, in_order, by_deadline}
+use Rattle.call_model.specs.Next.{IsLegal, due, due_at, deadline_of, by_deadline}
+use Rattle.call_model.proofs.Deadlines.{by_deadline_length}
 use Rattle.call_model.proofs.Flight.{flight}
 use Rattle.concurrency_pool.specs.declared.pool.Usage.{Usage}
 use Rattle.concurrency_pool.specs.Meets.{numbers, usage, by_throttle}
@@ -24,7 +25,7 @@ use Rattle.placement.specs.Meets.{places}
 use Rattle.placement.specs.Places.{place_among}
 use Rattle.placement.proofs.Lowest.{place_is}
 use Rattle.account_book.specs.declared.site.Site.{Site}
-use Rattle.account_book.specs.Fleets.{serves_function, flown_from, flown, deadline_at, place_at, has_come, is_due}
+use Rattle.account_book.specs.Fleets.{serves_function, flown_from, flown, deadline_at, place_at, is_due}
 use Rattle.account_book.specs.Taking.{site, sites}
 
 pub count_length : (a n : ℕ) → length (count_from a n) ≡ n
@@ -76,18 +77,6 @@ numbers_next config h entry l same =
 -- what is due
 pub first_due_is : (config : Config) (h : List Entry) (m : ℕ) → first_due m (map deadline_at (sites config h)) ≡ first (due config h m)
 first_due_is config h m = ap (first_due m) (deadlines_are config h) ∙ first_is config h m
-
-in_order_length : (a : ℕ × ℕ) (xs : List (ℕ × ℕ)) → length (in_order a xs) ≡ suc (length xs)
-in_order_length a [] = refl
-in_order_length a (x ∷ xs) = go (nat_le a.0 x.0) (in_order_length a xs)
-  where
-    go : (b : Bool) → length (in_order a xs) ≡ suc (length xs) → length (if b then a ∷ x ∷ xs else x ∷ in_order a xs) ≡ suc (suc (length xs))
-    go true k = refl
-    go false k = ap suc k
-
-by_deadline_length : (xs : List (ℕ × ℕ)) → length (by_deadline xs) ≡ length xs
-by_deadline_length [] = refl
-by_deadline_length (x ∷ xs) = in_order_length x (by_deadline xs) ∙ ap suc (by_deadline_length xs)
 
 -- how many deadlines have come
 come_length : (m e : ℕ) (sites : List Site) → length (come m e (map deadline_at sites)) ≡ count_by (is_due m) sites

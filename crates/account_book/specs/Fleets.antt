@@ -1,10 +1,10 @@
 -- What a call makes of the environments that it visits, and what is kept beside them.
-use Rattle.std.specs.Prelude.{◌≡◌, ℕ, suc, ◌<◌, ◌≤◌, ◌^◌, Bool, ◌==◌, ◌&&◌, List, [], ◌∷◌, length, map, count_by, Option, Some, None, All, false, nat_le}
+use Rattle.std.specs.Prelude.{◌≡◌, ℕ, suc, ◌<◌, ◌≤◌, ◌^◌, Bool, ◌==◌, ◌&&◌, List, [], ◌∷◌, length, map, count_by, Option, All}
 use Rattle.arn_ids.specs.Environments.{numbered}
 use Rattle.call_model.specs.declared.answer.Answer.{Answer}
 use Rattle.call_model.specs.declared.call.Call.{Call}
 use Rattle.call_model.specs.After.{Step, put}
-use Rattle.call_model.specs.Laws.{is_taken}
+use Rattle.call_model.specs.Laws.{is_taken, has_come}
 use Rattle.call_model.specs.Next.{deadline_of}
 use Rattle.concurrency_pool.specs.Numbers.{Numbers}
 use Rattle.concurrency_pool.specs.declared.pool.Usage.{Usage}
@@ -57,11 +57,6 @@ flown_from sites f (usage ∷ usages) = record usage { in_flight = count_by (ser
 -- a pool with as many in flight as environments serve
 abbrev pub flown : List Site → Numbers → Numbers
 flown sites pool = record pool { functions = flown_from sites 1 pool.functions }
-
--- whether a deadline has come
-abbrev pub has_come : ℕ → Option ℕ → Bool
-has_come now None = false
-has_come now (Some deadline) = nat_le deadline now
 
 -- when an environment's phase ends by itself
 abbrev pub deadline_at : Site → Option ℕ

@@ -1,6 +1,6 @@
 //! The history of an account, with what is known of it.
 
-ghost use Rattle.std.specs.Prelude.{◌≡◌, ◌+◌, ◌-◌, ◌<◌, ◌≤◌, ◌^◌, [], ℕ, length, reverse, Some, None, IfOk, OnOk, All, false, if◌then◌else◌};
+ghost use Rattle.std.specs.Prelude.{◌≡◌, ◌+◌, ◌++◌, ◌-◌, ◌<◌, ◌≤◌, ◌^◌, [], ℕ, length, reverse, Some, None, IfOk, OnOk, All, false, if◌then◌else◌};
 ghost use Rattle.std.specs.List.{list_all};
 ghost use Rattle.arn_ids.specs.Environments.{owners, environments};
 ghost use Rattle.arn_ids.specs.Faults.{first_fault};
@@ -11,7 +11,7 @@ ghost use Rattle.call_model.specs.Counts.{stats};
 ghost use Rattle.call_model.specs.History.{answer_of, is_expiry, stopped};
 ghost use Rattle.call_model.specs.Life.{phase};
 ghost use Rattle.call_model.specs.Limits.{place_for, reservation, verdict, admitted_to};
-ghost use Rattle.call_model.specs.Next.{IsLegal, Follows, entry_of, entered, due, last_moment, expired};
+ghost use Rattle.call_model.specs.Next.{IsLegal, Follows, entry_of, entered, due, last_moment, expiries_at};
 ghost use Rattle.deadlines.specs.Due.{first};
 ghost use Rattle.env_phase.specs.Taking.{registered_name, is_off};
 ghost use Rattle.script.specs.CallCounts.{call_counts};
@@ -370,7 +370,7 @@ impl Journal {
         requires as_many { length rooms.items ≡ length (due self.old.config self.old.history moment) }
         requires enough { All (IsRoom self.old.widest) rooms.items }
         requires room { length rooms.items ≤ self.old.room }
-        ensures { self.new ≡ record self.old { history = expired self.old.config moment (due self.old.config self.old.history moment) self.old.history; room = self.old.room - length rooms.items } }
+        ensures { self.new ≡ record self.old { history = expiries_at self.old.config self.old.history moment ++ self.old.history; room = self.old.room - length rooms.items } }
     {
         self.facts();
         let mut rooms = rooms;

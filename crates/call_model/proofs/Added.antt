@@ -1,5 +1,5 @@
 -- How many entries a call adds.
-use Rattle.std.proofs.Common.{◌≡◌, ℕ, suc, ◌+◌, ◌≤◌, Bool, true, false, List, [], ◌∷◌, length, filter_map, Option, Some, None, refl, ap, ◌∙◌, arith, if◌then◌else◌, nat_le, length-append, nat_lt, ◌*◌}
+use Rattle.std.proofs.Common.{◌≡◌, ℕ, suc, ◌+◌, ◌≤◌, Bool, true, false, List, [], ◌∷◌, length, filter_map, Option, Some, None, refl, ap, ◌∙◌, arith, if◌then◌else◌, length-append, nat_lt, ◌*◌}
 use Rattle.std.proofs.lemmas.List.{length-map}
 use Rattle.std.specs.List.{cons_option}
 use Rattle.call_model.specs.declared.call.Call.{Call}
@@ -8,9 +8,10 @@ use Rattle.call_model.specs.declared.call.Entry.{Entry}
 use Rattle.arn_ids.specs.declared.config.Config.{Config}
 use Rattle.arn_ids.specs.Environments.{environments}
 use Rattle.call_model.specs.Life.{phase}
-use Rattle.call_model.specs.Next.{due, due_at, deadline_of, in_order, by_deadline, entry_of, entered, expiries, added, moment_at, next}
+use Rattle.call_model.specs.Next.{due, due_at, deadline_of, by_deadline, entry_of, entered, expiries, added, moment_at, next}
 use Rattle.call_model.specs.Counts.{full, most_added}
 use Rattle.call_model.specs.History.{is_stop}
+use Rattle.call_model.proofs.Deadlines.{by_deadline_length}
 use Rattle.std.proofs.lemmas.Bool.Decides.{nat_tests}
 
 expiries_length : (config : Config) (m : ℕ) (es : List ℕ) (h : List Entry) → length (expiries config m es h) ≡ length es
@@ -24,18 +25,6 @@ expiries_length config m (e ∷ rest) h = length-append (expiries config m rest 
 pub added_length : (config : Config) (h : List Entry) (now : ℕ) (call : Call) → length (added config h now call) ≡ suc (length (due config h (moment_at h now)))
 unfolding added
 added_length config h now call = ap suc (expiries_length config (moment_at h now) (due config h (moment_at h now)) h)
-
-in_order_length : (a : ℕ × ℕ) (xs : List (ℕ × ℕ)) → length (in_order a xs) ≡ suc (length xs)
-in_order_length a [] = refl
-in_order_length a (x ∷ xs) = go (nat_le a.0 x.0) (in_order_length a xs)
-  where
-    go : (b : Bool) → length (in_order a xs) ≡ suc (length xs) → length (if b then a ∷ x ∷ xs else x ∷ in_order a xs) ≡ suc (suc (length xs))
-    go true k = refl
-    go false k = ap suc k
-
-by_deadline_length : (xs : List (ℕ × ℕ)) → length (by_deadline xs) ≡ length xs
-by_deadline_length [] = refl
-by_deadline_length (x ∷ xs) = in_order_length x (by_deadline xs) ∙ ap suc (by_deadline_length xs)
 
 found_length : (f : ℕ → Option (ℕ × ℕ)) (xs : List ℕ) → length (filter_map f xs) ≤ length xs
 found_length f [] = omega arith

@@ -1,5 +1,5 @@
 -- No admission takes a reserved function past its reservation, nor the unreserved ones together past the remainder.
-use Rattle.std.proofs.Common.{◌≡◌, ℕ, suc, ◌+◌, ◌<◌, ◌≤◌, Bool, true, false, cond, List, [], ◌∷◌, length, Option, Some, None, sym, refl, ◌∙◌, inl, inr, arith, is_some, is_none, ◌&&◌, ◌||◌, true≢false, count_by, zero, ◌-◌, eqb, ap, ap₂, subst, ◌≢◌, ◌⊎◌, ◌==◌, if◌then◌else◌, nat_le, sum_by}
+use Rattle.std.proofs.Common.{◌≡◌, ℕ, ◌+◌, ◌<◌, ◌≤◌, Bool, true, false, cond, List, [], ◌∷◌, length, Option, Some, None, sym, refl, ◌∙◌, inl, inr, arith, is_some, is_none, ◌&&◌, ◌||◌, true≢false, count_by, ◌-◌, eqb, ap, ap₂, subst, ◌⊎◌, ◌==◌, if◌then◌else◌, nat_le, sum_by}
 use Rattle.call_model.specs.declared.call.Entry.{Entry}
 use Rattle.arn_ids.specs.declared.config.Config.{Config}
 use Rattle.call_model.specs.History.{answer_in, pending, with_tickets, is_invoke_of, stopped}
@@ -9,7 +9,8 @@ use Rattle.call_model.specs.Next.{IsLegal, Follows}
 use Rattle.call_model.proofs.Once.{pending_cons}
 use Rattle.call_model.proofs.AtHand.{from_entry, busy_at_hand, at_hand_is}
 use Rattle.call_model.proofs.BoundWaits.{bound_waits}
-use Rattle.call_model.proofs.Basics.{count_cons, and_left, and_right}
+use Rattle.call_model.proofs.Basics.{count_cons, counted_once, and_left, and_right}
+use Rattle.std.specs.List.{list_any}
 use Rattle.std.proofs.lemmas.Bool.Decides.{eqb_tells, nat_tests}
 use Rattle.std.proofs.lemmas.Bool.{eqb-true}
 use Rattle.std.proofs.lemmas.List.Sums.{sum_by-cons}
@@ -107,38 +108,6 @@ sum_more g k p f (x ∷ xs) = rw (sum_by-cons g x xs, sum_by-cons k x xs, count_
     add : (a b c m n r : ℕ) → a ≤ b + c → m ≤ n + r → a + m ≤ (b + n) + (c + r)
     add a b c m n r p q = omega (arith, p, q)
 
--- a number stands at most once in numbers that count up
-pub once_from : (f : ℕ) (b : ℕ → Bool) (a n : ℕ) → count_by (λ d. (f == d) && b d) (count_from a n) ≤ cond (nat_le a f && b f) 1 0
-once_from f b a zero = omega arith
-once_from f b a (suc n) = rw (count_cons (λ (d : ℕ). (f == d) && b d) a (count_from (suc a) n)) (elim (eqb_tells f a) [
-  | inl p ↦ here p.0 p.1 (once_from f b (suc a) n)
-  | inr p ↦ later p.0 p.1 (once_from f b (suc a) n)
-])
-  where
-    rest : ℕ
-    rest = count_by (λ d. (f == d) && b d) (count_from (suc a) n)
-
-    past : f ≡ a → nat_le (suc a) f ≡ false
-    past e = grind (arith, nat_tests, e)
-
-    at : f ≡ a → nat_le a f ≡ true
-    at e = grind (arith, nat_tests, e)
-
-    here : (f == a) ≡ true → f ≡ a → rest ≤ cond (nat_le (suc a) f && b f) 1 0 → cond ((f == a) && b a) 1 0 + rest ≤ cond (nat_le a f && b f) 1 0
-    here q e k = rw (q, at e) (last (b a) (b f) (ap b (sym e)) (rw (past e) at k))
-      where
-        last : (s t : Bool) → s ≡ t → rest ≤ 0 → cond s 1 0 + rest ≤ cond t 1 0
-        last true true e k = omega (arith, k)
-        last false false e k = omega (arith, k)
-        last true false e k = absurd (true≢false e)
-        last false true e k = absurd (true≢false (sym e))
-
-    before : f ≢ a → nat_le (suc a) f ≡ nat_le a f
-    before e = grind (arith, nat_tests, e)
-
-    later : (f == a) ≡ false → f ≢ a → rest ≤ cond (nat_le (suc a) f && b f) 1 0 → cond ((f == a) && b a) 1 0 + rest ≤ cond (nat_le a f && b f) 1 0
-    later q e k = rw (q, sym (before e)) (omega (arith, k))
-
 -- what an entry that is no Reserve adds to the unreserved sum
 pub unreserved_step : (config : Config) (h : List Entry) (entry : Entry) → IsLegal config h → Follows config h entry → is_reserve entry.call ≡ false
     → unreserved_in_flight config (entry ∷ h) ≤ unreserved_in_flight config h + count_by (λ d. admits d entry && is_none (reservation config h d)) (function_numbers config)
@@ -180,7 +149,7 @@ admits_once config h entry f n a q = go entry.call entry.place q
     go (Invoke g qualified trace body) o r =
         let same : g ≡ f = eqb-true g f (and_left (g == f) (is_some o) r) in
         subst (λ (p : ℕ → Bool). count_by p (count_from a n) ≤ cond (is_none (reservation config h f)) 1 0) (sym (regroup g o)) (subst (λ (k : ℕ). count_by (λ d. (g == d) && (is_some o && is_none (reservation config h d))) (count_from a n) ≤ cond (is_none (reservation config h k)) 1 0) same
-        (le_trans (once_from g (λ d. is_some o && is_none (reservation config h d)) a n) (le_trans (less (nat_le a g) (is_some o && is_none (reservation config h g))) (less (is_some o) (is_none (reservation config h g))))))
+        (rw (counted_once g (λ d. is_some o && is_none (reservation config h d)) a n) (le_trans (less (list_any (λ d. g == d) (count_from a n)) (is_some o && is_none (reservation config h g))) (less (is_some o) (is_none (reservation config h g))))))
     go call o r = absurd (true≢false (sym r))
 
 -- what the verdict of an admission says

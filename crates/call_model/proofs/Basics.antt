@@ -1,8 +1,10 @@
 -- Facts of Booleans, options, lists and counts.
-use Rattle.std.proofs.Common.{◌≡◌, ℕ, ◌+◌, Bool, true, false, cond, eqb, List, [], ◌∷◌, Option, Some, None, sym, refl, ap, ap₂, arith, ◌&&◌, map, true≢false, count_by, ◌||◌}
+use Rattle.std.proofs.Common.{◌≡◌, ℕ, ◌+◌, Bool, true, false, cond, eqb, List, [], ◌∷◌, Option, Some, None, sym, refl, ap, ap₂, ◌∙◌, arith, inl, inr, ◌&&◌, ◌==◌, ◌<◌, zero, suc, map, true≢false, count_by, ◌||◌}
 use Rattle.std.proofs.lemmas.Bool.{eqb-true}
-use Rattle.std.proofs.lemmas.Bool.Decides.{nat_tests}
+use Rattle.std.specs.List.{list_any}
+use Rattle.std.proofs.lemmas.Bool.Decides.{eqb_tells, nat_tests}
 use Rattle.std.proofs.lemmas.List.Sums.{sum_by-cons}
+use Rattle.arn_ids.specs.Environments.{count_from}
 use Rattle.call_model.specs.Stand.{is_number}
 
 pub eqb-self : (t : ℕ) → eqb t t ≡ true
@@ -44,3 +46,42 @@ some-none q = cc
 
 pub none-some : {A : Type 0} {a : A} → None ≡ Some a → ⊥
 none-some q = cc
+
+pub count_map : {X Y : Type 0} (p : Y → Bool) (f : X → Y) (xs : List X) → count_by p (map f xs) ≡ count_by (λ x. p (f x)) xs
+count_map p f [] = refl
+count_map p f (x ∷ xs) = count_cons p (f x) (map f xs) ∙ ap (λ (n : ℕ). cond (p (f x)) 1 0 + n) (count_map p f xs) ∙ sym (count_cons (λ y. p (f y)) x xs)
+
+-- a number stands once in numbers that count up, or not at all
+not_behind : (e a n : ℕ) → e < a → list_any (λ d. e == d) (count_from a n) ≡ false
+not_behind e a zero lt = refl
+not_behind e a (suc n) lt =
+    let other : (e == a) ≡ false = grind (arith, nat_tests, lt) in
+    rw other (not_behind e (suc a) n (omega (arith, lt)))
+
+pub counted_once : (e : ℕ) (p : ℕ → Bool) (a n : ℕ) → count_by (λ d. (e == d) && p d) (count_from a n) ≡ cond (list_any (λ d. e == d) (count_from a n) && p e) 1 0
+counted_once e p a zero = refl
+counted_once e p a (suc n) = count_cons (λ (d : ℕ). (e == d) && p d) a (count_from (suc a) n) ∙ elim (eqb_tells e a) [
+  | inl q ↦ here q.0 q.1 (counted_once e p (suc a) n)
+  | inr q ↦ later q.0 (counted_once e p (suc a) n)
+]
+  where
+    rest : ℕ
+    rest = count_by (λ d. (e == d) && p d) (count_from (suc a) n)
+
+    behind : Bool
+    behind = list_any (λ d. e == d) (count_from (suc a) n)
+
+    none : (m n : ℕ) → m ≡ n → 0 + m ≡ n
+    none m n q = omega (arith, q)
+
+    alone : (b : Bool) (m : ℕ) → m ≡ 0 → cond b 1 0 + m ≡ cond b 1 0
+    alone true m q = omega (arith, q)
+    alone false m q = omega (arith, q)
+
+    here : (e == a) ≡ true → e ≡ a → rest ≡ cond (behind && p e) 1 0 → cond ((e == a) && p a) 1 0 + rest ≡ cond (((e == a) || behind) && p e) 1 0
+    here q same k =
+        let empty : rest ≡ 0 = k ∙ ap (λ (b : Bool). cond (b && p e) 1 0) (not_behind e (suc a) n (omega (arith, same))) in
+        rw (q, sym (ap p same)) (alone (p e) rest empty)
+
+    later : (e == a) ≡ false → rest ≡ cond (behind && p e) 1 0 → cond ((e == a) && p a) 1 0 + rest ≡ cond (((e == a) || behind) && p e) 1 0
+    later q k = rw q (none rest _ k)

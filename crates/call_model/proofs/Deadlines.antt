@@ -1,7 +1,9 @@
--- Lists by deadline: what is left out of one, and that it stays in order.
-use Rattle.std.proofs.Common.{◌≡◌, ℕ, ◌≤◌, Bool, true, false, List, [], ◌∷◌, sym, refl, ap, ◌∙◌, arith, filter, if◌then◌else◌, nat_le}
+-- Lists by deadline: that they are in order, what is left out of one, and that it has what was put into it.
+use Rattle.std.proofs.Common.{◌≡◌, ℕ, ◌≤◌, Bool, true, false, List, [], ◌∷◌, sym, refl, ap, ◌∙◌, arith, cond, suc, length, count_by, ◌+◌, ◌&&◌, filter, if◌then◌else◌, nat_le}
 use Rattle.std.proofs.lemmas.Bool.Decides.{nat_tests}
+use Rattle.std.specs.List.{list_all}
 use Rattle.call_model.specs.Next.{in_order, by_deadline}
+use Rattle.call_model.proofs.Basics.{count_cons}
 
 -- a list by deadlines
 abbrev pub AllLe : ℕ → List (ℕ × ℕ) → Type 0
@@ -91,3 +93,48 @@ filter_deadline p (x ∷ xs) = go (p x) refl (filter_deadline p xs)
     go : (b : Bool) → p x ≡ b → by_deadline (filter p xs) ≡ filter p (by_deadline xs) → by_deadline (if b then x ∷ filter p xs else filter p xs) ≡ filter p (in_order x (by_deadline xs))
     go true q ih = ap (in_order x) ih ∙ sym (filter_order p x (by_deadline xs) (sorted xs) ∙ ap (λ (b : Bool). if b then in_order x (filter p (by_deadline xs)) else filter p (by_deadline xs)) q)
     go false q ih = ih ∙ sym (filter_order p x (by_deadline xs) (sorted xs) ∙ ap (λ (b : Bool). if b then in_order x (filter p (by_deadline xs)) else filter p (by_deadline xs)) q)
+
+-- what is counted, and what holds of each, is that of the list as it was
+count_order : (q : ℕ × ℕ → Bool) (a : ℕ × ℕ) (xs : List (ℕ × ℕ)) → count_by q (in_order a xs) ≡ cond (q a) 1 0 + count_by q xs
+count_order q a [] = count_cons q a []
+count_order q a (x ∷ xs) = go (nat_le a.0 x.0) (count_order q a xs)
+  where
+    swap : (k l m n : ℕ) → n ≡ l + m → k + n ≡ l + (k + m)
+    swap k l m n e = omega (arith, e)
+
+    go : (b : Bool) → count_by q (in_order a xs) ≡ cond (q a) 1 0 + count_by q xs → count_by q (if b then a ∷ x ∷ xs else x ∷ in_order a xs) ≡ cond (q a) 1 0 + count_by q (x ∷ xs)
+    go true ih = count_cons q a (x ∷ xs)
+    go false ih = rw (count_cons q x (in_order a xs), count_cons q x xs) (swap (cond (q x) 1 0) (cond (q a) 1 0) (count_by q xs) (count_by q (in_order a xs)) ih)
+
+pub count_deadline : (q : ℕ × ℕ → Bool) (xs : List (ℕ × ℕ)) → count_by q (by_deadline xs) ≡ count_by q xs
+count_deadline q [] = refl
+count_deadline q (x ∷ xs) = count_order q x (by_deadline xs) ∙ ap (λ (n : ℕ). cond (q x) 1 0 + n) (count_deadline q xs) ∙ sym (count_cons q x xs)
+
+in_order_length : (a : ℕ × ℕ) (xs : List (ℕ × ℕ)) → length (in_order a xs) ≡ suc (length xs)
+in_order_length a [] = refl
+in_order_length a (x ∷ xs) = go (nat_le a.0 x.0) (in_order_length a xs)
+  where
+    go : (b : Bool) → length (in_order a xs) ≡ suc (length xs) → length (if b then a ∷ x ∷ xs else x ∷ in_order a xs) ≡ suc (suc (length xs))
+    go true k = refl
+    go false k = ap suc k
+
+pub by_deadline_length : (xs : List (ℕ × ℕ)) → length (by_deadline xs) ≡ length xs
+by_deadline_length [] = refl
+by_deadline_length (x ∷ xs) = in_order_length x (by_deadline xs) ∙ ap suc (by_deadline_length xs)
+
+pub list_all_order : (q : ℕ × ℕ → Bool) (a : ℕ × ℕ) (xs : List (ℕ × ℕ)) → list_all q (in_order a xs) ≡ (q a && list_all q xs)
+list_all_order q a [] = refl
+list_all_order q a (x ∷ xs) = go (nat_le a.0 x.0) (list_all_order q a xs)
+  where
+    swap : (k l m : Bool) → (k && (l && m)) ≡ (l && (k && m))
+    swap true l m = refl
+    swap false true m = refl
+    swap false false m = refl
+
+    go : (b : Bool) → list_all q (in_order a xs) ≡ (q a && list_all q xs) → list_all q (if b then a ∷ x ∷ xs else x ∷ in_order a xs) ≡ (q a && (q x && list_all q xs))
+    go true ih = refl
+    go false ih = ap (λ (b : Bool). q x && b) ih ∙ swap (q x) (q a) (list_all q xs)
+
+pub list_all_deadline : (q : ℕ × ℕ → Bool) (xs : List (ℕ × ℕ)) → list_all q (by_deadline xs) ≡ list_all q xs
+list_all_deadline q [] = refl
+list_all_deadline q (x ∷ xs) = list_all_order q x (by_deadline xs) ∙ ap (λ (b : Bool). q x && b) (list_all_deadline q xs)

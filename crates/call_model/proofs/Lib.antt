@@ -28,7 +28,8 @@ pub mod DeliveredOnce
 pub mod ParkedNexts
 pub mod Outcome
 pub mod SafeLaws
--- The next history.
+-- What is due, and the next history.
+pub mod DueList
 pub mod NextLegal
 pub mod Added
 -- The step of an environment: its stand after an entry is a function of the one before.

@@ -1,6 +1,6 @@
 -- Words of the laws over legal histories.
-use Rattle.std.specs.Prelude.{◌≡◌, ◌≤◌, ℕ, Bool, true, false, ◌&&◌, ◌+◌, ◌==◌, List, [], ◌∷◌, Option, Some, None, count_by, is_some, length}
-use Rattle.std.specs.List.{list_any}
+use Rattle.std.specs.Prelude.{◌≡◌, ◌≤◌, ℕ, Bool, true, false, ◌&&◌, ◌||◌, ◌+◌, ◌==◌, nat_le, nat_lt, nat_eq, List, [], ◌∷◌, Option, Some, None, option_map, count_by, filter_map, is_some, length}
+use Rattle.std.specs.List.{list_any, list_all}
 use Rattle.call_model.specs.declared.call.Call.{Call}
 use Rattle.call_model.specs.declared.call.Call.TheVariants.{Reserve, RuntimeNext, ExtNext}
 use Rattle.call_model.specs.declared.call.Entry.{Entry}
@@ -11,10 +11,12 @@ use Rattle.call_model.specs.declared.answer.Phase.TheVariants.{Starting, Idle, B
 use Rattle.call_model.specs.Generation.{Actor, TheRuntime, TheExtension}
 use Rattle.arn_ids.specs.declared.config.Config.{Config}
 use Rattle.arn_ids.specs.declared.config.Function.{Function}
+use Rattle.arn_ids.specs.Environments.{environments}
 use Rattle.call_model.specs.History.{with_tickets, is_invoke_of, pending}
 use Rattle.call_model.specs.Life.{phase}
 use Rattle.call_model.specs.Stand.{at_hand, is_number}
 use Rattle.call_model.specs.Limits.{charged}
+use Rattle.call_model.specs.Next.{deadline_of}
 
 -- how many charged invocations are placed in an environment
 abbrev pub charged_in : Config → List Entry → ℕ → ℕ
@@ -79,3 +81,29 @@ lives config h p e = pending h p && is_number (at_hand (phase config h e)) p
 abbrev pub times : List Entry → ℕ → ℕ
 times [] t = 0
 times (entry ∷ h) t = count_by (λ a. a.0 == t) entry.answers + times h t
+
+-- whether a deadline has come
+abbrev pub has_come : ℕ → Option ℕ → Bool
+has_come m None = false
+has_come m (Some d) = nat_le d m
+
+-- whether a number is due: it is an environment's, whose phase has a deadline that has come
+abbrev pub is_due : Config → List Entry → ℕ → ℕ → Bool
+is_due config h m e = list_any (λ d. e == d) (environments config) && has_come m (deadline_of (phase config h e))
+
+-- a deadline, where there is one, with its environment's number
+abbrev pub with_number : ℕ → Option ℕ → Option (ℕ × ℕ)
+with_number e deadline = option_map (λ d. (d, e)) deadline
+
+-- the deadlines of environments, each with its environment's number
+abbrev pub deadlines_of : Config → List Entry → List ℕ → List (ℕ × ℕ)
+deadlines_of config h es = filter_map (λ e. with_number e (deadline_of (phase config h e))) es
+
+-- whether one deadline with its environment comes before another: it is earlier, or the same and the number lower
+abbrev pub comes_before : ℕ × ℕ → ℕ × ℕ → Bool
+comes_before a b = nat_lt a.0 b.0 || (nat_eq a.0 b.0 && nat_lt a.1 b.1)
+
+-- whether each of a list comes before all that stand behind it
+abbrev pub are_in_order : List (ℕ × ℕ) → Bool
+are_in_order [] = true
+are_in_order (a ∷ rest) = list_all (comes_before a) rest && are_in_order rest

@@ -1,3 +1,5 @@
+-- What the headline (`headline/specs/Headline.antt`) rests on, in the order in which it reads: whoever believes these words
+-- believes the headline. They are under 600 lines without comments; only the second half of Next isn't among them.
 -- What has happened: entries, answers, what is pending.
 pub mod History
 -- An environment: its generation, its stand, the table of phases, what its parked Nexts get, its life.
@@ -6,19 +8,23 @@ pub mod Stand
 pub mod Table
 pub mod Polls
 pub mod Life
--- The account: limits and places, the answers that a call gives, the next history, counts.
+-- The account: limits and places, the answers that a call gives, which histories are legal, counts.
 pub mod Limits
 pub mod Answers
 pub mod Next
 pub mod Counts
-pub mod Heads
--- The step of one environment, as a function of its stand.
-pub mod After
--- Words of the laws, and of isolation by reservation.
+-- Words of the laws. Two of them, `times` and `admits`, are the headline's too; each other is read with the law that has it.
 pub mod Laws
+-- From here on nothing is the headline's.
+-- Words of isolation by reservation, for whoever reads those laws.
 pub mod Own
 pub mod Isolation
--- Worked histories, proved by computation.
+-- The head of a call, which a receipt keeps.
+pub mod Heads
+-- The step of one environment as a function of its stand: the form in which the code goes. Nobody need believe it, since
+-- the law `step` ties it to the words above.
+pub mod After
+-- Examples, proved by computation: worked histories, each cell of the table, each refusal.
 pub mod Sample
 pub mod RowsInvoke
 pub mod RowsExtensions

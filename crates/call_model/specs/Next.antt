@@ -1,4 +1,4 @@
--- What is due, the next history, a whole run, and which histories are legal.
+-- What is due, and which histories are legal; the next history, and a whole run.
 use Rattle.std.specs.Prelude.{◌≡◌, ℕ, ◌≤◌, max, if◌then◌else◌, nat_le, List, [], ◌∷◌, ◌++◌, length, map, Option, Some, None, filter_map}
 use Rattle.call_model.specs.declared.call.Call.{Call}
 use Rattle.call_model.specs.declared.call.Call.TheVariants.{Expire}
@@ -38,55 +38,10 @@ by_deadline (a ∷ rest) = in_order a (by_deadline rest)
 unfoldable pub due : Config → List Entry → ℕ → List ℕ
 due config h m = map (λ a. a.1) (by_deadline (filter_map (λ e. due_at m e (deadline_of (phase config h e))) (environments config)))
 
--- the entry of a call that is taken at a moment
-abbrev pub entry_of : Config → List Entry → ℕ → Call → Entry
-entry_of config h m call = record { moment = m; call = call; answers = answers config h m call; place = place_for config h call }
-
--- the history with that entry
-abbrev pub entered : Config → List Entry → ℕ → Call → List Entry
-entered config h m call = entry_of config h m call ∷ h
-
--- the history in which environments expired, one after the other
-abbrev pub expired : Config → ℕ → List ℕ → List Entry → List Entry
-expired config m [] h = h
-expired config m (e ∷ rest) h = expired config m rest (entered config h m (Expire e))
-
--- the entries of those expiries, the newest first
-abbrev pub expiries : Config → ℕ → List ℕ → List Entry → List Entry
-expiries config m [] h = []
-expiries config m (e ∷ rest) h = expiries config m rest (entered config h m (Expire e)) ++ (entry_of config h m (Expire e) ∷ [])
-
 -- the moment of the newest entry; 0 before the first
 abbrev pub last_moment : List Entry → ℕ
 last_moment [] = 0
 last_moment (entry ∷ h) = entry.moment
-
--- the moment at which a call is taken: time never goes back
-abbrev pub moment_at : List Entry → ℕ → ℕ
-moment_at h now = max now (last_moment h)
-
--- the call's own entry, taken after those of the expiries
-abbrev pub after_expiries : Config → List Entry → ℕ → Call → List Entry → List Entry
-after_expiries config h m call es = entry_of config (es ++ h) m call ∷ es
-
--- The entries that a call adds, the newest first: what is due expires, and then the call is taken.
-unfoldable pub added : Config → List Entry → ℕ → Call → List Entry
-added config h now call =
-    after_expiries config h (moment_at h now) call (expiries config (moment_at h now) (due config h (moment_at h now)) h)
-
--- The next history.
-unfoldable pub next : Config → List Entry → ℕ → Call → List Entry
-next config h now call = added config h now call ++ h
-
--- A run: call after call, each with the moment at which it is handed in.
-unfoldable pub run : Config → List Entry → List (ℕ × Call) → List Entry
-run config h [] = h
-run config h (c ∷ calls) = run config (next config h c.0 c.1) calls
-
--- the answers of a history in the order in which they were given: the entry, the ticket, the answer
-abbrev pub lines : List Entry → List (ℕ × ℕ × Answer)
-lines [] = []
-lines (entry ∷ h) = lines h ++ map (λ a. (length h, a.0, a.1)) entry.answers
 
 -- the first of a list
 abbrev pub IsFirst : ℕ → List ℕ → Type 0
@@ -109,3 +64,46 @@ pub record Follows (config : Config) (h : List Entry) (entry : Entry) : Type 0 w
 abbrev pub IsLegal : Config → List Entry → Type 0
 IsLegal config [] = Unit {0}
 IsLegal config (entry ∷ h) = IsLegal config h × Follows config h entry
+
+-- the entry of a call that is taken at a moment
+abbrev pub entry_of : Config → List Entry → ℕ → Call → Entry
+entry_of config h m call = record { moment = m; call = call; answers = answers config h m call; place = place_for config h call }
+
+-- the history with that entry
+abbrev pub entered : Config → List Entry → ℕ → Call → List Entry
+entered config h m call = entry_of config h m call ∷ h
+
+-- the entries by which environments expire at a moment, one after the other, the newest first
+abbrev pub expiries : Config → ℕ → List ℕ → List Entry → List Entry
+expiries config m [] h = []
+expiries config m (e ∷ rest) h = expiries config m rest (entered config h m (Expire e)) ++ (entry_of config h m (Expire e) ∷ [])
+
+-- those of all that is due
+abbrev pub expiries_at : Config → List Entry → ℕ → List Entry
+expiries_at config h m = expiries config m (due config h m) h
+
+-- the moment at which a call is taken: time never goes back
+abbrev pub moment_at : List Entry → ℕ → ℕ
+moment_at h now = max now (last_moment h)
+
+-- what is due at a moment expires, and then the call is taken
+abbrev pub added_at : Config → List Entry → ℕ → Call → List Entry
+added_at config h m call = entry_of config (expiries_at config h m ++ h) m call ∷ expiries_at config h m
+
+-- The entries that a call adds, the newest first.
+unfoldable pub added : Config → List Entry → ℕ → Call → List Entry
+added config h now call = added_at config h (moment_at h now) call
+
+-- The next history.
+unfoldable pub next : Config → List Entry → ℕ → Call → List Entry
+next config h now call = added config h now call ++ h
+
+-- A run: call after call, each with the moment at which it is handed in.
+unfoldable pub run : Config → List Entry → List (ℕ × Call) → List Entry
+run config h [] = h
+run config h (c ∷ calls) = run config (next config h c.0 c.1) calls
+
+-- the answers of a history in the order in which they were given: the entry, the ticket, the answer
+abbrev pub lines : List Entry → List (ℕ × ℕ × Answer)
+lines [] = []
+lines (entry ∷ h) = lines h ++ map (λ a. (length h, a.0, a.1)) entry.answers

@@ -1,6 +1,6 @@
 //! Laws over the definitions: what holds of every legal history. Each function does nothing; its clauses are the laws.
 
-ghost use Rattle.std.specs.Prelude.{◌≡◌, ◌≤◌, ℕ, Bool, true, false, cond, List, ◌∷◌, length, Option, Some, None, count_by, filter, is_some, not, ◌+◌, ◌&&◌, ◌==◌};
+ghost use Rattle.std.specs.Prelude.{◌≡◌, ◌≤◌, ℕ, Bool, true, false, cond, List, [], ◌∷◌, ◌++◌, length, Option, Some, None, count_by, filter, is_some, not, ◌+◌, ◌&&◌, ◌==◌};
 ghost use Rattle.call_model.specs.declared.call.Call.{Call};
 ghost use Rattle.call_model.specs.declared.call.Entry.{Entry};
 ghost use Rattle.call_model.specs.declared.answer.Answer.{Answer};
@@ -16,8 +16,8 @@ ghost use Rattle.call_model.specs.Own.{own, own_ticket};
 ghost use Rattle.call_model.specs.After.{ended_by, stand_after, moves_of, fixed_of, step_at, count_at};
 ghost use Rattle.call_model.specs.Isolation.{IsUnnamed, IsLegalSave, named, gist};
 ghost use Rattle.call_model.specs.Limits.{is_charged, verdict, Verdict, Refuses, reservation, remainder, in_flight, unreserved_in_flight};
-ghost use Rattle.call_model.specs.Laws.{lives, times, deliveries, is_outcome, poll_of, is_open, admits, re_reserved, charged_in, is_taken, IsWithinEnvironments};
-ghost use Rattle.call_model.specs.Next.{IsLegal, next};
+ghost use Rattle.call_model.specs.Laws.{lives, times, deliveries, is_outcome, poll_of, is_open, admits, re_reserved, charged_in, is_taken, IsWithinEnvironments, is_due, deadlines_of, are_in_order};
+ghost use Rattle.call_model.specs.Next.{IsLegal, next, due, last_moment, expiries_at};
 
 /// Where invocations live, how often they are answered and delivered, and where polls stand.
 pub fn safe()
@@ -43,6 +43,16 @@ pub fn safe()
     ensures next_stands_open { (config : Config) (h : List Entry) (e t : ℕ) (actor : Actor) → IsLegal config h → poll_of (call_of h t) ≡ Some (e, actor) → pending h t ≡ true → is_open (phase config h e) ≡ true }
     // at most one for the runtime and for each extension.
     ensures next_stands_alone { (config : Config) (h : List Entry) (e t u : ℕ) (actor : Actor) → IsLegal config h → poll_of (call_of h t) ≡ Some (e, actor) → pending h t ≡ true → poll_of (call_of h u) ≡ Some (e, actor) → pending h u ≡ true → t ≡ u }
+{}
+
+/// What is due: the environments whose deadline has come, in the order in which they expire.
+pub fn expiring()
+    // Exactly these stand in the list, each of them once,
+    ensures listed { (config : Config) (h : List Entry) (m e : ℕ) → count_by (λ d. e == d) (due config h m) ≡ cond (is_due config h m e) 1 0 }
+    // the earliest deadline first, of several that are one moment the environment with the lowest number first.
+    ensures ordered { (config : Config) (h : List Entry) (m : ℕ) → are_in_order (deadlines_of config h (due config h m)) ≡ true }
+    // Where they have expired, one after the other, nothing is due.
+    ensures done { (config : Config) (h : List Entry) (m : ℕ) → IsLegal config h → last_moment h ≤ m → due config (expiries_at config h m ++ h) m ≡ [] }
 {}
 
 /// What admissions count: the limits, and the environments that are taken (reserved concurrency).

@@ -5,10 +5,11 @@ use Rattle.std.proofs.lemmas.Bool.Decides.{nat_tests}
 use Rattle.arn_ids.specs.declared.config.Config.{Config}
 use Rattle.arn_ids.specs.Environments.{environments, count_from, owners}
 use Rattle.call_model.specs.declared.call.Entry.{Entry}
+use Rattle.call_model.specs.Laws.{comes_before, with_number}
 use Rattle.call_model.specs.Life.{phase, life}
 use Rattle.call_model.specs.Next.{due, due_at, deadline_of, in_order, by_deadline}
 use Rattle.deadlines.specs.Due.{first, come, due_among, first_due}
-use Rattle.deadlines.specs.Tree.{comes_before, sooner, numbered, first_of}
+use Rattle.deadlines.specs.Tree.{sooner, first_of}
 use Rattle.deadlines.specs.Meets.{deadlines}
 
 -- an environment with a deadline that has come, or the best of those with greater numbers, whichever is due first
@@ -46,7 +47,7 @@ abbrev pub if_come : ℕ → Option (ℕ × ℕ) → Option (ℕ × ℕ)
 if_come now None = None
 if_come now (Some a) = if nat_lt now a.0 then None else Some a
 
-earlier_come : (now e : ℕ) (deadline : Option ℕ) (rest : Option (ℕ × ℕ)) → IfSome rest (λ a. suc e ≤ a.1) → earlier now deadline e (if_come now rest) ≡ if_come now (sooner (numbered e deadline) rest)
+earlier_come : (now e : ℕ) (deadline : Option ℕ) (rest : Option (ℕ × ℕ)) → IfSome rest (λ a. suc e ≤ a.1) → earlier now deadline e (if_come now rest) ≡ if_come now (sooner (with_number e deadline) rest)
 earlier_come now e None rest from = refl
 earlier_come now e (Some d) None from = refl
 earlier_come now e (Some d) (Some b) from = grind (arith, nat_tests)
@@ -62,9 +63,9 @@ sooner_from e (Some a) (Some b) p q = go (comes_before b a)
 
 numbers_from : (e : ℕ) (deadlines : List (Option ℕ)) → IfSome (first_of e deadlines) (λ a. e ≤ a.1)
 numbers_from e [] = tt
-numbers_from e (deadline ∷ deadlines) = sooner_from e (numbered e deadline) (first_of (suc e) deadlines) (own deadline) (behind (first_of (suc e) deadlines) (numbers_from (suc e) deadlines))
+numbers_from e (deadline ∷ deadlines) = sooner_from e (with_number e deadline) (first_of (suc e) deadlines) (own deadline) (behind (first_of (suc e) deadlines) (numbers_from (suc e) deadlines))
   where
-    own : (deadline : Option ℕ) → IfSome (numbered e deadline) (λ a. e ≤ a.1)
+    own : (deadline : Option ℕ) → IfSome (with_number e deadline) (λ a. e ≤ a.1)
     own None = tt
     own (Some d) = omega arith
 

@@ -4,7 +4,8 @@ use Rattle.std.proofs.lemmas.Bool.{cases_eq}
 use Rattle.std.proofs.lemmas.Bool.Decides.{nat_tests}
 use Rattle.std.proofs.lemmas.Nat.{div-add-mod', mod_below}
 use Rattle.std.proofs.lemmas.List.{get_or-set_same, get_or-set_other}
-use Rattle.deadlines.specs.Tree.{sooner, numbered, first_of, first_below, IsNode, IsMended, IsMendedBut}
+use Rattle.call_model.specs.Laws.{with_number}
+use Rattle.deadlines.specs.Tree.{sooner, first_of, first_below, IsNode, IsMended, IsMendedBut}
 
 -- ---- of two, and of more
 
@@ -52,18 +53,18 @@ root_among f n each zero le = sym (sooner_none (f 1))
 root_among f n each (suc k) le = root_among f n each k (omega arith) ∙ widened f k (each (suc k) (omega arith) (omega arith))
 
 -- the environments' own nodes
-leaves : (f : ℕ → Option (ℕ × ℕ)) (deadlines : List (Option ℕ)) (a e : ℕ) → ((i : ℕ) → i < length deadlines → f (a + i) ≡ numbered (e + i) (get_or deadlines i None)) → among f a (length deadlines) ≡ first_of e deadlines
+leaves : (f : ℕ → Option (ℕ × ℕ)) (deadlines : List (Option ℕ)) (a e : ℕ) → ((i : ℕ) → i < length deadlines → f (a + i) ≡ with_number (e + i) (get_or deadlines i None)) → among f a (length deadlines) ≡ first_of e deadlines
 leaves f [] a e each = refl
 leaves f (deadline ∷ deadlines) a e each =
-    ap (λ x. sooner x (among f (suc a) (length deadlines))) own ∙ ap (sooner (numbered e deadline)) (leaves f deadlines (suc a) (suc e) behind)
+    ap (λ x. sooner x (among f (suc a) (length deadlines))) own ∙ ap (sooner (with_number e deadline)) (leaves f deadlines (suc a) (suc e) behind)
   where
-    own : f a ≡ numbered e deadline
+    own : f a ≡ with_number e deadline
     own =
         let node : a ≡ a + 0 = omega arith in
         let number : e + 0 ≡ e = omega arith in
         ap f node ∙ each 0 (omega arith) ∙ rw number refl
 
-    behind : (i : ℕ) → i < length deadlines → f (suc a + i) ≡ numbered (suc e + i) (get_or deadlines i None)
+    behind : (i : ℕ) → i < length deadlines → f (suc a + i) ≡ with_number (suc e + i) (get_or deadlines i None)
     behind i inner =
         let node : suc a + i ≡ a + suc i = omega arith in
         let number : suc e + i ≡ e + suc i = omega arith in
@@ -74,7 +75,7 @@ inner_node deadlines firsts i lt =
     let inner : nat_lt i (length deadlines) ≡ true = grind (arith, nat_tests) in
     rw inner refl
 
-leaf : (deadlines : List (Option ℕ)) (firsts : List (Option (ℕ × ℕ))) (i : ℕ) → first_below deadlines firsts (length deadlines + i) ≡ numbered (1 + i) (get_or deadlines i None)
+leaf : (deadlines : List (Option ℕ)) (firsts : List (Option (ℕ × ℕ))) (i : ℕ) → first_below deadlines firsts (length deadlines + i) ≡ with_number (1 + i) (get_or deadlines i None)
 leaf deadlines firsts i =
     let behind : nat_lt (length deadlines + i) (length deadlines) ≡ false = grind (arith, nat_tests) in
     let index : length deadlines + i - length deadlines ≡ i = omega arith in

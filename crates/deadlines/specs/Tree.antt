@@ -1,10 +1,7 @@
 -- The tree over a list of deadlines. Node 1 is its root, nodes 2 i and 2 i + 1 are below node i, and
 -- behind the inner nodes come the environments, one node each.
-use Rattle.std.specs.Prelude.{◌≡◌, ◌≢◌, ℕ, suc, ◌+◌, ◌-◌, ◌*◌, ◌/◌, ◌<◌, ◌≤◌, Bool, ◌&&◌, ◌||◌, nat_lt, nat_eq, if◌then◌else◌, List, [], ◌∷◌, length, get_or, Option, Some, None, option_map}
-
--- whether one deadline with its environment comes before another
-abbrev pub comes_before : ℕ × ℕ → ℕ × ℕ → Bool
-comes_before a b = nat_lt a.0 b.0 || (nat_eq a.0 b.0 && nat_lt a.1 b.1)
+use Rattle.std.specs.Prelude.{◌≡◌, ◌≢◌, ℕ, suc, ◌+◌, ◌-◌, ◌*◌, ◌/◌, ◌<◌, ◌≤◌, nat_lt, if◌then◌else◌, List, [], ◌∷◌, length, get_or, Option, Some, None}
+use Rattle.call_model.specs.Laws.{comes_before, with_number}
 
 -- whichever of two comes first
 abbrev pub sooner : Option (ℕ × ℕ) → Option (ℕ × ℕ) → Option (ℕ × ℕ)
@@ -12,20 +9,16 @@ sooner None other = other
 sooner (Some a) None = Some a
 sooner (Some a) (Some b) = if comes_before b a then Some b else Some a
 
--- an environment's deadline with its number
-abbrev pub numbered : ℕ → Option ℕ → Option (ℕ × ℕ)
-numbered e deadline = option_map (λ d. (d, e)) deadline
-
 -- the first of environments that are numbered from e on
 abbrev pub first_of : ℕ → List (Option ℕ) → Option (ℕ × ℕ)
 first_of e [] = None
-first_of e (deadline ∷ deadlines) = sooner (numbered e deadline) (first_of (suc e) deadlines)
+first_of e (deadline ∷ deadlines) = sooner (with_number e deadline) (first_of (suc e) deadlines)
 
 -- the first of the environments below a node, or the environment that the node is
 abbrev pub first_below : List (Option ℕ) → List (Option (ℕ × ℕ)) → ℕ → Option (ℕ × ℕ)
 first_below deadlines firsts node =
     if nat_lt node (length deadlines) then get_or firsts node None
-    else numbered (node - length deadlines + 1) (get_or deadlines (node - length deadlines) None)
+    else with_number (node - length deadlines + 1) (get_or deadlines (node - length deadlines) None)
 
 -- an inner node has the first of the two nodes below it
 abbrev pub IsNode : List (Option ℕ) → List (Option (ℕ × ℕ)) → ℕ → Type 0

@@ -1,11 +1,11 @@
-use Rattle.std.proofs.Common.{◌≡◌, ◌≤◌, ◌<◌, ◌∙◌, ℕ, List, sym, ap, refl, arith, max, All, Bool, true, false, true≢false, ◌||◌, ◌^◌}
+use Rattle.std.proofs.Common.{◌≡◌, ◌≤◌, ◌<◌, ◌∙◌, ℕ, List, ◌++◌, sym, ap, refl, arith, max, All, Bool, true, false, true≢false, ◌||◌, ◌^◌}
 use Rattle.call_model.specs.declared.call.Call.{Call}
 use Rattle.call_model.specs.declared.call.Entry.{Entry}
 use Rattle.arn_ids.specs.declared.config.Config.{Config}
 use Rattle.call_model.specs.Counts.{full}
 use Rattle.call_model.specs.History.{stopped, is_stop}
-use Rattle.call_model.specs.Next.{due, expired, last_moment, next, moment_at}
-use Rattle.call_model.proofs.NextLegal.{legal_expired, next_entered}
+use Rattle.call_model.specs.Next.{expiries_at, last_moment, next, moment_at}
+use Rattle.call_model.proofs.NextLegal.{none_due_at, next_entered}
 use Rattle.account_book.specs.declared.book.Book.TheInside.{Inside}
 use Rattle.account_book.specs.Book.{Kept}
 use Rattle.account_book.specs.Books.{IsBook}
@@ -19,7 +19,7 @@ use Rattle.account_book.proofs.book.Book.take.Goals as goal
 
 -- after a Stop the service is stopped
 stops : (config : Config) (h : List Entry) (now : ℕ) (call : Call) → is_stop call ≡ true → stopped (next config h now call) ≡ true
-stops config h now call q = ap stopped (next_entered config h now call) ∙ ap (λ (b : Bool). b || stopped (expired config (moment_at h now) (due config h (moment_at h now)) h)) q
+stops config h now call q = ap stopped (next_entered config h now call) ∙ ap (λ (b : Bool). b || stopped (expiries_at config h (moment_at h now) ++ h)) q
 
 pub make_room-requires : goal.make_room-requires
 make_room-requires c =
@@ -31,14 +31,14 @@ take-requires-clause-later c =
     let j = c.self.inside.journal in
     let moment : c.max-moment.result ≡ max c.args.now (last_moment j.history) = c.max-moment.ensures ∙ ap (max c.args.now) c.last_moment.ensures.value in
     let later : last_moment j.history ≤ c.max-moment.result = rw moment (omega arith) in
-    rw (c.expire_due.ensures, c.in_ok-make_room.ensures.same.0, c.in_ok-make_room.ensures.same.1) ((legal_expired j.config c.max-moment.result (due j.config j.history c.max-moment.result) j.history c.facts.ensures.legal later refl).1.0)
+    rw (c.expire_due.ensures, c.in_ok-make_room.ensures.same.0, c.in_ok-make_room.ensures.same.1) ((none_due_at j.config j.history c.max-moment.result c.facts.ensures.legal later).later)
 
 pub take-requires-clause-none_due : goal.take-requires-clause-none_due
 take-requires-clause-none_due c =
     let j = c.self.inside.journal in
     let moment : c.max-moment.result ≡ max c.args.now (last_moment j.history) = c.max-moment.ensures ∙ ap (max c.args.now) c.last_moment.ensures.value in
     let later : last_moment j.history ≤ c.max-moment.result = rw moment (omega arith) in
-    rw (c.expire_due.ensures, c.in_ok-make_room.ensures.same.0, c.in_ok-make_room.ensures.same.1) ((legal_expired j.config c.max-moment.result (due j.config j.history c.max-moment.result) j.history c.facts.ensures.legal later refl).1.1)
+    rw (c.expire_due.ensures, c.in_ok-make_room.ensures.same.0, c.in_ok-make_room.ensures.same.1) ((none_due_at j.config j.history c.max-moment.result c.facts.ensures.legal later).none_due)
 
 -- the history after the call
 stepped : (c : goal.After-len-2) → (c.take.new.self.config ≡ c.self.inside.journal.config) × (c.take.new.self.history ≡ next c.self.inside.journal.config c.self.inside.journal.history c.args.now c.args.call)
