@@ -12,9 +12,9 @@ use Rattle.arn_ids.specs.declared.config.Config.{Config}
 use Rattle.call_model.specs.History.{answer_in, pending, call_of, place_of, is_stop, is_expiry}
 use Rattle.call_model.specs.Generation.{Generation, Actor, TheRuntime, TheExtension, Extension, asks, last_next, parked, if_pending, member, members, extensions}
 use Rattle.call_model.specs.Stand.{Stand, at_hand, bound_of, is_number, is_known, is_busy, role, Role, NoRole, Waiting, RuntimePoll, ExtensionPoll, member_role, waits_as}
-use Rattle.call_model.specs.Table.{after_cell, reborn, settled, kept, closes, or_closing, placed, clock_started, unbound, is_registered, own_answer, to_waiting}
+use Rattle.call_model.specs.Table.{reborn, settled, kept, closes, or_closing, placed, clock_started, unbound, is_registered, own_answer, to_waiting}
 use Rattle.call_model.specs.Polls.{delivered, begun, by_role}
-use Rattle.call_model.specs.Life.{Life, life, lived, after, begins, phase, stand, seen, concerns, names, ends, limit_of, first_part}
+use Rattle.call_model.specs.Life.{Life, life, lived, after, phase, stand, seen, concerns, names, limit_of, ends_here}
 use Rattle.call_model.specs.Limits.{place_for, Verdict, AfterStop, Refuses, Admits, admitted_to, verdict}
 use Rattle.call_model.specs.Answers.{verdict_answer, own_first, first_answer, second_answer, second_at, first_entry, home, answer_at}
 use Rattle.call_model.specs.Next.{IsLegal, Follows}
@@ -25,6 +25,7 @@ use Rattle.call_model.proofs.Scans.{legal_silent}
 use Rattle.call_model.proofs.PhaseStep.{phase_step, cell_of}
 use Rattle.call_model.proofs.Basics.{number_some, or_right, some-none}
 use Rattle.call_model.proofs.Elsewhere.{life_elsewhere}
+use Rattle.call_model.proofs.Visits.{visit, if_concerned, if_ended}
 
 -- each entry of a generation stands in the history under its ticket
 abbrev pub IsPart : List Entry → Generation → Type 0
@@ -40,22 +41,16 @@ unfolding life lived after
 generation_part config [] e = tt
 generation_part config (entry ∷ h) e = go (concerns h e entry) (part_older entry h (life config h e).generation (generation_part config h e))
   where
-    g : Generation
-    g = (length h, entry) ∷ (life config h e).generation
-
-    cell : Phase
-    cell = after_cell entry.moment (limit_of config e entry.moment) (length h) (seen config h e (life config h e)) entry.call
-
     same : (t : ℕ) → eqb t t ≡ true
     same t = grind (arith, nat_tests)
 
-    at_end : (b : Bool) → IsPart (entry ∷ h) (life config h e).generation → IsPart (entry ∷ h) (begins b config (first_part entry ∷ h) e entry.moment (limit_of config e entry.moment) g cell).generation
+    at_end : (b : Bool) → IsPart (entry ∷ h) (life config h e).generation → IsPart (entry ∷ h) (if_ended b (visit config h e entry)).generation
     at_end true k = tt
     at_end false k = ((omega arith, rw (same (length h)) refl), k)
 
-    go : (b : Bool) → IsPart (entry ∷ h) (life config h e).generation → IsPart (entry ∷ h) (lived b config h e entry (life config h e)).generation
+    go : (b : Bool) → IsPart (entry ∷ h) (life config h e).generation → IsPart (entry ∷ h) (if_concerned b (visit config h e entry)).generation
     go false k = k
-    go true k = at_end (ends (life config h e).phase entry.call cell (members (first_part entry ∷ h) g)) k
+    go true k = at_end (ends_here (visit config h e entry)) k
 
 -- an actor's last Next is a Next
 pub last_asks : (h : List Entry) (g : Generation) (actor : Actor) (t : ℕ) → IsPart h g → last_next g actor ≡ Some t → asks actor (call_of h t) ≡ true

@@ -16,10 +16,9 @@ use Rattle.call_model.specs.History.{answer_in, env_of, with_tickets, or_else}
 use Rattle.call_model.specs.Generation.{Generation, Extension, extensions, as_registered, members, TheExtension, Member, asks, member, is_ending, is_accepted, reports_exit, answer_to_next, told, asked_again, exited, has_count}
 use Rattle.call_model.specs.Stand.{Stand, is_number, is_known}
 use Rattle.call_model.specs.Table.{is_registered, own_answer, by_phase, register, refused}
-use Rattle.call_model.specs.Life.{life, lived, after, begins, stand, seen, concerns, names, ends, limit_of, first_part, registrations}
+use Rattle.call_model.specs.Life.{life, lived, after, stand, seen, concerns, names, registrations, ends_here}
 use Rattle.call_model.specs.Answers.{first_answer, second_answer, first_entry, own_first, own_at}
 use Rattle.call_model.specs.Next.{IsLegal, Follows}
-use Rattle.call_model.proofs.PhaseStep.{cell_of}
 use Rattle.call_model.proofs.Frame.{env_place, parked_elsewhere}
 use Rattle.call_model.proofs.AnswerValues.{plain, stripped, valued, ending_plain, accepted_plain}
 use Rattle.call_model.proofs.Basics.{eqb-self, some-none}
@@ -27,6 +26,7 @@ use Rattle.call_model.specs.declared.answer.Refusal.{Refusal}
 use Rattle.call_model.proofs.Pairs.{eqb-other}
 use Rattle.call_model.proofs.Once.{fresh}
 use Rattle.call_model.proofs.Scans.{still, member_step, member_steps, generation_below, legal_silent}
+use Rattle.call_model.proofs.Visits.{visit, if_concerned, if_ended}
 
 -- the first answer to the call's own ticket
 own_first_is : (config : Config) (h : List Entry) (call : Call) (d : ℕ) → env_of call ≡ Some d → own_first config h call ≡ own_answer (stand config h d) call
@@ -152,13 +152,13 @@ counts_fall config (entry ∷ h) e l = go (concerns h e entry) refl (counts_fall
     fresh (Register d name invoke shutdown account) None p q k u = under_more (suc (registrations h e)) (suc (registrations (entry ∷ h) e)) (extensions g) (omega (arith, grows)) u
     fresh call o p q k u = under_more (suc (registrations h e)) (suc (registrations (entry ∷ h) e)) (extensions g) (omega (arith, grows)) u
 
-    at_end : (b : Bool) (P : Phase) → concerns h e entry ≡ true → IsUnder (suc (registrations h e)) (extensions g) → IsUnder (suc (registrations (entry ∷ h) e)) (extensions (begins b config (first_part entry ∷ h) e entry.moment (limit_of config e entry.moment) ((length h, entry) ∷ g) P).generation)
-    at_end true P c u = tt
-    at_end false P c u = fresh entry.call (answer_in entry.answers (length h)) refl refl c u
+    at_end : (b : Bool) → concerns h e entry ≡ true → IsUnder (suc (registrations h e)) (extensions g) → IsUnder (suc (registrations (entry ∷ h) e)) (extensions (if_ended b (visit config h e entry)).generation)
+    at_end true c u = tt
+    at_end false c u = fresh entry.call (answer_in entry.answers (length h)) refl refl c u
 
-    go : (b : Bool) → concerns h e entry ≡ b → IsUnder (suc (registrations h e)) (extensions g) → IsUnder (suc (registrations (entry ∷ h) e)) (extensions (lived b config h e entry (life config h e)).generation)
+    go : (b : Bool) → concerns h e entry ≡ b → IsUnder (suc (registrations h e)) (extensions g) → IsUnder (suc (registrations (entry ∷ h) e)) (extensions (if_concerned b (visit config h e entry)).generation)
     go false c u = under_more (suc (registrations h e)) (suc (registrations (entry ∷ h) e)) (extensions g) (omega (arith, grows)) u
-    go true c u = at_end (ends (life config h e).phase entry.call (cell_of config e entry (length h) (stand config h e)) (members (first_part entry ∷ h) ((length h, entry) ∷ g))) (cell_of config e entry (length h) (stand config h e)) c u
+    go true c u = at_end (ends_here (visit config h e entry)) c u
 
 abbrev pub blank : Extension → Member
 blank x = record { extension = x; next = None; told = false; again = false; exited = false }
@@ -271,10 +271,10 @@ unregistered config (entry ∷ h) e x l lt = go (concerns h e entry) refl (unreg
     older : registrations h e < x.count
     older = omega (arith, lt, registrations_grow h entry e)
 
-    at_end : (b : Bool) (P : Phase) → concerns h e entry ≡ true → member h g x ≡ blank x → member (entry ∷ h) (begins b config (first_part entry ∷ h) e entry.moment (limit_of config e entry.moment) ((length h, entry) ∷ g) P).generation x ≡ blank x
-    at_end true P c k = refl
-    at_end false P c k = member_steps entry entry h g refl (generation_below config h e) (fresh config h (length h) l.0 (omega arith)) (legal_silent config h entry l.1) x ∙ ap (member_step entry entry (length h)) k ∙ blank_step config h entry e x l.0 l.1 c older
+    at_end : (b : Bool) → concerns h e entry ≡ true → member h g x ≡ blank x → member (entry ∷ h) (if_ended b (visit config h e entry)).generation x ≡ blank x
+    at_end true c k = refl
+    at_end false c k = member_steps entry entry h g refl (generation_below config h e) (fresh config h (length h) l.0 (omega arith)) (legal_silent config h entry l.1) x ∙ ap (member_step entry entry (length h)) k ∙ blank_step config h entry e x l.0 l.1 c older
 
-    go : (b : Bool) → concerns h e entry ≡ b → member h g x ≡ blank x → member (entry ∷ h) (lived b config h e entry (life config h e)).generation x ≡ blank x
+    go : (b : Bool) → concerns h e entry ≡ b → member h g x ≡ blank x → member (entry ∷ h) (if_concerned b (visit config h e entry)).generation x ≡ blank x
     go false c k = (λ i. record { extension = x; next = parked_elsewhere config h entry e (TheExtension x.count) l.0 l.1 c i; told = told g x.count; again = asked_again g x.count; exited = exited g x.count }) ∙ k
-    go true c k = at_end (ends (life config h e).phase entry.call (cell_of config e entry (length h) (stand config h e)) (members (first_part entry ∷ h) ((length h, entry) ∷ g))) (cell_of config e entry (length h) (stand config h e)) c k
+    go true c k = at_end (ends_here (visit config h e entry)) c k

@@ -4,7 +4,6 @@ use Rattle.std.proofs.Common.{◌≡◌, ℕ, ◌+◌, ◌<◌, Bool, true, fals
 use Rattle.std.proofs.lemmas.Bool.{eqb-true, cases_lt}
 use Rattle.std.proofs.lemmas.Bool.Decides.{nat_tests}
 use Rattle.call_model.specs.declared.answer.Answer.{Answer}
-use Rattle.call_model.specs.declared.answer.Phase.{Phase}
 use Rattle.call_model.specs.declared.call.Call.{Call}
 use Rattle.call_model.specs.declared.call.Call.TheVariants.{Invoke, RuntimeNext, ExtNext, Withdraw, Stop}
 use Rattle.call_model.specs.declared.call.Entry.{Entry}
@@ -13,7 +12,7 @@ use Rattle.call_model.specs.History.{answer_in, pending, call_of, place_of, env_
 use Rattle.call_model.specs.Generation.{Generation, Extension, Actor, TheRuntime, TheExtension, parked, if_pending, last_next, asks, extensions, member, members, told, asked_again, exited}
 use Rattle.call_model.specs.Stand.{is_number, at_hand}
 use Rattle.call_model.specs.Table.{is_registered}
-use Rattle.call_model.specs.Life.{life, lived, after, begins, phase, stand, seen, concerns, names, ends, limit_of, first_part, request_at, registrations, events, events_in, is_event}
+use Rattle.call_model.specs.Life.{life, lived, after, phase, stand, seen, concerns, names, request_at, registrations, events, events_in, is_event, ends_here}
 use Rattle.call_model.specs.Limits.{place_for}
 use Rattle.call_model.specs.Answers.{home}
 use Rattle.call_model.specs.Next.{IsLegal, Follows}
@@ -21,11 +20,11 @@ use Rattle.call_model.specs.Own.{is_poll}
 use Rattle.call_model.proofs.Pairs.{eqb-other}
 use Rattle.call_model.proofs.Once.{pending_cons, answers_past}
 use Rattle.call_model.proofs.Scans.{generation_below, last_below}
-use Rattle.call_model.proofs.PhaseStep.{cell_of}
 use Rattle.call_model.proofs.AtHand.{IsHeld, held}
 use Rattle.call_model.proofs.BoundWaits.{IsPart, generation_part}
 use Rattle.call_model.proofs.Basics.{eqb-self, number_some, map_same, or_right, some-none}
 use Rattle.call_model.proofs.Elsewhere.{life_elsewhere, elsewhere}
+use Rattle.call_model.proofs.Visits.{visit, if_concerned, if_ended}
 
 -- a poll is placed nowhere
 poll_place : (config : Config) (h : List Entry) (call : Call) (d : ℕ) → is_poll call ≡ Some d → place_for config h call ≡ None
@@ -69,19 +68,16 @@ unfolding life lived after
 generation_here config [] e l = tt
 generation_here config (entry ∷ h) e l = go (concerns h e entry) refl (generation_here config h e l.0)
   where
-    g : Generation
-    g = (length h, entry) ∷ (life config h e).generation
-
     no_place : (d : ℕ) → is_poll entry.call ≡ Some d → is_number entry.place e ≡ false
     no_place d q = ap (λ (o : Option ℕ). is_number o e) (l.1.place ∙ poll_place config h entry.call d q)
 
-    at_end : (b : Bool) (P : Phase) → concerns h e entry ≡ true → AreHere e (life config h e).generation → AreHere e (begins b config (first_part entry ∷ h) e entry.moment (limit_of config e entry.moment) g P).generation
-    at_end true P c k = tt
-    at_end false P c k = ((λ d q. poll_names h entry.call e d q (ap (λ b. b || names h e entry.call) (sym (no_place d q)) ∙ c)), k)
+    at_end : (b : Bool) → concerns h e entry ≡ true → AreHere e (life config h e).generation → AreHere e (if_ended b (visit config h e entry)).generation
+    at_end true c k = tt
+    at_end false c k = ((λ d q. poll_names h entry.call e d q (ap (λ b. b || names h e entry.call) (sym (no_place d q)) ∙ c)), k)
 
-    go : (b : Bool) → concerns h e entry ≡ b → AreHere e (life config h e).generation → AreHere e (lived b config h e entry (life config h e)).generation
+    go : (b : Bool) → concerns h e entry ≡ b → AreHere e (life config h e).generation → AreHere e (if_concerned b (visit config h e entry)).generation
     go false c k = k
-    go true c k = at_end (ends (life config h e).phase entry.call (cell_of config e entry (length h) (stand config h e)) (members (first_part entry ∷ h) g)) (cell_of config e entry (length h) (stand config h e)) c k
+    go true c k = at_end (ends_here (visit config h e entry)) c k
 
 asks_poll : (actor : Actor) (call : Call) → asks actor call ≡ true → (d : ℕ) × (is_poll call ≡ Some d)
 asks_poll TheRuntime (RuntimeNext e) q = (e, refl)

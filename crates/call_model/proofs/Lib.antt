@@ -6,6 +6,7 @@ pub mod Rising
 pub mod Puts
 pub mod Deadlines
 -- One entry: who is answered, what is pending after it, which phase comes, what it leaves alone, which values it gives.
+pub mod Visits
 pub mod Once
 pub mod AfterEntry
 pub mod Scans

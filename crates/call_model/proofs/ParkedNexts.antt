@@ -11,7 +11,7 @@ use Rattle.call_model.specs.History.{pending, call_of, env_of, or_else, answer_i
 use Rattle.call_model.specs.Generation.{Generation, Extension, Actor, TheRuntime, TheExtension, Member, parked, if_pending, last_next, asks, extensions, member, members, hears_end, has_count, as_registered, reports_exit}
 use Rattle.call_model.specs.Stand.{is_number, role, ExtensionPoll, Stand, is_known, is_closing, RuntimePoll}
 use Rattle.call_model.specs.Table.{after_cell, own_answer, by_phase, if_known, next_in_closing, is_registered, closes, kept, or_closing, placed, clock_started, unbound, settled}
-use Rattle.call_model.specs.Life.{life, stand, seen, concerns, names, limit_of, lived, after, begins, ends, first_part, Life, phase}
+use Rattle.call_model.specs.Life.{life, stand, seen, concerns, names, limit_of, lived, after, Life, phase, ends_here}
 use Rattle.call_model.specs.Limits.{place_for}
 use Rattle.call_model.specs.Answers.{home, first_answer, first_entry, second_answer, own_first}
 use Rattle.call_model.specs.Next.{IsLegal, Follows}
@@ -29,6 +29,7 @@ use Rattle.call_model.specs.Laws.{poll_of, is_open}
 use Rattle.call_model.proofs.Once.{answers_at, pending_cons, none_given}
 use Rattle.call_model.proofs.Scans.{generation_below, last_below}
 use Rattle.call_model.proofs.Elsewhere.{life_elsewhere}
+use Rattle.call_model.proofs.Visits.{visit, if_concerned, if_ended}
 
 -- each Next of a generation is one at the environment
 abbrev pub AreHome : List Entry → ℕ → Generation → Type 0
@@ -57,12 +58,6 @@ unfolding life lived after
 nexts_home config [] e l = tt
 nexts_home config (entry ∷ h) e l = go (concerns h e entry) refl (home_older entry h e (life config h e).generation (generation_part config h e) (nexts_home config h e l.0))
   where
-    g : Generation
-    g = (length h, entry) ∷ (life config h e).generation
-
-    cell : Phase
-    cell = after_cell entry.moment (limit_of config e entry.moment) (length h) (seen config h e (life config h e)) entry.call
-
     no_place : (o : Option ℕ) → o ≡ None → (is_number o e || names h e entry.call) ≡ true → names h e entry.call ≡ true
     no_place None q c = c
     no_place (Some d) q c = absurd (some-none q)
@@ -76,13 +71,13 @@ nexts_home config (entry ∷ h) e l = go (concerns h e entry) refl (home_older e
         let none : entry.place ≡ None = l.1.place ∙ asks_place config h entry.call actor a in
         rw (eqb-self (length h)) (or_none entry.place none ∙ asks_env h e entry.call actor a (no_place entry.place none c))
 
-    at_end : (b : Bool) → concerns h e entry ≡ true → AreHome (entry ∷ h) e (life config h e).generation → AreHome (entry ∷ h) e (begins b config (first_part entry ∷ h) e entry.moment (limit_of config e entry.moment) g cell).generation
+    at_end : (b : Bool) → concerns h e entry ≡ true → AreHome (entry ∷ h) e (life config h e).generation → AreHome (entry ∷ h) e (if_ended b (visit config h e entry)).generation
     at_end true c k = tt
     at_end false c k = (new c, k)
 
-    go : (b : Bool) → concerns h e entry ≡ b → AreHome (entry ∷ h) e (life config h e).generation → AreHome (entry ∷ h) e (lived b config h e entry (life config h e)).generation
+    go : (b : Bool) → concerns h e entry ≡ b → AreHome (entry ∷ h) e (life config h e).generation → AreHome (entry ∷ h) e (if_concerned b (visit config h e entry)).generation
     go false c k = k
-    go true c k = at_end (ends (life config h e).phase entry.call cell (members (first_part entry ∷ h) g)) c k
+    go true c k = at_end (ends_here (visit config h e entry)) c k
 
 last_home : (h : List Entry) (e : ℕ) (g : Generation) (actor : Actor) (t : ℕ) → AreHome h e g → last_next g actor ≡ Some t → home h t ≡ Some e
 last_home h e [] actor t o q = absurd (some-none (sym q))
@@ -217,8 +212,8 @@ pub open_step : (config : Config) (h : List Entry) (entry : Entry) (e : ℕ) →
 unfolding life lived after seen
 open_step config h entry e c o k =
     let p : is_open cell ≡ true = ap (λ (r : Option Reason). is_open (or_closing entry.moment r (kept entry.moment (limit_of config e entry.moment) (length h) (stand config h e) entry.call))) k ∙ on_kept entry.moment (limit_of config e entry.moment) (length h) (stand config h e) entry.call o in
-    subst (λ (b : Bool). IsGoing g (lived b config h e entry (life config h e))) (sym c)
-    (subst (λ (b : Bool). IsGoing g (begins b config (first_part entry ∷ h) e entry.moment (limit_of config e entry.moment) g cell)) (sym (no_end (is_closing cell) _ (open_stays cell p))) (on_settled (limit_of config e entry.moment) _ _ cell p, refl))
+    subst (λ (b : Bool). IsGoing g (if_concerned b (visit config h e entry))) (sym c)
+    (subst (λ (b : Bool). IsGoing g (if_ended b (visit config h e entry))) (sym (no_end (is_closing cell) _ (open_stays cell p))) (on_settled (limit_of config e entry.moment) _ _ cell p, refl))
   where
     g : Generation
     g = (length h, entry) ∷ (life config h e).generation
