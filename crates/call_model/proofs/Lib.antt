@@ -1,5 +1,7 @@
 -- Lists, options, counts.
 pub mod Basics
+-- The table of phases by its cells.
+pub mod Cells
 -- Lists of answers: by ticket, in rising order, with one put in its place; lists by deadline.
 pub mod Pairs
 pub mod Rising

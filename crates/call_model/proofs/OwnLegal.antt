@@ -9,7 +9,7 @@ use Rattle.call_model.specs.declared.call.Entry.{Entry}
 use Rattle.arn_ids.specs.declared.config.Config.{Config}
 use Rattle.arn_ids.specs.Environments.{function_of}
 use Rattle.call_model.specs.History.{call_of, is_poll_at, is_stop, stopped}
-use Rattle.call_model.specs.Table.{settled, kept, closes}
+use Rattle.call_model.specs.Table.{settled, kept, closes, or_closing, nothing, stopped as stopped_cell}
 use Rattle.call_model.specs.Stand.{is_number}
 use Rattle.call_model.specs.Life.{Life, life, phase, seen, lived, after, phase_by_table, concerns, names}
 use Rattle.call_model.specs.Limits.{place_for}
@@ -86,7 +86,7 @@ stop_off : (config : Config) (o : List Entry) (e now : ℕ) (given : List (ℕ �
 unfolding after seen closes kept
 stop_off config o e now given pl l q = rw cell (settled_off _ _ _)
   where
-    both : (b : Bool) → (if b then Off else Off) ≡ Off
+    both : (b : Bool) → or_closing now (if b then nothing else stopped_cell).close (if b then Off else Off) ≡ Off
     both true = refl
     both false = refl
 
