@@ -12,7 +12,7 @@ use Rattle.arn_ids.specs.declared.config.Config.{Config}
 use Rattle.call_model.specs.History.{answer_in, pending, call_of, place_of, is_stop, is_expiry}
 use Rattle.call_model.specs.Generation.{Generation, Actor, TheRuntime, TheExtension, Extension, asks, last_next, parked, if_pending, member, members, extensions}
 use Rattle.call_model.specs.Stand.{Stand, bound_of, is_number, is_known, role, NoRole, Waiting, waits_as}
-use Rattle.call_model.specs.Table.{reborn, settled, kept, closes, or_closing, placed, clock_started, unbound, is_registered, own_answer, to_waiting, Cell, row, nothing, stops, stopped as stopped_cell}
+use Rattle.call_model.specs.Table.{reborn, settled, kept, closes, or_closing, placed, clock_started, unbound, is_registered, own_answer, to_waiting, Cell, row, nothing, stops, tells_stopped}
 use Rattle.call_model.specs.Polls.{delivered, begun, by_role}
 use Rattle.call_model.specs.Life.{Life, life, lived, after, phase, stand, seen, concerns, names, limit_of, ends_here}
 use Rattle.call_model.specs.Limits.{place_for, Verdict, AfterStop, Refuses, Admits, admitted_to, verdict}
@@ -197,7 +197,7 @@ to_none own s call p c k =
       init_times_out = λ d b x y. absurd (some-none x);
       times_out = λ n d x y. absurd (some-none x);
       spins_down = λ x y. refl;
-    }) call (λ is x y. ap (λ (b : Bool). (if b then nothing else row s stops stops stops stops stopped_cell stopped_cell).waiting own) (k.1 is x)) c k.0
+    }) call (λ is x y. ap (λ (b : Bool). (if b then nothing else row s stops stops stops stops tells_stopped tells_stopped).waiting own) (k.1 is x)) c k.0
 
 pub held_home : (h : List Entry) (e p : ℕ) → IsHeld h e p → home h p ≡ Some e
 held_home h e p k = rw (number_some (place_of h p) e k.placed) refl

@@ -13,7 +13,7 @@ use Rattle.call_model.specs.declared.call.Call.TheVariants.{Invoke, RuntimeNext,
 use Rattle.call_model.specs.History.{is_stop}
 use Rattle.call_model.specs.Generation.{Member, hears_end, has_count}
 use Rattle.call_model.specs.Stand.{Stand, is_known, is_number}
-use Rattle.call_model.specs.Table.{Cell, row, by_phase, ext_row, answers, refused, next_in_closing, container, unknown, output, too_large, error, fails, init_times_out, times_out, spins_down, stops, stopped, state, not_idle, nothing, accepted, registers, bad_id, if_named, table, own_answer, closes, to_waiting}
+use Rattle.call_model.specs.Table.{Cell, row, by_phase, ext_row, only, refused, next_in_closing, container, unknown, output, too_large, error, fails, init_times_out, times_out, spins_down, stops, tells_stopped, state, not_idle, nothing, accepted, registers, bad_id, if_named, table, own_answer, closes, to_waiting}
 
 -- What holds in each phase of the cell that a row has for it holds of the row.
 pub in_row : {A : Type 0} (Q : Phase → A → Type 0) (s : Stand) (a b c d e f : A) → ((k u : Option ℕ) → Q (Starting k u) a) → Q Idle b → ((p k : ℕ) → Q (Busy p k) c) → ((p k : ℕ) → Q (Busy p k) d) → ((r : Reason) (k : ℕ) (u : Option ℕ) → Q (Closing r k u) e) → Q Off f
@@ -48,9 +48,9 @@ of_ext_row Q s x a b c d e qa qb qc qd qe apart off =
 pub record AreCells (Q : Phase → Cell → Type 0) (s : Stand) : Type 0 where
   pub waits : (P : Phase) → Q P nothing
   pub accepts : (P : Phase) → Q P accepted
-  pub refuses : (kind : Refusal) (P : Phase) → Q P (answers (refused kind))
-  pub registers : (P : Phase) → Q P (answers (Some (Registered (suc s.registrations))))
-  pub tells : (reason : Reason) (until : ℕ) (P : Phase) → Q P (answers (Some (Ending reason until 0)))
+  pub refuses : (kind : Refusal) (P : Phase) → Q P (only (refused kind))
+  pub registers : (P : Phase) → Q P (only (Some (Registered (suc s.registrations))))
+  pub tells : (reason : Reason) (until : ℕ) (P : Phase) → Q P (only (Some (Ending reason until 0)))
   pub output : (p d : ℕ) → Q (Busy p d) output
   pub too_large : (p d : ℕ) → Q (Busy p d) too_large
   pub error : (p d : ℕ) → Q (Busy p d) error
@@ -80,16 +80,16 @@ in_table Q s k call stop = go call stop
     report : (id : ℕ) (cell : Cell) → ((p d : ℕ) → Q (Busy p d) cell) → Q s.phase (row s state state (if_named s id cell) state state container)
     report id cell q = open_row _ _ _ _ _ _ st st (λ p d. of_either (Q (Busy p d)) (is_number s.request id) cell bad_id (q p d) (k.refuses BadId (Busy p d))) st st off
 
-    register_one : (used full : Bool) (P : Phase) → Q P (answers (Some (if used then Refused NameInUse else if full then Refused TooMany else Registered (suc s.registrations))))
+    register_one : (used full : Bool) (P : Phase) → Q P (only (Some (if used then Refused NameInUse else if full then Refused TooMany else Registered (suc s.registrations))))
     register_one true full P = k.refuses NameInUse P
     register_one false true P = k.refuses TooMany P
     register_one false false P = k.registers P
 
-    tell : (reason : Reason) (until : ℕ) (b : Bool) (P : Phase) → Q P (answers (if b then Some (Ending reason until 0) else refused Container))
+    tell : (reason : Reason) (until : ℕ) (b : Bool) (P : Phase) → Q P (only (if b then Some (Ending reason until 0) else refused Container))
     tell reason until true P = k.tells reason until P
     tell reason until false P = off P
 
-    tell_one : (o : Option Member) (now P : Phase) → Q P (answers (next_in_closing o now))
+    tell_one : (o : Option Member) (now P : Phase) → Q P (only (next_in_closing o now))
     tell_one (Some x) (Closing reason until bound) P = tell reason until (hears_end x && not x.told) P
     tell_one None now P = off P
     tell_one (Some x) now P = off P
@@ -118,12 +118,12 @@ in_table Q s k call stop = go call stop
     go (Reserve f count) stop = k.waits s.phase
 
 -- the row of a Stop
-pub of_stop : (Q : Cell → Type 0) (s : Stand) → Q nothing → Q stops → Q stopped → Q (table s Stop)
+pub of_stop : (Q : Cell → Type 0) (s : Stand) → Q nothing → Q stops → Q tells_stopped → Q (table s Stop)
 of_stop Q s none first closing = of_either Q s.stopped _ _ none (of_row Q s _ _ _ _ _ _ first first first first closing closing)
 
 -- the first one
-pub first_stop : (s : Stand) → s.stopped ≡ false → table s Stop ≡ row s stops stops stops stops stopped stopped
-first_stop s q = ap (λ (b : Bool). if b then nothing else row s stops stops stops stops stopped stopped) q
+pub first_stop : (s : Stand) → s.stopped ≡ false → table s Stop ≡ row s stops stops stops stops tells_stopped tells_stopped
+first_stop s q = ap (λ (b : Bool). if b then nothing else row s stops stops stops stops tells_stopped tells_stopped) q
 
 -- The answers that a call itself can get by the table.
 pub own_values : (Q : Option Answer → Type 0) (s : Stand) → Q None → Q (Some Accepted) → ((kind : Refusal) → Q (refused kind)) → Q (Some (Registered (suc s.registrations))) → ((reason : Reason) (until : ℕ) → Q (Some (Ending reason until 0)))

@@ -8,8 +8,8 @@ use Rattle.call_model.specs.declared.call.Call.TheVariants.{Invoke, RuntimeNext,
 use Rattle.call_model.specs.declared.call.Entry.{Entry}
 use Rattle.arn_ids.specs.declared.config.Config.{Config}
 use Rattle.arn_ids.specs.Environments.{function_of}
-use Rattle.call_model.specs.History.{call_of, is_poll_at, is_stop, stopped}
-use Rattle.call_model.specs.Table.{settled, kept, closes, or_closing, nothing, stopped as stopped_cell}
+use Rattle.call_model.specs.History.{call_of, poll_env, is_stop, stopped}
+use Rattle.call_model.specs.Table.{settled, kept, closes, or_closing, nothing, tells_stopped}
 use Rattle.call_model.specs.Stand.{is_number}
 use Rattle.call_model.specs.Life.{Life, life, phase, seen, lived, after, phase_by_table, concerns, names}
 use Rattle.call_model.specs.Limits.{place_for}
@@ -24,7 +24,7 @@ use Rattle.std.proofs.Common.{filter_map, nat_le}
 use Rattle.std.specs.List.{cons_option}
 use Rattle.call_model.specs.Generation.{members}
 use Rattle.call_model.proofs.OwnStands.{own_phase, own_names}
-use Rattle.call_model.specs.Own.{own, own_entry, is_own, of_function, is_poll}
+use Rattle.call_model.specs.Own.{own, own_entry, is_own, of_function}
 use Rattle.call_model.proofs.Pairs.{eqb-other}
 use Rattle.call_model.proofs.Basics.{number_some}
 use Rattle.call_model.proofs.Deadlines.{filter_deadline}
@@ -46,14 +46,9 @@ far_concerns config h entry f e pl far w = ap (λ (b : Bool). b || names h e ent
     no_env None p = refl
     no_env (Some d) p = eqb-other d e (λ same. true≢false (sym p ∙ ap (λ (n : ℕ). function_of config n == f) same ∙ far))
 
-    poll_number : (call : Call) → is_poll_at e call ≡ is_number (is_poll call) e
-    poll_number (RuntimeNext d) = refl
-    poll_number (ExtNext d x) = refl
-    poll_number call = refl
-
     not_named : (call : Call) → is_own config h f call ≡ true → names h e call ≡ is_stop call
     not_named Stop p = refl
-    not_named (Withdraw t) p = poll_number (call_of h t) ∙ no_env (is_poll (call_of h t)) p
+    not_named (Withdraw t) p = no_env (poll_env (call_of h t)) p
     not_named (Invoke g qualified trace body) p = refl
     not_named Tick p = refl
     not_named (Reserve g count) p = refl
@@ -86,7 +81,7 @@ stop_off : (config : Config) (o : List Entry) (e now : ℕ) (given : List (ℕ �
 unfolding after seen closes kept
 stop_off config o e now given pl l q = rw cell (settled_off _ _ _)
   where
-    both : (b : Bool) → or_closing now (if b then nothing else stopped_cell).close (if b then Off else Off) ≡ Off
+    both : (b : Bool) → or_closing now (if b then nothing else tells_stopped).close (if b then Off else Off) ≡ Off
     both true = refl
     both false = refl
 

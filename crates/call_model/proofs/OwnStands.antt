@@ -8,13 +8,13 @@ use Rattle.call_model.specs.declared.call.Call.TheVariants.{Invoke, RuntimeNext,
 use Rattle.call_model.specs.declared.call.Entry.{Entry}
 use Rattle.arn_ids.specs.declared.config.Config.{Config}
 use Rattle.arn_ids.specs.Environments.{function_of}
-use Rattle.call_model.specs.History.{answer_in, answer_of, call_of, env_of, is_poll_at, is_expiry, is_stop, stopped, requests, upto, is_invoke_of, or_else, with_tickets}
+use Rattle.call_model.specs.History.{answer_in, answer_of, call_of, env_of, poll_env, is_expiry, is_stop, stopped, requests, upto, is_invoke_of, or_else, with_tickets}
 use Rattle.call_model.specs.Stand.{is_number, at_hand}
 use Rattle.call_model.specs.Life.{names, first_part, is_second, events_in, is_event, Life, life, Visit, history_with, limit, phase_by_table, ends_here, phase, stand, seen, lived, after, concerns, limit_of, request_at, registrations, events}
 use Rattle.call_model.specs.Answers.{answers, with_answer, each_from, numbered, first_entry, answer_to}
 use Rattle.call_model.specs.Limits.{place_for}
 use Rattle.call_model.specs.Next.{IsLegal, Follows}
-use Rattle.call_model.specs.Own.{own, own_entry, own_ticket, is_own, of_function, is_poll}
+use Rattle.call_model.specs.Own.{own, own_entry, own_ticket, is_own, of_function}
 use Rattle.call_model.proofs.Pairs.{eqb-other}
 use Rattle.call_model.proofs.Once.{fresh}
 use Rattle.call_model.proofs.OwnTickets.{own_length, own_call, filtered, foreign_silent, own_past, own_answer_of, foreign, own_home, own_old}
@@ -152,21 +152,21 @@ own_first_same config h entry f P t w a k =
     ∙ own_same config h (first_part entry) f P t (filter_within (length h) (λ c. not (is_second c.1)) entry.answers w) a k
 
 -- the function's polls are its tickets
-poll_own : (config : Config) (h : List Entry) (f t : ℕ) → of_function config f (is_poll (call_of h t)) ≡ true → own_ticket config h f t ≡ true
+poll_own : (config : Config) (h : List Entry) (f t : ℕ) → of_function config f (poll_env (call_of h t)) ≡ true → own_ticket config h f t ≡ true
 poll_own config [] f t q = q
 poll_own config (entry ∷ h) f t q = go (t == length h) (poll_own config h f t) q
   where
-    by_call : (call : Call) → of_function config f (is_poll call) ≡ true → is_own config h f call ≡ true
+    by_call : (call : Call) → of_function config f (poll_env call) ≡ true → is_own config h f call ≡ true
     by_call (RuntimeNext d) p = p
     by_call (ExtNext d x) p = p
     by_call call p = absurd (true≢false (sym p))
 
-    go : (b : Bool) → (of_function config f (is_poll (call_of h t)) ≡ true → own_ticket config h f t ≡ true) → of_function config f (is_poll (if b then entry.call else call_of h t)) ≡ true → (if b then is_own config h f entry.call else own_ticket config h f t) ≡ true
+    go : (b : Bool) → (of_function config f (poll_env (call_of h t)) ≡ true → own_ticket config h f t ≡ true) → of_function config f (poll_env (if b then entry.call else call_of h t)) ≡ true → (if b then is_own config h f entry.call else own_ticket config h f t) ≡ true
     go true ih p = by_call entry.call p
     go false ih p = ih p
 
 pub own_names : (config : Config) (h : List Entry) (f e : ℕ) (call : Call) → is_own config h f call ≡ true → names (own config h f) e call ≡ names h e call
-own_names config h f e (Withdraw t) q = ap (is_poll_at e) (own_call config h f t (poll_own config h f t q))
+own_names config h f e (Withdraw t) q = ap (λ (call : Call). is_number (poll_env call) e) (own_call config h f t (poll_own config h f t q))
 own_names config h f e call q = refl
 
 -- the counts of requests

@@ -9,7 +9,7 @@ use Rattle.call_model.specs.declared.answer.Phase.{Phase}
 use Rattle.call_model.specs.declared.answer.Phase.TheVariants.{Starting}
 use Rattle.arn_ids.specs.declared.config.Config.{Config}
 use Rattle.arn_ids.specs.Environments.{timeout_of, expected_at, function_of}
-use Rattle.call_model.specs.History.{answer_in, pending, env_of, stopped, is_poll_at, call_of, with_tickets, requests, upto, is_expiry}
+use Rattle.call_model.specs.History.{answer_in, pending, env_of, stopped, poll_env, call_of, with_tickets, requests, upto, is_expiry}
 use Rattle.call_model.specs.Generation.{Generation, Member, members, ready, awaited, parked, TheRuntime}
 use Rattle.call_model.specs.Stand.{Stand, at_hand, bound_of, is_number, is_closing}
 use Rattle.call_model.specs.Table.{is_registered, reborn, settled, after_cell}
@@ -22,7 +22,7 @@ pub record Life : Type 0 where
 -- whether a call concerns an environment: it names it, takes back a Next there, or stops the service
 abbrev pub names : List Entry → ℕ → Call → Bool
 names h e Stop = true
-names h e (Withdraw t) = is_poll_at e (call_of h t)
+names h e (Withdraw t) = is_number (poll_env (call_of h t)) e
 names h e call = is_number (env_of call) e
 
 -- An entry concerns the environments that its call concerns, and the one where its Invoke is placed.

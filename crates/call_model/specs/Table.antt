@@ -19,7 +19,7 @@ use Rattle.call_model.specs.Stand.{Stand, is_known, is_number}
 pub record Cell : Type 0 where
   -- the answer to the call itself; an event gets its number later
   pub own : Option Answer
-  -- what the waiting call gets, where one waits; some answers are made of the bytes of the call with a ticket, the own one
+  -- what the waiting call gets, where one waits: it may be made of the bytes of the call, which has a ticket
   pub waiting : ℕ → Option Answer
   -- why the environment closes, where it does
   -- (life cycle: reset after a timeout, a failed Init, a failed extension; a spindown)
@@ -42,66 +42,66 @@ abbrev pub refused : Refusal → Option Answer
 refused kind = Some (Refused kind)
 
 -- a cell that only answers the call itself, or lets it wait
-abbrev pub answers : Option Answer → Cell
-answers a = record { own = a; waiting = λ own. None; close = None }
+abbrev pub only : Option Answer → Cell
+only a = record { own = a; waiting = λ ticket. None; close = None }
 
 -- a Next parks; other calls give nothing here
 abbrev pub parks : Cell
-parks = answers None
+parks = only None
 
 abbrev pub nothing : Cell
-nothing = answers None
+nothing = only None
 
 abbrev pub accepted : Cell
-accepted = answers (Some Accepted)
+accepted = only (Some Accepted)
 
 -- the call is refused, for one of these reasons
 abbrev pub state : Cell
-state = answers (refused State)
+state = only (refused State)
 
 abbrev pub container : Cell
-container = answers (refused Container)
+container = only (refused Container)
 
 abbrev pub not_idle : Cell
-not_idle = answers (refused NotIdle)
+not_idle = only (refused NotIdle)
 
 abbrev pub bad_id : Cell
-bad_id = answers (refused BadId)
+bad_id = only (refused BadId)
 
 abbrev pub unknown : Cell
-unknown = answers (refused Unknown)
+unknown = only (refused Unknown)
 
 -- the invocation gets the outcome that the runtime reports
 abbrev pub output : Cell
-output = record { own = Some Accepted; waiting = λ own. Some (Output own); close = None }
+output = record { own = Some Accepted; waiting = λ ticket. Some (Output ticket); close = None }
 
 abbrev pub too_large : Cell
-too_large = record { own = refused TooLarge; waiting = λ own. Some OutputTooLarge; close = None }
+too_large = record { own = refused TooLarge; waiting = λ ticket. Some OutputTooLarge; close = None }
 
 abbrev pub error : Cell
-error = record { own = Some Accepted; waiting = λ own. Some (Error own); close = None }
+error = record { own = Some Accepted; waiting = λ ticket. Some (Error ticket); close = None }
 
 -- a failure: the waiting call gets it as an error, and the environment closes
 abbrev pub fails : Cell
-fails = record { own = Some Accepted; waiting = λ own. Some (Error own); close = Some Failed }
+fails = record { own = Some Accepted; waiting = λ ticket. Some (Error ticket); close = Some Failed }
 
 -- the time of an Init, or of an invocation, is over
 abbrev pub init_times_out : Cell
-init_times_out = record { own = None; waiting = λ own. Some InitTimedOut; close = Some Timeout }
+init_times_out = record { own = None; waiting = λ ticket. Some InitTimedOut; close = Some Timeout }
 
 abbrev pub times_out : Cell
-times_out = record { own = None; waiting = λ own. Some TimedOut; close = Some Timeout }
+times_out = record { own = None; waiting = λ ticket. Some TimedOut; close = Some Timeout }
 
 -- an idle environment is shut down
 abbrev pub spins_down : Cell
-spins_down = record { own = Some Accepted; waiting = λ own. None; close = Some SpunDown }
+spins_down = record { own = Some Accepted; waiting = λ ticket. None; close = Some SpunDown }
 
 -- the service stops, and with it the environment, where that isn't closing already
 abbrev pub stops : Cell
-stops = record { own = None; waiting = λ own. Some Stopped; close = Some SpunDown }
+stops = record { own = None; waiting = λ ticket. Some Stopped; close = Some SpunDown }
 
-abbrev pub stopped : Cell
-stopped = record { own = None; waiting = λ own. Some Stopped; close = None }
+abbrev pub tells_stopped : Cell
+tells_stopped = record { own = None; waiting = λ ticket. Some Stopped; close = None }
 
 -- a report on the open invocation, by the count in the identifier that it names (Runtime API: AwsRequestId)
 abbrev pub if_named : Stand → ℕ → Cell → Cell
@@ -116,7 +116,7 @@ register s name =
 
 -- a Register in Starting
 abbrev pub registers : Stand → List ℕ → Cell
-registers s name = answers (Some (register s name))
+registers s name = only (Some (register s name))
 
 -- an extension that asks in Closing hears the end of the environment, once (Extensions API: Shutdown event)
 abbrev pub next_in_closing : Option Member → Phase → Option Answer
@@ -131,7 +131,7 @@ abbrev pub told_in_closing : Stand → ℕ → Option Answer
 told_in_closing s x = next_in_closing (find (has_count x) s.members) s.phase
 
 abbrev pub told_once : Stand → ℕ → Cell
-told_once s x = answers (told_in_closing s x)
+told_once s x = only (told_in_closing s x)
 
 -- The row of a call by an extension: one that isn't registered in the present generation is unknown; in Off none is
 -- known, and it is the container that refuses.
@@ -155,7 +155,7 @@ table s (ExtInitFailure e x body) = ext_row s x fails state state state state
 table s (ExtExitFailure e x body) = ext_row s x fails fails fails fails accepted
 table s (Spindown e) = row s not_idle spins_down not_idle not_idle not_idle not_idle
 table s (Expire e) = row s init_times_out nothing times_out times_out nothing nothing
-table s Stop = if s.stopped then nothing else row s stops stops stops stops stopped stopped
+table s Stop = if s.stopped then nothing else row s stops stops stops stops tells_stopped tells_stopped
 table s _ = nothing
 
 -- The answer to the call itself.
@@ -166,9 +166,9 @@ own_answer s call = (table s call).own
 unfoldable pub closes : Stand → Call → Option Reason
 closes s call = (table s call).close
 
--- What the waiting call gets; own is the ticket of the call.
+-- What the waiting call gets of a call with a ticket.
 unfoldable pub to_waiting : ℕ → Stand → Call → Option Answer
-to_waiting own s call = (table s call).waiting own
+to_waiting ticket s call = (table s call).waiting ticket
 
 -- an Init may last 10 s from the first contact (life cycle: Init phase)
 abbrev pub init_limit : ℕ → Option ℕ → Option ℕ

@@ -10,8 +10,9 @@ use Rattle.call_model.specs.declared.answer.Refusal.TheVariants.{State, BadId, U
 use Rattle.call_model.specs.declared.call.Call.{Call}
 use Rattle.call_model.specs.declared.call.Call.TheVariants.{Invoke, RuntimeNext, Response, ResponseTooLarge, Failure, InitFailure, Register, ExtNext, ExtInitFailure, ExtExitFailure, Tick, Withdraw, Spindown, Stop, Expire, Reserve}
 use Rattle.call_model.specs.Stand.{Stand, is_known, is_number, is_starting, is_idle, is_busy}
-use Rattle.call_model.specs.Table.{Cell, row, by_phase, ext_row, refused, state, container, bad_id, unknown, output, too_large, error, fails, accepted, if_named, own_answer, closes, to_waiting, register, told_in_closing, nothing, stops, stopped as stopped_cell}
+use Rattle.call_model.specs.Table.{Cell, row, by_phase, ext_row, refused, state, container, bad_id, unknown, output, too_large, error, fails, accepted, if_named, own_answer, closes, to_waiting, register, told_in_closing, nothing, stops, tells_stopped}
 use Rattle.call_model.proofs.Cells.{in_row, of_row, of_ext_row, next_closes, ext_next_closes, stop_own}
+use Rattle.env_phase.specs.Rows.{report_answers, ext_answers}
 
 abbrev pub is_open : Phase → Bool
 is_open phase = is_starting phase || is_idle phase || is_busy phase
@@ -89,7 +90,7 @@ closes_same s (Spindown e) = by_test is_idle SpunDown s _ _ _ _ _ _ (λ k u. ref
 closes_same s (Expire e) = by_test (λ P. is_starting P || is_busy P) Timeout s _ _ _ _ _ _ (λ k u. refl) refl (λ p k. refl) (λ p k. refl) (λ r k u. refl) refl
 closes_same s Stop = go s.stopped
   where
-    go : (b : Bool) → (if b then nothing else row s stops stops stops stops stopped_cell stopped_cell).close ≡ (if is_open s.phase && not b then Some SpunDown else None)
+    go : (b : Bool) → (if b then nothing else row s stops stops stops stops tells_stopped tells_stopped).close ≡ (if is_open s.phase && not b then Some SpunDown else None)
     go true = none (is_open s.phase)
       where
         none : (x : Bool) → None ≡ (if x && false then Some SpunDown else None)
@@ -137,7 +138,7 @@ waiting_same own s (ExtExitFailure e x body) = of_ext_row (λ (cell : Cell). cel
 waiting_same own s (Expire e) = in_row (λ P (cell : Cell). cell.waiting own ≡ if_closes cell.close (timed_out P)) s _ _ _ _ _ _ (λ k u. refl) refl (λ p k. refl) (λ p k. refl) (λ r k u. refl) refl
 waiting_same own s Stop = go s.stopped
   where
-    go : (b : Bool) → (if b then nothing else row s stops stops stops stops stopped_cell stopped_cell).waiting own ≡ (if b then None else Some Stopped)
+    go : (b : Bool) → (if b then nothing else row s stops stops stops stops tells_stopped tells_stopped).waiting own ≡ (if b then None else Some Stopped)
     go true = refl
     go false = of_row (λ (cell : Cell). cell.waiting own ≡ Some Stopped) s _ _ _ _ _ _ refl refl refl refl refl refl
 waiting_same own s (RuntimeNext e) = of_row (λ (cell : Cell). cell.waiting own ≡ None) s _ _ _ _ _ _ refl refl refl refl refl refl
@@ -150,15 +151,6 @@ waiting_same own s (Withdraw t) = refl
 waiting_same own s (Reserve f count) = refl
 
 -- the answer to the call itself
-abbrev pub ext_answers : Stand → ℕ → Option Answer → Option Answer → Option Answer → Option Answer → Option Answer → Option Answer
-ext_answers s x a b c d e =
-    if is_known s x
-    then row s a b c d e (refused Container)
-    else row s (refused Unknown) (refused Unknown) (refused Unknown) (refused Unknown) (refused Unknown) (refused Container)
-
-abbrev pub report_answers : Stand → ℕ → Answer → Option Answer
-report_answers s id a = row s (refused State) (refused State) (if is_number s.request id then Some a else refused BadId) (refused State) (refused State) (refused Container)
-
 abbrev pub own_by : Stand → Call → Option Answer
 own_by s (RuntimeNext e) = row s None None (refused State) None (refused Container) (refused Container)
 own_by s (Response e id body) = report_answers s id Accepted

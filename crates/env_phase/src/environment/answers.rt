@@ -3,10 +3,9 @@
 //! Busy with its invocation answered, Closing and Off.
 //! (Runtime API; Extensions API)
 
-ghost use Rattle.std.specs.Prelude.{◌≡◌, ◌<◌, ◌^◌, Some, if◌then◌else◌};
-ghost use Rattle.call_model.specs.declared.answer.Refusal.TheVariants.{State, Container, BadId, Unknown};
-ghost use Rattle.call_model.specs.Stand.{is_known, is_number};
-ghost use Rattle.call_model.specs.Table.{own_answer, row, register, told_in_closing, is_registered, refused};
+ghost use Rattle.std.specs.Prelude.{◌≡◌, ◌<◌, ◌^◌, Some};
+ghost use Rattle.call_model.specs.Table.{own_answer, row, register, told_in_closing, is_registered};
+ghost use Rattle.env_phase.specs.Rows.{ext_answers, named_answer, report_answers};
 
 use super::Environment;
 use arn_ids::Text;
@@ -107,7 +106,7 @@ impl Environment {
         answered: Option<Answer>,
         closing: Option<Answer>,
     ) -> Option<Answer>
-        ensures { result ≡ (if is_known self.now.stand ext then row self.now.stand starting idle unanswered answered closing (refused Container) else row self.now.stand (refused Unknown) (refused Unknown) (refused Unknown) (refused Unknown) (refused Unknown) (refused Container)) }
+        ensures { result ≡ ext_answers self.now.stand ext starting idle unanswered answered closing }
     {
         if self.knows(ext) {
             self.row(starting, idle, unanswered, answered, closing, CONTAINER)
@@ -119,7 +118,7 @@ impl Environment {
     /// The cell of the row of a report on the invocation with this request count.
     /// (Runtime API: Invocation response, Invocation error)
     fn report_row(&self, id: u64, answer: Answer) -> Option<Answer>
-        ensures { result ≡ row self.now.stand (refused State) (refused State) (if is_number self.now.stand.request id then Some answer else refused BadId) (refused State) (refused State) (refused Container) }
+        ensures { result ≡ report_answers self.now.stand id answer }
     {
         self.row(
             STATE,
@@ -133,7 +132,7 @@ impl Environment {
 
     /// The answer to a report on the open invocation, by the request count that it names.
     fn reports_on(&self, id: u64, answer: Answer) -> Option<Answer>
-        ensures { result ≡ (if is_number self.now.stand.request id then Some answer else refused BadId) }
+        ensures { result ≡ named_answer self.now.stand id answer }
     {
         if self.request == Some(id) {
             Some(answer)
