@@ -11,7 +11,7 @@ use Rattle.call_model.proofs.StepLaws.{stand_is}
 use Rattle.call_model.specs.declared.call.Call.{Call}
 use Rattle.call_model.specs.declared.call.Call.TheVariants.{Invoke, RuntimeNext, Response, ResponseTooLarge, Failure, InitFailure, Register, ExtNext, ExtInitFailure, ExtExitFailure, Tick, Withdraw, Spindown, Stop, Expire, Reserve}
 use Rattle.call_model.specs.declared.call.Entry.{Entry}
-use Rattle.call_model.specs.History.{call_of, requests, is_poll_at}
+use Rattle.call_model.specs.History.{call_of, requests, poll_env}
 use Rattle.call_model.specs.Life.{concerns, names}
 use Rattle.call_model.specs.Limits.{place_for}
 use Rattle.call_model.specs.Next.{IsLegal, Follows}
@@ -20,17 +20,12 @@ use Rattle.concurrency_pool.proofs.Numbered.{numbered_is}
 use Rattle.account_book.specs.declared.reach.Reach.{Reach}
 use Rattle.account_book.specs.declared.reach.Reach.TheVariants.{Nowhere, At, Everywhere}
 use Rattle.account_book.specs.Fleets.{moved}
-use Rattle.account_book.specs.Reaches.{at_most, poll_env, reach, reaches}
+use Rattle.account_book.specs.Reaches.{at_most, reach, reaches}
 use Rattle.account_book.specs.Taking.{site, sites, request_counts}
 
 at_most_is : (o : Option ℕ) (d : ℕ) → is_number o d ≡ reaches (at_most o) d
 at_most_is None d = refl
 at_most_is (Some e) d = refl
-
-poll_is : (call : Call) (d : ℕ) → is_poll_at d call ≡ reaches (at_most (poll_env call)) d
-poll_is (RuntimeNext e) d = refl
-poll_is (ExtNext e x) d = refl
-poll_is call d = refl
 
 or_none : (b : Bool) → (b || false) ≡ b
 or_none true = refl
@@ -43,7 +38,7 @@ concerns_reach config h entry d w = go entry.call entry.place w.place
     go (Invoke f qualified trace body) None q = refl
     go (Invoke f qualified trace body) (Some e) q = or_none (e == d)
     go Stop place q = rw q refl
-    go (Withdraw t) place q = rw q (poll_is (call_of h t) d)
+    go (Withdraw t) place q = rw q (at_most_is (poll_env (call_of h t)) d)
     go (RuntimeNext e) place q = rw q refl
     go (Response e id body) place q = rw q refl
     go (ResponseTooLarge e id) place q = rw q refl

@@ -7,7 +7,7 @@ use Rattle.script.specs.Lines.{call_in}
 use Rattle.script.proofs.FormsAgree.{call_same}
 use Rattle.script.proofs.WordBounds.{fits_word}
 use Rattle.account_book.specs.Book.{Kept}
-use Rattle.account_book.specs.Run.{ScriptFault, InLine, AtStart, AfterForm, Taking, is_skipped, line_limit, begins_form_2, is_of_form_2, opened, answered_if, line_answered, going_on, begun, Replayed, before, and_then, replay_from, run}
+use Rattle.account_book.specs.Run.{ScriptFault, InLine, AtStart, AfterForm, Taking, is_skipped, line_limit, begins_form_2, is_of_form_2, opened, answered_if, line_answered, going_on, started, Replayed, before, and_then, replay_from, run}
 use Rattle.account_book.proofs.LineEnds.{lines_again}
 
 -- what the second replay comes to, where the first has no fault; and before a fault of the first, what that writes
@@ -57,7 +57,7 @@ agree_first : (ls : List (List ℕ)) → begins_form_2 ls ≡ false → GoesAsFa
 agree_first [] other = at_fault _ _
 agree_first (line ∷ ls) other = rw other (go (opened line))
   where
-    go : (r : Result Kept ScriptFault) → GoesAsFar (and_then (begun false r) (λ p. replay_from 2 p ls)) (and_then (begun true r) (λ p. replay_from 3 p ls))
+    go : (r : Result Kept ScriptFault) → GoesAsFar (and_then (started false r) (λ p. replay_from 2 p ls)) (and_then (started true r) (λ p. replay_from 3 p ls))
     go (Err fault) = as_far (record { text = []; fault = Some fault })
     go (Ok book) = behind [] (replay_from 2 (Taking false book) ls) (replay_from 3 (Taking true book) ls) (agree 2 3 book ls)
 

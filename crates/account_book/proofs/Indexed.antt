@@ -8,7 +8,7 @@ use Rattle.call_model.specs.History.{answer_in, answer_of, or_else}
 use Rattle.call_model.proofs.Basics.{eqb-self}
 use Rattle.call_model.proofs.Pairs.{eqb-other}
 use Rattle.call_model.proofs.Stands.{one_changes}
-use Rattle.account_book.specs.Indexes.{answered, noted}
+use Rattle.account_book.specs.Indexes.{answers_by_ticket, noted}
 use Rattle.account_book.proofs.BeforeCalls.{count_more}
 use Rattle.account_book.proofs.FleetMeets.{count_length}
 use Rattle.account_book.proofs.RequestCounts.{numbered_at}
@@ -36,21 +36,21 @@ noted_is (a ∷ rest) g m all =
     other t ne same = ne (sym same ∙ sym zero_plus)
 
 -- the index after one more entry
-pub answered_next : (entry : Entry) (h : List Entry) → answer_of h (length h) ≡ None → All (λ a. a.0 ≤ length h) entry.answers → noted entry.answers (answered h ++ None ∷ []) ≡ answered (entry ∷ h)
+pub answered_next : (entry : Entry) (h : List Entry) → answer_of h (length h) ≡ None → All (λ a. a.0 ≤ length h) entry.answers → noted entry.answers (answers_by_ticket h ++ None ∷ []) ≡ answers_by_ticket (entry ∷ h)
 answered_next entry h fresh all =
-    ap (noted entry.answers) (ap (λ (o : Option Answer). answered h ++ o ∷ []) (sym fresh ∙ ap (answer_of h) (let z : length h ≡ 0 + length h = omega arith in z)) ∙ sym (count_more (answer_of h) 0 (length h)))
+    ap (noted entry.answers) (ap (λ (o : Option Answer). answers_by_ticket h ++ o ∷ []) (sym fresh ∙ ap (answer_of h) (let z : length h ≡ 0 + length h = omega arith in z)) ∙ sym (count_more (answer_of h) 0 (length h)))
     ∙ noted_is entry.answers (answer_of h) (length h + 1) (λ i d lt. omega (arith, all i d lt))
     ∙ ap (λ n. map (answer_of (entry ∷ h)) (count_from 0 n)) (let one : length h + 1 ≡ suc (length h) = omega arith in one)
 
-pub answered_length : (h : List Entry) → length (answered h) ≡ length h
+pub answered_length : (h : List Entry) → length (answers_by_ticket h) ≡ length h
 answered_length h = length-map (count_from 0 (length h)) (answer_of h) ∙ count_length 0 (length h)
 
-pub answered_at : (h : List Entry) (t : ℕ) (d : Option Answer) → t < length h → get_or (answered h) t d ≡ answer_of h t
+pub answered_at : (h : List Entry) (t : ℕ) (d : Option Answer) → t < length h → get_or (answers_by_ticket h) t d ≡ answer_of h t
 answered_at h t d lt = numbered_at (answer_of h) 0 (length h) t d lt ∙ ap (answer_of h) (let z : 0 + t ≡ t = omega arith in z)
 
 -- what stands at a ticket, and past the end
-pub given_some : (given : List (Option Answer)) (h : List Entry) (t : ℕ) (d : Option Answer) → given ≡ answered h → t < length given → get_or given t d ≡ answer_of h t
+pub given_some : (given : List (Option Answer)) (h : List Entry) (t : ℕ) (d : Option Answer) → given ≡ answers_by_ticket h → t < length given → get_or given t d ≡ answer_of h t
 given_some given h t d is lt = let long : length given ≡ length h = ap length is ∙ answered_length h in ap (λ (g : List (Option Answer)). get_or g t d) is ∙ answered_at h t d (omega (arith, lt, long))
 
-pub given_none : (given : List (Option Answer)) (h : List Entry) (t : ℕ) → given ≡ answered h → length given ≤ t → ((u : ℕ) → length h ≤ u → answer_of h u ≡ None) → answer_of h t ≡ None
+pub given_none : (given : List (Option Answer)) (h : List Entry) (t : ℕ) → given ≡ answers_by_ticket h → length given ≤ t → ((u : ℕ) → length h ≤ u → answer_of h u ≡ None) → answer_of h t ≡ None
 given_none given h t is le none = let long : length given ≡ length h = ap length is ∙ answered_length h in none t (omega (arith, le, long))

@@ -18,7 +18,7 @@ use Rattle.script.proofs.ReadAgain.{no_mark, read_again}
 use Rattle.account_book.specs.Book.{Kept}
 use Rattle.account_book.specs.HistoryText.{answers_text}
 use Rattle.account_book.specs.Reached.{IsTakenAfter, led_to, AreTaken}
-use Rattle.account_book.specs.Run.{Progress, Taking, is_skipped, added_lines, answered, going_on, line_answered, line_taken}
+use Rattle.account_book.specs.Run.{Progress, Taking, is_skipped, added_lines, call_answered, going_on, line_answered, line_taken}
 use Rattle.account_book.proofs.AnswersStay.{answers_added}
 use Rattle.account_book.proofs.GoingOn.{Leads, leads_nowhere, leads_on, leads_line, leads_past, within_limit}
 use Rattle.account_book.proofs.HistoryLines.{comments, entry_lines, entries_lines, comments_skipped, expiry_skipped}
@@ -54,8 +54,8 @@ abbrev pub book_with : Config → ℕ → ℕ → List Entry → Kept
 book_with config salt max_entries h = record { config = config; salt = salt; max_entries = max_entries; history = h }
 
 answered_is : (config : Config) (salt max_entries : ℕ) (h : List Entry) (now : ℕ) (call : Call) → full config max_entries h call ≡ false
-    → answered (book_with config salt max_entries h) (moment_at h now) call ≡ (book_with config salt max_entries (next config h now call), added_lines salt h (added config h now call))
-unfolding answered next
+    → call_answered (book_with config salt max_entries h) (moment_at h now) call ≡ (book_with config salt max_entries (next config h now call), added_lines salt h (added config h now call))
+unfolding call_answered next
 answered_is config salt max_entries h now call room =
     rw room (ap (λ (new : List Entry). (book_with config salt max_entries (new ++ h), added_lines salt h new)) (added_again config h now call))
 

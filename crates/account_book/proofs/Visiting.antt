@@ -8,7 +8,7 @@ use Rattle.call_model.specs.declared.answer.Answer.{Answer}
 use Rattle.call_model.specs.declared.call.Call.{Call}
 use Rattle.call_model.specs.declared.call.Call.TheVariants.{Invoke, RuntimeNext, Response, ResponseTooLarge, Failure, InitFailure, Register, ExtNext, ExtInitFailure, ExtExitFailure, Tick, Withdraw, Spindown, Stop, Expire, Reserve}
 use Rattle.call_model.specs.declared.call.Entry.{Entry}
-use Rattle.call_model.specs.History.{call_of, env_of, or_else, is_stop, stopped}
+use Rattle.call_model.specs.History.{call_of, env_of, or_else, is_stop, stopped, poll_env}
 use Rattle.call_model.specs.Limits.{Verdict, AfterStop, Refuses, Admits, admitted_to, verdict, place_for, by_limits, reservation}
 use Rattle.call_model.specs.Limits as limits
 use Rattle.call_model.specs.After.{fixed_of}
@@ -30,7 +30,7 @@ use Rattle.account_book.specs.Answering.{most_answers}
 use Rattle.account_book.specs.declared.reach.Reach.{Reach}
 use Rattle.account_book.specs.declared.reach.Reach.TheVariants.{Nowhere, At, Everywhere}
 use Rattle.account_book.specs.Fleets.{no_site, site_at, step_at, moves_at}
-use Rattle.account_book.specs.Reaches.{reach, reaches, at_most, poll_env}
+use Rattle.account_book.specs.Reaches.{reach, reaches, at_most}
 use Rattle.account_book.specs.Taking.{site, sites, request_counts, IsKnown, AllKnown}
 use Rattle.account_book.proofs.EntryMoves.{env_within, known_call, moves_there}
 use Rattle.account_book.proofs.EntryAnswers.{part_rising}

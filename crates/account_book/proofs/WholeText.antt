@@ -19,7 +19,7 @@ use Rattle.script.proofs.WordBounds.{fits_word}
 use Rattle.script.proofs.LineBounds.{HasShortBodies}
 use Rattle.account_book.specs.HistoryText.{opening_text, history_text, answers_text}
 use Rattle.account_book.specs.Reached.{IsBooked, led_to, IsReached}
-use Rattle.account_book.specs.Run.{AtStart, AfterForm, Taking, before, begun, opened, replay_from, run}
+use Rattle.account_book.specs.Run.{AtStart, AfterForm, Taking, before, started, opened, replay_from, run}
 use Rattle.account_book.proofs.LineEnds.{ended, AreLines, lines_again}
 use Rattle.account_book.proofs.HistoryLines.{entries_lines, AreHandedIn, entries_are, entries_lines_are, short_bodies}
 use Rattle.account_book.proofs.GoingOn.{Leads, leads_on, leads_line}
@@ -59,7 +59,7 @@ begins : (config : Config) (salt max_entries : ℕ) → first_fault config ≡ N
 begins config salt max_entries sound within back =
     leads_on (codes "form 2" ∷ []) (setup_text config salt max_entries ∷ []) AtStart AfterForm (Taking true (book_with config salt max_entries [])) [] []
     (leads_line (codes "form 2") AtStart AfterForm [] (λ number. refl))
-    (leads_line (setup_text config salt max_entries) AfterForm (Taking true (book_with config salt max_entries [])) [] (λ number. ap (begun true) (opened_is config salt max_entries sound within back)))
+    (leads_line (setup_text config salt max_entries) AfterForm (Taking true (book_with config salt max_entries [])) [] (λ number. ap (started true) (opened_is config salt max_entries sound within back)))
 
 -- The lines of a history, whatever comes after them.
 reads : (config : Config) (salt max_entries : ℕ) (h : List Entry) → first_fault config ≡ None → is_between (length (owners config) + 1) (2 ^ 32) max_entries ≡ true → read_setup (setup_text config salt max_entries) ≡ Ok (setup config salt max_entries)

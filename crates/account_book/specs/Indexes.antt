@@ -6,8 +6,8 @@ use Rattle.call_model.specs.declared.call.Entry.{Entry}
 use Rattle.call_model.specs.History.{answer_of}
 
 -- the answers to the tickets of a history, from 0 on
-abbrev pub answered : List Entry → List (Option Answer)
-answered h = map (answer_of h) (count_from 0 (length h))
+abbrev pub answers_by_ticket : List Entry → List (Option Answer)
+answers_by_ticket h = map (answer_of h) (count_from 0 (length h))
 
 -- the same with the answers of one more entry
 abbrev pub noted : List (ℕ × Answer) → List (Option Answer) → List (Option Answer)

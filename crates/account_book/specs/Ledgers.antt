@@ -6,7 +6,7 @@ use Rattle.call_model.specs.History.{stopped}
 use Rattle.script.specs.CallCounts.{call_counts}
 use Rattle.account_book.specs.declared.ledger.Ledger.TheInside.{Inside}
 use Rattle.account_book.specs.declared.totals.Totals.{Totals}
-use Rattle.account_book.specs.Indexes.{answered}
+use Rattle.account_book.specs.Indexes.{answers_by_ticket}
 use Rattle.account_book.specs.Shelf.{Shelf}
 
 abbrev pub shelf : Inside → Shelf
@@ -23,7 +23,7 @@ answer_limit = 6145
 -- what is kept beside the entries is what they say
 pub record IsLedger (l : Inside) : Type 0 where
   pub counts_are : reverse l.counts.0 ≡ call_counts (reverse l.entries.0)
-  pub given_is : l.given.0 ≡ answered (reverse l.entries.0)
+  pub given_is : l.given.0 ≡ answers_by_ticket (reverse l.entries.0)
   pub totals_are : l.totals ≡ totals (reverse l.entries.0)
   pub few_admitted : l.totals.admitted ≤ length l.entries.0
   pub few_throttled : l.totals.throttled ≤ answer_limit * length l.entries.0

@@ -3,10 +3,10 @@ use Rattle.std.specs.Prelude.{ℕ, Bool, true, false, ◌==◌, List, [], ◌∷
 use Rattle.arn_ids.specs.declared.config.Config.{Config}
 use Rattle.call_model.specs.declared.answer.Answer.{Answer}
 use Rattle.call_model.specs.declared.call.Call.{Call}
-use Rattle.call_model.specs.declared.call.Call.TheVariants.{Stop, Withdraw, RuntimeNext, ExtNext}
+use Rattle.call_model.specs.declared.call.Call.TheVariants.{Stop, Withdraw}
 use Rattle.call_model.specs.declared.call.Entry.{Entry}
 use Rattle.call_model.specs.Answers.{own_first, home}
-use Rattle.call_model.specs.History.{call_of, env_of, or_else}
+use Rattle.call_model.specs.History.{call_of, env_of, or_else, poll_env}
 use Rattle.account_book.specs.declared.reach.Reach.{Reach}
 use Rattle.account_book.specs.declared.reach.Reach.TheVariants.{Nowhere, At, Everywhere}
 
@@ -14,12 +14,6 @@ use Rattle.account_book.specs.declared.reach.Reach.TheVariants.{Nowhere, At, Eve
 abbrev pub at_most : Option ℕ → Reach
 at_most None = Nowhere
 at_most (Some e) = At e
-
--- the environment of a Next
-abbrev pub poll_env : Call → Option ℕ
-poll_env (RuntimeNext e) = Some e
-poll_env (ExtNext e x) = Some e
-poll_env _ = None
 
 -- A Stop reaches every environment, a Withdraw that of the Next which it takes back, any other call the one where it is
 -- placed or that it names.

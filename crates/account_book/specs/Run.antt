@@ -72,15 +72,15 @@ abbrev pub added_lines : ℕ → List Entry → List Entry → List ℕ
 added_lines salt h new = lines_from salt (new ++ h) (length h) (reverse new)
 
 -- What a book makes of a call: the next book, and the lines that are written. A full journal takes no call.
-unfoldable pub answered : Kept → ℕ → Call → Kept × List ℕ
-answered book now call =
+unfoldable pub call_answered : Kept → ℕ → Call → Kept × List ℕ
+call_answered book now call =
     if full book.config book.max_entries book.history call then (book, codes "refused JournalFull\n") else
     (record book { history = next book.config book.history now call }, added_lines book.salt book.history (added book.config book.history now call))
 
 -- the same where a line stands for a call; else the line of this number is at fault
 abbrev pub answered_if : ℕ → Kept → Option (ℕ × Call) → Result (Kept × List ℕ) ScriptFault
 answered_if number book None = Err (InLine number)
-answered_if number book (Some (now, call)) = Ok (answered book now call)
+answered_if number book (Some (now, call)) = Ok (call_answered book now call)
 
 -- What a book makes of a line; reserves says whether it may be a `reserve`.
 unfoldable pub line_answered : Bool → ℕ → Kept → List ℕ → Result (Kept × List ℕ) ScriptFault
@@ -89,9 +89,9 @@ line_answered reserves number book line =
     if is_skipped line then Ok (book, []) else answered_if number book (call_in reserves book.config line)
 
 -- a book was opened, and nothing is written
-abbrev pub begun : Bool → Result Kept ScriptFault → Result (Progress × List ℕ) ScriptFault
-begun reserves (Err fault) = Err fault
-begun reserves (Ok book) = Ok (Taking reserves book, [])
+abbrev pub started : Bool → Result Kept ScriptFault → Result (Progress × List ℕ) ScriptFault
+started reserves (Err fault) = Err fault
+started reserves (Ok book) = Ok (Taking reserves book, [])
 
 -- a book goes on
 abbrev pub going_on : Bool → Result (Kept × List ℕ) ScriptFault → Result (Progress × List ℕ) ScriptFault
@@ -101,8 +101,8 @@ going_on reserves (Ok (book, text)) = Ok (Taking reserves book, text)
 -- What the line of a number does. The first one may say form 2; the next one, and else the first, is the configuration,
 -- which opens the book; the book takes each other one.
 abbrev pub line_taken : ℕ → Progress → List ℕ → Result (Progress × List ℕ) ScriptFault
-line_taken number AtStart line = if is_form_2 line then Ok (AfterForm, []) else begun false (opened line)
-line_taken number AfterForm line = begun true (opened line)
+line_taken number AtStart line = if is_form_2 line then Ok (AfterForm, []) else started false (opened line)
+line_taken number AfterForm line = started true (opened line)
 line_taken number (Taking reserves book) line = going_on reserves (line_answered reserves number book line)
 
 -- at the end of the input the book must be there: no text is no JSON

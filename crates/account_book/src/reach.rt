@@ -1,8 +1,8 @@
 //! Which environments a call reaches.
 
 ghost use Rattle.std.specs.Prelude.{◌≡◌, reverse};
-ghost use Rattle.account_book.specs.Reaches.{at_most, poll_env, reach};
-ghost use Rattle.call_model.specs.History.{call_of, env_of};
+ghost use Rattle.account_book.specs.Reaches.{at_most, reach};
+ghost use Rattle.call_model.specs.History.{call_of, env_of, poll_env};
 
 use arn_ids::EnvNo;
 use call_model::{Call, Entry, Ticket};

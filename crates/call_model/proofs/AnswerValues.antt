@@ -1,11 +1,8 @@
 -- What an entry answers, up to the numbers of its events: the first answers and the second.
-use Rattle.std.proofs.Common.{◌≡◌, ℕ, suc, ◌+◌, ◌≤◌, Bool, true, false, List, [], ◌∷◌, length, Option, Some, None, sym, refl, ap, ◌∙◌, subst, arith, is_some, is_none, not, ◌&&◌, ◌||◌, ◌==◌, filter, if◌then◌else◌, nat_le, nat_lt, ◌-◌, bytes_eq}
-use Rattle.std.specs.List.{list_any}
-use Rattle.call_model.specs.declared.answer.Refusal.TheVariants.{NameInUse, TooMany, BadReservation}
+use Rattle.std.proofs.Common.{◌≡◌, ℕ, suc, ◌+◌, ◌≤◌, Bool, true, false, List, [], ◌∷◌, length, Option, Some, None, sym, refl, ap, ◌∙◌, subst, arith, is_none, not, ◌&&◌, ◌||◌, ◌==◌, filter, if◌then◌else◌, nat_lt, ◌-◌}
+use Rattle.call_model.specs.declared.answer.Refusal.TheVariants.{BadReservation}
 use Rattle.call_model.specs.declared.answer.Answer.{Answer}
-use Rattle.call_model.specs.declared.answer.Answer.TheVariants.{Delivered, Told, Ending, Registered, Accepted, Output, Error, OutputTooLarge, Stopped, Withdrawn, Refused, Reserved}
-use Rattle.call_model.specs.declared.answer.Phase.{Phase}
-use Rattle.call_model.specs.declared.answer.Phase.TheVariants.{Starting, Idle, Busy, Closing, Off}
+use Rattle.call_model.specs.declared.answer.Answer.TheVariants.{Delivered, Told, Ending, Stopped, Withdrawn, Refused, Reserved}
 use Rattle.call_model.specs.declared.answer.Reason.{Reason}
 use Rattle.call_model.specs.declared.call.Call.{Call}
 use Rattle.call_model.specs.declared.call.Call.TheVariants.{Invoke, RuntimeNext, Response, ResponseTooLarge, Failure, InitFailure, Register, ExtNext, ExtInitFailure, ExtExitFailure, Tick, Withdraw, Spindown, Stop, Expire, Reserve}
@@ -13,9 +10,9 @@ use Rattle.call_model.specs.declared.call.Entry.{Entry}
 use Rattle.arn_ids.specs.declared.config.Config.{Config}
 use Rattle.arn_ids.specs.Environments.{function_at}
 use Rattle.call_model.specs.History.{answer_in, stopped, or_else}
-use Rattle.call_model.specs.Generation.{Member, is_ending, is_accepted, as_registered, hears_end, reports_exit}
-use Rattle.call_model.specs.Stand.{Stand, is_known, is_number, Role, NoRole, Waiting, RuntimePoll, ExtensionPoll, is_busy, role}
-use Rattle.call_model.specs.Table.{own_answer, by_phase, register, refused, if_open, if_known, next_in_closing, to_waiting, closes, timed_out}
+use Rattle.call_model.specs.Generation.{is_ending, is_accepted, as_registered, hears_end, reports_exit}
+use Rattle.call_model.specs.Stand.{Stand, Role, NoRole, Waiting, RuntimePoll, ExtensionPoll, role}
+use Rattle.call_model.specs.Table.{own_answer, refused, to_waiting, closes}
 use Rattle.call_model.specs.Polls.{by_role, at_close, replaced, delivered, begun}
 use Rattle.call_model.specs.Life.{is_second, first_part, stand, names, phase}
 use Rattle.call_model.specs.Limits.{Verdict, AfterStop, Refuses, Admits, verdict, reservation, reserved_in_all, or_zero}
@@ -23,6 +20,7 @@ use Rattle.call_model.specs.Answers.{answers, first_answer, second_answer, first
 use Rattle.call_model.specs.Next.{Follows}
 use Rattle.call_model.proofs.Pairs.{in_each}
 use Rattle.call_model.proofs.Rising.{IsRising, each_rising, numbered_rising, rising_filter, passed, seen_by, numbered_keeps}
+use Rattle.call_model.proofs.Cells.{own_values, waiting_values}
 
 -- an answer without the number of its event
 abbrev pub stripped : Answer → Option Answer
@@ -59,67 +57,16 @@ abbrev pub is_early : Option Answer → Bool
 is_early None = true
 is_early (Some a) = early a
 
-early_phase : (p0 p1 p2 p3 p4 p5 : Option Answer) (s : Stand) (P : Phase) → is_early p0 ≡ true → is_early p1 ≡ true → is_early p2 ≡ true → is_early p3 ≡ true → is_early p4 ≡ true → is_early p5 ≡ true → is_early (by_phase p0 p1 p2 p3 p4 p5 s P) ≡ true
-early_phase p0 p1 p2 p3 p4 p5 s (Starting d b) e0 e1 e2 e3 e4 e5 = e0
-early_phase p0 p1 p2 p3 p4 p5 s Idle e0 e1 e2 e3 e4 e5 = e1
-early_phase p0 p1 p2 p3 p4 p5 s (Busy p d) e0 e1 e2 e3 e4 e5 = go (is_some s.request)
-  where
-    go : (b : Bool) → is_early (if b then p2 else p3) ≡ true
-    go true = e2
-    go false = e3
-early_phase p0 p1 p2 p3 p4 p5 s (Closing reason until b) e0 e1 e2 e3 e4 e5 = e4
-early_phase p0 p1 p2 p3 p4 p5 s Off e0 e1 e2 e3 e4 e5 = e5
-
-early_open : (b : Bool) (a : Answer) → early a ≡ true → is_early (if_open b a) ≡ true
-early_open true a e = e
-early_open false a e = refl
-
-early_known : (b : Bool) (a : Option Answer) → is_early a ≡ true → is_early (if_known b a) ≡ true
-early_known true a e = e
-early_known false a e = refl
-
 early_if : (b : Bool) (x y : Option Answer) → is_early x ≡ true → is_early y ≡ true → is_early (if b then x else y) ≡ true
 early_if true x y e f = e
 early_if false x y e f = f
-
-early_closing : (x : Option Member) (P : Phase) → is_early (next_in_closing x P) ≡ true
-early_closing None P = refl
-early_closing (Some x) (Closing reason until b) = early_if (hears_end x && not x.told) (Some (Ending reason until 0)) (refused _) refl refl
-early_closing (Some x) (Starting d b) = refl
-early_closing (Some x) Idle = refl
-early_closing (Some x) (Busy p d) = refl
-early_closing (Some x) Off = refl
 
 early_if_answer : (b : Bool) (x y : Answer) → early x ≡ true → early y ≡ true → early (if b then x else y) ≡ true
 early_if_answer true x y e f = e
 early_if_answer false x y e f = f
 
-early_register : (s : Stand) (name : List ℕ) → early (register s name) ≡ true
-early_register s name = two (list_any (λ x. bytes_eq name x.extension.name) s.members) (nat_le 10 (length s.members))
-  where
-    two : (a b : Bool) → early (if a then Refused NameInUse else if b then Refused TooMany else Registered (suc s.registrations)) ≡ true
-    two true b = refl
-    two false true = refl
-    two false false = refl
-
 pub own_early : (s : Stand) (call : Call) → is_early (own_answer s call) ≡ true
-unfolding own_answer
-own_early s (RuntimeNext e) = early_phase _ _ _ _ _ _ s s.phase refl refl refl refl refl refl
-own_early s (Response e id body) = early_phase _ _ _ _ _ _ s s.phase refl refl (early_open (is_number s.request id) Accepted refl) refl refl refl
-own_early s (ResponseTooLarge e id) = early_phase _ _ _ _ _ _ s s.phase refl refl (early_open (is_number s.request id) (Refused _) refl) refl refl refl
-own_early s (Failure e id body) = early_phase _ _ _ _ _ _ s s.phase refl refl (early_open (is_number s.request id) Accepted refl) refl refl refl
-own_early s (InitFailure e body) = early_phase _ _ _ _ _ _ s s.phase refl refl refl refl refl refl
-own_early s (Register e name invoke shutdown account) = early_phase _ _ _ _ _ _ s s.phase (early_register s name) refl refl refl refl refl
-own_early s (ExtNext e x) = let k = early_known (is_known s x) None refl in early_phase _ _ _ _ _ _ s s.phase k k k k (early_known (is_known s x) _ (early_closing _ s.phase)) refl
-own_early s (ExtInitFailure e x body) = let k = early_known (is_known s x) in early_phase _ _ _ _ _ _ s s.phase (k (Some Accepted) refl) (k (refused _) refl) (k (refused _) refl) (k (refused _) refl) (k (refused _) refl) refl
-own_early s (ExtExitFailure e x body) = let k = early_known (is_known s x) (Some Accepted) refl in early_phase _ _ _ _ _ _ s s.phase k k k k k refl
-own_early s (Spindown e) = early_phase _ _ _ _ _ _ s s.phase refl refl refl refl refl refl
-own_early s (Invoke f qualified trace body) = refl
-own_early s Tick = refl
-own_early s (Withdraw t) = refl
-own_early s Stop = refl
-own_early s (Expire e) = refl
-own_early s (Reserve f count) = refl
+own_early s call = own_values (λ a. is_early a ≡ true) s refl refl (λ kind. refl) refl (λ reason until. refl) call
 
 early_if_some : (b : Bool) (a : Answer) → early a ≡ true → is_early (if b then Some a else None) ≡ true
 early_if_some true a e = e
@@ -143,28 +90,8 @@ early_or : (a b : Option Answer) → is_early a ≡ true → is_early b ≡ true
 early_or None b e f = f
 early_or (Some a) b e f = e
 
-early_timed : (P : Phase) → early (timed_out P) ≡ true
-early_timed (Starting d b) = refl
-early_timed P = refl
-
 early_waiting : (own : ℕ) (s : Stand) (call : Call) → is_early (to_waiting own s call) ≡ true
-unfolding to_waiting
-early_waiting own s (Response e id body) = early_if_some (is_busy s.phase && is_number s.request id) (Output own) refl
-early_waiting own s (ResponseTooLarge e id) = early_if_some (is_busy s.phase && is_number s.request id) OutputTooLarge refl
-early_waiting own s (Failure e id body) = early_if_some (is_busy s.phase && is_number s.request id) (Error own) refl
-early_waiting own s (InitFailure e body) = early_if_some (is_some (closes s (InitFailure e body))) (Error own) refl
-early_waiting own s (ExtInitFailure e x body) = early_if_some (is_some (closes s (ExtInitFailure e x body))) (Error own) refl
-early_waiting own s (ExtExitFailure e x body) = early_if_some (is_some (closes s (ExtExitFailure e x body))) (Error own) refl
-early_waiting own s (Expire e) = early_if_some (is_some (closes s (Expire e))) (timed_out s.phase) (early_timed s.phase)
-early_waiting own s Stop = early_if s.stopped None (Some Stopped) refl refl
-early_waiting own s (Invoke f qualified trace body) = refl
-early_waiting own s (RuntimeNext e) = refl
-early_waiting own s (Register e name invoke shutdown account) = refl
-early_waiting own s (ExtNext e x) = refl
-early_waiting own s Tick = refl
-early_waiting own s (Withdraw t) = refl
-early_waiting own s (Spindown e) = refl
-early_waiting own s (Reserve f count) = refl
+early_waiting own s call = waiting_values (λ a. is_early a ≡ true) own s refl refl refl refl refl refl refl call
 
 role_early : (own now : ℕ) (s : Stand) (call : Call) (t : ℕ) (r : Role) → is_early (by_role own now s call t r) ≡ true
 role_early own now s call t NoRole = refl

@@ -1,5 +1,5 @@
 -- A bound invocation is pending.
-use Rattle.std.proofs.Common.{◌≡◌, ℕ, ◌<◌, Bool, true, false, eqb, List, [], ◌∷◌, length, Option, Some, None, sym, refl, ap, ◌∙◌, subst, inl, inr, arith, ◌≢◌, ◌⊎◌, not, ◌&&◌, ◌||◌, map, true≢false, if◌then◌else◌}
+use Rattle.std.proofs.Common.{◌≡◌, ℕ, ◌<◌, Bool, true, false, eqb, List, [], ◌∷◌, length, Option, Some, None, sym, refl, ap, ◌∙◌, subst, inl, inr, arith, ◌≢◌, ◌⊎◌, not, ◌&&◌, map, true≢false, if◌then◌else◌}
 use Rattle.std.proofs.lemmas.Bool.Decides.{nat_tests}
 use Rattle.std.specs.List.{find}
 use Rattle.call_model.specs.declared.answer.Reason.{Reason}
@@ -11,10 +11,10 @@ use Rattle.call_model.specs.declared.call.Entry.{Entry}
 use Rattle.arn_ids.specs.declared.config.Config.{Config}
 use Rattle.call_model.specs.History.{answer_in, pending, call_of, place_of, is_stop, is_expiry}
 use Rattle.call_model.specs.Generation.{Generation, Actor, TheRuntime, TheExtension, Extension, asks, last_next, parked, if_pending, member, members, extensions}
-use Rattle.call_model.specs.Stand.{Stand, at_hand, bound_of, is_number, is_known, is_busy, role, Role, NoRole, Waiting, RuntimePoll, ExtensionPoll, member_role, waits_as}
-use Rattle.call_model.specs.Table.{after_cell, reborn, settled, kept, closes, or_closing, placed, clock_started, unbound, is_registered, own_answer, to_waiting}
+use Rattle.call_model.specs.Stand.{Stand, bound_of, is_number, is_known, role, NoRole, Waiting, waits_as}
+use Rattle.call_model.specs.Table.{reborn, settled, kept, closes, or_closing, placed, clock_started, unbound, is_registered, own_answer, to_waiting, Cell, row, nothing, stops, tells_stopped}
 use Rattle.call_model.specs.Polls.{delivered, begun, by_role}
-use Rattle.call_model.specs.Life.{Life, life, lived, after, begins, phase, stand, seen, concerns, names, ends, limit_of, first_part}
+use Rattle.call_model.specs.Life.{Life, life, lived, after, phase, stand, seen, concerns, names, limit_of, ends_here}
 use Rattle.call_model.specs.Limits.{place_for, Verdict, AfterStop, Refuses, Admits, admitted_to, verdict}
 use Rattle.call_model.specs.Answers.{verdict_answer, own_first, first_answer, second_answer, second_at, first_entry, home, answer_at}
 use Rattle.call_model.specs.Next.{IsLegal, Follows}
@@ -25,6 +25,8 @@ use Rattle.call_model.proofs.Scans.{legal_silent}
 use Rattle.call_model.proofs.PhaseStep.{phase_step, cell_of}
 use Rattle.call_model.proofs.Basics.{number_some, or_right, some-none}
 use Rattle.call_model.proofs.Elsewhere.{life_elsewhere}
+use Rattle.call_model.proofs.Visits.{visit, if_concerned, if_ended}
+use Rattle.call_model.proofs.Cells.{in_row, in_table, first_stop}
 
 -- each entry of a generation stands in the history under its ticket
 abbrev pub IsPart : List Entry → Generation → Type 0
@@ -40,22 +42,16 @@ unfolding life lived after
 generation_part config [] e = tt
 generation_part config (entry ∷ h) e = go (concerns h e entry) (part_older entry h (life config h e).generation (generation_part config h e))
   where
-    g : Generation
-    g = (length h, entry) ∷ (life config h e).generation
-
-    cell : Phase
-    cell = after_cell entry.moment (limit_of config e entry.moment) (length h) (seen config h e (life config h e)) entry.call
-
     same : (t : ℕ) → eqb t t ≡ true
     same t = grind (arith, nat_tests)
 
-    at_end : (b : Bool) → IsPart (entry ∷ h) (life config h e).generation → IsPart (entry ∷ h) (begins b config (first_part entry ∷ h) e entry.moment (limit_of config e entry.moment) g cell).generation
+    at_end : (b : Bool) → IsPart (entry ∷ h) (life config h e).generation → IsPart (entry ∷ h) (if_ended b (visit config h e entry)).generation
     at_end true k = tt
     at_end false k = ((omega arith, rw (same (length h)) refl), k)
 
-    go : (b : Bool) → IsPart (entry ∷ h) (life config h e).generation → IsPart (entry ∷ h) (lived b config h e entry (life config h e)).generation
+    go : (b : Bool) → IsPart (entry ∷ h) (life config h e).generation → IsPart (entry ∷ h) (if_concerned b (visit config h e entry)).generation
     go false k = k
-    go true k = at_end (ends (life config h e).phase entry.call cell (members (first_part entry ∷ h) g)) k
+    go true k = at_end (ends_here (visit config h e entry)) k
 
 -- an actor's last Next is a Next
 pub last_asks : (h : List Entry) (g : Generation) (actor : Actor) (t : ℕ) → IsPart h g → last_next g actor ≡ Some t → asks actor (call_of h t) ≡ true
@@ -157,14 +153,9 @@ Stays s call p = (bound_of s.phase ≡ Some p) × (is_stop call ≡ true → clo
 
 starting_closes : (s : Stand) (p : ℕ) → bound_of (unbound s.phase) ≡ Some p → s.stopped ≡ false → closes s Stop ≡ None → ⊥
 unfolding closes
-starting_closes s p e q = rw q (go s.phase e)
-  where
-    go : (P : Phase) → bound_of (unbound P) ≡ Some p → (if ((Rattle.call_model.specs.Stand.is_starting P || Rattle.call_model.specs.Stand.is_idle P || is_busy P) && true) then Some Rattle.call_model.specs.declared.answer.Reason.TheVariants.Spindown else None) ≡ None → ⊥
-    go (Starting d b) x y = some-none y
-    go (Closing reason until b) x y = some-none (sym x)
-    go Idle x y = some-none (sym x)
-    go (Busy q d) x y = some-none (sym x)
-    go Off x y = some-none (sym x)
+starting_closes s p e q k =
+    in_row (λ P (cell : Cell). bound_of (unbound P) ≡ Some p → cell.close ≡ None → ⊥) s _ _ _ _ _ _ (λ d b x y. some-none y) (λ x y. some-none y) (λ n d x y. some-none y) (λ n d x y. some-none y) (λ reason until b x y. some-none (sym x)) (λ x y. some-none (sym x)) e
+    (sym (ap (λ (cell : Cell). cell.close) (first_stop s q)) ∙ k)
 
 pub from_kept : (now limit n : ℕ) (s : Stand) (call : Call) (p : ℕ) → bound_of (kept now limit n s call) ≡ Some p → ((n ≡ p) × (is_invoke call ≡ true)) ⊎ Stays s call p
 unfolding kept
@@ -189,25 +180,24 @@ from_kept now limit n s (Spindown d) p e = inr (e, λ x _. absurd (true≢false 
 from_kept now limit n s (Expire d) p e = inr (e, λ x _. absurd (true≢false (sym x)))
 from_kept now limit n s (Reserve f count) p e = inr (e, λ x _. absurd (true≢false (sym x)))
 
-not_busy : (P : Phase) (p : ℕ) → bound_of P ≡ Some p → is_busy P ≡ false
-not_busy (Busy q d) p e = absurd (some-none (sym e))
-not_busy (Starting d b) p e = refl
-not_busy (Closing reason until b) p e = refl
-not_busy Idle p e = refl
-not_busy Off p e = refl
-
 -- nothing is given to a bound invocation by a call that doesn't close
 pub to_none : (own : ℕ) (s : Stand) (call : Call) (p : ℕ) → closes s call ≡ None → Stays s call p → to_waiting own s call ≡ None
-unfolding to_waiting
-to_none own s (Response d id body) p c k = rw (not_busy s.phase p k.0) refl
-to_none own s (ResponseTooLarge d id) p c k = rw (not_busy s.phase p k.0) refl
-to_none own s (Failure d id body) p c k = rw (not_busy s.phase p k.0) refl
-to_none own s (InitFailure d body) p c k = rw c refl
-to_none own s (ExtInitFailure d x body) p c k = rw c refl
-to_none own s (ExtExitFailure d x body) p c k = rw c refl
-to_none own s (Expire d) p c k = rw c refl
-to_none own s Stop p c k = rw (k.1 refl c) refl
-to_none own s call p c k = refl
+unfolding closes to_waiting
+to_none own s call p c k =
+    in_table (λ P (cell : Cell). cell.close ≡ None → bound_of P ≡ Some p → cell.waiting own ≡ None) s (record {
+      waits = λ P x y. refl;
+      accepts = λ P x y. refl;
+      refuses = λ kind P x y. refl;
+      registers = λ P x y. refl;
+      tells = λ reason until P x y. refl;
+      output = λ n d x y. absurd (some-none (sym y));
+      too_large = λ n d x y. absurd (some-none (sym y));
+      error = λ n d x y. absurd (some-none (sym y));
+      fails = λ P x y. absurd (some-none x);
+      init_times_out = λ d b x y. absurd (some-none x);
+      times_out = λ n d x y. absurd (some-none x);
+      spins_down = λ x y. refl;
+    }) call (λ is x y. ap (λ (b : Bool). (if b then nothing else row s stops stops stops stops tells_stopped tells_stopped).waiting own) (k.1 is x)) c k.0
 
 pub held_home : (h : List Entry) (e p : ℕ) → IsHeld h e p → home h p ≡ Some e
 held_home h e p k = rw (number_some (place_of h p) e k.placed) refl

@@ -1,23 +1,23 @@
 -- An invocation is delivered at most once.
 use Rattle.call_model.proofs.BoundWaits as W
-use Rattle.std.proofs.Common.{◌≡◌, ℕ, suc, ◌+◌, ◌-◌, Bool, true, false, List, length, Option, Some, None, sym, refl, ap, ◌∙◌, is_some, not, ◌&&◌, ◌||◌, ◌==◌, true≢false, if◌then◌else◌, nat_lt, zero, ◌<◌, ◌≤◌, cond, [], ◌∷◌, ap₂, subst, inl, inr, arith, ◌⊎◌, count_by, nat_le}
+use Rattle.std.proofs.Common.{◌≡◌, ℕ, suc, ◌+◌, ◌-◌, Bool, true, false, List, length, Option, Some, None, sym, refl, ap, ◌∙◌, not, ◌&&◌, ◌||◌, ◌==◌, true≢false, if◌then◌else◌, nat_lt, zero, ◌<◌, ◌≤◌, cond, [], ◌∷◌, ap₂, subst, inl, inr, arith, ◌⊎◌, count_by, nat_le}
 use Rattle.std.specs.List.{find}
 use Rattle.call_model.specs.declared.answer.Answer.{Answer}
-use Rattle.call_model.specs.declared.answer.Answer.TheVariants.{Delivered, Told, Ending, Registered, Accepted, Output, Error, TimedOut, OutputTooLarge, Stopped, Withdrawn, Refused, Reserved}
+use Rattle.call_model.specs.declared.answer.Answer.TheVariants.{Delivered, Told, Ending, Output, TimedOut, OutputTooLarge, Stopped, Withdrawn, Refused, Reserved}
 use Rattle.call_model.specs.declared.answer.Refusal.{Refusal}
 use Rattle.call_model.specs.declared.answer.Refusal.TheVariants.{NameInUse, TooMany, BadReservation}
 use Rattle.call_model.specs.declared.answer.Reason.{Reason}
 use Rattle.call_model.specs.declared.answer.Phase.{Phase}
 use Rattle.call_model.specs.declared.answer.Phase.TheVariants.{Starting, Idle, Busy, Closing, Off}
 use Rattle.call_model.specs.declared.call.Call.{Call}
-use Rattle.call_model.specs.declared.call.Call.TheVariants.{Invoke, RuntimeNext, Response, ResponseTooLarge, Failure, InitFailure, Register, ExtNext, ExtInitFailure, ExtExitFailure, Tick, Withdraw, Spindown, Stop, Expire, Reserve}
+use Rattle.call_model.specs.declared.call.Call.TheVariants.{Invoke, RuntimeNext, ExtNext, Tick, Withdraw, Stop, Reserve}
 use Rattle.call_model.specs.declared.call.Entry.{Entry}
 use Rattle.arn_ids.specs.declared.config.Config.{Config}
 use Rattle.arn_ids.specs.Environments.{function_at}
 use Rattle.call_model.specs.History.{stopped, env_of, or_else, answer_in, call_of, place_of}
-use Rattle.call_model.specs.Generation.{Member, hears_end, has_count, reports_exit}
-use Rattle.call_model.specs.Stand.{Stand, is_number, is_known, is_busy, role, Role, NoRole, Waiting, RuntimePoll, ExtensionPoll, bound_of, member_role, waits_as}
-use Rattle.call_model.specs.Table.{own_answer, by_phase, if_open, if_known, next_in_closing, register, closes, to_waiting, timed_out, kept}
+use Rattle.call_model.specs.Generation.{Member, hears_end, reports_exit}
+use Rattle.call_model.specs.Stand.{Stand, is_number, is_busy, role, Role, NoRole, Waiting, RuntimePoll, ExtensionPoll, bound_of, member_role, waits_as}
+use Rattle.call_model.specs.Table.{own_answer, closes, to_waiting, kept}
 use Rattle.call_model.specs.Polls.{at_close, replaced, by_role, delivered, begun}
 use Rattle.call_model.specs.Life.{stand, names, Life, phase, seen, concerns, limit_of}
 use Rattle.call_model.specs.Limits.{verdict, Verdict, AfterStop, Refuses, Admits, reserved_in_all, or_zero, reservation, is_busy_with}
@@ -33,6 +33,7 @@ use Rattle.call_model.proofs.PhaseStep.{phase_step, cell_of}
 use Rattle.call_model.proofs.FirstPhase.{phase_first, first_in, first_past}
 use Rattle.call_model.proofs.Basics.{count_cons, number_some, some-none}
 use Rattle.call_model.proofs.Elsewhere.{life_elsewhere}
+use Rattle.call_model.proofs.Cells.{own_values, waiting_values}
 
 -- an answer of a Busy that begins, or one that only a Busy gives
 abbrev pub special : Option Answer → Bool
@@ -43,56 +44,9 @@ special (Some OutputTooLarge) = true
 special (Some TimedOut) = true
 special _ = false
 
-by_phase_plain : (a b c d e f : Option Answer) (s : Stand) (P : Phase) → special a ≡ false → special b ≡ false → special c ≡ false → special d ≡ false → special e ≡ false → special f ≡ false → special (by_phase a b c d e f s P) ≡ false
-by_phase_plain a b c d e f s (Starting t u) p q r v w x = p
-by_phase_plain a b c d e f s Idle p q r v w x = q
-by_phase_plain a b c d e f s (Busy t u) p q r v w x = go (is_some s.request)
-  where
-    go : (k : Bool) → special (if k then c else d) ≡ false
-    go true = r
-    go false = v
-by_phase_plain a b c d e f s (Closing t u k) p q r v w x = w
-by_phase_plain a b c d e f s Off p q r v w x = x
-
-open_plain : (b : Bool) (a : Answer) → special (Some a) ≡ false → special (if_open b a) ≡ false
-open_plain true a q = q
-open_plain false a q = refl
-
-known_plain : (b : Bool) (a : Option Answer) → special a ≡ false → special (if_known b a) ≡ false
-known_plain true a q = q
-known_plain false a q = refl
-
-register_plain : (s : Stand) (name : List ℕ) → special (Some (register s name)) ≡ false
-register_plain s name = go _ _
-  where
-    go : (a b : Bool) → special (Some (if a then Refused NameInUse else if b then Refused TooMany else Registered (suc s.registrations))) ≡ false
-    go true b = refl
-    go false true = refl
-    go false false = refl
-
-closing_plain : (x : Option Member) (P : Phase) → special (next_in_closing x P) ≡ false
-closing_plain (Some x) (Closing reason until bound) = go (hears_end x && not x.told)
-  where
-    go : (b : Bool) → special (if b then Some (Ending reason until 0) else Some (Refused Rattle.call_model.specs.declared.answer.Refusal.TheVariants.Container)) ≡ false
-    go true = refl
-    go false = refl
-closing_plain None P = refl
-closing_plain (Some x) P = refl
-
 -- the own answers are none of these
 own_plain : (s : Stand) (call : Call) → special (own_answer s call) ≡ false
-unfolding own_answer
-own_plain s (RuntimeNext e) = by_phase_plain _ _ _ _ _ _ s s.phase refl refl refl refl refl refl
-own_plain s (Response e id body) = by_phase_plain _ _ _ _ _ _ s s.phase refl refl (open_plain (is_number s.request id) Accepted refl) refl refl refl
-own_plain s (ResponseTooLarge e id) = by_phase_plain _ _ _ _ _ _ s s.phase refl refl (open_plain (is_number s.request id) _ refl) refl refl refl
-own_plain s (Failure e id body) = by_phase_plain _ _ _ _ _ _ s s.phase refl refl (open_plain (is_number s.request id) Accepted refl) refl refl refl
-own_plain s (InitFailure e body) = by_phase_plain _ _ _ _ _ _ s s.phase refl refl refl refl refl refl
-own_plain s (Register e name invoke shutdown account) = by_phase_plain _ _ _ _ _ _ s s.phase (register_plain s name) refl refl refl refl refl
-own_plain s (ExtNext e x) = by_phase_plain _ _ _ _ _ _ s s.phase (known_plain (is_known s x) None refl) (known_plain (is_known s x) None refl) (known_plain (is_known s x) None refl) (known_plain (is_known s x) None refl) (known_plain (is_known s x) _ (closing_plain (find (has_count x) s.members) s.phase)) refl
-own_plain s (ExtInitFailure e x body) = by_phase_plain _ _ _ _ _ _ s s.phase (known_plain (is_known s x) _ refl) (known_plain (is_known s x) _ refl) (known_plain (is_known s x) _ refl) (known_plain (is_known s x) _ refl) (known_plain (is_known s x) _ refl) refl
-own_plain s (ExtExitFailure e x body) = by_phase_plain _ _ _ _ _ _ s s.phase (known_plain (is_known s x) _ refl) (known_plain (is_known s x) _ refl) (known_plain (is_known s x) _ refl) (known_plain (is_known s x) _ refl) (known_plain (is_known s x) _ refl) refl
-own_plain s (Spindown e) = by_phase_plain _ _ _ _ _ _ s s.phase refl refl refl refl refl refl
-own_plain s call = refl
+own_plain s call = own_values (λ a. special a ≡ false) s refl refl (λ kind. refl) refl (λ reason until. refl) call
 
 pub own_first_plain : (config : Config) (h : List Entry) (call : Call) → special (own_first config h call) ≡ false
 unfolding own_first
@@ -173,29 +127,8 @@ second_special (Some (Told p d event)) q = refl
 second_special None q = absurd (true≢false (sym q))
 second_special (Some a) q = absurd (true≢false (sym q))
 
-if_one : (b : Bool) (a : Answer) → second (Some a) ≡ false → second (if b then Some a else None) ≡ false
-if_one true a q = q
-if_one false a q = refl
-
 waiting_first : (own : ℕ) (s : Stand) (call : Call) → second (to_waiting own s call) ≡ false
-unfolding to_waiting
-waiting_first own s (Response e id body) = if_one (is_busy s.phase && is_number s.request id) (Output own) refl
-waiting_first own s (ResponseTooLarge e id) = if_one (is_busy s.phase && is_number s.request id) OutputTooLarge refl
-waiting_first own s (Failure e id body) = if_one (is_busy s.phase && is_number s.request id) (Error own) refl
-waiting_first own s (InitFailure e body) = if_one (is_some (closes s (InitFailure e body))) (Error own) refl
-waiting_first own s (ExtInitFailure e x body) = if_one (is_some (closes s (ExtInitFailure e x body))) (Error own) refl
-waiting_first own s (ExtExitFailure e x body) = if_one (is_some (closes s (ExtExitFailure e x body))) (Error own) refl
-waiting_first own s (Expire e) = if_one (is_some (closes s (Expire e))) (timed_out s.phase) (go s.phase)
-  where
-    go : (P : Phase) → second (Some (timed_out P)) ≡ false
-    go (Starting d b) = refl
-    go P = refl
-waiting_first own s Stop = go s.stopped
-  where
-    go : (b : Bool) → second (if b then None else Some Stopped) ≡ false
-    go true = refl
-    go false = refl
-waiting_first own s call = refl
+waiting_first own s call = waiting_values (λ a. second a ≡ false) own s refl refl refl refl refl refl refl call
 
 -- no first answer is one of a Busy that begins
 pub first_first : (config : Config) (h : List Entry) (now : ℕ) (call : Call) (t : ℕ) → second (first_answer config h now call t) ≡ false

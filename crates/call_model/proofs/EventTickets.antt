@@ -1,18 +1,15 @@
 -- An invocation is told no event: each event stands at a ticket whose call names its environment.
 use Rattle.std.proofs.lemmas.Bool.{cases_lt}
-use Rattle.std.proofs.Common.{◌≡◌, ℕ, zero, suc, ◌≤◌, Bool, true, false, List, [], ◌∷◌, length, Option, Some, None, sym, refl, ap, ◌∙◌, inl, inr, is_some, not, ◌&&◌, true≢false, if◌then◌else◌, ◌==◌}
+use Rattle.std.proofs.Common.{◌≡◌, ℕ, zero, suc, ◌≤◌, Bool, true, false, List, [], ◌∷◌, length, Option, Some, None, sym, refl, ap, ◌∙◌, inl, inr, not, true≢false, if◌then◌else◌, ◌==◌}
 use Rattle.call_model.specs.declared.answer.Answer.{Answer}
-use Rattle.call_model.specs.declared.answer.Answer.TheVariants.{Stopped}
-use Rattle.call_model.specs.declared.answer.Phase.{Phase}
-use Rattle.call_model.specs.declared.answer.Phase.TheVariants.{Starting}
 use Rattle.call_model.specs.declared.call.Call.{Call}
-use Rattle.call_model.specs.declared.call.Call.TheVariants.{Invoke, Response, ResponseTooLarge, Failure, InitFailure, ExtInitFailure, ExtExitFailure, Stop, Expire}
+use Rattle.call_model.specs.declared.call.Call.TheVariants.{Invoke}
 use Rattle.call_model.specs.declared.call.Entry.{Entry}
 use Rattle.arn_ids.specs.declared.config.Config.{Config}
 use Rattle.call_model.specs.History.{call_of, place_of, env_of, or_else}
-use Rattle.call_model.specs.Stand.{Stand, NoRole, Waiting, role, is_number, waits_as, is_busy}
+use Rattle.call_model.specs.Stand.{Stand, NoRole, Waiting, role, is_number, waits_as}
 use Rattle.call_model.specs.Polls.{by_role}
-use Rattle.call_model.specs.Table.{to_waiting, timed_out, closes}
+use Rattle.call_model.specs.Table.{to_waiting}
 use Rattle.call_model.specs.Life.{stand, names, is_event}
 use Rattle.call_model.specs.Limits.{Verdict, AfterStop, Refuses, Admits, verdict}
 use Rattle.call_model.specs.Answers.{first_answer, own_first, other_answer, answer_at, verdict_answer, first_entry, home, answer_to, each_from, with_answer}
@@ -25,34 +22,14 @@ use Rattle.call_model.proofs.EventNumbers.{AreAt}
 use Rattle.call_model.proofs.FirstMoves.{is_here, placed_invoke}
 use Rattle.call_model.proofs.NumberedMoves.{AreNamed}
 use Rattle.call_model.proofs.Basics.{some-none}
+use Rattle.call_model.proofs.Cells.{waiting_values}
 
 abbrev is_quiet : Option Answer → Bool
 is_quiet None = true
 is_quiet (Some a) = not (is_event a)
 
-quiet_if : (b : Bool) (a : Answer) → is_event a ≡ false → is_quiet (if b then Some a else None) ≡ true
-quiet_if true a e = ap not e
-quiet_if false a e = refl
-
-quiet_timed : (P : Phase) → is_event (timed_out P) ≡ false
-quiet_timed (Starting d b) = refl
-quiet_timed P = refl
-
 quiet_waiting : (own : ℕ) (s : Stand) (call : Call) → is_quiet (to_waiting own s call) ≡ true
-unfolding to_waiting
-quiet_waiting own s (Response e id body) = quiet_if (is_busy s.phase && is_number s.request id) _ refl
-quiet_waiting own s (ResponseTooLarge e id) = quiet_if (is_busy s.phase && is_number s.request id) _ refl
-quiet_waiting own s (Failure e id body) = quiet_if (is_busy s.phase && is_number s.request id) _ refl
-quiet_waiting own s (InitFailure e body) = quiet_if (is_some (closes s (InitFailure e body))) _ refl
-quiet_waiting own s (ExtInitFailure e x body) = quiet_if (is_some (closes s (ExtInitFailure e x body))) _ refl
-quiet_waiting own s (ExtExitFailure e x body) = quiet_if (is_some (closes s (ExtExitFailure e x body))) _ refl
-quiet_waiting own s (Expire e) = quiet_if (is_some (closes s (Expire e))) _ (quiet_timed s.phase)
-quiet_waiting own s Stop = go s.stopped
-  where
-    go : (b : Bool) → is_quiet (if b then None else Some Stopped) ≡ true
-    go true = refl
-    go false = refl
-quiet_waiting own s call = refl
+quiet_waiting own s call = waiting_values (λ a. is_quiet a ≡ true) own s refl refl refl refl refl refl refl call
 
 quiet_own : (config : Config) (h : List Entry) (call : Call) → is_invoke call ≡ true → is_quiet (own_first config h call) ≡ true
 unfolding own_first

@@ -1,13 +1,11 @@
 -- The extensions of a generation have different counts; one that isn't registered has no part in it and stands blank.
 use Rattle.std.proofs.lemmas.List.Sums.{sum_by-cons}
-use Rattle.std.proofs.Common.{◌≡◌, ℕ, suc, ◌+◌, ◌<◌, ◌≤◌, Bool, true, false, cond, List, [], ◌∷◌, length, Option, Some, None, sym, refl, ap, ◌∙◌, arith, is_some, ◌&&◌, ◌||◌, if◌then◌else◌, nat_le, bytes_eq, eqb, subst, is_none, map, true≢false}
+use Rattle.std.proofs.Common.{◌≡◌, ℕ, suc, ◌+◌, ◌<◌, ◌≤◌, Bool, true, false, cond, List, [], ◌∷◌, length, Option, Some, None, sym, refl, ap, ◌∙◌, arith, ◌&&◌, ◌||◌, if◌then◌else◌, eqb, subst, is_none, map, true≢false}
 use Rattle.std.specs.List.{list_any, cons_option}
 use Rattle.std.proofs.lemmas.Bool.{eqb-true}
 use Rattle.call_model.specs.declared.answer.Answer.{Answer}
 use Rattle.call_model.specs.declared.answer.Answer.TheVariants.{Registered, Refused}
-use Rattle.call_model.specs.declared.answer.Refusal.TheVariants.{NameInUse, TooMany, State, Container, Unknown}
-use Rattle.call_model.specs.declared.answer.Phase.{Phase}
-use Rattle.call_model.specs.declared.answer.Phase.TheVariants.{Starting, Idle, Busy, Closing, Off}
+use Rattle.call_model.specs.declared.answer.Refusal.TheVariants.{Container, Unknown}
 use Rattle.call_model.specs.declared.call.Call.{Call}
 use Rattle.call_model.specs.declared.call.Call.TheVariants.{Invoke, RuntimeNext, Response, ResponseTooLarge, Failure, InitFailure, Register, ExtNext, ExtInitFailure, ExtExitFailure, Tick, Withdraw, Spindown, Stop, Expire, Reserve}
 use Rattle.call_model.specs.declared.call.Entry.{Entry}
@@ -15,11 +13,10 @@ use Rattle.arn_ids.specs.declared.config.Config.{Config}
 use Rattle.call_model.specs.History.{answer_in, env_of, with_tickets, or_else}
 use Rattle.call_model.specs.Generation.{Generation, Extension, extensions, as_registered, members, TheExtension, Member, asks, member, is_ending, is_accepted, reports_exit, answer_to_next, told, asked_again, exited, has_count}
 use Rattle.call_model.specs.Stand.{Stand, is_number, is_known}
-use Rattle.call_model.specs.Table.{is_registered, own_answer, by_phase, register, refused}
-use Rattle.call_model.specs.Life.{life, lived, after, begins, stand, seen, concerns, names, ends, limit_of, first_part, registrations}
+use Rattle.call_model.specs.Table.{is_registered, own_answer, Cell, ext_row}
+use Rattle.call_model.specs.Life.{life, lived, after, stand, seen, concerns, names, registrations, ends_here}
 use Rattle.call_model.specs.Answers.{first_answer, second_answer, first_entry, own_first, own_at}
 use Rattle.call_model.specs.Next.{IsLegal, Follows}
-use Rattle.call_model.proofs.PhaseStep.{cell_of}
 use Rattle.call_model.proofs.Frame.{env_place, parked_elsewhere}
 use Rattle.call_model.proofs.AnswerValues.{plain, stripped, valued, ending_plain, accepted_plain}
 use Rattle.call_model.proofs.Basics.{eqb-self, some-none}
@@ -27,6 +24,8 @@ use Rattle.call_model.specs.declared.answer.Refusal.{Refusal}
 use Rattle.call_model.proofs.Pairs.{eqb-other}
 use Rattle.call_model.proofs.Once.{fresh}
 use Rattle.call_model.proofs.Scans.{still, member_step, member_steps, generation_below, legal_silent}
+use Rattle.call_model.proofs.Visits.{visit, if_concerned, if_ended}
+use Rattle.call_model.proofs.Cells.{own_values, of_row}
 
 -- the first answer to the call's own ticket
 own_first_is : (config : Config) (h : List Entry) (call : Call) (d : ℕ) → env_of call ≡ Some d → own_first config h call ≡ own_answer (stand config h d) call
@@ -72,24 +71,8 @@ registrations_more h entry e = sum_by-cons (λ (taken : ℕ × Entry). cond (is_
 
 -- a registration has the next count
 pub registered_count : (s : Stand) (e c : ℕ) (name : List ℕ) (invoke shutdown account : Bool) (o : Option Answer) → own_answer s (Register e name invoke shutdown account) ≡ o → plain (Some (Registered c)) ≡ plain o → c ≡ suc s.registrations
-unfolding own_answer
-registered_count s e c name invoke shutdown account o q r = at_phase s.phase (r ∙ ap plain (sym q))
-  where
-    two : (a b : Bool) → plain (Some (Registered c)) ≡ plain (Some (if a then Refused NameInUse else if b then Refused TooMany else Registered (suc s.registrations))) → c ≡ suc s.registrations
-    two true b k = absurd (cc)
-    two false true k = absurd (cc)
-    two false false k = cc
-
-    busy : (b : Bool) → plain (Some (Registered c)) ≡ plain (if b then refused State else refused State) → c ≡ suc s.registrations
-    busy true k = absurd (cc)
-    busy false k = absurd (cc)
-
-    at_phase : (P : Phase) → plain (Some (Registered c)) ≡ plain (by_phase (Some (register s name)) (refused State) (refused State) (refused State) (refused State) (refused Container) s P) → c ≡ suc s.registrations
-    at_phase (Starting d b) k = two (list_any (λ x. bytes_eq name x.extension.name) s.members) (nat_le 10 (length s.members)) k
-    at_phase Idle k = absurd (cc)
-    at_phase (Busy p d) k = busy (is_some s.request) k
-    at_phase (Closing reason until b) k = absurd (cc)
-    at_phase Off k = absurd (cc)
+registered_count s e c name invoke shutdown account o q r =
+    own_values (λ a. plain (Some (Registered c)) ≡ plain a → c ≡ suc s.registrations) s (λ k. absurd (cc)) (λ k. absurd (cc)) (λ kind k. absurd (cc)) (λ k. cc) (λ reason until k. absurd (cc)) (Register e name invoke shutdown account) (r ∙ ap plain (sym q))
 
 -- a call that names an environment concerns that one only
 pub named_here : (config : Config) (h : List Entry) (entry : Entry) (e d : ℕ) → Follows config h entry → env_of entry.call ≡ Some d → concerns h e entry ≡ true → d ≡ e
@@ -102,18 +85,7 @@ named_here config h entry e d w q c = eqb-true d e (ap (λ (o : Option ℕ). is_
 
 pub register_answers : (s : Stand) (e : ℕ) (name : List ℕ) (invoke shutdown account : Bool) → own_answer s (Register e name invoke shutdown account) ≡ None → ⊥
 unfolding own_answer
-register_answers s e name invoke shutdown account r = at_phase s.phase r
-  where
-    busy : (b : Bool) → (if b then refused State else refused State) ≡ None → ⊥
-    busy true k = some-none k
-    busy false k = some-none k
-
-    at_phase : (P : Phase) → by_phase (Some (register s name)) (refused State) (refused State) (refused State) (refused State) (refused Container) s P ≡ None → ⊥
-    at_phase (Starting d b) k = some-none k
-    at_phase Idle k = some-none k
-    at_phase (Busy p d) k = busy (is_some s.request) k
-    at_phase (Closing reason until b) k = some-none k
-    at_phase Off k = some-none k
+register_answers s e name invoke shutdown account r = of_row (λ (cell : Cell). cell.own ≡ None → ⊥) s _ _ _ _ _ _ (λ k. some-none k) (λ k. some-none k) (λ k. some-none k) (λ k. some-none k) (λ k. some-none k) (λ k. some-none k) r
 
 -- The counts of the extensions of a generation fall, from that of the last registration.
 pub counts_fall : (config : Config) (h : List Entry) (e : ℕ) → IsLegal config h → IsUnder (suc (registrations h e)) (extensions (life config h e).generation)
@@ -152,13 +124,13 @@ counts_fall config (entry ∷ h) e l = go (concerns h e entry) refl (counts_fall
     fresh (Register d name invoke shutdown account) None p q k u = under_more (suc (registrations h e)) (suc (registrations (entry ∷ h) e)) (extensions g) (omega (arith, grows)) u
     fresh call o p q k u = under_more (suc (registrations h e)) (suc (registrations (entry ∷ h) e)) (extensions g) (omega (arith, grows)) u
 
-    at_end : (b : Bool) (P : Phase) → concerns h e entry ≡ true → IsUnder (suc (registrations h e)) (extensions g) → IsUnder (suc (registrations (entry ∷ h) e)) (extensions (begins b config (first_part entry ∷ h) e entry.moment (limit_of config e entry.moment) ((length h, entry) ∷ g) P).generation)
-    at_end true P c u = tt
-    at_end false P c u = fresh entry.call (answer_in entry.answers (length h)) refl refl c u
+    at_end : (b : Bool) → concerns h e entry ≡ true → IsUnder (suc (registrations h e)) (extensions g) → IsUnder (suc (registrations (entry ∷ h) e)) (extensions (if_ended b (visit config h e entry)).generation)
+    at_end true c u = tt
+    at_end false c u = fresh entry.call (answer_in entry.answers (length h)) refl refl c u
 
-    go : (b : Bool) → concerns h e entry ≡ b → IsUnder (suc (registrations h e)) (extensions g) → IsUnder (suc (registrations (entry ∷ h) e)) (extensions (lived b config h e entry (life config h e)).generation)
+    go : (b : Bool) → concerns h e entry ≡ b → IsUnder (suc (registrations h e)) (extensions g) → IsUnder (suc (registrations (entry ∷ h) e)) (extensions (if_concerned b (visit config h e entry)).generation)
     go false c u = under_more (suc (registrations h e)) (suc (registrations (entry ∷ h) e)) (extensions g) (omega (arith, grows)) u
-    go true c u = at_end (ends (life config h e).phase entry.call (cell_of config e entry (length h) (stand config h e)) (members (first_part entry ∷ h) ((length h, entry) ∷ g))) (cell_of config e entry (length h) (stand config h e)) c u
+    go true c u = at_end (ends_here (visit config h e entry)) c u
 
 abbrev pub blank : Extension → Member
 blank x = record { extension = x; next = None; told = false; again = false; exited = false }
@@ -172,40 +144,18 @@ unfolding seen members
 unknown config h e n l lt = none_known h (life config h e).generation n (suc (registrations h e)) (extensions (life config h e).generation) (counts_fall config h e l) (omega (arith, lt))
 
 -- an unknown extension is refused
+unknown_row : (s : Stand) (n : ℕ) (a b c d e : Cell) → is_known s n ≡ false → (k : Refusal) × ((ext_row s n a b c d e).own ≡ Some (Refused k))
+unknown_row s n a b c d e u = rw u (of_row (λ (cell : Cell). (k : Refusal) × (cell.own ≡ Some (Refused k))) s _ _ _ _ _ _ (Unknown, refl) (Unknown, refl) (Unknown, refl) (Unknown, refl) (Unknown, refl) (Container, refl))
+
 unknown_next : (s : Stand) (e n : ℕ) → is_known s n ≡ false → (k : Refusal) × (own_answer s (ExtNext e n) ≡ Some (Refused k))
 unfolding own_answer
-unknown_next s e n u = rw u (at_phase s.phase)
-  where
-    busy : (b : Bool) → (if b then refused Unknown else refused Unknown) ≡ Some (Refused Unknown)
-    busy true = refl
-    busy false = refl
-
-    at_phase : (P : Phase) → (k : Refusal) × (by_phase (refused Unknown) (refused Unknown) (refused Unknown) (refused Unknown) (refused Unknown) (refused Container) s P ≡ Some (Refused k))
-    at_phase (Starting d b) = (Unknown, refl)
-    at_phase Idle = (Unknown, refl)
-    at_phase (Busy p d) = (Unknown, busy (is_some s.request))
-    at_phase (Closing reason until b) = (Unknown, refl)
-    at_phase Off = (Container, refl)
+unknown_next s e n u = unknown_row s n _ _ _ _ _ u
 
 unknown_report : (s : Stand) (call : Call) (n : ℕ) → is_known s n ≡ false → reports_exit n call ≡ true → (k : Refusal) × (own_answer s call ≡ Some (Refused k))
 unfolding own_answer
-unknown_report s call n u r = go call r
-  where
-    busy : (b : Bool) → (if b then refused Unknown else refused Unknown) ≡ Some (Refused Unknown)
-    busy true = refl
-    busy false = refl
-
-    at_phase : (P : Phase) → (k : Refusal) × (by_phase (refused Unknown) (refused Unknown) (refused Unknown) (refused Unknown) (refused Unknown) (refused Container) s P ≡ Some (Refused k))
-    at_phase (Starting d b) = (Unknown, refl)
-    at_phase Idle = (Unknown, refl)
-    at_phase (Busy p d) = (Unknown, busy (is_some s.request))
-    at_phase (Closing reason until b) = (Unknown, refl)
-    at_phase Off = (Container, refl)
-
-    go : (call : Call) → reports_exit n call ≡ true → (k : Refusal) × (own_answer s call ≡ Some (Refused k))
-    go (ExtInitFailure e y body) q = rw (ap (is_known s) (eqb-true y n q) ∙ u) (at_phase s.phase)
-    go (ExtExitFailure e y body) q = rw (ap (is_known s) (eqb-true y n q) ∙ u) (at_phase s.phase)
-    go call q = absurd (true≢false (sym q))
+unknown_report s (ExtInitFailure e y body) n u q = unknown_row s y _ _ _ _ _ (ap (is_known s) (eqb-true y n q) ∙ u)
+unknown_report s (ExtExitFailure e y body) n u q = unknown_row s y _ _ _ _ _ (ap (is_known s) (eqb-true y n q) ∙ u)
+unknown_report s call n u q = absurd (true≢false (sym q))
 
 refused_some : (o : Option Answer) (k : Refusal) → plain o ≡ Some (Refused k) → is_none o ≡ false
 refused_some None k q = absurd (cc)
@@ -271,10 +221,10 @@ unregistered config (entry ∷ h) e x l lt = go (concerns h e entry) refl (unreg
     older : registrations h e < x.count
     older = omega (arith, lt, registrations_grow h entry e)
 
-    at_end : (b : Bool) (P : Phase) → concerns h e entry ≡ true → member h g x ≡ blank x → member (entry ∷ h) (begins b config (first_part entry ∷ h) e entry.moment (limit_of config e entry.moment) ((length h, entry) ∷ g) P).generation x ≡ blank x
-    at_end true P c k = refl
-    at_end false P c k = member_steps entry entry h g refl (generation_below config h e) (fresh config h (length h) l.0 (omega arith)) (legal_silent config h entry l.1) x ∙ ap (member_step entry entry (length h)) k ∙ blank_step config h entry e x l.0 l.1 c older
+    at_end : (b : Bool) → concerns h e entry ≡ true → member h g x ≡ blank x → member (entry ∷ h) (if_ended b (visit config h e entry)).generation x ≡ blank x
+    at_end true c k = refl
+    at_end false c k = member_steps entry entry h g refl (generation_below config h e) (fresh config h (length h) l.0 (omega arith)) (legal_silent config h entry l.1) x ∙ ap (member_step entry entry (length h)) k ∙ blank_step config h entry e x l.0 l.1 c older
 
-    go : (b : Bool) → concerns h e entry ≡ b → member h g x ≡ blank x → member (entry ∷ h) (lived b config h e entry (life config h e)).generation x ≡ blank x
+    go : (b : Bool) → concerns h e entry ≡ b → member h g x ≡ blank x → member (entry ∷ h) (if_concerned b (visit config h e entry)).generation x ≡ blank x
     go false c k = (λ i. record { extension = x; next = parked_elsewhere config h entry e (TheExtension x.count) l.0 l.1 c i; told = told g x.count; again = asked_again g x.count; exited = exited g x.count }) ∙ k
-    go true c k = at_end (ends (life config h e).phase entry.call (cell_of config e entry (length h) (stand config h e)) (members (first_part entry ∷ h) ((length h, entry) ∷ g))) (cell_of config e entry (length h) (stand config h e)) c k
+    go true c k = at_end (ends_here (visit config h e entry)) c k

@@ -16,7 +16,7 @@ use Rattle.call_model.specs.Generation.{Generation, Actor, TheRuntime, TheExtens
 use Rattle.call_model.specs.Stand.{Role, RuntimePoll, ExtensionPoll, at_hand, bound_of, role}
 use Rattle.call_model.specs.Table.{reborn, settled, after_cell}
 use Rattle.call_model.specs.Polls.{delivered, begun}
-use Rattle.call_model.specs.Life.{life, phase, stand, lived, after, begins, seen, concerns, ends, first_part, limit_of, is_second, request_at}
+use Rattle.call_model.specs.Life.{life, phase, stand, lived, after, seen, concerns, ends, first_part, limit_of, is_second, request_at, ends_here}
 use Rattle.call_model.specs.Answers.{answers, first_answer, first_answers, first_entry, second_answer, second_at, home}
 use Rattle.call_model.specs.Next.{Follows}
 use Rattle.call_model.proofs.Pairs.{in_each, past_each, times_in, times_each}
@@ -24,6 +24,7 @@ use Rattle.call_model.proofs.Once.{answers_past, answers_once}
 use Rattle.call_model.proofs.PhaseStep.{filter_none}
 use Rattle.call_model.proofs.Basics.{count_cons}
 use Rattle.call_model.proofs.AnswerValues.{valued, plain}
+use Rattle.call_model.proofs.Visits.{visit, if_concerned, if_ended}
 
 -- an answer but for the second ones and for the number of its event
 abbrev pub strip : Option Answer → Option Answer
@@ -229,7 +230,7 @@ phase_alike config h e now call place xs ys same a b = go (concerns h e (made no
         two true false e m n = absurd (true≢false e)
         two false true e m n = absurd (true≢false (sym e))
 
-    two_cases : (c : Bool) (zs : List (ℕ × Answer)) → (begins c config (first_part (made now call place zs) ∷ h) e now (limit_of config e now) ((length h, made now call place zs) ∷ g) cell).phase
+    two_cases : (c : Bool) (zs : List (ℕ × Answer)) → (if_ended c (visit config h e (made now call place zs))).phase
         ≡ (if c then reborn (is_stop call || stopped h) now (bound_of cell) else settled (limit_of config e now) (ready (parked (first_part (made now call place zs) ∷ h) ((length h, made now call place zs) ∷ g) TheRuntime) (members (first_part (made now call place zs) ∷ h) ((length h, made now call place zs) ∷ g)) (expected_at config e)) (waits zs) cell)
     two_cases true zs = refl
     two_cases false zs = refl
@@ -239,11 +240,11 @@ phase_alike config h e now call place xs ys same a b = go (concerns h e (made no
         ≡ (if ends (life config h e).phase call cell vs then reborn (is_stop call || stopped h) now (bound_of cell) else settled (limit_of config e now) (ready q vs (expected_at config e)) d cell)
     middle p s w = λ i. if ends (life config h e).phase call cell (s i) then reborn (is_stop call || stopped h) now (bound_of cell) else settled (limit_of config e now) (ready (p i) (s i) (expected_at config e)) (w i) cell
 
-    go : (c : Bool) → (lived c config h e (made now call place xs) (life config h e)).phase ≡ (lived c config h e (made now call place ys) (life config h e)).phase
+    go : (c : Bool) → (if_concerned c (visit config h e (made now call place xs))).phase ≡ (if_concerned c (visit config h e (made now call place ys))).phase
     go false = refl
-    go true = two_cases (ends (life config h e).phase call cell (members (first_part (made now call place xs) ∷ h) ((length h, made now call place xs) ∷ g))) xs
+    go true = two_cases (ends_here (visit config h e (made now call place xs))) xs
         ∙ middle (parked_alike h now call place xs ys same a b g TheRuntime) (members_alike h now call place xs ys same a b g) (waits_alike (at_hand cell))
-        ∙ sym (two_cases (ends (life config h e).phase call cell (members (first_part (made now call place ys) ∷ h) ((length h, made now call place ys) ∷ g))) ys)
+        ∙ sym (two_cases (ends_here (visit config h e (made now call place ys))) ys)
 
 -- The phase after an entry is the one after its first answers.
 pub phase_first : (config : Config) (h : List Entry) (entry : Entry) (e : ℕ) → Follows config h entry → phase config (first_entry config h entry.moment entry.call ∷ h) e ≡ phase config (entry ∷ h) e

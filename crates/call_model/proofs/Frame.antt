@@ -4,49 +4,47 @@ use Rattle.std.proofs.Common.{◌≡◌, ℕ, ◌+◌, ◌<◌, Bool, true, fals
 use Rattle.std.proofs.lemmas.Bool.{eqb-true, cases_lt}
 use Rattle.std.proofs.lemmas.Bool.Decides.{nat_tests}
 use Rattle.call_model.specs.declared.answer.Answer.{Answer}
-use Rattle.call_model.specs.declared.answer.Phase.{Phase}
 use Rattle.call_model.specs.declared.call.Call.{Call}
 use Rattle.call_model.specs.declared.call.Call.TheVariants.{Invoke, RuntimeNext, ExtNext, Withdraw, Stop}
 use Rattle.call_model.specs.declared.call.Entry.{Entry}
 use Rattle.arn_ids.specs.declared.config.Config.{Config}
-use Rattle.call_model.specs.History.{answer_in, pending, call_of, place_of, env_of, is_stop, stopped, upto, with_tickets, or_else}
+use Rattle.call_model.specs.History.{answer_in, pending, call_of, place_of, env_of, poll_env, is_stop, stopped, upto, with_tickets, or_else}
 use Rattle.call_model.specs.Generation.{Generation, Extension, Actor, TheRuntime, TheExtension, parked, if_pending, last_next, asks, extensions, member, members, told, asked_again, exited}
 use Rattle.call_model.specs.Stand.{is_number, at_hand}
 use Rattle.call_model.specs.Table.{is_registered}
-use Rattle.call_model.specs.Life.{life, lived, after, begins, phase, stand, seen, concerns, names, ends, limit_of, first_part, request_at, registrations, events, events_in, is_event}
+use Rattle.call_model.specs.Life.{life, lived, after, phase, stand, seen, concerns, names, request_at, registrations, events, events_in, is_event, ends_here}
 use Rattle.call_model.specs.Limits.{place_for}
 use Rattle.call_model.specs.Answers.{home}
 use Rattle.call_model.specs.Next.{IsLegal, Follows}
-use Rattle.call_model.specs.Own.{is_poll}
 use Rattle.call_model.proofs.Pairs.{eqb-other}
 use Rattle.call_model.proofs.Once.{pending_cons, answers_past}
 use Rattle.call_model.proofs.Scans.{generation_below, last_below}
-use Rattle.call_model.proofs.PhaseStep.{cell_of}
 use Rattle.call_model.proofs.AtHand.{IsHeld, held}
 use Rattle.call_model.proofs.BoundWaits.{IsPart, generation_part}
 use Rattle.call_model.proofs.Basics.{eqb-self, number_some, map_same, or_right, some-none}
 use Rattle.call_model.proofs.Elsewhere.{life_elsewhere, elsewhere}
+use Rattle.call_model.proofs.Visits.{visit, if_concerned, if_ended}
 
 -- a poll is placed nowhere
-poll_place : (config : Config) (h : List Entry) (call : Call) (d : ℕ) → is_poll call ≡ Some d → place_for config h call ≡ None
+poll_place : (config : Config) (h : List Entry) (call : Call) (d : ℕ) → poll_env call ≡ Some d → place_for config h call ≡ None
 poll_place config h (RuntimeNext e) d q = refl
 poll_place config h (ExtNext e x) d q = refl
 poll_place config h call d q = absurd (some-none (sym q))
 
-poll_env : (call : Call) (d : ℕ) → is_poll call ≡ Some d → env_of call ≡ Some d
-poll_env (RuntimeNext e) d q = q
-poll_env (ExtNext e x) d q = q
-poll_env call d q = absurd (some-none (sym q))
+poll_named : (call : Call) (d : ℕ) → poll_env call ≡ Some d → env_of call ≡ Some d
+poll_named (RuntimeNext e) d q = q
+poll_named (ExtNext e x) d q = q
+poll_named call d q = absurd (some-none (sym q))
 
 -- the environment of a poll
-pub poll_home : (config : Config) (h : List Entry) (t d : ℕ) → IsLegal config h → is_poll (call_of h t) ≡ Some d → home h t ≡ Some d
-poll_home config h t d l q = rw (placed h l q, poll_env (call_of h t) d q) refl
+pub poll_home : (config : Config) (h : List Entry) (t d : ℕ) → IsLegal config h → poll_env (call_of h t) ≡ Some d → home h t ≡ Some d
+poll_home config h t d l q = rw (placed h l q, poll_named (call_of h t) d q) refl
   where
-    placed : (h : List Entry) → IsLegal config h → is_poll (call_of h t) ≡ Some d → place_of h t ≡ None
+    placed : (h : List Entry) → IsLegal config h → poll_env (call_of h t) ≡ Some d → place_of h t ≡ None
     placed [] l q = refl
     placed (entry ∷ h) l q = go (t == length h) (placed h l.0) q
       where
-        go : (b : Bool) → (is_poll (call_of h t) ≡ Some d → place_of h t ≡ None) → is_poll (if b then entry.call else call_of h t) ≡ Some d → (if b then entry.place else place_of h t) ≡ None
+        go : (b : Bool) → (poll_env (call_of h t) ≡ Some d → place_of h t ≡ None) → poll_env (if b then entry.call else call_of h t) ≡ Some d → (if b then entry.place else place_of h t) ≡ None
         go true ih r = l.1.place ∙ poll_place config h entry.call d r
         go false ih r = ih r
 
@@ -57,9 +55,9 @@ quiet_here config h entry e t w c lt at = rw (w.answers) (elsewhere config h ent
 -- the polls of a generation are those of its environment
 abbrev pub AreHere : ℕ → Generation → Type 0
 AreHere e [] = Unit {0}
-AreHere e (taken ∷ g) = ((d : ℕ) → is_poll taken.1.call ≡ Some d → d ≡ e) × AreHere e g
+AreHere e (taken ∷ g) = ((d : ℕ) → poll_env taken.1.call ≡ Some d → d ≡ e) × AreHere e g
 
-poll_names : (h : List Entry) (call : Call) (e d : ℕ) → is_poll call ≡ Some d → names h e call ≡ true → d ≡ e
+poll_names : (h : List Entry) (call : Call) (e d : ℕ) → poll_env call ≡ Some d → names h e call ≡ true → d ≡ e
 poll_names h (RuntimeNext b) e d q n = let same : b ≡ d = cc in sym same ∙ eqb-true b e n
 poll_names h (ExtNext b x) e d q n = let same : b ≡ d = cc in sym same ∙ eqb-true b e n
 poll_names h call e d q n = absurd (some-none (sym q))
@@ -69,21 +67,18 @@ unfolding life lived after
 generation_here config [] e l = tt
 generation_here config (entry ∷ h) e l = go (concerns h e entry) refl (generation_here config h e l.0)
   where
-    g : Generation
-    g = (length h, entry) ∷ (life config h e).generation
-
-    no_place : (d : ℕ) → is_poll entry.call ≡ Some d → is_number entry.place e ≡ false
+    no_place : (d : ℕ) → poll_env entry.call ≡ Some d → is_number entry.place e ≡ false
     no_place d q = ap (λ (o : Option ℕ). is_number o e) (l.1.place ∙ poll_place config h entry.call d q)
 
-    at_end : (b : Bool) (P : Phase) → concerns h e entry ≡ true → AreHere e (life config h e).generation → AreHere e (begins b config (first_part entry ∷ h) e entry.moment (limit_of config e entry.moment) g P).generation
-    at_end true P c k = tt
-    at_end false P c k = ((λ d q. poll_names h entry.call e d q (ap (λ b. b || names h e entry.call) (sym (no_place d q)) ∙ c)), k)
+    at_end : (b : Bool) → concerns h e entry ≡ true → AreHere e (life config h e).generation → AreHere e (if_ended b (visit config h e entry)).generation
+    at_end true c k = tt
+    at_end false c k = ((λ d q. poll_names h entry.call e d q (ap (λ b. b || names h e entry.call) (sym (no_place d q)) ∙ c)), k)
 
-    go : (b : Bool) → concerns h e entry ≡ b → AreHere e (life config h e).generation → AreHere e (lived b config h e entry (life config h e)).generation
+    go : (b : Bool) → concerns h e entry ≡ b → AreHere e (life config h e).generation → AreHere e (if_concerned b (visit config h e entry)).generation
     go false c k = k
-    go true c k = at_end (ends (life config h e).phase entry.call (cell_of config e entry (length h) (stand config h e)) (members (first_part entry ∷ h) g)) (cell_of config e entry (length h) (stand config h e)) c k
+    go true c k = at_end (ends_here (visit config h e entry)) c k
 
-asks_poll : (actor : Actor) (call : Call) → asks actor call ≡ true → (d : ℕ) × (is_poll call ≡ Some d)
+asks_poll : (actor : Actor) (call : Call) → asks actor call ≡ true → (d : ℕ) × (poll_env call ≡ Some d)
 asks_poll TheRuntime (RuntimeNext e) q = (e, refl)
 asks_poll (TheExtension x) (ExtNext e y) q = (e, refl)
 asks_poll TheRuntime (ExtNext e y) q = absurd (true≢false (sym q))
@@ -91,14 +86,14 @@ asks_poll (TheExtension x) (RuntimeNext e) q = absurd (true≢false (sym q))
 asks_poll actor call q = absurd (true≢false (sym q))
 
 -- an actor's last Next is a poll of its environment
-pub last_here : (e : ℕ) (h : List Entry) (g : Generation) (actor : Actor) (t : ℕ) → AreHere e g → IsPart h g → last_next g actor ≡ Some t → is_poll (call_of h t) ≡ Some e
+pub last_here : (e : ℕ) (h : List Entry) (g : Generation) (actor : Actor) (t : ℕ) → AreHere e g → IsPart h g → last_next g actor ≡ Some t → poll_env (call_of h t) ≡ Some e
 last_here e h [] actor t a p q = absurd (some-none (sym q))
 last_here e h (taken ∷ g) actor t a p q = go (asks actor taken.1.call) refl (last_here e h g actor t a.1 p.1) q
   where
-    go : (c : Bool) → asks actor taken.1.call ≡ c → (last_next g actor ≡ Some t → is_poll (call_of h t) ≡ Some e) → (if c then Some taken.0 else last_next g actor) ≡ Some t → is_poll (call_of h t) ≡ Some e
+    go : (c : Bool) → asks actor taken.1.call ≡ c → (last_next g actor ≡ Some t → poll_env (call_of h t) ≡ Some e) → (if c then Some taken.0 else last_next g actor) ≡ Some t → poll_env (call_of h t) ≡ Some e
     go true k ih r =
         let at : taken.0 ≡ t = cc in let b = asks_poll actor taken.1.call k in
-        ap (λ (n : ℕ). is_poll (call_of h n)) (sym at) ∙ ap is_poll p.0.1 ∙ b.1 ∙ ap (λ (n : ℕ). Some n) (a.0 b.0 b.1)
+        ap (λ (n : ℕ). poll_env (call_of h n)) (sym at) ∙ ap poll_env p.0.1 ∙ b.1 ∙ ap (λ (n : ℕ). Some n) (a.0 b.0 b.1)
     go false k ih r = ih r
 
 -- the pending Next of an actor of an environment that the entry doesn't concern

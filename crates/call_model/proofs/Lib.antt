@@ -1,11 +1,14 @@
 -- Lists, options, counts.
 pub mod Basics
+-- The table of phases by its cells.
+pub mod Cells
 -- Lists of answers: by ticket, in rising order, with one put in its place; lists by deadline.
 pub mod Pairs
 pub mod Rising
 pub mod Puts
 pub mod Deadlines
 -- One entry: who is answered, what is pending after it, which phase comes, what it leaves alone, which values it gives.
+pub mod Visits
 pub mod Once
 pub mod AfterEntry
 pub mod Scans

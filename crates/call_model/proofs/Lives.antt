@@ -2,21 +2,19 @@
 use Rattle.std.proofs.Common.{◌≡◌, ℕ, Bool, true, false, eqb, List, [], ◌∷◌, length, Option, Some, None, sym, refl, ap, ◌∙◌, inl, inr, arith, ◌≢◌, ◌⊎◌, is_some, is_none, not, ◌&&◌, ◌||◌, ◌==◌, true≢false, if◌then◌else◌}
 use Rattle.std.proofs.lemmas.Bool.Decides.{nat_tests}
 use Rattle.call_model.specs.declared.answer.Answer.{Answer}
-use Rattle.call_model.specs.declared.answer.Answer.TheVariants.{Stopped}
 use Rattle.call_model.specs.declared.answer.Reason.{Reason}
-use Rattle.call_model.specs.declared.answer.Reason.TheVariants.{Spindown as SpunDown}
 use Rattle.call_model.specs.declared.answer.Phase.{Phase}
 use Rattle.call_model.specs.declared.answer.Phase.TheVariants.{Starting, Idle, Busy, Closing, Off}
 use Rattle.call_model.specs.declared.call.Call.{Call}
-use Rattle.call_model.specs.declared.call.Call.TheVariants.{Invoke, RuntimeNext, Response, ResponseTooLarge, Failure, InitFailure, Register, ExtNext, ExtInitFailure, ExtExitFailure, Tick, Withdraw, Spindown, Stop, Expire, Reserve}
+use Rattle.call_model.specs.declared.call.Call.TheVariants.{Invoke, RuntimeNext, Register, ExtNext, Stop}
 use Rattle.call_model.specs.declared.call.Entry.{Entry}
 use Rattle.std.proofs.lemmas.Bool.{eqb-true, eq-eqb}
 use Rattle.call_model.proofs.OwnTickets.{find_passes, admits_place}
 use Rattle.arn_ids.specs.declared.config.Config.{Config}
 use Rattle.arn_ids.specs.Environments.{expected_at, function_of, environments}
 use Rattle.call_model.specs.History.{answer_in, answer_of, pending, call_of, place_of, is_stop, stopped, is_expiry, or_else}
-use Rattle.call_model.specs.Stand.{Stand, at_hand, bound_of, is_number, is_known, is_busy, is_idle, is_starting, is_closing, role, Waiting, NoRole, waits_as}
-use Rattle.call_model.specs.Table.{reborn, settled, kept, closes, or_closing, placed, clock_started, unbound, is_registered, own_answer, to_waiting}
+use Rattle.call_model.specs.Stand.{Stand, at_hand, bound_of, is_number, is_known, is_idle, is_closing, role, Waiting, NoRole, waits_as}
+use Rattle.call_model.specs.Table.{reborn, settled, kept, closes, or_closing, placed, clock_started, unbound, is_registered, own_answer, to_waiting, Cell}
 use Rattle.call_model.specs.Polls.{by_role}
 use Rattle.call_model.specs.Life.{Life, life, phase, stand, seen, concerns, names, ends, limit_of, first_part, is_second}
 use Rattle.call_model.specs.Limits.{lowest, is_free_starting, is_free_closing, place_for, place, verdict}
@@ -31,6 +29,7 @@ use Rattle.call_model.proofs.PhaseStep.{phase_step, cell_of, members_after, runt
 use Rattle.call_model.specs.Generation.{Member, ready}
 use Rattle.call_model.proofs.Basics.{and_left, and_right, number_some, some-none}
 use Rattle.call_model.proofs.Elsewhere.{life_elsewhere}
+use Rattle.call_model.proofs.Cells.{in_row, of_row, in_table, of_stop, first_stop}
 
 -- after a Stop nothing is admitted
 pub not_admitted : (config : Config) (h : List Entry) (call : Call) (e : ℕ) → stopped h ≡ true → place_for config h call ≡ Some e → ⊥
@@ -41,14 +40,9 @@ not_admitted config h call e s q = some-none (sym q)
 -- the first Stop leaves nothing at hand
 pub stop_clears : (now limit n : ℕ) (s : Stand) (p : ℕ) → s.stopped ≡ false → at_hand (or_closing now (closes s Stop) (kept now limit n s Stop)) ≡ Some p → ⊥
 unfolding closes kept
-stop_clears now limit n s p k q = go s.phase (rw k at q)
-  where
-    go : (P : Phase) → at_hand (or_closing now (if (is_starting P || is_idle P || is_busy P) && true then Some Rattle.call_model.specs.declared.answer.Reason.TheVariants.Spindown else None) (unbound P)) ≡ Some p → ⊥
-    go (Starting d b) r = some-none (sym r)
-    go Idle r = some-none (sym r)
-    go (Busy q d) r = some-none (sym r)
-    go (Closing reason until b) r = some-none (sym r)
-    go Off r = some-none (sym r)
+stop_clears now limit n s p k q =
+    in_row (λ P (cell : Cell). at_hand (or_closing now cell.close (unbound P)) ≡ Some p → ⊥) s _ _ _ _ _ _ (λ d b r. some-none (sym r)) (λ r. some-none (sym r)) (λ m d r. some-none (sym r)) (λ m d r. some-none (sym r)) (λ reason until b r. some-none (sym r)) (λ r. some-none (sym r))
+    (sym (λ i. at_hand (or_closing now (first_stop s k i).close (if k i then s.phase else unbound s.phase))) ∙ q)
 
 -- after a Stop nothing is at hand
 pub none_at_hand : (config : Config) (h : List Entry) (e p : ℕ) → IsLegal config h → stopped h ≡ true → at_hand (phase config h e) ≡ Some p → ⊥
@@ -137,40 +131,28 @@ to_kept now limit n s Stop p i k e = rw (k refl) e
 to_kept now limit n s call p i k e = e
 
 -- where the table closes, the waiting call gets an answer
-pub closes_answers : (own : ℕ) (s : Stand) (call : Call) (p : ℕ) → at_hand s.phase ≡ Some p → (s.stopped ≡ true → ⊥) → is_some (closes s call) ≡ true → is_some (to_waiting own s call) ≡ true
+pub closes_answers : (own : ℕ) (s : Stand) (call : Call) (p : ℕ) → at_hand s.phase ≡ Some p → is_some (closes s call) ≡ true → is_some (to_waiting own s call) ≡ true
 unfolding closes to_waiting
-closes_answers own s (InitFailure d body) p e n k = rw k refl
-closes_answers own s (ExtInitFailure d x body) p e n k = rw k refl
-closes_answers own s (ExtExitFailure d x body) p e n k = rw k refl
-closes_answers own s (Expire d) p e n k = rw k refl
-closes_answers own s Stop p e n k = go s.stopped n
-  where
-    go : (b : Bool) → (b ≡ true → ⊥) → is_some (if b then None else Some Stopped) ≡ true
-    go true m = absurd (m refl)
-    go false m = refl
-closes_answers own s (Spindown d) p e n k = absurd (go s.phase e k)
-  where
-    go : (P : Phase) → at_hand P ≡ Some p → is_some (if is_idle P then Some SpunDown else None) ≡ true → ⊥
-    go Idle x y = some-none (sym x)
-    go (Starting q b) x y = true≢false (sym y)
-    go (Busy q b) x y = true≢false (sym y)
-    go (Closing reason until b) x y = true≢false (sym y)
-    go Off x y = true≢false (sym y)
-closes_answers own s (Invoke f qualified trace body) p e n k = absurd (true≢false (sym k))
-closes_answers own s (RuntimeNext d) p e n k = absurd (true≢false (sym k))
-closes_answers own s (Response d id body) p e n k = absurd (true≢false (sym k))
-closes_answers own s (ResponseTooLarge d id) p e n k = absurd (true≢false (sym k))
-closes_answers own s (Failure d id body) p e n k = absurd (true≢false (sym k))
-closes_answers own s (Register d name invoke shutdown account) p e n k = absurd (true≢false (sym k))
-closes_answers own s (ExtNext d x) p e n k = absurd (true≢false (sym k))
-closes_answers own s Tick p e n k = absurd (true≢false (sym k))
-closes_answers own s (Withdraw t) p e n k = absurd (true≢false (sym k))
-closes_answers own s (Reserve f count) p e n k = absurd (true≢false (sym k))
+closes_answers own s call p =
+    in_table (λ P (cell : Cell). at_hand P ≡ Some p → is_some cell.close ≡ true → is_some (cell.waiting own) ≡ true) s (record {
+      waits = λ P e k. k;
+      accepts = λ P e k. k;
+      refuses = λ kind P e k. k;
+      registers = λ P e k. k;
+      tells = λ reason until P e k. k;
+      output = λ q d e k. refl;
+      too_large = λ q d e k. refl;
+      error = λ q d e k. refl;
+      fails = λ P e k. refl;
+      init_times_out = λ d b e k. refl;
+      times_out = λ q d e k. refl;
+      spins_down = λ e k. absurd (some-none (sym e));
+    }) call (λ _. of_stop (λ (cell : Cell). at_hand s.phase ≡ Some p → is_some cell.close ≡ true → is_some (cell.waiting own) ≡ true) s (λ e k. k) (λ e k. refl) (λ e k. refl))
 
 -- the first Stop answers the waiting call
 pub stop_answers : (own : ℕ) (s : Stand) → s.stopped ≡ false → is_some (to_waiting own s Stop) ≡ true
 unfolding to_waiting
-stop_answers own s k = rw k refl
+stop_answers own s k = ap (λ (cell : Cell). is_some (cell.waiting own)) (first_stop s k) ∙ of_row (λ (cell : Cell). is_some (cell.waiting own) ≡ true) s _ _ _ _ _ _ refl refl refl refl refl refl
 
 -- the waiting call gets what the table gives it
 pub waiting_gets : (config : Config) (h : List Entry) (entry : Entry) (e p : ℕ) → Follows config h entry → IsHeld h e p → pending h p ≡ true → at_hand (phase config h e) ≡ Some p → names h e entry.call ≡ true
@@ -319,13 +301,10 @@ lives config (entry ∷ h) e p l at w = go (p == length h) refl (lives config h 
 
         no_close : names h e entry.call ≡ true → (o : Option Reason) → closes (stand config h e) entry.call ≡ o → closes (stand config h e) entry.call ≡ None
         no_close n None q = q
-        no_close n (Some reason) q = absurd (gets_none n (closes_answers (length h) (stand config h e) entry.call p (stand_hand ∙ hand) stand_open (ap is_some q)))
+        no_close n (Some reason) q = absurd (gets_none n (closes_answers (length h) (stand config h e) entry.call p (stand_hand ∙ hand) (ap is_some q)))
           where
             stand_hand : at_hand (stand config h e).phase ≡ at_hand (phase config h e)
             stand_hand = refl
-
-            stand_open : (stand config h e).stopped ≡ true → ⊥
-            stand_open t = true≢false (sym t ∙ not_over)
 
         no_stop : names h e entry.call ≡ true → (b : Bool) → is_stop entry.call ≡ b → is_stop entry.call ≡ false
         no_stop n false q = q

@@ -1,6 +1,5 @@
 -- An entry answers no later ticket, and what its answers are made of is no later call.
-use Rattle.std.proofs.Common.{◌≡◌, ℕ, zero, suc, ◌+◌, ◌<◌, ◌≤◌, List, [], ◌∷◌, length, Option, Some, None, sym, refl, ap, ◌∙◌, subst, inl, inr, arith}
-use Rattle.std.proofs.lemmas.Bool.{cases_lt}
+use Rattle.std.proofs.Common.{◌≡◌, ℕ, zero, suc, ◌+◌, ◌≤◌, List, [], ◌∷◌, length, Option, Some, None, sym, refl, ap, ◌∙◌, subst, arith}
 use Rattle.call_model.specs.declared.answer.Answer.{Answer}
 use Rattle.call_model.specs.declared.call.Entry.{Entry}
 use Rattle.arn_ids.specs.declared.config.Config.{Config}
@@ -8,11 +7,11 @@ use Rattle.call_model.specs.History.{answer_in, or_else}
 use Rattle.call_model.specs.Life.{phase, stand}
 use Rattle.call_model.specs.Stand.{at_hand, role}
 use Rattle.call_model.specs.Polls.{begun}
-use Rattle.call_model.specs.Answers.{answers, each_from, with_answer, first_entry, first_answer, second_answer, second_at, answer_to, numbered, event_at, home}
+use Rattle.call_model.specs.Answers.{answers, each_from, with_answer, first_entry, second_answer, second_at, answer_to, numbered, event_at, home}
 use Rattle.call_model.specs.Isolation.{named}
 use Rattle.call_model.specs.Next.{IsLegal}
 use Rattle.call_model.proofs.Basics.{some-none}
-use Rattle.call_model.proofs.AtHand.{IsHeld, held}
+use Rattle.call_model.proofs.AtHand.{held}
 use Rattle.call_model.proofs.FirstPhase.{first_in, phase_first}
 use Rattle.call_model.proofs.OwnTexts.{names_of, of_first, begun_hand, delivered_number, keeps_named}
 

@@ -14,7 +14,7 @@ use Rattle.arn_ids.specs.declared.config.Config.{Config}
 use Rattle.arn_ids.specs.Environments.{environments}
 use Rattle.call_model.specs.History.{is_expiry}
 use Rattle.call_model.specs.Stand.{Stand, bound_of, is_starting, is_busy, is_closing}
-use Rattle.call_model.specs.Table.{reborn, settled, closes, kept, or_closing}
+use Rattle.call_model.specs.Table.{reborn, settled, closes, kept, or_closing, Cell}
 use Rattle.call_model.specs.Laws.{is_due}
 use Rattle.call_model.specs.Life.{Life, phase, stand, seen, limit_of}
 use Rattle.call_model.specs.Answers.{answers}
@@ -28,6 +28,7 @@ use Rattle.call_model.proofs.Basics.{count_cons}
 use Rattle.call_model.proofs.DueList.{come_once}
 use Rattle.call_model.proofs.Deadlines.{filter_deadline, count_deadline}
 use Rattle.call_model.proofs.Elsewhere.{life_elsewhere}
+use Rattle.call_model.proofs.Cells.{in_row}
 
 keep_all : (e : ℕ) (xs : List (ℕ × ℕ)) → count_by (λ a. e == a.1) xs ≡ 0 → filter (λ a. not (e == a.1)) xs ≡ xs
 keep_all e [] q = refl
@@ -118,7 +119,9 @@ due_settled limit m e false w Off s k q = refl
 -- the phase after an expiry, by the phase before it
 due_cell : (m e limit n : ℕ) (s : Stand) (a over r w : Bool) → due_at m e (deadline_of (if is_closing (or_closing m (closes s (Expire e)) (kept m limit n s (Expire e))) && (a || (is_closing s.phase && true)) then reborn over m (bound_of (or_closing m (closes s (Expire e)) (kept m limit n s (Expire e)))) else settled limit r w (or_closing m (closes s (Expire e)) (kept m limit n s (Expire e))))) ≡ None
 unfolding closes kept
-due_cell m e limit n s a over r w = go s.phase a
+due_cell m e limit n s a over r w =
+    in_row (λ P (cell : Cell). due_at m e (deadline_of (if is_closing (or_closing m cell.close P) && (a || (is_closing P && true)) then reborn over m (bound_of (or_closing m cell.close P)) else settled limit r w (or_closing m cell.close P))) ≡ None) s _ _ _ _ _ _
+    (λ d b. closed (a || false)) (due_settled limit m e r w Idle refl refl refl) (λ p d. closed (a || false)) (λ p d. closed (a || false)) (λ reason until b. ended reason until b a) (due_settled limit m e r w Off refl refl refl)
   where
     closed : (b : Bool) → due_at m e (deadline_of (if b then reborn over m None else settled limit r w (Closing Timeout (m + 2000) None))) ≡ None
     closed true = due_reborn over m e None
@@ -127,13 +130,6 @@ due_cell m e limit n s a over r w = go s.phase a
     ended : (reason : Reason) (until : ℕ) (b : Option ℕ) (a : Bool) → due_at m e (deadline_of (if a || true then reborn over m b else settled limit r w (Closing reason until b))) ≡ None
     ended reason until b true = due_reborn over m e b
     ended reason until b false = due_reborn over m e b
-
-    go : (P : Phase) (a : Bool) → due_at m e (deadline_of (if is_closing (or_closing m (if is_starting P || is_busy P then Some Timeout else None) P) && (a || (is_closing P && true)) then reborn over m (bound_of (or_closing m (if is_starting P || is_busy P then Some Timeout else None) P)) else settled limit r w (or_closing m (if is_starting P || is_busy P then Some Timeout else None) P))) ≡ None
-    go (Starting d b) a = closed (a || false)
-    go (Busy p d) a = closed (a || false)
-    go (Closing reason until b) a = ended reason until b a
-    go Idle a = due_settled limit m e r w Idle refl refl refl
-    go Off a = due_settled limit m e r w Off refl refl refl
 
 due_after : (config : Config) (h : List Entry) (m e : ℕ) → IsLegal config h → Follows config h (record { moment = m; call = Expire e; answers = answers config h m (Expire e); place = None }) → due_at m e (deadline_of (phase config (entered config h m (Expire e)) e)) ≡ None
 unfolding seen

@@ -4,22 +4,21 @@ use Rattle.std.proofs.lemmas.Bool.{cases_lt, eq-eqb}
 use Rattle.std.proofs.lemmas.Bool.Decides.{eqb_tells}
 use Rattle.std.specs.List.{find}
 use Rattle.call_model.specs.declared.answer.Answer.{Answer}
-use Rattle.call_model.specs.declared.answer.Answer.TheVariants.{Delivered, Told, Ending, Output, Error, TimedOut, OutputTooLarge, Stopped}
+use Rattle.call_model.specs.declared.answer.Answer.TheVariants.{Delivered, Told, Ending, Output, TimedOut, OutputTooLarge}
 use Rattle.call_model.specs.declared.answer.Reason.{Reason}
-use Rattle.call_model.specs.declared.answer.Reason.TheVariants.{Timeout}
 use Rattle.call_model.specs.declared.answer.Phase.{Phase}
 use Rattle.call_model.specs.declared.answer.Phase.TheVariants.{Starting, Idle, Busy, Closing, Off}
 use Rattle.call_model.specs.declared.call.Call.{Call}
-use Rattle.call_model.specs.declared.call.Call.TheVariants.{Invoke, RuntimeNext, Response, ResponseTooLarge, Failure, InitFailure, Register, ExtNext, ExtInitFailure, ExtExitFailure, Stop, Expire}
+use Rattle.call_model.specs.declared.call.Call.TheVariants.{Invoke, RuntimeNext, Register, ExtNext, Stop}
 use Rattle.call_model.specs.declared.call.Entry.{Entry}
 use Rattle.arn_ids.specs.declared.config.Config.{Config}
 use Rattle.arn_ids.specs.Environments.{expected_at}
 use Rattle.call_model.specs.History.{answer_in, answer_of, pending, call_of, place_of, env_of, is_expiry, stopped, or_else}
 use Rattle.call_model.specs.Generation.{Generation, TheRuntime, Member, parked, last_next, asks, members, ready}
-use Rattle.call_model.specs.Stand.{Stand, at_hand, bound_of, is_number, is_known, is_busy, is_idle, is_starting, role, Role, Waiting, RuntimePoll, member_role}
-use Rattle.call_model.specs.Table.{is_registered, own_answer, closes, kept, or_closing, placed, clock_started, unbound, after_cell, settled, reborn, to_waiting, timed_out}
+use Rattle.call_model.specs.Stand.{Stand, at_hand, bound_of, is_number, is_known, is_busy, is_idle, role, Role, Waiting, RuntimePoll, member_role}
+use Rattle.call_model.specs.Table.{is_registered, own_answer, closes, kept, or_closing, placed, clock_started, unbound, after_cell, settled, reborn, to_waiting, Cell}
 use Rattle.call_model.specs.Polls.{by_role, delivered, begun}
-use Rattle.call_model.specs.Life.{Life, life, phase, stand, seen, concerns, names, limit_of, lived, after, begins, ends, first_part, request_at}
+use Rattle.call_model.specs.Life.{Life, life, phase, stand, seen, concerns, names, limit_of, lived, after, first_part, request_at, ends_here}
 use Rattle.call_model.specs.Limits.{is_busy_with}
 use Rattle.call_model.specs.Answers.{answers, answer_to, first_answer, first_answers, first_entry, second_answer, second_at, home, each_from, own_first, other_answer, answer_at}
 use Rattle.call_model.specs.Laws.{delivers, deliveries, is_outcome}
@@ -36,6 +35,8 @@ use Rattle.call_model.proofs.ParkedNexts.{next_home, parked_is, is_parked}
 use Rattle.call_model.proofs.Basics.{eqb-self, and_left, number_some, some-none}
 use Rattle.call_model.proofs.Elsewhere.{life_elsewhere, elsewhere}
 use Rattle.call_model.proofs.AnswerValues.{valued, plain}
+use Rattle.call_model.proofs.Visits.{visit, if_concerned, if_ended}
+use Rattle.call_model.proofs.Cells.{in_table, of_stop}
 
 -- what a phase after an entry says of the runtime, and of the generation
 pub record IsGoing (config : Config) (h : List Entry) (entry : Entry) (e : ℕ) : Type 0 where
@@ -99,7 +100,7 @@ IsEither x = (is_busy x.phase || is_idle x.phase) ≡ true
 -- so is the phase only where the runtime's Next is parked, or where an Invoke finds it Idle, or where it was Busy
 pub going : (config : Config) (h : List Entry) (entry : Entry) (e : ℕ) → concerns h e entry ≡ true → is_busy (phase config h e) ≡ false → (is_busy (phase config (entry ∷ h) e) || is_idle (phase config (entry ∷ h) e)) ≡ true → IsGoing config h entry e
 unfolding life lived after seen
-going config h entry e c b q = made (subst (λ (k : Bool). IsEither (lived k config h e entry (life config h e))) c q)
+going config h entry e c b q = made (subst (λ (k : Bool). IsEither (if_concerned k (visit config h e entry))) c q)
   where
     g : Generation
     g = (length h, entry) ∷ (life config h e).generation
@@ -108,22 +109,22 @@ going config h entry e c b q = made (subst (λ (k : Bool). IsEither (lived k con
     cell = after_cell entry.moment (limit_of config e entry.moment) (length h) (stand config h e) entry.call
 
     over : Bool
-    over = ends (life config h e).phase entry.call cell (members (first_part entry ∷ h) g)
+    over = ends_here (visit config h e entry)
 
     by_cell : is_busy cell ≡ true → (is_idle (phase config h e) ≡ true) × (is_invoke entry.call ≡ true)
     by_cell k = busy_kept entry.moment (limit_of config e entry.moment) (length h) (stand config h e) entry.call b (busy_closing entry.moment (closes (stand config h e) entry.call) (kept entry.moment (limit_of config e entry.moment) (length h) (stand config h e) entry.call) k)
 
-    go : (k : Bool) → over ≡ k → IsEither (begins k config (first_part entry ∷ h) e entry.moment (limit_of config e entry.moment) g cell) → IsGoing config h entry e
+    go : (k : Bool) → over ≡ k → IsEither (if_ended k (visit config h e entry)) → IsGoing config h entry e
     go true w r = absurd (true≢false (sym r ∙ reborn_not (stopped (first_part entry ∷ h)) entry.moment (bound_of cell)))
     go false w r = record {
-      generation = ap (λ (k : Bool). (lived k config h e entry (life config h e)).generation) c ∙ ap (λ (k : Bool). (begins k config (first_part entry ∷ h) e entry.moment (limit_of config e entry.moment) g cell).generation) w;
+      generation = ap (λ (k : Bool). (if_concerned k (visit config h e entry)).generation) c ∙ ap (λ (k : Bool). (if_ended k (visit config h e entry)).generation) w;
       runtime = elim (settled_ready (limit_of config e entry.moment) (ready (parked (first_part entry ∷ h) g TheRuntime) (members (first_part entry ∷ h) g) (expected_at config e)) (is_some (request_at config (first_part entry ∷ h) e (at_hand cell))) cell r) [
         | inl k ↦ inl (and_left (is_some (parked (first_part entry ∷ h) g TheRuntime)) _ k)
         | inr k ↦ inr (by_cell k)
       ];
     }
 
-    made : IsEither (lived true config h e entry (life config h e)) → IsGoing config h entry e
+    made : IsEither (after (visit config h e entry)) → IsGoing config h entry e
     made r = go over refl r
 
 settled_idle : (limit : ℕ) (r w : Bool) (P : Phase) → is_idle (settled limit r w P) ≡ true → r ≡ true
@@ -146,7 +147,7 @@ IsIdleNow x = is_idle x.phase ≡ true
 idle_going : (config : Config) (h : List Entry) (entry : Entry) (e : ℕ) → concerns h e entry ≡ true → is_idle (phase config (entry ∷ h) e) ≡ true
     → ((life config (entry ∷ h) e).generation ≡ ((length h, entry) ∷ (life config h e).generation)) × (is_some (parked (first_part entry ∷ h) ((length h, entry) ∷ (life config h e).generation) TheRuntime) ≡ true)
 unfolding life lived after seen
-idle_going config h entry e c q = made (subst (λ (k : Bool). IsIdleNow (lived k config h e entry (life config h e))) c q)
+idle_going config h entry e c q = made (subst (λ (k : Bool). IsIdleNow (if_concerned k (visit config h e entry))) c q)
   where
     g : Generation
     g = (length h, entry) ∷ (life config h e).generation
@@ -155,16 +156,16 @@ idle_going config h entry e c q = made (subst (λ (k : Bool). IsIdleNow (lived k
     cell = after_cell entry.moment (limit_of config e entry.moment) (length h) (stand config h e) entry.call
 
     over : Bool
-    over = ends (life config h e).phase entry.call cell (members (first_part entry ∷ h) g)
+    over = ends_here (visit config h e entry)
 
-    go : (k : Bool) → over ≡ k → IsIdleNow (begins k config (first_part entry ∷ h) e entry.moment (limit_of config e entry.moment) g cell) → ((life config (entry ∷ h) e).generation ≡ ((length h, entry) ∷ (life config h e).generation)) × (is_some (parked (first_part entry ∷ h) ((length h, entry) ∷ (life config h e).generation) TheRuntime) ≡ true)
+    go : (k : Bool) → over ≡ k → IsIdleNow (if_ended k (visit config h e entry)) → ((life config (entry ∷ h) e).generation ≡ ((length h, entry) ∷ (life config h e).generation)) × (is_some (parked (first_part entry ∷ h) ((length h, entry) ∷ (life config h e).generation) TheRuntime) ≡ true)
     go true w r = absurd (true≢false (sym r ∙ reborn_idle (stopped (first_part entry ∷ h)) entry.moment (bound_of cell)))
     go false w r = (
-      ap (λ (k : Bool). (lived k config h e entry (life config h e)).generation) c ∙ ap (λ (k : Bool). (begins k config (first_part entry ∷ h) e entry.moment (limit_of config e entry.moment) g cell).generation) w,
+      ap (λ (k : Bool). (if_concerned k (visit config h e entry)).generation) c ∙ ap (λ (k : Bool). (if_ended k (visit config h e entry)).generation) w,
       and_left (is_some (parked (first_part entry ∷ h) g TheRuntime)) _ (settled_idle (limit_of config e entry.moment) (ready (parked (first_part entry ∷ h) g TheRuntime) (members (first_part entry ∷ h) g) (expected_at config e)) (is_some (request_at config (first_part entry ∷ h) e (at_hand cell))) cell r),
     )
 
-    made : IsIdleNow (lived true config h e entry (life config h e)) → ((life config (entry ∷ h) e).generation ≡ ((length h, entry) ∷ (life config h e).generation)) × (is_some (parked (first_part entry ∷ h) ((length h, entry) ∷ (life config h e).generation) TheRuntime) ≡ true)
+    made : IsIdleNow (after (visit config h e entry)) → ((life config (entry ∷ h) e).generation ≡ ((length h, entry) ∷ (life config h e).generation)) × (is_some (parked (first_part entry ∷ h) ((length h, entry) ∷ (life config h e).generation) TheRuntime) ≡ true)
     made r = go over refl r
 
 some_of : (o : Option ℕ) → is_some o ≡ true → (t : ℕ) × (o ≡ Some t)
@@ -460,51 +461,25 @@ outcome_strip (Some a) q = absurd (some-none q)
 
 -- the table gives these to the waiting call of a Busy alone
 outcome_waiting : (own : ℕ) (s : Stand) (call : Call) → outcome (to_waiting own s call) ≡ true → is_busy s.phase ≡ true
-unfolding to_waiting closes
-outcome_waiting own s (Response e id body) q = serves (is_busy s.phase) (is_number s.request id) q
+unfolding to_waiting
+outcome_waiting own s call =
+    in_table (λ P (cell : Cell). outcome (cell.waiting own) ≡ true → is_busy P ≡ true) s (record {
+      waits = no;
+      accepts = no;
+      refuses = λ kind. no;
+      registers = no;
+      tells = λ reason until. no;
+      output = λ p d q. refl;
+      too_large = λ p d q. refl;
+      error = λ p d q. refl;
+      fails = no;
+      init_times_out = λ d b. no (Starting d b);
+      times_out = λ p d q. refl;
+      spins_down = no Idle;
+    }) call (λ _. of_stop (λ (cell : Cell). outcome (cell.waiting own) ≡ true → is_busy s.phase ≡ true) s (no s.phase) (no s.phase) (no s.phase))
   where
-    serves : (a b : Bool) → outcome (if a && b then Some (Output own) else None) ≡ true → a ≡ true
-    serves true b r = refl
-    serves false b r = absurd (true≢false (sym r))
-outcome_waiting own s (ResponseTooLarge e id) q = serves (is_busy s.phase) (is_number s.request id) q
-  where
-    serves : (a b : Bool) → outcome (if a && b then Some OutputTooLarge else None) ≡ true → a ≡ true
-    serves true b r = refl
-    serves false b r = absurd (true≢false (sym r))
-outcome_waiting own s (Failure e id body) q = absurd (no (is_busy s.phase && is_number s.request id) q)
-  where
-    no : (a : Bool) → outcome (if a then Some (Error own) else None) ≡ true → ⊥
-    no true r = true≢false (sym r)
-    no false r = true≢false (sym r)
-outcome_waiting own s (InitFailure e body) q = absurd (no (is_some (closes s (InitFailure e body))) q)
-  where
-    no : (a : Bool) → outcome (if a then Some (Error own) else None) ≡ true → ⊥
-    no true r = true≢false (sym r)
-    no false r = true≢false (sym r)
-outcome_waiting own s (ExtInitFailure e x body) q = absurd (no (is_some (closes s (ExtInitFailure e x body))) q)
-  where
-    no : (a : Bool) → outcome (if a then Some (Error own) else None) ≡ true → ⊥
-    no true r = true≢false (sym r)
-    no false r = true≢false (sym r)
-outcome_waiting own s (ExtExitFailure e x body) q = absurd (no (is_some (closes s (ExtExitFailure e x body))) q)
-  where
-    no : (a : Bool) → outcome (if a then Some (Error own) else None) ≡ true → ⊥
-    no true r = true≢false (sym r)
-    no false r = true≢false (sym r)
-outcome_waiting own s (Expire e) q = go s.phase q
-  where
-    go : (P : Phase) → outcome (if is_some (if is_starting P || is_busy P then Some Timeout else None) then Some (timed_out P) else None) ≡ true → is_busy P ≡ true
-    go (Busy p d) r = refl
-    go (Starting d b) r = absurd (true≢false (sym r))
-    go Idle r = absurd (true≢false (sym r))
-    go (Closing reason until b) r = absurd (true≢false (sym r))
-    go Off r = absurd (true≢false (sym r))
-outcome_waiting own s Stop q = absurd (no s.stopped q)
-  where
-    no : (a : Bool) → outcome (if a then None else Some Stopped) ≡ true → ⊥
-    no true r = true≢false (sym r)
-    no false r = true≢false (sym r)
-outcome_waiting own s call q = absurd (true≢false (sym q))
+    no : (P : Phase) → false ≡ true → is_busy P ≡ true
+    no P q = absurd (true≢false (sym q))
 
 waiting_number : (s : Stand) (t : ℕ) → role s t ≡ Waiting → is_number (at_hand s.phase) t ≡ true
 unfolding role

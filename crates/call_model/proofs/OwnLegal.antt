@@ -1,5 +1,5 @@
 -- The function's own history is legal, save that at a Tick something may be due.
-use Rattle.std.proofs.Common.{◌≡◌, ℕ, ◌≤◌, Bool, true, false, List, [], ◌∷◌, length, Option, Some, None, sym, refl, ap, ◌∙◌, subst, inl, inr, ◌⊎◌, ◌||◌, ◌==◌, map, filter, true≢false, if◌then◌else◌}
+use Rattle.std.proofs.Common.{◌≡◌, ℕ, ◌≤◌, Bool, true, false, List, [], ◌∷◌, Option, Some, None, sym, refl, ap, ◌∙◌, subst, inl, inr, ◌⊎◌, ◌||◌, ◌==◌, map, filter, true≢false, if◌then◌else◌}
 use Rattle.std.proofs.lemmas.Bool.{eqb-true}
 use Rattle.call_model.specs.declared.answer.Answer.{Answer}
 use Rattle.call_model.specs.declared.answer.Answer.TheVariants.{Done}
@@ -8,10 +8,10 @@ use Rattle.call_model.specs.declared.call.Call.TheVariants.{Invoke, RuntimeNext,
 use Rattle.call_model.specs.declared.call.Entry.{Entry}
 use Rattle.arn_ids.specs.declared.config.Config.{Config}
 use Rattle.arn_ids.specs.Environments.{function_of}
-use Rattle.call_model.specs.History.{call_of, is_poll_at, is_stop, stopped}
-use Rattle.call_model.specs.Table.{settled, kept, closes}
+use Rattle.call_model.specs.History.{call_of, poll_env, is_stop, stopped}
+use Rattle.call_model.specs.Table.{settled, kept, closes, or_closing, nothing, tells_stopped}
 use Rattle.call_model.specs.Stand.{is_number}
-use Rattle.call_model.specs.Life.{Life, life, phase, seen, lived, after, begins, ends, concerns, names, first_part, limit_of}
+use Rattle.call_model.specs.Life.{Life, life, phase, seen, lived, after, phase_by_table, concerns, names}
 use Rattle.call_model.specs.Limits.{place_for}
 use Rattle.arn_ids.specs.Environments.{environments, function_at}
 use Rattle.call_model.specs.declared.answer.Phase.TheVariants.{Starting, Off}
@@ -24,10 +24,11 @@ use Rattle.std.proofs.Common.{filter_map, nat_le}
 use Rattle.std.specs.List.{cons_option}
 use Rattle.call_model.specs.Generation.{members}
 use Rattle.call_model.proofs.OwnStands.{own_phase, own_names}
-use Rattle.call_model.specs.Own.{own, own_entry, is_own, of_function, is_poll}
+use Rattle.call_model.specs.Own.{own, own_entry, is_own, of_function}
 use Rattle.call_model.proofs.Pairs.{eqb-other}
 use Rattle.call_model.proofs.Basics.{number_some}
 use Rattle.call_model.proofs.Deadlines.{filter_deadline}
+use Rattle.call_model.proofs.Visits.{visit, visit_from, if_concerned}
 
 -- an environment of others, in the function's own history: untouched, or off after a Stop
 abbrev IsQuiet : List Entry → Life → Type 0
@@ -45,14 +46,9 @@ far_concerns config h entry f e pl far w = ap (λ (b : Bool). b || names h e ent
     no_env None p = refl
     no_env (Some d) p = eqb-other d e (λ same. true≢false (sym p ∙ ap (λ (n : ℕ). function_of config n == f) same ∙ far))
 
-    poll_number : (call : Call) → is_poll_at e call ≡ is_number (is_poll call) e
-    poll_number (RuntimeNext d) = refl
-    poll_number (ExtNext d x) = refl
-    poll_number call = refl
-
     not_named : (call : Call) → is_own config h f call ≡ true → names h e call ≡ is_stop call
     not_named Stop p = refl
-    not_named (Withdraw t) p = poll_number (call_of h t) ∙ no_env (is_poll (call_of h t)) p
+    not_named (Withdraw t) p = no_env (poll_env (call_of h t)) p
     not_named (Invoke g qualified trace body) p = refl
     not_named Tick p = refl
     not_named (Reserve g count) p = refl
@@ -71,8 +67,8 @@ far_concerns config h entry f e pl far w = ap (λ (b : Bool). b || names h e ent
 abbrev stop_entry : ℕ → List (ℕ × Answer) → Option ℕ → Entry
 stop_entry now given pl = record { moment = now; call = Stop; answers = given; place = pl }
 
-first_stop : (config : Config) (o : List Entry) (e now : ℕ) (given : List (ℕ × Answer)) (pl : Option ℕ) → stopped o ≡ false → (lived true config o e (stop_entry now given pl) (record { phase = Starting None None; generation = [] })).phase ≡ Off
-unfolding lived after seen closes kept members
+first_stop : (config : Config) (o : List Entry) (e now : ℕ) (given : List (ℕ × Answer)) (pl : Option ℕ) → stopped o ≡ false → (after (visit_from config o e (stop_entry now given pl) (record { phase = Starting None None; generation = [] }))).phase ≡ Off
+unfolding after seen closes kept members
 first_stop config o e now given pl q = rw q refl
 
 settled_off : (limit : ℕ) (r w : Bool) → settled limit r w Off ≡ Off
@@ -81,19 +77,16 @@ settled_off limit true false = refl
 settled_off limit false true = refl
 settled_off limit false false = refl
 
-stop_off : (config : Config) (o : List Entry) (e now : ℕ) (given : List (ℕ × Answer)) (pl : Option ℕ) (l : Life) → l.phase ≡ Off → (lived true config o e (stop_entry now given pl) l).phase ≡ Off
-unfolding lived after seen closes kept
-stop_off config o e now given pl l q = rw q (go (stopped o))
+stop_off : (config : Config) (o : List Entry) (e now : ℕ) (given : List (ℕ × Answer)) (pl : Option ℕ) (l : Life) → l.phase ≡ Off → (after (visit_from config o e (stop_entry now given pl) l)).phase ≡ Off
+unfolding after seen closes kept
+stop_off config o e now given pl l q = rw cell (settled_off _ _ _)
   where
-    k : List Entry
-    k = first_part (stop_entry now given pl) ∷ o
+    both : (b : Bool) → or_closing now (if b then nothing else tells_stopped).close (if b then Off else Off) ≡ Off
+    both true = refl
+    both false = refl
 
-    g : List (ℕ × Entry)
-    g = (length o, stop_entry now given pl) ∷ l.generation
-
-    go : (b : Bool) → (begins (ends Off Stop (if b then Off else Off) (members k g)) config k e now (limit_of config e now) g (if b then Off else Off)).phase ≡ Off
-    go true = settled_off _ _ _
-    go false = settled_off _ _ _
+    cell : phase_by_table (visit_from config o e (stop_entry now given pl) l) ≡ Off
+    cell = rw q (both (stopped o))
 
 quiet_step : (config : Config) (o : List Entry) (x : Entry) (e : ℕ) → concerns o e x ≡ is_stop x.call → IsQuiet o (life config o e) → IsQuiet (x ∷ o) (life config (x ∷ o) e)
 unfolding life lived
@@ -106,19 +99,19 @@ quiet_step config o x e c ih = go x.call refl
     is_stopping Stop q = refl
     is_stopping call q = absurd (true≢false (sym q))
 
-    kept_quiet : (b : Bool) → is_stop x.call ≡ b → IsQuiet (x ∷ o) (lived b config o e x (life config o e))
+    kept_quiet : (b : Bool) → is_stop x.call ≡ b → IsQuiet (x ∷ o) (if_concerned b (visit config o e x))
     kept_quiet true q = inr (elim ih [
-      | inl new ↦ ap (λ z. (lived true config o e z (life config o e)).phase) (sym (stops (is_stopping x.call q))) ∙ ap (λ (l : Life). (lived true config o e (stop_entry x.moment x.answers x.place) l).phase) (new.0) ∙ first_stop config o e x.moment x.answers x.place (new.1)
-      | inr off ↦ ap (λ z. (lived true config o e z (life config o e)).phase) (sym (stops (is_stopping x.call q))) ∙ stop_off config o e x.moment x.answers x.place (life config o e) off
+      | inl new ↦ ap (λ z. (after (visit config o e z)).phase) (sym (stops (is_stopping x.call q))) ∙ ap (λ (l : Life). (after (visit_from config o e (stop_entry x.moment x.answers x.place) l)).phase) (new.0) ∙ first_stop config o e x.moment x.answers x.place (new.1)
+      | inr off ↦ ap (λ z. (after (visit config o e z)).phase) (sym (stops (is_stopping x.call q))) ∙ stop_off config o e x.moment x.answers x.place (life config o e) off
     ])
     kept_quiet false q = stays ih
       where
-        stays : IsQuiet o (life config o e) → IsQuiet (x ∷ o) (lived false config o e x (life config o e))
+        stays : IsQuiet o (life config o e) → IsQuiet (x ∷ o) ((life config o e))
         stays (inl new) = inl (new.0, rw q (new.1))
         stays (inr off) = inr (off)
 
-    go : (call : Call) → x.call ≡ call → IsQuiet (x ∷ o) (lived (concerns o e x) config o e x (life config o e))
-    go call r = subst (λ b. IsQuiet (x ∷ o) (lived b config o e x (life config o e))) (sym c) (kept_quiet (is_stop x.call) refl)
+    go : (call : Call) → x.call ≡ call → IsQuiet (x ∷ o) (if_concerned (concerns o e x) (visit config o e x))
+    go call r = subst (λ b. IsQuiet (x ∷ o) (if_concerned b (visit config o e x))) (sym c) (kept_quiet (is_stop x.call) refl)
 
 quiet : (config : Config) (h : List Entry) (f e : ℕ) → IsLegal config h → (function_of config e == f) ≡ false → IsQuiet (own config h f) (life config (own config h f) e)
 unfolding own life

@@ -8,23 +8,24 @@ use Rattle.call_model.specs.declared.call.Call.TheVariants.{Invoke, RuntimeNext,
 use Rattle.call_model.specs.declared.call.Entry.{Entry}
 use Rattle.arn_ids.specs.declared.config.Config.{Config}
 use Rattle.arn_ids.specs.Environments.{function_of}
-use Rattle.call_model.specs.History.{answer_in, answer_of, call_of, env_of, is_poll_at, is_expiry, is_stop, stopped, requests, upto, is_invoke_of, or_else, with_tickets}
+use Rattle.call_model.specs.History.{answer_in, answer_of, call_of, env_of, poll_env, is_expiry, is_stop, stopped, requests, upto, is_invoke_of, or_else, with_tickets}
 use Rattle.call_model.specs.Stand.{is_number, at_hand}
-use Rattle.call_model.specs.Life.{names, first_part, is_second, events_in, is_event, Life, life, phase, stand, seen, lived, after, begins, ends, concerns, limit_of, request_at, registrations, events}
+use Rattle.call_model.specs.Life.{names, first_part, is_second, events_in, is_event, Life, life, Visit, history_with, limit, phase_by_table, ends_here, phase, stand, seen, lived, after, concerns, limit_of, request_at, registrations, events}
 use Rattle.call_model.specs.Answers.{answers, with_answer, each_from, numbered, first_entry, answer_to}
 use Rattle.call_model.specs.Limits.{place_for}
 use Rattle.call_model.specs.Next.{IsLegal, Follows}
-use Rattle.call_model.specs.Own.{own, own_entry, own_ticket, is_own, of_function, is_poll}
+use Rattle.call_model.specs.Own.{own, own_entry, own_ticket, is_own, of_function}
 use Rattle.call_model.proofs.Pairs.{eqb-other}
 use Rattle.call_model.proofs.Once.{fresh}
 use Rattle.call_model.proofs.OwnTickets.{own_length, own_call, filtered, foreign_silent, own_past, own_answer_of, foreign, own_home, own_old}
-use Rattle.call_model.proofs.TwinHistories.{IsTwin, IsAlike, IsMine, IsSameLife, lived_alike, parked_alike, members_alike}
+use Rattle.call_model.proofs.TwinHistories.{IsTwin, IsAlike, IsMine, IsSameLife, after_alike, parked_alike, members_alike}
 use Rattle.call_model.proofs.Basics.{eqb-self, count_cons, some-none}
 use Rattle.call_model.specs.declared.answer.Phase.{Phase}
 use Rattle.call_model.specs.Generation.{TheRuntime}
 use Rattle.call_model.specs.Table.{after_cell, kept, closes, is_registered}
 use Rattle.call_model.proofs.AtHand.{from_kept, from_closing, from_after}
 use Rattle.call_model.proofs.Elsewhere.{life_elsewhere}
+use Rattle.call_model.proofs.Visits.{visit, visit_from, if_concerned, if_ended}
 
 -- the answers are to tickets up to n
 abbrev pub IsWithin : ℕ → List (ℕ × Answer) → Type 0
@@ -151,21 +152,21 @@ own_first_same config h entry f P t w a k =
     ∙ own_same config h (first_part entry) f P t (filter_within (length h) (λ c. not (is_second c.1)) entry.answers w) a k
 
 -- the function's polls are its tickets
-poll_own : (config : Config) (h : List Entry) (f t : ℕ) → of_function config f (is_poll (call_of h t)) ≡ true → own_ticket config h f t ≡ true
+poll_own : (config : Config) (h : List Entry) (f t : ℕ) → of_function config f (poll_env (call_of h t)) ≡ true → own_ticket config h f t ≡ true
 poll_own config [] f t q = q
 poll_own config (entry ∷ h) f t q = go (t == length h) (poll_own config h f t) q
   where
-    by_call : (call : Call) → of_function config f (is_poll call) ≡ true → is_own config h f call ≡ true
+    by_call : (call : Call) → of_function config f (poll_env call) ≡ true → is_own config h f call ≡ true
     by_call (RuntimeNext d) p = p
     by_call (ExtNext d x) p = p
     by_call call p = absurd (true≢false (sym p))
 
-    go : (b : Bool) → (of_function config f (is_poll (call_of h t)) ≡ true → own_ticket config h f t ≡ true) → of_function config f (is_poll (if b then entry.call else call_of h t)) ≡ true → (if b then is_own config h f entry.call else own_ticket config h f t) ≡ true
+    go : (b : Bool) → (of_function config f (poll_env (call_of h t)) ≡ true → own_ticket config h f t ≡ true) → of_function config f (poll_env (if b then entry.call else call_of h t)) ≡ true → (if b then is_own config h f entry.call else own_ticket config h f t) ≡ true
     go true ih p = by_call entry.call p
     go false ih p = ih p
 
 pub own_names : (config : Config) (h : List Entry) (f e : ℕ) (call : Call) → is_own config h f call ≡ true → names (own config h f) e call ≡ names h e call
-own_names config h f e (Withdraw t) q = ap (is_poll_at e) (own_call config h f t (poll_own config h f t q))
+own_names config h f e (Withdraw t) q = ap (λ (call : Call). is_number (poll_env call) e) (own_call config h f t (poll_own config h f t q))
 own_names config h f e call q = refl
 
 -- the counts of requests
@@ -337,19 +338,16 @@ seen_same config f e P o h l m at w a mine asked registered told = λ i. record 
     request : request_at config o e (at_hand l.phase) ≡ request_at config h e (at_hand m.phase)
     request = ap (λ (x : Phase). request_at config o e (at_hand x)) (a.0) ∙ go (at_hand m.phase) mine
 
-lived_mine : (config : Config) (P : ℕ → Bool) (h : List Entry) (e : ℕ) (y : Entry) (m : Life) → IsMine P (after_cell y.moment (limit_of config e y.moment) (length h) (seen config h e m) y.call) → IsMine P (lived true config h e y m).phase
-unfolding lived after
-lived_mine config P h e y m mine p q = mine p (go (ends m.phase y.call cell (Rattle.call_model.specs.Generation.members (first_part y ∷ h) g)) q)
+after_mine : (config : Config) (P : ℕ → Bool) (h : List Entry) (e : ℕ) (y : Entry) (m : Life) → IsMine P (phase_by_table (visit_from config h e y m)) → IsMine P (after (visit_from config h e y m)).phase
+unfolding after
+after_mine config P h e y m mine p q = mine p (go (ends_here v) q)
   where
-    cell : Phase
-    cell = after_cell y.moment (limit_of config e y.moment) (length h) (seen config h e m) y.call
+    v : Visit
+    v = visit_from config h e y m
 
-    g : List (ℕ × Entry)
-    g = (length h, y) ∷ m.generation
-
-    go : (b : Bool) → at_hand (begins b config (first_part y ∷ h) e y.moment (limit_of config e y.moment) g cell).phase ≡ Some p → at_hand cell ≡ Some p
-    go true r = from_after true (stopped (first_part y ∷ h)) true true y.moment (limit_of config e y.moment) cell p r
-    go false r = from_after false true _ _ y.moment (limit_of config e y.moment) cell p r
+    go : (b : Bool) → at_hand (if_ended b v).phase ≡ Some p → at_hand (phase_by_table v) ≡ Some p
+    go true r = from_after true (stopped (history_with v)) true true y.moment (limit v) (phase_by_table v) p r
+    go false r = from_after false true _ _ y.moment (limit v) (phase_by_table v) p r
 
 -- the function's own history has an environment live as the whole one
 abbrev pub IsSame : Config → (ℕ → Bool) → List Entry → List Entry → ℕ → Type 0
@@ -373,13 +371,13 @@ same_step config h entry f e P l fit w agrees stands ih =
       | inr old ↦ ih.1 p old
     ]
 
-    lives : IsSameLife P (lived true config (own config h f) e x (life config (own config h f) e)) (lived true config h e entry (life config h e))
-    lives = lived_alike config P (own config h f) h e x entry (life config (own config h f) e) (life config h e) refl refl stands (twin_own config h f P l (agrees_older config entry h f P agrees))
+    lives : IsSameLife P (after (visit config (own config h f) e x)) (after (visit config h e entry))
+    lives = after_alike config P (own config h f) h e x entry (life config (own config h f) e) (life config h e) refl refl stands (twin_own config h f P l (agrees_older config entry h f P agrees))
         (twin_cons config h f P (first_part x) (first_part entry) l (agrees_older config entry h f P agrees) refl (λ t k. own_first_same config h entry f P t (fit.within) agrees k))
         (alike, ih.0.1) (ih.0.0) mine
 
-    go : (b c : Bool) → b ≡ c → IsSameLife P (lived b config (own config h f) e x (life config (own config h f) e)) (lived c config h e entry (life config h e)) × IsMine P (lived c config h e entry (life config h e)).phase
-    go true true q = (lives, lived_mine config P h e entry (life config h e) mine)
+    go : (b c : Bool) → b ≡ c → IsSameLife P (if_concerned b (visit config (own config h f) e x)) (if_concerned c (visit config h e entry)) × IsMine P (if_concerned c (visit config h e entry)).phase
+    go true true q = (lives, after_mine config P h e entry (life config h e) mine)
     go false false q = ih
     go true false q = absurd (true≢false q)
     go false true q = absurd (true≢false (sym q))

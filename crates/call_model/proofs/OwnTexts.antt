@@ -1,5 +1,5 @@
 -- The tickets that an answer's text is made of are the function's own.
-use Rattle.std.proofs.Common.{◌≡◌, ℕ, suc, ◌+◌, ◌<◌, Bool, true, false, List, [], ◌∷◌, length, Option, Some, None, sym, refl, ap, ◌∙◌, subst, arith, is_some, not, ◌&&◌, ◌==◌, true≢false, if◌then◌else◌}
+use Rattle.std.proofs.Common.{◌≡◌, ℕ, suc, ◌+◌, ◌<◌, Bool, true, false, List, [], ◌∷◌, length, Option, Some, None, sym, refl, ap, ◌∙◌, subst, arith, not, ◌&&◌, ◌==◌, true≢false, if◌then◌else◌}
 use Rattle.std.proofs.lemmas.Bool.{eqb-true}
 use Rattle.call_model.specs.declared.answer.Answer.{Answer}
 use Rattle.call_model.specs.declared.answer.Answer.TheVariants.{Done, Accepted, Ending, TimedOut, InitTimedOut, Stopped, Output, Error, OutputTooLarge, Delivered, Told, Withdrawn}
@@ -11,12 +11,12 @@ use Rattle.arn_ids.specs.declared.config.Config.{Config}
 use Rattle.arn_ids.specs.Environments.{function_of}
 use Rattle.call_model.specs.History.{answer_in, answer_of, call_of, place_of, env_of, requests, stopped, upto, or_else}
 use Rattle.call_model.specs.Generation.{TheRuntime, Member}
-use Rattle.call_model.specs.Stand.{Stand, is_number, at_hand, role, Role, NoRole, Waiting, RuntimePoll, ExtensionPoll}
-use Rattle.call_model.specs.Table.{closes, by_phase, own_answer, if_known, if_open, refused, to_waiting, timed_out, next_in_closing, register}
+use Rattle.call_model.specs.Stand.{Stand, at_hand, role, Role, NoRole, Waiting, RuntimePoll, ExtensionPoll}
+use Rattle.call_model.specs.Table.{closes, own_answer, refused, to_waiting}
 use Rattle.call_model.specs.Life.{phase, stand, names}
 use Rattle.call_model.specs.Answers.{answers, each_from, answer_to, home, first_answer, first_answers, second_answer, second_at, own_first, other_answer, answer_at, verdict_answer, reserve_answer, with_event}
 use Rattle.call_model.specs.Limits.{verdict, Verdict, Admits, AfterStop, Refuses}
-use Rattle.call_model.specs.declared.answer.Phase.TheVariants.{Starting, Idle, Busy, Closing, Off}
+use Rattle.call_model.specs.declared.answer.Phase.TheVariants.{Busy}
 use Rattle.call_model.specs.declared.answer.Refusal.TheVariants.{Container, Replaced}
 use Rattle.call_model.specs.declared.answer.Reason.{Reason}
 use Rattle.call_model.specs.Polls.{by_role, delivered, begun, at_close, replaced}
@@ -30,6 +30,7 @@ use Rattle.call_model.specs.Own.{own, own_ticket, is_own}
 use Rattle.call_model.proofs.Once.{fresh}
 use Rattle.call_model.proofs.OwnTickets.{own_call, own_answer_of, own_home, own_old}
 use Rattle.call_model.proofs.Basics.{eqb-self, some-none}
+use Rattle.call_model.proofs.Cells.{own_values, waiting_values}
 
 abbrev pub names_of : Option Answer → Option ℕ
 names_of a = seen_by named None a
@@ -41,57 +42,9 @@ mute_if : (b : Bool) (x y : Option Answer) → IsMute x → IsMute y → IsMute 
 mute_if true x y p q = p
 mute_if false x y p q = q
 
-mute_known : (b : Bool) (x : Option Answer) → IsMute x → IsMute (if_known b x)
-mute_known true x p = p
-mute_known false x p = refl
-
-mute_open : (b : Bool) (a : Answer) → named a ≡ None → IsMute (if_open b a)
-mute_open true a p = p
-mute_open false a p = refl
-
-mute_phase : (a b c d e g : Option Answer) (s : Stand) (P : Phase) → IsMute a → IsMute b → IsMute c → IsMute d → IsMute e → IsMute g → IsMute (by_phase a b c d e g s P)
-mute_phase a b c d e g s (Starting x y) p q r t u v = p
-mute_phase a b c d e g s Idle p q r t u v = q
-mute_phase a b c d e g s (Busy x y) p q r t u v = mute_if (is_some s.request) c d r t
-mute_phase a b c d e g s (Closing x y z) p q r t u v = u
-mute_phase a b c d e g s Off p q r t u v = v
-
-mute_closing : (x : Option Member) (P : Phase) → IsMute (next_in_closing x P)
-mute_closing (Some x) (Closing reason until bound) = mute_if (Rattle.call_model.specs.Generation.hears_end x && not x.told) (Some (Ending reason until 0)) (refused Container) refl refl
-mute_closing None P = refl
-mute_closing (Some x) (Starting d b) = refl
-mute_closing (Some x) Idle = refl
-mute_closing (Some x) (Busy p d) = refl
-mute_closing (Some x) Off = refl
-
-mute_register : (s : Stand) (name : List ℕ) → named (register s name) ≡ None
-mute_register s name = go _ _
-  where
-    go : (a b : Bool) → named (if a then Rattle.call_model.specs.declared.answer.Answer.TheVariants.Refused Rattle.call_model.specs.declared.answer.Refusal.TheVariants.NameInUse
-        else if b then Rattle.call_model.specs.declared.answer.Answer.TheVariants.Refused Rattle.call_model.specs.declared.answer.Refusal.TheVariants.TooMany else Rattle.call_model.specs.declared.answer.Answer.TheVariants.Registered (suc s.registrations)) ≡ None
-    go true b = refl
-    go false true = refl
-    go false false = refl
-
 -- the own answer of a call on an environment is made of no other call
 mute_own : (s : Stand) (call : Call) → IsMute (own_answer s call)
-unfolding own_answer
-mute_own s (RuntimeNext e) = mute_phase _ _ _ _ _ _ s s.phase refl refl refl refl refl refl
-mute_own s (Response e id body) = mute_phase _ _ _ _ _ _ s s.phase refl refl (mute_open (is_number s.request id) Accepted refl) refl refl refl
-mute_own s (ResponseTooLarge e id) = mute_phase _ _ _ _ _ _ s s.phase refl refl (mute_open (is_number s.request id) (Rattle.call_model.specs.declared.answer.Answer.TheVariants.Refused Rattle.call_model.specs.declared.answer.Refusal.TheVariants.TooLarge) refl) refl refl refl
-mute_own s (Failure e id body) = mute_phase _ _ _ _ _ _ s s.phase refl refl (mute_open (is_number s.request id) Accepted refl) refl refl refl
-mute_own s (InitFailure e body) = mute_phase _ _ _ _ _ _ s s.phase refl refl refl refl refl refl
-mute_own s (Register e name invoke shutdown account) = mute_phase _ _ _ _ _ _ s s.phase (mute_register s name) refl refl refl refl refl
-mute_own s (ExtNext e x) = mute_phase _ _ _ _ _ _ s s.phase (mute_known (Rattle.call_model.specs.Stand.is_known s x) (None) refl) (mute_known (Rattle.call_model.specs.Stand.is_known s x) (None) refl) (mute_known (Rattle.call_model.specs.Stand.is_known s x) (None) refl) (mute_known (Rattle.call_model.specs.Stand.is_known s x) (None) refl) (mute_known (Rattle.call_model.specs.Stand.is_known s x) (next_in_closing (Rattle.std.specs.List.find (Rattle.call_model.specs.Generation.has_count x) s.members) s.phase) (mute_closing (Rattle.std.specs.List.find (Rattle.call_model.specs.Generation.has_count x) s.members) s.phase)) refl
-mute_own s (ExtInitFailure e x body) = mute_phase _ _ _ _ _ _ s s.phase (mute_known (Rattle.call_model.specs.Stand.is_known s x) (Some Accepted) refl) (mute_known (Rattle.call_model.specs.Stand.is_known s x) (refused Rattle.call_model.specs.declared.answer.Refusal.TheVariants.State) refl) (mute_known (Rattle.call_model.specs.Stand.is_known s x) (refused Rattle.call_model.specs.declared.answer.Refusal.TheVariants.State) refl) (mute_known (Rattle.call_model.specs.Stand.is_known s x) (refused Rattle.call_model.specs.declared.answer.Refusal.TheVariants.State) refl) (mute_known (Rattle.call_model.specs.Stand.is_known s x) (refused Rattle.call_model.specs.declared.answer.Refusal.TheVariants.State) refl) refl
-mute_own s (ExtExitFailure e x body) = mute_phase _ _ _ _ _ _ s s.phase (mute_known (Rattle.call_model.specs.Stand.is_known s x) (Some Accepted) refl) (mute_known (Rattle.call_model.specs.Stand.is_known s x) (Some Accepted) refl) (mute_known (Rattle.call_model.specs.Stand.is_known s x) (Some Accepted) refl) (mute_known (Rattle.call_model.specs.Stand.is_known s x) (Some Accepted) refl) (mute_known (Rattle.call_model.specs.Stand.is_known s x) (Some Accepted) refl) refl
-mute_own s (Spindown e) = mute_phase _ _ _ _ _ _ s s.phase refl refl refl refl refl refl
-mute_own s (Invoke f qualified trace body) = refl
-mute_own s Tick = refl
-mute_own s (Withdraw t) = refl
-mute_own s Stop = refl
-mute_own s (Expire e) = refl
-mute_own s (Reserve f count) = refl
+mute_own s call = own_values IsMute s refl refl (λ kind. refl) refl (λ reason until. refl) call
 
 mute_verdict : (v : Verdict) → IsMute (verdict_answer v)
 mute_verdict AfterStop = refl
@@ -136,38 +89,12 @@ IsOf n a = (p : ℕ) → names_of a ≡ Some p → n ≡ p
 of_mute : (n : ℕ) (a : Option Answer) → IsMute a → IsOf n a
 of_mute n a m p q = absurd (some-none (sym q ∙ m))
 
-of_if : (n : ℕ) (b : Bool) (a : Answer) → IsOf n (Some a) → IsOf n (if b then Some a else None)
-of_if n true a k = k
-of_if n false a k = of_mute n None refl
-
 of_self : (n p : ℕ) → Some n ≡ Some p → n ≡ p
 of_self n p q = cc
 
-mute_timed : (P : Phase) → named (timed_out P) ≡ None
-mute_timed (Starting d b) = refl
-mute_timed Idle = refl
-mute_timed (Busy p d) = refl
-mute_timed (Closing reason until b) = refl
-mute_timed Off = refl
-
 of_waiting : (n : ℕ) (s : Stand) (call : Call) → IsOf n (to_waiting n s call)
-unfolding to_waiting
-of_waiting n s (Response e id body) = of_if n _ (Output n) (λ p q. of_self n p q)
-of_waiting n s (ResponseTooLarge e id) = of_if n _ OutputTooLarge (of_mute n (Some OutputTooLarge) refl)
-of_waiting n s (Failure e id body) = of_if n _ (Error n) (λ p q. of_self n p q)
-of_waiting n s (InitFailure e body) = of_if n _ (Error n) (λ p q. of_self n p q)
-of_waiting n s (ExtInitFailure e x body) = of_if n _ (Error n) (λ p q. of_self n p q)
-of_waiting n s (ExtExitFailure e x body) = of_if n _ (Error n) (λ p q. of_self n p q)
-of_waiting n s (Expire e) = of_if n _ (timed_out s.phase) (of_mute n (Some (timed_out s.phase)) (mute_timed s.phase))
-of_waiting n s Stop = of_mute n (if s.stopped then None else Some Stopped) (mute_if s.stopped None (Some Stopped) refl refl)
-of_waiting n s (Invoke f qualified trace body) = of_mute n None refl
-of_waiting n s (RuntimeNext e) = of_mute n None refl
-of_waiting n s (Register e name invoke shutdown account) = of_mute n None refl
-of_waiting n s (ExtNext e x) = of_mute n None refl
-of_waiting n s Tick = of_mute n None refl
-of_waiting n s (Withdraw t) = of_mute n None refl
-of_waiting n s (Spindown e) = of_mute n None refl
-of_waiting n s (Reserve f count) = of_mute n None refl
+of_waiting n s call =
+    waiting_values (IsOf n) n s (of_mute n None refl) (λ p q. of_self n p q) (of_mute n (Some OutputTooLarge) refl) (λ p q. of_self n p q) (of_mute n (Some InitTimedOut) refl) (of_mute n (Some TimedOut) refl) (of_mute n (Some Stopped) refl) call
 
 mute_or : (a b : Option Answer) → IsMute a → IsMute b → IsMute (or_else a b)
 mute_or None b p q = q

@@ -7,12 +7,12 @@ use Rattle.call_model.specs.declared.call.Call.{Call}
 use Rattle.call_model.specs.declared.call.Entry.{Entry}
 use Rattle.arn_ids.specs.declared.config.Config.{Config}
 use Rattle.arn_ids.specs.Environments.{function_of, environments}
-use Rattle.call_model.specs.History.{answer_in, call_of, answer_of, pending, place_of, env_of, is_poll_at, stopped, or_else}
+use Rattle.call_model.specs.History.{answer_in, call_of, answer_of, pending, place_of, env_of, poll_env, stopped, or_else}
 use Rattle.call_model.specs.Life.{phase, concerns, names}
 use Rattle.call_model.specs.Stand.{is_number, is_idle}
 use Rattle.call_model.specs.Answers.{answers, home}
 use Rattle.call_model.specs.Next.{Follows, IsLegal}
-use Rattle.call_model.specs.Own.{own, own_entry, own_ticket, is_own, of_function, is_poll}
+use Rattle.call_model.specs.Own.{own, own_entry, own_ticket, is_own, of_function}
 use Rattle.call_model.proofs.Pairs.{eqb-other}
 use Rattle.call_model.proofs.Once.{fresh, answers_past}
 use Rattle.call_model.proofs.Basics.{and_left, number_some, some-none}
@@ -139,14 +139,9 @@ foreign config h entry f w k e at = no_either (is_number entry.place e) (names h
     no_env None p = refl
     no_env (Some d) p = eqb-other d e (λ same. true≢false (sym is_theirs ∙ ap (λ (n : ℕ). function_of config n == f) (sym same) ∙ p))
 
-    poll_number : (call : Call) → is_poll_at e call ≡ is_number (is_poll call) e
-    poll_number (RuntimeNext d) = refl
-    poll_number (ExtNext d x) = refl
-    poll_number call = refl
-
     not_named : (call : Call) → is_own config h f call ≡ false → names h e call ≡ false
     not_named Stop p = absurd (true≢false p)
-    not_named (Withdraw t) p = poll_number (call_of h t) ∙ no_env (is_poll (call_of h t)) p
+    not_named (Withdraw t) p = no_env (poll_env (call_of h t)) p
     not_named (Invoke g qualified trace body) p = refl
     not_named Tick p = refl
     not_named (Reserve g count) p = refl

@@ -10,8 +10,8 @@ use Rattle.arn_ids.specs.declared.config.Config.{Config}
 use Rattle.call_model.specs.History.{pending, call_of, env_of, or_else, answer_in}
 use Rattle.call_model.specs.Generation.{Generation, Extension, Actor, TheRuntime, TheExtension, Member, parked, if_pending, last_next, asks, extensions, member, members, hears_end, has_count, as_registered, reports_exit}
 use Rattle.call_model.specs.Stand.{is_number, role, ExtensionPoll, Stand, is_known, is_closing, RuntimePoll}
-use Rattle.call_model.specs.Table.{after_cell, own_answer, by_phase, if_known, next_in_closing, is_registered, closes, kept, or_closing, placed, clock_started, unbound, settled}
-use Rattle.call_model.specs.Life.{life, stand, seen, concerns, names, limit_of, lived, after, begins, ends, first_part, Life, phase}
+use Rattle.call_model.specs.Table.{after_cell, own_answer, next_in_closing, is_registered, closes, kept, or_closing, placed, clock_started, unbound, settled, Cell, row, told_once, container, unknown, parks as parks_cell}
+use Rattle.call_model.specs.Life.{life, stand, seen, concerns, names, limit_of, lived, after, Life, phase, ends_here}
 use Rattle.call_model.specs.Limits.{place_for}
 use Rattle.call_model.specs.Answers.{home, first_answer, first_entry, second_answer, own_first}
 use Rattle.call_model.specs.Next.{IsLegal, Follows}
@@ -29,6 +29,8 @@ use Rattle.call_model.specs.Laws.{poll_of, is_open}
 use Rattle.call_model.proofs.Once.{answers_at, pending_cons, none_given}
 use Rattle.call_model.proofs.Scans.{generation_below, last_below}
 use Rattle.call_model.proofs.Elsewhere.{life_elsewhere}
+use Rattle.call_model.proofs.Visits.{visit, if_concerned, if_ended}
+use Rattle.call_model.proofs.Cells.{in_row, of_row, next_closes, ext_next_closes}
 
 -- each Next of a generation is one at the environment
 abbrev pub AreHome : List Entry → ℕ → Generation → Type 0
@@ -57,12 +59,6 @@ unfolding life lived after
 nexts_home config [] e l = tt
 nexts_home config (entry ∷ h) e l = go (concerns h e entry) refl (home_older entry h e (life config h e).generation (generation_part config h e) (nexts_home config h e l.0))
   where
-    g : Generation
-    g = (length h, entry) ∷ (life config h e).generation
-
-    cell : Phase
-    cell = after_cell entry.moment (limit_of config e entry.moment) (length h) (seen config h e (life config h e)) entry.call
-
     no_place : (o : Option ℕ) → o ≡ None → (is_number o e || names h e entry.call) ≡ true → names h e entry.call ≡ true
     no_place None q c = c
     no_place (Some d) q c = absurd (some-none q)
@@ -76,13 +72,13 @@ nexts_home config (entry ∷ h) e l = go (concerns h e entry) refl (home_older e
         let none : entry.place ≡ None = l.1.place ∙ asks_place config h entry.call actor a in
         rw (eqb-self (length h)) (or_none entry.place none ∙ asks_env h e entry.call actor a (no_place entry.place none c))
 
-    at_end : (b : Bool) → concerns h e entry ≡ true → AreHome (entry ∷ h) e (life config h e).generation → AreHome (entry ∷ h) e (begins b config (first_part entry ∷ h) e entry.moment (limit_of config e entry.moment) g cell).generation
+    at_end : (b : Bool) → concerns h e entry ≡ true → AreHome (entry ∷ h) e (life config h e).generation → AreHome (entry ∷ h) e (if_ended b (visit config h e entry)).generation
     at_end true c k = tt
     at_end false c k = (new c, k)
 
-    go : (b : Bool) → concerns h e entry ≡ b → AreHome (entry ∷ h) e (life config h e).generation → AreHome (entry ∷ h) e (lived b config h e entry (life config h e)).generation
+    go : (b : Bool) → concerns h e entry ≡ b → AreHome (entry ∷ h) e (life config h e).generation → AreHome (entry ∷ h) e (if_concerned b (visit config h e entry)).generation
     go false c k = k
-    go true c k = at_end (ends (life config h e).phase entry.call cell (members (first_part entry ∷ h) g)) c k
+    go true c k = at_end (ends_here (visit config h e entry)) c k
 
 last_home : (h : List Entry) (e : ℕ) (g : Generation) (actor : Actor) (t : ℕ) → AreHome h e g → last_next g actor ≡ Some t → home h t ≡ Some e
 last_home h e [] actor t o q = absurd (some-none (sym q))
@@ -217,8 +213,8 @@ pub open_step : (config : Config) (h : List Entry) (entry : Entry) (e : ℕ) →
 unfolding life lived after seen
 open_step config h entry e c o k =
     let p : is_open cell ≡ true = ap (λ (r : Option Reason). is_open (or_closing entry.moment r (kept entry.moment (limit_of config e entry.moment) (length h) (stand config h e) entry.call))) k ∙ on_kept entry.moment (limit_of config e entry.moment) (length h) (stand config h e) entry.call o in
-    subst (λ (b : Bool). IsGoing g (lived b config h e entry (life config h e))) (sym c)
-    (subst (λ (b : Bool). IsGoing g (begins b config (first_part entry ∷ h) e entry.moment (limit_of config e entry.moment) g cell)) (sym (no_end (is_closing cell) _ (open_stays cell p))) (on_settled (limit_of config e entry.moment) _ _ cell p, refl))
+    subst (λ (b : Bool). IsGoing g (if_concerned b (visit config h e entry))) (sym c)
+    (subst (λ (b : Bool). IsGoing g (if_ended b (visit config h e entry))) (sym (no_end (is_closing cell) _ (open_stays cell p))) (on_settled (limit_of config e entry.moment) _ _ cell p, refl))
   where
     g : Generation
     g = (length h, entry) ∷ (life config h e).generation
@@ -255,18 +251,11 @@ known_member h g x (y ∷ ys) = ap (λ (b : Bool). (y.count == x) || b) (known_m
 -- a Next that parks finds its environment open, and its actor there
 runtime_parks : (s : Stand) (e : ℕ) → own_answer s (RuntimeNext e) ≡ None → is_open s.phase ≡ true
 unfolding own_answer
-runtime_parks s e q = go s.phase q
-  where
-    go : (P : Phase) → by_phase None None (Some (Refused Rattle.call_model.specs.declared.answer.Refusal.TheVariants.State)) None (Some (Refused Container)) (Some (Refused Container)) s P ≡ None → is_open P ≡ true
-    go (Starting d b) r = refl
-    go Idle r = refl
-    go (Busy p d) r = refl
-    go (Closing reason until b) r = absurd (some-none r)
-    go Off r = absurd (some-none r)
+runtime_parks s e q = in_row (λ P (cell : Cell). cell.own ≡ None → is_open P ≡ true) s _ _ _ _ _ _ (λ d b r. refl) (λ r. refl) (λ p d r. refl) (λ p d r. refl) (λ reason until b r. absurd (some-none r)) (λ r. absurd (some-none r)) q
 
 extension_parks : (s : Stand) (e x : ℕ) → own_answer s (ExtNext e x) ≡ None → (is_open s.phase ≡ true) × (is_known s x ≡ true)
 unfolding own_answer
-extension_parks s e x q = go s.phase (is_known s x) refl q
+extension_parks s e x q = go (is_known s x) refl q
   where
     closing : (o : Option Member) (P : Phase) → next_in_closing o P ≡ None → ⊥
     closing (Some y) (Closing reason until b) r = two (hears_end y && not y.told) r
@@ -277,26 +266,12 @@ extension_parks s e x q = go s.phase (is_known s x) refl q
     closing None P r = some-none r
     closing (Some y) P r = some-none r
 
-    busy : (c b : Bool) → (if c then if_known b None else if_known b None) ≡ None → b ≡ true
-    busy true true r = refl
-    busy false true r = refl
-    busy true false r = absurd (some-none r)
-    busy false false r = absurd (some-none r)
-
-    open_known : (b : Bool) → if_known b None ≡ None → b ≡ true
-    open_known true r = refl
-    open_known false r = absurd (some-none r)
-
-    shut : (b : Bool) (P : Phase) → if_known b (next_in_closing (find (has_count x) s.members) P) ≡ None → ⊥
-    shut true P r = closing (find (has_count x) s.members) P r
-    shut false P r = some-none r
-
-    go : (P : Phase) (b : Bool) → is_known s x ≡ b → by_phase (if_known b None) (if_known b None) (if_known b None) (if_known b None) (if_known b (next_in_closing (find (has_count x) s.members) s.phase)) (Some (Refused Container)) s P ≡ None → (is_open P ≡ true) × (is_known s x ≡ true)
-    go (Starting d u) b k r = (refl, k ∙ open_known b r)
-    go Idle b k r = (refl, k ∙ open_known b r)
-    go (Busy p d) b k r = (refl, k ∙ busy (is_some s.request) b r)
-    go (Closing reason until u) b k r = absurd (shut b s.phase r)
-    go Off b k r = absurd (some-none r)
+    go : (b : Bool) → is_known s x ≡ b → (if b then row s parks_cell parks_cell parks_cell parks_cell (told_once s x) container else row s unknown unknown unknown unknown unknown container).own ≡ None → (is_open s.phase ≡ true) × (is_known s x ≡ true)
+    go true k r = (
+      in_row (λ P (cell : Cell). cell.own ≡ None → is_open P ≡ true) s _ _ _ _ _ _ (λ d b w. refl) (λ w. refl) (λ p d w. refl) (λ p d w. refl) (λ reason until b w. absurd (closing (find (has_count x) s.members) s.phase w)) (λ w. absurd (some-none w)) r,
+      k,
+    )
+    go false k r = absurd (of_row (λ (cell : Cell). cell.own ≡ None → ⊥) s _ _ _ _ _ _ (λ w. some-none w) (λ w. some-none w) (λ w. some-none w) (λ w. some-none w) (λ w. some-none w) (λ w. some-none w) r)
 
 first_none : (config : Config) (h : List Entry) (entry : Entry) (t : ℕ) → Follows config h entry → t ≤ length h → answer_in entry.answers t ≡ None → first_answer config h entry.moment entry.call t ≡ None
 first_none config h entry t w le q = go (first_answer config h entry.moment entry.call t) (sym (answers_at config h entry.moment entry.call t le) ∙ ap is_some (ap (λ (xs : List (ℕ × Answer)). answer_in xs t) (sym (w.answers)) ∙ q))
@@ -399,10 +374,10 @@ record Parks (config : Config) (h : List Entry) (e : ℕ) (actor : Actor) (call 
   pub known : (x : ℕ) → actor ≡ TheExtension x → is_member (life config h e).generation x ≡ true
 
 parks : (config : Config) (h : List Entry) (e : ℕ) (actor : Actor) (call : Call) → poll_of call ≡ Some (e, actor) → own_first config h call ≡ None → Parks config h e actor call
-unfolding own_first closes seen members
+unfolding own_first seen members
 parks config h e actor (RuntimeNext d) q k = subst (λ (b : ℕ × Actor). Parks config h b.0 b.1 (RuntimeNext d)) (inner (d, TheRuntime) (e, actor) q) (record {
   opened = runtime_parks (stand config h d) d k;
-  quiet = refl;
+  quiet = next_closes (stand config h d) d;
   named = eqb-self d;
   known = λ x same. absurd (differ x same);
 })
@@ -414,7 +389,7 @@ parks config h e actor (RuntimeNext d) q k = subst (λ (b : ℕ × Actor). Parks
     differ x r = cc
 parks config h e actor (ExtNext d y) q k = subst (λ (b : ℕ × Actor). Parks config h b.0 b.1 (ExtNext d y)) (inner (d, TheExtension y) (e, actor) q) (record {
   opened = (extension_parks (stand config h d) d y k).0;
-  quiet = refl;
+  quiet = ext_next_closes (stand config h d) d y;
   named = eqb-self d;
   known = λ x same. ap (λ (n : ℕ). is_member (life config h d).generation n) (sym (same_count x same)) ∙ (sym (known_member h (life config h d).generation y (extensions (life config h d).generation)) ∙ (extension_parks (stand config h d) d y k).1);
 })

@@ -23,6 +23,7 @@ use Rattle.call_model.proofs.Extensions.{own_value, named_here, registrations_mo
 use Rattle.call_model.proofs.AnswerValues.{IsFirst, plain, plain_none, valued, entry_is_first, first_valued, early}
 use Rattle.call_model.proofs.PhaseAfter.{request_stage}
 use Rattle.call_model.proofs.Basics.{eqb-self, some-none}
+use Rattle.call_model.proofs.Cells.{stop_own}
 
 none_or : (a b : Option Answer) → is_none (or_else a b) ≡ (is_none a && is_none b)
 none_or None b = refl
@@ -131,7 +132,7 @@ unfolding own_answer
 no_own s (Invoke f qualified trace body) q = refl
 no_own s Tick q = refl
 no_own s (Withdraw t) q = refl
-no_own s Stop q = refl
+no_own s Stop q = stop_own s
 no_own s (Reserve f count) q = refl
 no_own s call q = absurd (some-none q)
 

@@ -14,7 +14,7 @@ use Rattle.call_model.specs.Generation.{Generation, Member, TheRuntime, parked, 
 use Rattle.call_model.specs.Stand.{Stand, is_closing, is_number, at_hand, bound_of, role, Waiting}
 use Rattle.call_model.specs.Table.{reborn, settled, to_waiting, closes, kept}
 use Rattle.call_model.specs.Polls.{by_role}
-use Rattle.call_model.specs.Life.{life, lived, after, begins, phase, stand, seen, concerns, names, limit_of, first_part, request_at}
+use Rattle.call_model.specs.Life.{life, lived, after, phase, stand, seen, concerns, names, limit_of, first_part, request_at, ends_here}
 use Rattle.call_model.specs.Limits.{place_for, verdict, Verdict, AfterStop, Refuses, Admits, admitted_to}
 use Rattle.call_model.specs.Answers.{first_answer, own_first, answer_at, home, verdict_answer, first_entry}
 use Rattle.call_model.specs.Next.{IsLegal, Follows}
@@ -26,6 +26,7 @@ use Rattle.call_model.proofs.Scans.{IsSilent, legal_silent}
 use Rattle.call_model.proofs.AnswerValues.{IsFirst, plain_none, entry_is_first, first_is_first}
 use Rattle.call_model.proofs.FirstStage.{not_named_call, runtime_stage, first_silent, members_stage}
 use Rattle.call_model.proofs.Basics.{eqb-self, some-none}
+use Rattle.call_model.proofs.Visits.{visit, if_concerned, if_ended}
 
 admitted : (v : Verdict) (e : ℕ) → admitted_to v ≡ Some e → verdict_answer v ≡ None
 admitted (Admits d) e q = refl
@@ -171,8 +172,8 @@ pub phase_stage : (config : Config) (h : List Entry) (entry : Entry) (pairs : Li
     ≡ (turned (fixed_of config e) entry.moment (expires_now (stand config h e) entry.call) (phase config h e) (first_stand (fixed_of config e) (step_at h entry (count_at config h entry e)) (stand config h e) entry.call)).phase
 unfolding life lived after turned first_stand seen
 phase_stage config h entry pairs place e l w c d k quiet =
-    ap (λ (b : Bool). (lived b config h e given (life config h e)).phase) d
-    ∙ two (is_closing cell && ((length (awaited (members (first_part given ∷ h) ((length h, given) ∷ g))) == 0) || (is_closing (phase config h e) && is_expiry entry.call)))
+    ap (λ (b : Bool). (if_concerned b (visit config h e given)).phase) d
+    ∙ two (ends_here (visit config h e given))
     ∙ (λ i. made (members_stage config h entry given e count l w c refl k quiet i) (runtime_stage config h entry given e count l w c refl k i) (request_is (at_hand cell) refl i))
     ∙ sym (whole (closing_ends (expires_now s entry.call) (first_stand (fixed_of config e) step s entry.call)))
   where
@@ -206,7 +207,7 @@ phase_stage config h entry pairs place e l w c d k quiet =
         which : ((length h ≡ p) × (is_invoke entry.call ≡ true)) ⊎ (at_hand s.phase ≡ Some p) → ((length h ≡ p) × (is_invoke entry.call ≡ true)) ⊎ (at_hand (phase config h e) ≡ Some p)
         which x = x
 
-    two : (b : Bool) → (begins b config (first_part given ∷ h) e entry.moment (limit_of config e entry.moment) ((length h, given) ∷ g) cell).phase
+    two : (b : Bool) → (if_ended b (visit config h e given)).phase
         ≡ (if b then reborn (is_stop entry.call || stopped h) entry.moment (bound_of cell) else settled (limit_of config e entry.moment) (ready (parked (first_part given ∷ h) ((length h, given) ∷ g) TheRuntime) (members (first_part given ∷ h) ((length h, given) ∷ g)) (expected_at config e)) (is_some (request_at config (first_part given ∷ h) e (at_hand cell))) cell)
     two true = refl
     two false = refl

@@ -10,9 +10,10 @@ use Rattle.call_model.specs.History.{answer_in, answer_of, is_stop, stopped}
 use Rattle.call_model.specs.Generation.{Generation, Member, TheRuntime, parked, members, ready, as_registered}
 use Rattle.call_model.specs.Stand.{Stand, at_hand, bound_of}
 use Rattle.call_model.specs.Table.{after_cell, reborn, settled}
-use Rattle.call_model.specs.Life.{life, phase, stand, lived, after, begins, seen, concerns, ends, first_part, limit_of, request_at}
+use Rattle.call_model.specs.Life.{life, phase, stand, lived, after, seen, concerns, ends, first_part, limit_of, request_at, ends_here}
 use Rattle.call_model.proofs.Scans.{IsBelow, generation_below, IsSilent, parked_step, members_step, member_step, still, asked, new_member}
 use Rattle.call_model.proofs.Basics.{some-none}
+use Rattle.call_model.proofs.Visits.{visit, if_concerned, if_ended}
 
 pub filter_none : (p : ℕ × Answer → Bool) (pairs : List (ℕ × Answer)) (t : ℕ) → answer_in pairs t ≡ None → answer_in (filter p pairs) t ≡ None
 filter_none p [] t e = refl
@@ -50,7 +51,7 @@ pub phase_step : (config : Config) (h : List Entry) (entry : Entry) (e : ℕ) �
     (stand config h e).phase (cell_of config e entry (length h) (stand config h e))
 unfolding life lived after seen
 phase_step config h entry e c none quiet =
-    ap (λ (b : Bool). (lived b config h e entry (life config h e)).phase) c ∙ two_cases (ends (life config h e).phase entry.call cell (members (first_part entry ∷ h) g))
+    ap (λ (b : Bool). (if_concerned b (visit config h e entry)).phase) c ∙ two_cases (ends_here (visit config h e entry))
     ∙ ap_two (members_step (first_part entry) entry h (life config h e).generation refl below none quiet) (parked_step (first_part entry) entry h (life config h e).generation TheRuntime refl below none)
   where
     g : Generation
@@ -65,7 +66,7 @@ phase_step config h entry e c none quiet =
     waits : Bool
     waits = is_some (request_at config (first_part entry ∷ h) e (at_hand cell))
 
-    two_cases : (b : Bool) → (begins b config (first_part entry ∷ h) e entry.moment (limit_of config e entry.moment) g cell).phase
+    two_cases : (b : Bool) → (if_ended b (visit config h e entry)).phase
         ≡ (if b then reborn (stopped (first_part entry ∷ h)) entry.moment (bound_of cell) else settled (limit_of config e entry.moment) (ready (parked (first_part entry ∷ h) g TheRuntime) (members (first_part entry ∷ h) g) (expected_at config e)) waits cell)
     two_cases true = refl
     two_cases false = refl

@@ -6,15 +6,14 @@ use Rattle.call_model.specs.declared.call.Call.{Call}
 use Rattle.call_model.specs.declared.call.Call.TheVariants.{RuntimeNext, ExtNext, Expire}
 use Rattle.std.specs.List.{cons_option}
 use Rattle.call_model.specs.declared.call.Entry.{Entry}
-use Rattle.call_model.specs.declared.answer.Phase.{Phase}
 use Rattle.arn_ids.specs.declared.config.Config.{Config}
 use Rattle.call_model.specs.History.{answer_in, answer_of, pending, is_expiry, or_else}
 use Rattle.call_model.specs.Generation.{Generation, Extension, Actor, TheRuntime, TheExtension, Member, parked, if_pending, last_next, asks, extensions, member, members, told, asked_again, exited, answer_to_next, is_ending, reports_exit, is_accepted, as_registered}
-use Rattle.call_model.specs.Life.{life, lived, after, begins, seen, concerns, ends, first_part, limit_of}
-use Rattle.call_model.specs.Table.{after_cell}
+use Rattle.call_model.specs.Life.{life, lived, after, concerns, ends_here}
 use Rattle.call_model.specs.Next.{Follows}
 use Rattle.call_model.proofs.Once.{pending_cons, silent}
 use Rattle.call_model.proofs.Basics.{some-none}
+use Rattle.call_model.proofs.Visits.{visit, if_concerned, if_ended}
 
 -- each entry of a generation is older than n
 abbrev pub IsBelow : ℕ → Generation → Type 0
@@ -31,17 +30,11 @@ unfolding life lived after
 generation_below config [] e = tt
 generation_below config (entry ∷ h) e = go (concerns h e entry) (generation_below config h e)
   where
-    go : (b : Bool) → IsBelow (length h) (life config h e).generation → IsBelow (suc (length h)) (lived b config h e entry (life config h e)).generation
+    go : (b : Bool) → IsBelow (length h) (life config h e).generation → IsBelow (suc (length h)) (if_concerned b (visit config h e entry)).generation
     go false k = below_more (length h) (life config h e).generation k
-    go true k = at_end (ends (life config h e).phase entry.call cell (members (first_part entry ∷ h) g))
+    go true k = at_end (ends_here (visit config h e entry))
       where
-        g : Generation
-        g = (length h, entry) ∷ (life config h e).generation
-
-        cell : Phase
-        cell = after_cell entry.moment (limit_of config e entry.moment) (length h) (seen config h e (life config h e)) entry.call
-
-        at_end : (b : Bool) → IsBelow (suc (length h)) (begins b config (first_part entry ∷ h) e entry.moment (limit_of config e entry.moment) g cell).generation
+        at_end : (b : Bool) → IsBelow (suc (length h)) (if_ended b (visit config h e entry)).generation
         at_end true = tt
         at_end false = (omega arith, below_more (length h) (life config h e).generation k)
 

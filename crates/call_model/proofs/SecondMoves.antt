@@ -1,7 +1,7 @@
 -- The second answers at an environment, from its stand after the first.
 use Rattle.std.proofs.Common.{◌≡◌, ℕ, List, [], ◌∷◌, Option, Some, None, refl, ◌∙◌, zero, suc, Bool, true, false, length, sym, ap, is_some, ◌&&◌, filter, true≢false, if◌then◌else◌}
 use Rattle.call_model.specs.declared.answer.Answer.{Answer}
-use Rattle.call_model.specs.Generation.{Member, Generation, members}
+use Rattle.call_model.specs.Generation.{Member, Generation}
 use Rattle.call_model.specs.Stand.{Stand, ExtensionPoll, Role, NoRole, Waiting, RuntimePoll, is_number, role, member_role, waits_as, at_hand, bound_of}
 use Rattle.call_model.specs.Polls.{delivered, begun}
 use Rattle.call_model.specs.After.{give, give_each, served_moves, Fixed, turned, turned_moves, closing_ends, settled_phase, restarted, settled_stand}
@@ -12,7 +12,7 @@ use Rattle.call_model.specs.declared.call.Entry.{Entry}
 use Rattle.arn_ids.specs.declared.config.Config.{Config}
 use Rattle.call_model.specs.History.{answer_in, or_else}
 use Rattle.call_model.specs.Table.{reborn}
-use Rattle.call_model.specs.Life.{life, lived, after, begins, ends, limit_of, first_part, phase, stand, concerns}
+use Rattle.call_model.specs.Life.{life, lived, after, first_part, phase, stand, concerns, ends_here}
 use Rattle.call_model.specs.Limits.{place_for}
 use Rattle.call_model.specs.Answers.{first_answer, first_answers, first_entry, each_from, with_answer}
 use Rattle.call_model.proofs.PhaseStep.{cell_of}
@@ -21,6 +21,7 @@ use Rattle.call_model.proofs.Rising.{IsRising}
 use Rattle.call_model.proofs.Puts.{IsFresh, give_rising, give_answer}
 use Rattle.call_model.proofs.HeldTickets.{IsOrderly, holder, AreFresh, IsEach, each_given, given_role, member_or}
 use Rattle.call_model.proofs.Basics.{number_some, some-none}
+use Rattle.call_model.proofs.Visits.{visit, if_concerned, if_ended}
 
 give_none : (t : Option ℕ) (moves : List (ℕ × Answer)) → give t None moves ≡ moves
 give_none None moves = refl
@@ -59,13 +60,13 @@ generation_stays config h entry e x c q = go (concerns h e entry) c q
     cell : Phase
     cell = cell_of config e entry (length h) (stand config h e)
 
-    at_end : (b : Bool) → begun (phase config h e) (begins b config (first_part entry ∷ h) e entry.moment (limit_of config e entry.moment) g cell).phase ≡ Some x → (begins b config (first_part entry ∷ h) e entry.moment (limit_of config e entry.moment) g cell).generation ≡ g
+    at_end : (b : Bool) → begun (phase config h e) (if_ended b (visit config h e entry)).phase ≡ Some x → (if_ended b (visit config h e entry)).generation ≡ g
     at_end true k = absurd (some-none (sym k ∙ begun_reborn (phase config h e) _ entry.moment (bound_of cell)))
     at_end false k = refl
 
-    go : (b : Bool) → b ≡ true → begun (phase config h e) (lived b config h e entry (life config h e)).phase ≡ Some x → (lived b config h e entry (life config h e)).generation ≡ g
+    go : (b : Bool) → b ≡ true → begun (phase config h e) (if_concerned b (visit config h e entry)).phase ≡ Some x → (if_concerned b (visit config h e entry)).generation ≡ g
     go false n k = absurd (true≢false (sym n))
-    go true n k = at_end (ends (life config h e).phase entry.call cell (members (first_part entry ∷ h) g)) k
+    go true n k = at_end (ends_here (visit config h e entry)) k
 
 -- the first entry has only first answers
 all_early : (t n : ℕ) (f : ℕ → Option Answer) → ((u : ℕ) → is_early (f u) ≡ true) → filter (λ a. early a.1) (each_from t n f) ≡ each_from t n f

@@ -10,7 +10,7 @@ use Rattle.call_model.specs.History.{pending, call_of, is_expiry, stopped, is_st
 use Rattle.call_model.specs.Generation.{Generation, Extension, Actor, TheRuntime, TheExtension, Member, parked, if_pending, last_next, extensions, member, members, awaited}
 use Rattle.call_model.specs.Stand.{Role, RuntimePoll, ExtensionPoll, role, at_hand, is_closing, is_number, Stand}
 use Rattle.call_model.specs.Polls.{begun, delivered}
-use Rattle.call_model.specs.Life.{life, lived, after, begins, ends, phase, stand, seen, concerns, names, first_part, limit_of, registrations, events, request_at}
+use Rattle.call_model.specs.Life.{life, lived, after, phase, stand, seen, concerns, names, first_part, limit_of, registrations, events, request_at, ends_here}
 use Rattle.call_model.specs.Limits.{place_for}
 use Rattle.call_model.specs.Answers.{first_answer, second_answer, second_at, first_entry, home}
 use Rattle.call_model.specs.Next.{IsLegal, Follows}
@@ -26,6 +26,7 @@ use Rattle.call_model.proofs.FirstStage.{asked_below, first_silent, members_stag
 use Rattle.call_model.proofs.PhaseAfter.{phase_first, phase_meets}
 use Rattle.call_model.proofs.PendingAfter.{pending_second, pending_first, request_final, registrations_final}
 use Rattle.call_model.proofs.Basics.{map_map}
+use Rattle.call_model.proofs.Visits.{visit, if_concerned, if_ended}
 
 left_none : (a : Option Answer) → None ≡ left a None
 left_none None = refl
@@ -72,8 +73,8 @@ pub generation_stage : (config : Config) (h : List Entry) (entry : Entry) (pairs
     → (life config (record { moment = entry.moment; call = entry.call; answers = pairs; place = place } ∷ h) e).generation ≡ generation_after (closes_now config h entry e) ((length h, record { moment = entry.moment; call = entry.call; answers = pairs; place = place }) ∷ (life config h e).generation)
 unfolding life lived after first_stand seen
 generation_stage config h entry pairs place e l w c d k quiet =
-    ap (λ (b : Bool). (lived b config h e given (life config h e)).generation) d
-    ∙ two (ends (phase config h e) entry.call cell (members (first_part given ∷ h) G))
+    ap (λ (b : Bool). (if_concerned b (visit config h e given)).generation) d
+    ∙ two (ends_here (visit config h e given))
     ∙ (λ i. generation_after (is_closing cell && ((length (awaited (members_stage config h entry given e count l w c refl k quiet i)) == 0) || (is_closing (phase config h e) && is_expiry entry.call))) G)
   where
     given : Entry
@@ -88,7 +89,7 @@ generation_stage config h entry pairs place e l w c d k quiet =
     cell : Phase
     cell = cell_at (fixed_of config e) (step_at h entry count) (stand config h e) entry.call
 
-    two : (b : Bool) → (begins b config (first_part given ∷ h) e entry.moment (limit_of config e entry.moment) G cell).generation ≡ generation_after b G
+    two : (b : Bool) → (if_ended b (visit config h e given)).generation ≡ generation_after b G
     two true = refl
     two false = refl
 

@@ -9,8 +9,9 @@ use Rattle.call_model.specs.declared.answer.Phase.{Phase}
 use Rattle.arn_ids.specs.Environments.{expected_at, function_of}
 use Rattle.call_model.specs.Stand.{at_hand, bound_of}
 use Rattle.call_model.specs.Table.{reborn, settled, after_cell}
-use Rattle.call_model.specs.Life.{Life, lived, after, begins, ends, seen, request_at, first_part, limit_of}
+use Rattle.call_model.specs.Life.{Life, Visit, after, ends, ends_here, seen, request_at, first_part, limit_of, history_with, generation_with, members_with, phase_by_table, waits}
 use Rattle.call_model.proofs.Basics.{map_same, some-none}
+use Rattle.call_model.proofs.Visits.{visit_from, if_ended}
 
 -- an entry and what the function sees of it: the same ticket and call, and the same answers to the function's tickets
 pub record IsAlike (P : ℕ → Bool) (x y : ℕ × Entry) : Type 0 where
@@ -120,34 +121,33 @@ waits_alike config P o h e (Some p) w mine = go (pending o p) (pending h p) (w.p
 abbrev pub IsSameLife : (ℕ → Bool) → Life → Life → Type 0
 IsSameLife P l m = (l.phase ≡ m.phase) × AreAlike P l.generation m.generation
 
-begins_alike : (b : Bool) (config : Config) (P : ℕ → Bool) (o h : List Entry) (e now limit : ℕ) (g k : Generation) (cell : Phase) → IsTwin P o h → AreAlike P g k → IsMine P cell
-    → IsSameLife P (begins b config o e now limit g cell) (begins b config h e now limit k cell)
-begins_alike true config P o h e now limit g k cell w a mine = (ap (λ (s : Bool). reborn s now (bound_of cell)) (w.stop), tt)
-begins_alike false config P o h e now limit g k cell w a mine =
-    ((λ i. settled limit (ready (parked_alike P o h g k TheRuntime w a i) (members_alike P o h g k w a i) (expected_at config e)) (waits_alike config P o h e (at_hand cell) w mine i) cell), a)
-
 -- what an entry makes of an environment that it concerns
-pub lived_alike : (config : Config) (P : ℕ → Bool) (o h : List Entry) (e : ℕ) (x y : Entry) (l m : Life) → x.call ≡ y.call → x.moment ≡ y.moment → seen config o e l ≡ seen config h e m → IsTwin P o h → IsTwin P (first_part x ∷ o) (first_part y ∷ h)
+pub after_alike : (config : Config) (P : ℕ → Bool) (o h : List Entry) (e : ℕ) (x y : Entry) (l m : Life) → x.call ≡ y.call → x.moment ≡ y.moment → seen config o e l ≡ seen config h e m → IsTwin P o h → IsTwin P (first_part x ∷ o) (first_part y ∷ h)
     → AreAlike P ((length o, x) ∷ l.generation) ((length h, y) ∷ m.generation) → l.phase ≡ m.phase
-    → IsMine P (after_cell y.moment (limit_of config e y.moment) (length h) (seen config h e m) y.call)
-    → IsSameLife P (lived true config o e x l) (lived true config h e y m)
-unfolding lived after
-lived_alike config P o h e x y l m call moment same old new a phase mine = (
-  ap (λ (bc : Bool × ℕ × Phase). (begins bc.0 config (first_part x ∷ o) e bc.1 (limit_of config e bc.1) ((length o, x) ∷ l.generation) bc.2).phase) path ∙ both.0,
-  subst (λ (bc : Bool × ℕ × Phase). AreAlike P (begins bc.0 config (first_part x ∷ o) e bc.1 (limit_of config e bc.1) ((length o, x) ∷ l.generation) bc.2).generation (begins over config (first_part y ∷ h) e y.moment (limit_of config e y.moment) ((length h, y) ∷ m.generation) cell).generation) (sym path) both.1,
-)
+    → IsMine P (phase_by_table (visit_from config h e y m))
+    → IsSameLife P (after (visit_from config o e x l)) (after (visit_from config h e y m))
+unfolding after
+after_alike config P o h e x y l m call moment same old new a phase mine =
+    subst (λ (b : Bool). IsSameLife P (if_ended b v) (after w)) (sym over) (go (ends_here w))
   where
-    cell : Phase
-    cell = after_cell y.moment (limit_of config e y.moment) (length h) (seen config h e m) y.call
+    v : Visit
+    v = visit_from config o e x l
 
-    cells : after_cell x.moment (limit_of config e x.moment) (length o) (seen config o e l) x.call ≡ cell
+    w : Visit
+    w = visit_from config h e y m
+
+    cells : phase_by_table v ≡ phase_by_table w
     cells = λ i. after_cell (moment i) (limit_of config e (moment i)) (old.size i) (same i) (call i)
 
-    over : Bool
-    over = ends m.phase y.call cell (members (first_part y ∷ h) ((length h, y) ∷ m.generation))
+    extensions : members_with v ≡ members_with w
+    extensions = members_alike P (history_with v) (history_with w) (generation_with v) (generation_with w) new a
 
-    path : ◌≡◌ {A = Bool × ℕ × Phase} (ends l.phase x.call (after_cell x.moment (limit_of config e x.moment) (length o) (seen config o e l) x.call) (members (first_part x ∷ o) ((length o, x) ∷ l.generation)), x.moment, after_cell x.moment (limit_of config e x.moment) (length o) (seen config o e l) x.call) (over, y.moment, cell)
-    path = λ i. (ends (phase i) (call i) (cells i) (members_alike P (first_part x ∷ o) (first_part y ∷ h) ((length o, x) ∷ l.generation) ((length h, y) ∷ m.generation) new a i), moment i, cells i)
+    over : ends_here v ≡ ends_here w
+    over = λ i. ends (phase i) (call i) (cells i) (extensions i)
 
-    both : IsSameLife P (begins over config (first_part x ∷ o) e y.moment (limit_of config e y.moment) ((length o, x) ∷ l.generation) cell) (begins over config (first_part y ∷ h) e y.moment (limit_of config e y.moment) ((length h, y) ∷ m.generation) cell)
-    both = begins_alike over config P (first_part x ∷ o) (first_part y ∷ h) e y.moment (limit_of config e y.moment) ((length o, x) ∷ l.generation) ((length h, y) ∷ m.generation) cell new a mine
+    waiting : waits v ≡ waits w
+    waiting = ap (λ (c : Phase). is_some (request_at config (history_with v) e (at_hand c))) cells ∙ waits_alike config P (history_with v) (history_with w) e (at_hand (phase_by_table w)) new mine
+
+    go : (b : Bool) → IsSameLife P (if_ended b v) (if_ended b w)
+    go true = ((λ i. reborn (new.stop i) (moment i) (bound_of (cells i))), tt)
+    go false = ((λ i. settled (limit_of config e (moment i)) (ready (parked_alike P (history_with v) (history_with w) (generation_with v) (generation_with w) TheRuntime new a i) (extensions i) (expected_at config e)) (waiting i) (cells i)), a)

@@ -90,8 +90,8 @@ abbrev pub upto : List Entry → ℕ → List Entry
 upto [] t = []
 upto (entry ∷ h) t = if nat_lt t (length h) then upto h t else entry ∷ h
 
--- whether a call is a Next at an environment
-abbrev pub is_poll_at : ℕ → Call → Bool
-is_poll_at e (RuntimeNext d) = d == e
-is_poll_at e (ExtNext d x) = d == e
-is_poll_at e _ = false
+-- the environment of a Next
+abbrev pub poll_env : Call → Option ℕ
+poll_env (RuntimeNext e) = Some e
+poll_env (ExtNext e x) = Some e
+poll_env _ = None

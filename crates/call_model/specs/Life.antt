@@ -9,7 +9,7 @@ use Rattle.call_model.specs.declared.answer.Phase.{Phase}
 use Rattle.call_model.specs.declared.answer.Phase.TheVariants.{Starting}
 use Rattle.arn_ids.specs.declared.config.Config.{Config}
 use Rattle.arn_ids.specs.Environments.{timeout_of, expected_at, function_of}
-use Rattle.call_model.specs.History.{answer_in, pending, env_of, stopped, is_poll_at, call_of, with_tickets, requests, upto, is_expiry}
+use Rattle.call_model.specs.History.{answer_in, pending, env_of, stopped, poll_env, call_of, with_tickets, requests, upto, is_expiry}
 use Rattle.call_model.specs.Generation.{Generation, Member, members, ready, awaited, parked, TheRuntime}
 use Rattle.call_model.specs.Stand.{Stand, at_hand, bound_of, is_number, is_closing}
 use Rattle.call_model.specs.Table.{is_registered, reborn, settled, after_cell}
@@ -22,7 +22,7 @@ pub record Life : Type 0 where
 -- whether a call concerns an environment: it names it, takes back a Next there, or stops the service
 abbrev pub names : List Entry → ℕ → Call → Bool
 names h e Stop = true
-names h e (Withdraw t) = is_poll_at e (call_of h t)
+names h e (Withdraw t) = is_number (poll_env (call_of h t)) e
 names h e call = is_number (env_of call) e
 
 -- An entry concerns the environments that its call concerns, and the one where its Invoke is placed.
@@ -82,35 +82,74 @@ first_part entry = record entry { answers = filter (λ a. not (is_second a.1)) e
 abbrev pub ends : Phase → Call → Phase → List Member → Bool
 ends before call phase members = is_closing phase && ((length (awaited members) == 0) || (is_closing before && is_expiry call))
 
--- The life after an entry: a new generation where a Closing ends in it; else the phase is settled by who is ready.
-abbrev pub begins : Bool → Config → List Entry → ℕ → ℕ → ℕ → Generation → Phase → Life
-begins true config h e now limit g phase = record { phase = reborn (stopped h) now (bound_of phase); generation = [] }
-begins false config h e now limit g phase = record {
-  phase = settled limit (ready (parked h g TheRuntime) (members h g) (expected_at config e)) (is_some (request_at config h e (at_hand phase))) phase;
-  generation = g;
-}
-
 -- the deadline of a Busy that begins now: the function's timeout is in seconds
 abbrev pub limit_of : Config → ℕ → ℕ → ℕ
 limit_of config e now = now + 1000 * timeout_of config e
 
--- the same for an entry that the environment is concerned by: phase is what the table's cell made of the phase before,
--- and h has the entry with its first answers as its newest
-unfoldable pub after : Config → List Entry → ℕ → Entry → Generation → Phase → Phase → Life
-after config h e entry g before phase =
-    begins (ends before entry.call phase (members h g)) config h e entry.moment (limit_of config e entry.moment) g phase
+-- An entry's visit to an environment: the entry, the ones before it, and the life that it finds there.
+pub record Visit : Type 0 where
+  pub config : Config
+  pub environment : ℕ
+  pub history : List Entry
+  pub found : Life
+  pub entry : Entry
 
--- an entry that doesn't concern the environment leaves its life as it is
-unfoldable pub lived : Bool → Config → List Entry → ℕ → Entry → Life → Life
-lived true config h e entry life =
-    after config (first_part entry ∷ h) e entry ((length h, entry) ∷ life.generation) life.phase
-    (after_cell entry.moment (limit_of config e entry.moment) (length h) (seen config h e life) entry.call)
-lived false config h e entry life = life
+-- the history with the entry, of which the first answers count
+abbrev pub history_with : Visit → List Entry
+history_with v = first_part v.entry ∷ v.history
+
+-- the generation with the entry
+abbrev pub generation_with : Visit → Generation
+generation_with v = (length v.history, v.entry) ∷ v.found.generation
+
+-- its extensions then
+abbrev pub members_with : Visit → List Member
+members_with v = members (history_with v) (generation_with v)
+
+-- the deadline of a Busy that begins in the visit
+abbrev pub limit : Visit → ℕ
+limit v = limit_of v.config v.environment v.entry.moment
+
+-- the phase by the table's cell
+abbrev pub phase_by_table : Visit → Phase
+phase_by_table v =
+    after_cell v.entry.moment (limit v) (length v.history) (seen v.config v.history v.environment v.found) v.entry.call
+
+-- whether a Closing ends in the visit
+abbrev pub ends_here : Visit → Bool
+ends_here v = ends v.found.phase v.entry.call (phase_by_table v) (members_with v)
+
+-- whether all actors have asked for Next
+abbrev pub is_ready : Visit → Bool
+is_ready v = ready (parked (history_with v) (generation_with v) TheRuntime) (members_with v) (expected_at v.config v.environment)
+
+-- whether the call at hand still waits for its answer
+abbrev pub waits : Visit → Bool
+waits v = is_some (request_at v.config (history_with v) v.environment (at_hand (phase_by_table v)))
+
+-- the life of a new generation
+abbrev pub new_generation : Visit → Life
+new_generation v = record {
+  phase = reborn (stopped (history_with v)) v.entry.moment (bound_of (phase_by_table v));
+  generation = [];
+}
+
+-- the life of the present one, its phase settled by who is ready
+abbrev pub settled_life : Visit → Life
+settled_life v = record { phase = settled (limit v) (is_ready v) (waits v) (phase_by_table v); generation = generation_with v }
+
+-- A new generation begins where a Closing ends in the visit; else the phase is settled by who is ready.
+unfoldable pub after : Visit → Life
+after v = if ends_here v then new_generation v else settled_life v
+
+-- An entry that doesn't concern the environment leaves its life as it is.
+unfoldable pub lived : Visit → Life
+lived v = if concerns v.history v.environment v.entry then after v else v.found
 
 -- The life of an environment after a history: it begins in Starting, with no deadline, and each entry goes on from there.
 unfoldable pub life : Config → List Entry → ℕ → Life
 life config [] e = record { phase = Starting None None; generation = [] }
-life config (entry ∷ h) e = lived (concerns h e entry) config h e entry (life config h e)
+life config (entry ∷ h) e = lived (record { config = config; environment = e; history = h; found = life config h e; entry = entry })
 
 -- The phase of an environment.
 abbrev pub phase : Config → List Entry → ℕ → Phase

@@ -1,30 +1,24 @@
 -- The own history of a function: what the account would have seen if nobody else had called, the clock aside.
 use Rattle.std.specs.Prelude.{ℕ, ◌==◌, Bool, true, false, if◌then◌else◌, List, [], ◌∷◌, length, Option, Some, None, filter}
 use Rattle.call_model.specs.declared.call.Call.{Call}
-use Rattle.call_model.specs.declared.call.Call.TheVariants.{Invoke, RuntimeNext, ExtNext, Tick, Withdraw, Stop}
+use Rattle.call_model.specs.declared.call.Call.TheVariants.{Invoke, Tick, Withdraw, Stop}
 use Rattle.call_model.specs.declared.call.Entry.{Entry}
 use Rattle.call_model.specs.declared.answer.Answer.TheVariants.{Done}
 use Rattle.arn_ids.specs.declared.config.Config.{Config}
 use Rattle.arn_ids.specs.Environments.{function_of}
-use Rattle.call_model.specs.History.{call_of, env_of}
+use Rattle.call_model.specs.History.{call_of, env_of, poll_env}
 
 -- whether an environment is the function's
 abbrev pub of_function : Config → ℕ → Option ℕ → Bool
 of_function config f None = false
 of_function config f (Some e) = function_of config e == f
 
--- the environment of a Next
-abbrev pub is_poll : Call → Option ℕ
-is_poll (RuntimeNext e) = Some e
-is_poll (ExtNext e x) = Some e
-is_poll _ = None
-
 -- a call that concerns the function: its Invokes, what names its environments or takes back a Next there, Tick and Stop
 abbrev pub is_own : Config → List Entry → ℕ → Call → Bool
 is_own config h f (Invoke g qualified trace body) = g == f
 is_own config h f Tick = true
 is_own config h f Stop = true
-is_own config h f (Withdraw t) = of_function config f (is_poll (call_of h t))
+is_own config h f (Withdraw t) = of_function config f (poll_env (call_of h t))
 is_own config h f call = of_function config f (env_of call)
 
 -- whether a ticket is that of such a call

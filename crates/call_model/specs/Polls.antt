@@ -34,9 +34,9 @@ replaced t call role = None
 
 -- What an older ticket gets by its role.
 abbrev pub by_role : ℕ → ℕ → Stand → Call → ℕ → Role → Option Answer
-by_role own now s call t NoRole = None
-by_role own now s call t Waiting = to_waiting own s call
-by_role own now s call t role = or_else (at_close now (closes s call) call role) (replaced t call role)
+by_role ticket now s call t NoRole = None
+by_role ticket now s call t Waiting = to_waiting ticket s call
+by_role ticket now s call t role = or_else (at_close now (closes s call) call role) (replaced t call role)
 
 -- the invocation of a Busy that begins between two phases, with its deadline
 abbrev pub begun : Phase → Phase → Option (ℕ × ℕ)

@@ -44,132 +44,132 @@ columns =
     ∷ stand (Busy 5 3000) (extension ∷ []) (Some 7) false ∷ stand (Busy 5 3000) (extension ∷ []) None false
     ∷ stand (Closing Failed 2000 (Some 5)) (extension ∷ []) (Some 7) false ∷ stand Off [] None true ∷ []
 
--- a cell: the answer to the call, why the environment closes, the answer to the waiting call
-abbrev Cell : Type 0
-Cell = Option Answer × Option Reason × Option Answer
+-- what a cell gives at a stand: the answer to the call, why the environment closes, the answer to the waiting call
+abbrev Effect : Type 0
+Effect = Option Answer × Option Reason × Option Answer
 
--- the cells of a call's row; its ticket is 9
-unfoldable cells : Call → List Cell
+-- what the cells of a call's row give; its ticket is 9
+unfoldable effects : Call → List Effect
 unfolding own_answer closes to_waiting
-cells call = map (λ s. (own_answer s call, closes s call, if is_some s.request then to_waiting 9 s call else None)) columns
+effects call = map (λ s. (own_answer s call, closes s call, if is_some s.request then to_waiting 9 s call else None)) columns
 
 -- the call parks, or gives nothing here
-abbrev nothing : Cell
+abbrev nothing : Effect
 nothing = (None, None, None)
 
 -- the call is answered
-abbrev own : Answer → Cell
-own a = (Some a, None, None)
+abbrev answer : Answer → Effect
+answer a = (Some a, None, None)
 
 -- the call is answered, and so is the waiting one
-abbrev both : Answer → Answer → Cell
+abbrev both : Answer → Answer → Effect
 both a b = (Some a, None, Some b)
 
 -- the call is accepted, and the environment closes; with its waiting call, or with none
-abbrev fails : Cell
+abbrev fails : Effect
 fails = (Some Accepted, Some Failed, Some (Error 9))
 
 -- the call is accepted, and the environment closes
-abbrev closing : Reason → Cell
+abbrev closing : Reason → Effect
 closing reason = (Some Accepted, Some reason, None)
 
 -- the clock or a Stop closes; with its waiting call, or with none
-abbrev ending : Reason → Answer → Cell
+abbrev ending : Reason → Answer → Effect
 ending reason a = (None, Some reason, Some a)
 
 -- the environment closes
-abbrev ends : Reason → Cell
+abbrev ends : Reason → Effect
 ends reason = (None, Some reason, None)
 
 -- The refusals.
-abbrev state : Cell
-state = own (Refused State)
+abbrev state : Effect
+state = answer (Refused State)
 
-abbrev unknown : Cell
-unknown = own (Refused Unknown)
+abbrev unknown : Effect
+unknown = answer (Refused Unknown)
 
-abbrev container : Cell
-container = own (Refused Container)
+abbrev container : Effect
+container = answer (Refused Container)
 
-abbrev not_idle : Cell
-not_idle = own (Refused NotIdle)
+abbrev not_idle : Effect
+not_idle = answer (Refused NotIdle)
 
-runtime_next : cells (RuntimeNext 1) ≡ (nothing ∷ nothing ∷ state ∷ nothing ∷ container ∷ container ∷ [])
-unfolding cells
+runtime_next : effects (RuntimeNext 1) ≡ (nothing ∷ nothing ∷ state ∷ nothing ∷ container ∷ container ∷ [])
+unfolding effects
 runtime_next = refl
 
-response : cells (Response 1 7 []) ≡ (state ∷ state ∷ both Accepted (Output 9) ∷ state ∷ state ∷ container ∷ [])
-unfolding cells
+response : effects (Response 1 7 []) ≡ (state ∷ state ∷ both Accepted (Output 9) ∷ state ∷ state ∷ container ∷ [])
+unfolding effects
 response = refl
 
-response_to_another : cells (Response 1 6 []) ≡ (state ∷ state ∷ own (Refused BadId) ∷ state ∷ state ∷ container ∷ [])
-unfolding cells
+response_to_another : effects (Response 1 6 []) ≡ (state ∷ state ∷ answer (Refused BadId) ∷ state ∷ state ∷ container ∷ [])
+unfolding effects
 response_to_another = refl
 
-response_too_large : cells (ResponseTooLarge 1 7) ≡ (state ∷ state ∷ both (Refused TooLarge) OutputTooLarge ∷ state ∷ state ∷ container ∷ [])
-unfolding cells
+response_too_large : effects (ResponseTooLarge 1 7) ≡ (state ∷ state ∷ both (Refused TooLarge) OutputTooLarge ∷ state ∷ state ∷ container ∷ [])
+unfolding effects
 response_too_large = refl
 
-response_too_large_to_another : cells (ResponseTooLarge 1 6) ≡ (state ∷ state ∷ own (Refused BadId) ∷ state ∷ state ∷ container ∷ [])
-unfolding cells
+response_too_large_to_another : effects (ResponseTooLarge 1 6) ≡ (state ∷ state ∷ answer (Refused BadId) ∷ state ∷ state ∷ container ∷ [])
+unfolding effects
 response_too_large_to_another = refl
 
-failure : cells (Failure 1 7 []) ≡ (state ∷ state ∷ both Accepted (Error 9) ∷ state ∷ state ∷ container ∷ [])
-unfolding cells
+failure : effects (Failure 1 7 []) ≡ (state ∷ state ∷ both Accepted (Error 9) ∷ state ∷ state ∷ container ∷ [])
+unfolding effects
 failure = refl
 
-failure_of_another : cells (Failure 1 6 []) ≡ (state ∷ state ∷ own (Refused BadId) ∷ state ∷ state ∷ container ∷ [])
-unfolding cells
+failure_of_another : effects (Failure 1 6 []) ≡ (state ∷ state ∷ answer (Refused BadId) ∷ state ∷ state ∷ container ∷ [])
+unfolding effects
 failure_of_another = refl
 
-init_failure : cells (InitFailure 1 []) ≡ (fails ∷ state ∷ state ∷ state ∷ state ∷ container ∷ [])
-unfolding cells
+init_failure : effects (InitFailure 1 []) ≡ (fails ∷ state ∷ state ∷ state ∷ state ∷ container ∷ [])
+unfolding effects
 init_failure = refl
 
-register : cells (Register 1 name_b true true false) ≡ (own (Registered 4) ∷ state ∷ state ∷ state ∷ state ∷ container ∷ [])
-unfolding cells
+register : effects (Register 1 name_b true true false) ≡ (answer (Registered 4) ∷ state ∷ state ∷ state ∷ state ∷ container ∷ [])
+unfolding effects
 register = refl
 
-register_again : cells (Register 1 name_a true true false) ≡ (own (Refused NameInUse) ∷ state ∷ state ∷ state ∷ state ∷ container ∷ [])
-unfolding cells
+register_again : effects (Register 1 name_a true true false) ≡ (answer (Refused NameInUse) ∷ state ∷ state ∷ state ∷ state ∷ container ∷ [])
+unfolding effects
 register_again = refl
 
-ext_next : cells (ExtNext 1 1) ≡ (nothing ∷ nothing ∷ nothing ∷ nothing ∷ own (Ending Failed 2000 0) ∷ container ∷ [])
-unfolding cells
+ext_next : effects (ExtNext 1 1) ≡ (nothing ∷ nothing ∷ nothing ∷ nothing ∷ answer (Ending Failed 2000 0) ∷ container ∷ [])
+unfolding effects
 ext_next = refl
 
-ext_next_unknown : cells (ExtNext 1 2) ≡ (unknown ∷ unknown ∷ unknown ∷ unknown ∷ unknown ∷ container ∷ [])
-unfolding cells
+ext_next_unknown : effects (ExtNext 1 2) ≡ (unknown ∷ unknown ∷ unknown ∷ unknown ∷ unknown ∷ container ∷ [])
+unfolding effects
 ext_next_unknown = refl
 
-ext_init_failure : cells (ExtInitFailure 1 1 []) ≡ (fails ∷ state ∷ state ∷ state ∷ state ∷ container ∷ [])
-unfolding cells
+ext_init_failure : effects (ExtInitFailure 1 1 []) ≡ (fails ∷ state ∷ state ∷ state ∷ state ∷ container ∷ [])
+unfolding effects
 ext_init_failure = refl
 
-ext_init_failure_unknown : cells (ExtInitFailure 1 2 []) ≡ (unknown ∷ unknown ∷ unknown ∷ unknown ∷ unknown ∷ container ∷ [])
-unfolding cells
+ext_init_failure_unknown : effects (ExtInitFailure 1 2 []) ≡ (unknown ∷ unknown ∷ unknown ∷ unknown ∷ unknown ∷ container ∷ [])
+unfolding effects
 ext_init_failure_unknown = refl
 
-ext_exit_failure : cells (ExtExitFailure 1 1 []) ≡ (fails ∷ closing Failed ∷ fails ∷ closing Failed ∷ own Accepted ∷ container ∷ [])
-unfolding cells
+ext_exit_failure : effects (ExtExitFailure 1 1 []) ≡ (fails ∷ closing Failed ∷ fails ∷ closing Failed ∷ answer Accepted ∷ container ∷ [])
+unfolding effects
 ext_exit_failure = refl
 
-ext_exit_failure_unknown : cells (ExtExitFailure 1 2 []) ≡ (unknown ∷ unknown ∷ unknown ∷ unknown ∷ unknown ∷ container ∷ [])
-unfolding cells
+ext_exit_failure_unknown : effects (ExtExitFailure 1 2 []) ≡ (unknown ∷ unknown ∷ unknown ∷ unknown ∷ unknown ∷ container ∷ [])
+unfolding effects
 ext_exit_failure_unknown = refl
 
-spindown : cells (Spindown 1) ≡ (not_idle ∷ closing SpunDown ∷ not_idle ∷ not_idle ∷ not_idle ∷ not_idle ∷ [])
-unfolding cells
+spindown : effects (Spindown 1) ≡ (not_idle ∷ closing SpunDown ∷ not_idle ∷ not_idle ∷ not_idle ∷ not_idle ∷ [])
+unfolding effects
 spindown = refl
 
-expire : cells (Expire 1) ≡ (ending Timeout InitTimedOut ∷ nothing ∷ ending Timeout TimedOut ∷ ends Timeout ∷ nothing ∷ nothing ∷ [])
-unfolding cells
+expire : effects (Expire 1) ≡ (ending Timeout InitTimedOut ∷ nothing ∷ ending Timeout TimedOut ∷ ends Timeout ∷ nothing ∷ nothing ∷ [])
+unfolding effects
 expire = refl
 
-stop : cells Stop ≡ (ending SpunDown Stopped ∷ ends SpunDown ∷ ending SpunDown Stopped ∷ ends SpunDown ∷ (None, None, Some Stopped) ∷ nothing ∷ [])
-unfolding cells
+stop : effects Stop ≡ (ending SpunDown Stopped ∷ ends SpunDown ∷ ending SpunDown Stopped ∷ ends SpunDown ∷ (None, None, Some Stopped) ∷ nothing ∷ [])
+unfolding effects
 stop = refl
 
-tick : cells Tick ≡ (nothing ∷ nothing ∷ nothing ∷ nothing ∷ nothing ∷ nothing ∷ [])
-unfolding cells
+tick : effects Tick ≡ (nothing ∷ nothing ∷ nothing ∷ nothing ∷ nothing ∷ nothing ∷ [])
+unfolding effects
 tick = refl

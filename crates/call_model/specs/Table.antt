@@ -1,26 +1,6 @@
 -- The table of phases: what each call does to an environment in each of its phases.
--- A row is a call. Its cells are, in this order, for the phases
---   Starting, Idle, Busy with its invocation unanswered, Busy with its invocation answered, Closing, Off.
 -- (Lambda Developer Guide, "Understanding the Lambda execution environment lifecycle"; Runtime API; Extensions API)
---
---                      Starting    Idle        Busy, open  Busy, answered  Closing     Off
---   RuntimeNext        parks       parks       state       parks           container   container
---   Response           state       state       output      state           state       container
---   ResponseTooLarge   state       state       too large   state           state       container
---   Failure            state       state       error       state           state       container
---   InitFailure        error, F    state       state       state           state       container
---   Register           registers   state       state       state           state       container
---   ExtNext            parks       parks       parks       parks           told once   container
---   ExtInitFailure     error, F    state       state       state           state       container
---   ExtExitFailure     error, F    accepted, F error, F    accepted, F     accepted    container
---   Spindown           not idle    accepted, S not idle    not idle        not idle    not idle
---   Expire             timeout, T  -           timeout, T  T               ends        -
---   Stop               stopped, S  S           stopped, S  S               stopped     -
---
--- The words: the call parks, is accepted, or is refused (state, container, not idle); its caller gets the output, an
--- error, a timeout, or that the service is stopped; the environment closes with FAILURE, SPINDOWN or TIMEOUT (F, S, T).
--- own_answer, to_waiting and closes say each of the three; an extension that isn't known is refused in every phase.
-use Rattle.std.specs.Prelude.{ℕ, suc, ◌+◌, Bool, true, false, not, ◌&&◌, ◌||◌, if◌then◌else◌, nat_le, List, length, Option, Some, None, is_some, bytes_eq}
+use Rattle.std.specs.Prelude.{ℕ, suc, ◌+◌, Bool, true, false, not, ◌&&◌, if◌then◌else◌, nat_le, List, length, Option, Some, None, is_some, bytes_eq}
 use Rattle.std.specs.List.{list_any, find}
 use Rattle.call_model.specs.declared.call.Call.{Call}
 use Rattle.call_model.specs.declared.call.Call.TheVariants.{Invoke, RuntimeNext, Response, ResponseTooLarge, Failure, InitFailure, Register, ExtNext, ExtInitFailure, ExtExitFailure, Spindown, Stop, Expire}
@@ -33,57 +13,99 @@ use Rattle.call_model.specs.declared.answer.Reason.TheVariants.{Timeout, Failure
 use Rattle.call_model.specs.declared.answer.Phase.{Phase}
 use Rattle.call_model.specs.declared.answer.Phase.TheVariants.{Starting, Idle, Busy, Closing, Off}
 use Rattle.call_model.specs.Generation.{Member, hears_end, has_count}
-use Rattle.call_model.specs.Stand.{Stand, is_known, is_starting, is_idle, is_busy, is_number}
+use Rattle.call_model.specs.Stand.{Stand, is_known, is_number}
+
+-- A cell: what a call does in a phase.
+pub record Cell : Type 0 where
+  -- the answer to the call itself; an event gets its number later
+  pub own : Option Answer
+  -- what the waiting call gets, where one waits: it may be made of the bytes of the call, which has a ticket
+  pub waiting : ℕ → Option Answer
+  -- why the environment closes, where it does
+  -- (life cycle: reset after a timeout, a failed Init, a failed extension; a spindown)
+  pub close : Option Reason
 
 -- the cell of a row for a phase
-abbrev pub by_phase : Option Answer → Option Answer → Option Answer → Option Answer → Option Answer → Option Answer → Stand → Phase → Option Answer
+abbrev pub by_phase : {A : Type 0} → A → A → A → A → A → A → Stand → Phase → A
 by_phase starting idle unanswered answered closing off s (Starting d bound) = starting
 by_phase starting idle unanswered answered closing off s Idle = idle
 by_phase starting idle unanswered answered closing off s (Busy p d) = if is_some s.request then unanswered else answered
 by_phase starting idle unanswered answered closing off s (Closing reason until bound) = closing
 by_phase starting idle unanswered answered closing off s Off = off
 
--- a row
-abbrev pub row : Stand → Option Answer → Option Answer → Option Answer → Option Answer → Option Answer → Option Answer → Option Answer
+-- A row: the cells for Starting, Idle, Busy with its invocation unanswered, Busy with it answered, Closing and Off.
+abbrev pub row : {A : Type 0} → Stand → A → A → A → A → A → A → A
 row s starting idle unanswered answered closing off = by_phase starting idle unanswered answered closing off s s.phase
 
--- The cells' words: a Next parks, or its call is accepted, or it is refused, for one of these reasons.
+-- the refusal of a call
 abbrev pub refused : Refusal → Option Answer
 refused kind = Some (Refused kind)
 
-abbrev pub parks : Option Answer
-parks = None
+-- a cell that only answers the call itself, or lets it wait
+abbrev pub only : Option Answer → Cell
+only a = record { own = a; waiting = λ ticket. None; close = None }
 
-abbrev pub accepted : Option Answer
-accepted = Some Accepted
+-- a Next parks; other calls give nothing here
+abbrev pub parks : Cell
+parks = only None
 
-abbrev pub state : Option Answer
-state = refused State
+abbrev pub nothing : Cell
+nothing = only None
 
-abbrev pub container : Option Answer
-container = refused Container
+abbrev pub accepted : Cell
+accepted = only (Some Accepted)
 
-abbrev pub not_idle : Option Answer
-not_idle = refused NotIdle
+-- the call is refused, for one of these reasons
+abbrev pub state : Cell
+state = only (refused State)
 
--- an extension that isn't registered in the present generation is answered Unknown
-abbrev pub if_known : Bool → Option Answer → Option Answer
-if_known true answer = answer
-if_known false answer = refused Unknown
+abbrev pub container : Cell
+container = only (refused Container)
 
--- the row of a call by an extension; in Off no extension is known, and it is the container that refuses
-abbrev pub ext_row : Stand → ℕ → Option Answer → Option Answer → Option Answer → Option Answer → Option Answer → Option Answer
-ext_row s x starting idle unanswered answered closing =
-    row s (if_known (is_known s x) starting) (if_known (is_known s x) idle) (if_known (is_known s x) unanswered) (if_known (is_known s x) answered) (if_known (is_known s x) closing) container
+abbrev pub not_idle : Cell
+not_idle = only (refused NotIdle)
 
--- the answer to a report that names the open invocation
-abbrev pub if_open : Bool → Answer → Option Answer
-if_open true a = Some a
-if_open false a = refused BadId
+abbrev pub bad_id : Cell
+bad_id = only (refused BadId)
+
+abbrev pub unknown : Cell
+unknown = only (refused Unknown)
+
+-- the invocation gets the outcome that the runtime reports
+abbrev pub output : Cell
+output = record { own = Some Accepted; waiting = λ ticket. Some (Output ticket); close = None }
+
+abbrev pub too_large : Cell
+too_large = record { own = refused TooLarge; waiting = λ ticket. Some OutputTooLarge; close = None }
+
+abbrev pub error : Cell
+error = record { own = Some Accepted; waiting = λ ticket. Some (Error ticket); close = None }
+
+-- a failure: the waiting call gets it as an error, and the environment closes
+abbrev pub fails : Cell
+fails = record { own = Some Accepted; waiting = λ ticket. Some (Error ticket); close = Some Failed }
+
+-- the time of an Init, or of an invocation, is over
+abbrev pub init_times_out : Cell
+init_times_out = record { own = None; waiting = λ ticket. Some InitTimedOut; close = Some Timeout }
+
+abbrev pub times_out : Cell
+times_out = record { own = None; waiting = λ ticket. Some TimedOut; close = Some Timeout }
+
+-- an idle environment is shut down
+abbrev pub spins_down : Cell
+spins_down = record { own = Some Accepted; waiting = λ ticket. None; close = Some SpunDown }
+
+-- the service stops, and with it the environment, where that isn't closing already
+abbrev pub stops : Cell
+stops = record { own = None; waiting = λ ticket. Some Stopped; close = Some SpunDown }
+
+abbrev pub tells_stopped : Cell
+tells_stopped = record { own = None; waiting = λ ticket. Some Stopped; close = None }
 
 -- a report on the open invocation, by the count in the identifier that it names (Runtime API: AwsRequestId)
-abbrev pub reports_on : Stand → ℕ → Answer → Option Answer
-reports_on s id a = if_open (is_number s.request id) a
+abbrev pub if_named : Stand → ℕ → Cell → Cell
+if_named s id cell = if is_number s.request id then cell else bad_id
 
 -- a name in use is refused first, then the eleventh extension (Extensions API: Register)
 abbrev pub register : Stand → List ℕ → Answer
@@ -92,9 +114,9 @@ register s name =
     else if nat_le 10 (length s.members) then Refused TooMany
     else Registered (suc s.registrations)
 
--- the answer to a Register in Starting
-abbrev pub registers : Stand → List ℕ → Option Answer
-registers s name = Some (register s name)
+-- a Register in Starting
+abbrev pub registers : Stand → List ℕ → Cell
+registers s name = only (Some (register s name))
 
 -- an extension that asks in Closing hears the end of the environment, once (Extensions API: Shutdown event)
 abbrev pub next_in_closing : Option Member → Phase → Option Answer
@@ -108,60 +130,45 @@ next_in_closing _ _ = refused Container
 abbrev pub told_in_closing : Stand → ℕ → Option Answer
 told_in_closing s x = next_in_closing (find (has_count x) s.members) s.phase
 
--- The answer to the call itself. An event gets its number later.
---   cells: Starting, Idle, Busy unanswered, Busy answered, Closing, Off
+abbrev pub told_once : Stand → ℕ → Cell
+told_once s x = only (told_in_closing s x)
+
+-- The row of a call by an extension: one that isn't registered in the present generation is unknown; in Off none is
+-- known, and it is the container that refuses.
+abbrev pub ext_row : Stand → ℕ → Cell → Cell → Cell → Cell → Cell → Cell
+ext_row s x starting idle unanswered answered closing =
+    if is_known s x
+    then row s starting idle unanswered answered closing container
+    else row s unknown unknown unknown unknown unknown container
+
+-- The table: a row for each call; in every phase a second Stop, and a call with no row, gives nothing here.
+-- The columns: Starting, Idle, Busy with its invocation unanswered, Busy with it answered, Closing, Off.
+abbrev pub table : Stand → Call → Cell
+table s (RuntimeNext e) = row s parks parks state parks container container
+table s (Response e id body) = row s state state (if_named s id output) state state container
+table s (ResponseTooLarge e id) = row s state state (if_named s id too_large) state state container
+table s (Failure e id body) = row s state state (if_named s id error) state state container
+table s (InitFailure e body) = row s fails state state state state container
+table s (Register e name invoke shutdown account) = row s (registers s name) state state state state container
+table s (ExtNext e x) = ext_row s x parks parks parks parks (told_once s x)
+table s (ExtInitFailure e x body) = ext_row s x fails state state state state
+table s (ExtExitFailure e x body) = ext_row s x fails fails fails fails accepted
+table s (Spindown e) = row s not_idle spins_down not_idle not_idle not_idle not_idle
+table s (Expire e) = row s init_times_out nothing times_out times_out nothing nothing
+table s Stop = if s.stopped then nothing else row s stops stops stops stops tells_stopped tells_stopped
+table s _ = nothing
+
+-- The answer to the call itself.
 unfoldable pub own_answer : Stand → Call → Option Answer
-own_answer s (RuntimeNext e) = row s parks parks state parks container container
-own_answer s (Response e id body) = row s state state (reports_on s id Accepted) state state container
-own_answer s (ResponseTooLarge e id) = row s state state (reports_on s id (Refused TooLarge)) state state container
-own_answer s (Failure e id body) = row s state state (reports_on s id Accepted) state state container
-own_answer s (InitFailure e body) = row s accepted state state state state container
-own_answer s (Register e name invoke shutdown account) = row s (registers s name) state state state state container
-own_answer s (ExtNext e x) = ext_row s x parks parks parks parks (told_in_closing s x)
-own_answer s (ExtInitFailure e x body) = ext_row s x accepted state state state state
-own_answer s (ExtExitFailure e x body) = ext_row s x accepted accepted accepted accepted accepted
-own_answer s (Spindown e) = row s not_idle accepted not_idle not_idle not_idle not_idle
-own_answer s _ = None
+own_answer s call = (table s call).own
 
--- Why a call makes the environment close, in the phases in which it does
--- (life cycle: reset after a timeout, a failed Init, a failed extension; a spindown).
+-- Why a call makes the environment close, where it does.
 unfoldable pub closes : Stand → Call → Option Reason
-closes s (InitFailure e body) = if is_starting s.phase then Some Failed else None
-closes s (ExtInitFailure e x body) = if is_starting s.phase && is_known s x then Some Failed else None
-closes s (ExtExitFailure e x body) =
-    if (is_starting s.phase || is_idle s.phase || is_busy s.phase) && is_known s x
-    then Some Failed
-    else None
-closes s (Spindown e) = if is_idle s.phase then Some SpunDown else None
-closes s (Expire e) = if is_starting s.phase || is_busy s.phase then Some Timeout else None
-closes s Stop = if (is_starting s.phase || is_idle s.phase || is_busy s.phase) && not s.stopped then Some SpunDown else None
-closes s _ = None
+closes s call = (table s call).close
 
--- an Init that expires, or an invocation
-abbrev pub timed_out : Phase → Answer
-timed_out (Starting d bound) = InitTimedOut
-timed_out _ = TimedOut
-
--- what the invocation gets that is served and open
-abbrev pub if_serves : Stand → ℕ → Answer → Option Answer
-if_serves s id a = if is_busy s.phase && is_number s.request id then Some a else None
-
--- what the waiting call gets where its environment closes
-abbrev pub if_closes : Option Reason → Answer → Option Answer
-if_closes why a = if is_some why then Some a else None
-
--- What the waiting call gets: the outcome that the runtime reports; an error where its environment closes for a
--- failure or a timeout; Stopped at the first Stop. own is the ticket of the call, whose bytes are the outcome's.
+-- What the waiting call gets of a call with a ticket.
 unfoldable pub to_waiting : ℕ → Stand → Call → Option Answer
-to_waiting own s (Response e id body) = if_serves s id (Output own)
-to_waiting own s (ResponseTooLarge e id) = if_serves s id OutputTooLarge
-to_waiting own s (Failure e id body) = if_serves s id (Error own)
-to_waiting own s (InitFailure e body) = if_closes (closes s (InitFailure e body)) (Error own)
-to_waiting own s (ExtInitFailure e x body) = if_closes (closes s (ExtInitFailure e x body)) (Error own)
-to_waiting own s (ExtExitFailure e x body) = if_closes (closes s (ExtExitFailure e x body)) (Error own)
-to_waiting own s (Expire e) = if_closes (closes s (Expire e)) (timed_out s.phase)
-to_waiting own s Stop = if s.stopped then None else Some Stopped
-to_waiting own s _ = None
+to_waiting ticket s call = (table s call).waiting ticket
 
 -- an Init may last 10 s from the first contact (life cycle: Init phase)
 abbrev pub init_limit : ℕ → Option ℕ → Option ℕ

@@ -1,3 +1,5 @@
+-- The table as the code reads it.
+pub mod Tests
 -- The first stage of each call, as the code makes it.
 pub mod Turns
 pub mod Welcome

@@ -1,10 +1,11 @@
 //! Functions of phases: what a phase has at hand, and which phase comes after it.
 //! (Lambda Developer Guide: Understanding the Lambda execution environment lifecycle)
 
-ghost use Rattle.std.specs.Prelude.{◌≡◌, ◌+◌, ◌<◌, ◌^◌, ◌||◌};
+ghost use Rattle.std.specs.Prelude.{◌≡◌, ◌+◌, ◌<◌, ◌^◌, ◌||◌, if◌then◌else◌};
 ghost use Rattle.call_model.specs.Polls.{begun};
 ghost use Rattle.call_model.specs.Stand.{at_hand, bound_of, is_starting, is_idle, is_busy, is_closing};
-ghost use Rattle.call_model.specs.Table.{settled, reborn, clock_started, placed, timed_out, unbound};
+ghost use Rattle.call_model.specs.Table.{settled, reborn, clock_started, placed, unbound};
+ghost use Rattle.call_model.specs.declared.answer.Answer.TheVariants.{InitTimedOut, TimedOut};
 
 use call_model::{Answer, Phase, Ticket};
 
@@ -48,7 +49,7 @@ pub(crate) fn is_open(phase: Phase) -> bool
 
 /// What the waiting call gets where the phase expires.
 pub(crate) fn timed_out(phase: Phase) -> Answer
-    ensures { result ≡ timed_out phase }
+    ensures { result ≡ (if is_starting phase then InitTimedOut else TimedOut) }
 {
     if is_starting(phase) {
         Answer::InitTimedOut

@@ -9,7 +9,7 @@ use Rattle.call_model.specs.Counts.{full}
 use Rattle.call_model.specs.Next.{next, added}
 use Rattle.script.specs.AnswerText.{answer_lines}
 use Rattle.account_book.specs.Book.{Kept}
-use Rattle.account_book.specs.Run.{answered, lines_from, added_lines}
+use Rattle.account_book.specs.Run.{call_answered, lines_from, added_lines}
 
 pub next_added : (config : Config) (h : List Entry) (now : ℕ) (call : Call) → next config h now call ≡ added config h now call ++ h
 unfolding next
@@ -41,8 +41,8 @@ lines_step salt h (entry ∷ entries) number out new within is = step_at salt h 
 
 -- what a call writes is the lines of the entries behind those before it
 pub lines_answered : (book after : Kept) (now : ℕ) (call : Call) (before : ℕ) → full book.config book.max_entries book.history call ≡ false → after ≡ record book { history = next book.config book.history now call }
-    → before ≡ length book.history → lines_from after.salt after.history before (drop before (reverse after.history)) ≡ (answered book now call).1
-unfolding answered
+    → before ≡ length book.history → lines_from after.salt after.history before (drop before (reverse after.history)) ≡ (call_answered book now call).1
+unfolding call_answered
 lines_answered book after now call before free is counted =
     rw (is, free, next_added book.config book.history now call) (lines_added book.salt book.history (added book.config book.history now call) before counted)
 

@@ -2,7 +2,7 @@
 
 ghost use Rattle.std.specs.Prelude.{◌≡◌, ◌<◌, ◌≤◌, ◌^◌, ◌++◌, length, reverse, drop, OnOk, IfOk, IfErr, Ok, Err};
 ghost use Rattle.script.specs.Limits.{IsWithin};
-ghost use Rattle.account_book.specs.Run.{opened, answered, lines_from};
+ghost use Rattle.account_book.specs.Run.{opened, call_answered, lines_from};
 ghost use Rattle.script_replay.specs.Faults.{HasFault};
 
 use crate::fault::ReplayFault;
@@ -51,12 +51,12 @@ fn push_from(book: &Book, from: usize, out: &mut Vec<u8>) -> Result<(), AllocErr
 }
 
 /// Hands the book a call, and adds the lines that it is answered.
-#[tactic(auto, unfolding(account_book::specs::Run::answered))]
+#[tactic(auto, unfolding(account_book::specs::Run::call_answered))]
 pub fn answer(book: &mut Book, now: u64, call: Call, out: &mut Vec<u8>) -> Result<(), AllocError>
     requires moment { now < 2 ^ 53 }
     requires within { IsWithin book.old.config call }
-    ensures book { OnOk result (book.new ≡ (answered book.old now call).0) }
-    ensures text { OnOk result (out.new.items ≡ out.old.items ++ (answered book.old now call).1) }
+    ensures book { OnOk result (book.new ≡ (call_answered book.old now call).0) }
+    ensures text { OnOk result (out.new.items ≡ out.old.items ++ (call_answered book.old now call).1) }
 {
     let before = book.entries().len();
     match book.apply(now, call) {

@@ -3,9 +3,9 @@
 //! Busy with its invocation answered, Closing and Off.
 //! (Runtime API; Extensions API)
 
-ghost use Rattle.std.specs.Prelude.{◌≡◌, ◌<◌, ◌^◌};
-ghost use Rattle.call_model.specs.declared.answer.Refusal.TheVariants.{State, Container};
-ghost use Rattle.call_model.specs.Table.{own_answer, row, ext_row, reports_on, registers, told_in_closing, is_registered, refused};
+ghost use Rattle.std.specs.Prelude.{◌≡◌, ◌<◌, ◌^◌, Some};
+ghost use Rattle.call_model.specs.Table.{own_answer, row, register, told_in_closing, is_registered};
+ghost use Rattle.env_phase.specs.Rows.{ext_answers, named_answer, report_answers};
 
 use super::Environment;
 use arn_ids::Text;
@@ -35,7 +35,7 @@ pub(super) fn is_registered(own: Option<Answer>) -> bool
 impl Environment {
     /// The answer to a call itself: none where it is a Next that parks, or a call that another part
     /// of the service answers.
-    #[tactic(auto, unfolding(call_model::specs::Table::own_answer))]
+    #[tactic(auto, using(crate::proofs::Tests::own_same))]
     pub(super) fn own_answer(&self, call: &Call) -> Option<Answer>
         requires { self.now.stand.registrations < 2 ^ 52 }
         ensures { result ≡ own_answer self.now.stand call.now }
@@ -106,7 +106,7 @@ impl Environment {
         answered: Option<Answer>,
         closing: Option<Answer>,
     ) -> Option<Answer>
-        ensures { result ≡ ext_row self.now.stand ext starting idle unanswered answered closing }
+        ensures { result ≡ ext_answers self.now.stand ext starting idle unanswered answered closing }
     {
         if self.knows(ext) {
             self.row(starting, idle, unanswered, answered, closing, CONTAINER)
@@ -118,7 +118,7 @@ impl Environment {
     /// The cell of the row of a report on the invocation with this request count.
     /// (Runtime API: Invocation response, Invocation error)
     fn report_row(&self, id: u64, answer: Answer) -> Option<Answer>
-        ensures { result ≡ row self.now.stand (refused State) (refused State) (reports_on self.now.stand id answer) (refused State) (refused State) (refused Container) }
+        ensures { result ≡ report_answers self.now.stand id answer }
     {
         self.row(
             STATE,
@@ -132,7 +132,7 @@ impl Environment {
 
     /// The answer to a report on the open invocation, by the request count that it names.
     fn reports_on(&self, id: u64, answer: Answer) -> Option<Answer>
-        ensures { result ≡ reports_on self.now.stand id answer }
+        ensures { result ≡ named_answer self.now.stand id answer }
     {
         if self.request == Some(id) {
             Some(answer)
@@ -144,7 +144,7 @@ impl Environment {
     /// The answer to a Register in Starting. (Extensions API: Register)
     fn registers(&self, name: &Text) -> Option<Answer>
         requires { self.now.stand.registrations < 2 ^ 52 }
-        ensures { result ≡ registers self.now.stand name.now }
+        ensures { result ≡ Some (register self.now.stand name.now) }
     {
         Some(match self.extensions.admits(name) {
             Ok(()) => Answer::Registered {

@@ -32,7 +32,7 @@ impl Environment {
     }
 
     /// Why a call makes the environment close, in the phases in which it does.
-    #[tactic(auto, unfolding(call_model::specs::Table::closes))]
+    #[tactic(auto, using(crate::proofs::Tests::closes_same))]
     fn closes(&self, call: &Call) -> Option<Reason>
         ensures { result ≡ closes self.now.stand call.now }
     {
@@ -56,7 +56,7 @@ impl Environment {
     /// What the waiting call gets: the outcome that the runtime reports, an error where the
     /// environment closes for a failure or a timeout, or that the service is stopped. The outcome's
     /// bytes are those of the call, whose ticket is own.
-    #[tactic(auto, unfolding(call_model::specs::Table::to_waiting))]
+    #[tactic(auto, using(crate::proofs::Tests::waiting_same))]
     pub(super) fn to_waiting(&self, own: Ticket, call: &Call, why: Option<Reason>) -> Option<Answer>
         requires { why ≡ closes self.now.stand call.now }
         ensures { result ≡ to_waiting own self.now.stand call.now }

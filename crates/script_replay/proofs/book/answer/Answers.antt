@@ -2,7 +2,7 @@ use Rattle.std.proofs.Common.{◌≡◌, ◌++◌, ◌∙◌, List, ℕ, sym, ap
 use Rattle.std.proofs.lemmas.List.{length-reverse}
 use Rattle.std.proofs.lemmas.Result.{on_ok_weaker}
 use Rattle.account_book.specs.Book.{Kept}
-use Rattle.account_book.specs.Run.{answered}
+use Rattle.account_book.specs.Run.{call_answered}
 use Rattle.script_replay.proofs.AddedEntries.{next_longer, lines_answered, not_true}
 use Rattle.script_replay.proofs.book.answer.Goals as goal
 
@@ -23,7 +23,7 @@ returns-in-Ok-clause-text c =
     on_ok_weaker c.push_from.result (λ wrote. wrote ∙ ap (λ (text : List ℕ). c.args.out.now.items ++ text) (lines_answered _ _ _ _ _ free c.in-Ok.ensures.step before)) c.push_from.ensures
 
 pub returns-in-Err-JournalFull-clause-text : goal.returns-in-Err-JournalFull-clause-text
-unfolding answered
+unfolding call_answered
 returns-in-Err-JournalFull-clause-text c =
     let full = c.in-Err-JournalFull.ensures.full.0 (ap Err c.in-Err-JournalFull.field-0-is) in
     rw full (grown_ok c.extend_from_slice.result _ _ _ c.extend_from_slice.ensures.items)

@@ -1,0 +1,21 @@
+-- The answers of the rows of the table that several calls share.
+use Rattle.std.specs.Prelude.{ℕ, if◌then◌else◌, Option, Some}
+use Rattle.call_model.specs.declared.answer.Answer.{Answer}
+use Rattle.call_model.specs.declared.answer.Refusal.TheVariants.{State, Container, BadId, Unknown}
+use Rattle.call_model.specs.Stand.{Stand, is_known, is_number}
+use Rattle.call_model.specs.Table.{row, refused}
+
+-- the answer to a report on the open invocation, by the request count that it names
+abbrev pub named_answer : Stand → ℕ → Answer → Option Answer
+named_answer s id answer = if is_number s.request id then Some answer else refused BadId
+
+-- the row of such a report
+abbrev pub report_answers : Stand → ℕ → Answer → Option Answer
+report_answers s id answer = row s (refused State) (refused State) (named_answer s id answer) (refused State) (refused State) (refused Container)
+
+-- the row of a call by an extension, which is unknown where it isn't registered in the present generation
+abbrev pub ext_answers : Stand → ℕ → Option Answer → Option Answer → Option Answer → Option Answer → Option Answer → Option Answer
+ext_answers s x starting idle unanswered answered closing =
+    if is_known s x
+    then row s starting idle unanswered answered closing (refused Container)
+    else row s (refused Unknown) (refused Unknown) (refused Unknown) (refused Unknown) (refused Unknown) (refused Container)
