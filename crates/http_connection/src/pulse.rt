@@ -1,6 +1,8 @@
 //! Whether a connection moves: its own thread tells it, and whoever keeps connections reads it.
 
-ghost use Rattle.std.specs.Prelude.{◌<◌};
+ghost use Rattle.std.specs.Prelude.{◌≡◌, ℕ};
+ghost use Rattle.http_connection.specs.Pulses.{number_of, told_of, patience_for};
+ghost use Rattle.http_connection.specs.declared.pulse.Awaited.{Awaited};
 
 use std::sync::atomic::AtomicU64;
 use std::sync::atomic::Ordering::SeqCst;
@@ -21,7 +23,7 @@ pub(crate) enum Awaited {
 impl Awaited {
     /// Its number in a pulse.
     fn number(self) -> u64
-        ensures { result < 4 }
+        ensures { result ≡ number_of self }
     {
         match self {
             Awaited::Answer => 0,
@@ -30,15 +32,36 @@ impl Awaited {
             Awaited::End => 3,
         }
     }
+
+    /// What a connection tells that has moved so often.
+    fn told(self, moves: u32) -> u64
+        ensures { result ≡ told_of moves self }
+    {
+        u64::from(moves) * 4 + self.number()
+    }
+
+    /// What a connection waits for that told this.
+    fn of(told: u64) -> Awaited
+        ensures { (moves : ℕ) (awaited : Awaited) → told ≡ told_of moves awaited → result ≡ awaited }
+    {
+        match told % 4 {
+            0 => Awaited::Answer,
+            1 => Awaited::Request,
+            2 => Awaited::Next,
+            _ => Awaited::End,
+        }
+    }
 }
 
-/// How many seconds a connection with this pulse may stand still; none where it may for ever.
-pub fn patience(told: u64) -> Option<u32> {
-    match told % 4 {
-        0 => None,
-        1 => Some(20),
-        2 => Some(300),
-        _ => Some(2),
+/// How many seconds a connection that told this may stand still; none where it may for ever.
+pub fn patience(told: u64) -> Option<u32>
+    ensures { (moves : ℕ) (awaited : Awaited) → told ≡ told_of moves awaited → result ≡ patience_for awaited }
+{
+    match Awaited::of(told) {
+        Awaited::Answer => None,
+        Awaited::Request => Some(20),
+        Awaited::Next => Some(300),
+        Awaited::End => Some(2),
     }
 }
 
@@ -53,14 +76,13 @@ impl Pulse {
     /// That of a connection which waits for its first request.
     pub fn new() -> Pulse {
         Pulse {
-            told: AtomicU64::new(Awaited::Request.number()),
+            told: AtomicU64::new(Awaited::Request.told(0)),
         }
     }
 
     /// Tells how the connection stands.
     pub(crate) fn tell(&self, moves: u32, awaited: Awaited) {
-        self.told
-            .store(u64::from(moves) * 4 + awaited.number(), SeqCst);
+        self.told.store(awaited.told(moves), SeqCst);
     }
 
     /// What was told last.

@@ -1,9 +1,10 @@
 //! A socket whose end is seen while nobody reads it: what came meanwhile is kept for the next read.
 //! It notes whether it moves, and what is waited for.
 
-ghost use Rattle.std.specs.Prelude.{⊤};
+ghost use Rattle.std.specs.Prelude.{⊤, ◌≡◌};
 ghost use Rattle.futures.specs.Poll.{OnPending};
 ghost use Rattle.futures.specs.Task.{IsArmed, Keeps};
+ghost use Rattle.http_connection.specs.Standing.{standing, after_read, after_reading, after_writing, awaited_by};
 
 use crate::pulse::{Awaited, Pulse};
 use bytes::BytesMut;
@@ -38,7 +39,9 @@ struct Socket {
 
 impl Socket {
     /// Notes a read, of so many bytes.
-    fn note_read(&mut self, count: usize) {
+    fn note_read(&mut self, count: usize)
+        ensures { standing self.new ≡ after_read (standing self.old) count }
+    {
         if count > 0 {
             self.moves = self.moves.wrapping_add(1);
             self.has_answered = false;
@@ -46,7 +49,9 @@ impl Socket {
     }
 
     /// Notes what came of an attempt to read.
-    fn note_reading(&mut self, polled: &Poll<io::Result<usize>>) {
+    fn note_reading(&mut self, polled: &Poll<io::Result<usize>>)
+        ensures { standing self.new ≡ after_reading (standing self.old) polled.now }
+    {
         match polled {
             Poll::Ready(Ok(count)) => self.note_read(*count),
             Poll::Ready(Err(_)) => {}
@@ -55,7 +60,9 @@ impl Socket {
     }
 
     /// Notes what came of an attempt to write.
-    fn note_writing(&mut self, polled: &Poll<io::Result<usize>>) {
+    fn note_writing(&mut self, polled: &Poll<io::Result<usize>>)
+        ensures { standing self.new ≡ after_writing (standing self.old) polled.now }
+    {
         match polled {
             Poll::Ready(Ok(_)) => {
                 self.moves = self.moves.wrapping_add(1);
@@ -63,6 +70,20 @@ impl Socket {
             }
             Poll::Ready(Err(_)) => {}
             Poll::Pending => self.is_awaited = true,
+        }
+    }
+
+    /// What it waits for at the end of a turn: its peer, where the connection asked it for more than
+    /// was there.
+    fn awaited(&self) -> Awaited
+        ensures { result ≡ awaited_by (standing self.now) }
+    {
+        if !self.is_awaited {
+            Awaited::Answer
+        } else if self.has_answered {
+            Awaited::Next
+        } else {
+            Awaited::Request
         }
     }
 }
@@ -142,20 +163,11 @@ impl Wire {
         }
     }
 
-    /// Tells how the connection stands at the end of a turn: it waits for its peer where it asked the
-    /// socket for more than was there.
+    /// Tells how the connection stands at the end of a turn.
     pub(crate) fn end_turn(&self, pulse: &Pulse) {
-        let Ok(socket) = self.socket.try_borrow_mut() else {
-            return;
-        };
-        let awaited = if !socket.is_awaited {
-            Awaited::Answer
-        } else if socket.has_answered {
-            Awaited::Next
-        } else {
-            Awaited::Request
-        };
-        pulse.tell(socket.moves, awaited);
+        if let Ok(socket) = self.socket.try_borrow_mut() {
+            pulse.tell(socket.moves, socket.awaited());
+        }
     }
 
     /// Tells that the connection waits for its peer's end.

@@ -5,9 +5,8 @@ use Rattle.std.specs.Str.Lines.{lines, lines_of_parts, strip_carriage_return}
 use Rattle.std.proofs.lemmas.Bool.Decides.{nat_tests}
 use Rattle.std.proofs.lemmas.List.Elements.{All-append, recursion_from_All}
 use Rattle.account_book.specs.Run.{Progress, line_limit, line_taken}
-use Rattle.script_replay.specs.Replays.{StoppedAt}
+use Rattle.script_replay.specs.Replays.{IsOpen, StoppedAt}
 use Rattle.script_replay.specs.Faults.{HasFault}
-use Rattle.script_replay.specs.Steps.{IsOpen}
 use Rattle.script_replay.specs.declared.fault.ReplayFault.{ReplayFault}
 use Rattle.account_book.proofs.LineEnds.{is_break, pieces_begin}
 use Rattle.script_replay.proofs.Composing.{line_stops}

@@ -5,20 +5,25 @@ use Rattle.std.proofs.lemmas.List.{append-nil}
 use Rattle.std.specs.Io.KnownBytes.{Keeps, Consumes, IsAtEnd}
 use Rattle.std.specs.Str.Lines.{lines}
 use Rattle.account_book.specs.Run.{AtStart}
-use Rattle.script_replay.specs.Replays.{Ended, StoppedAt, Replays, Stops}
-use Rattle.script_replay.specs.Steps.{IsOpen, Played, Stand, Going, StoppedIn, last_lines}
+use Rattle.script_replay.specs.Replays.{IsOpen, Played, Ended, StoppedAt, Replays, Stops}
+use Rattle.script_replay.specs.Steps.{Stand, AreWhole, Going, StoppedIn, last_lines}
 use Rattle.script_replay.specs.declared.fault.ReplayFault.{ReplayFault}
 use Rattle.script_replay.specs.declared.fault.ReplayFault.TheVariants as faults
-use Rattle.script_replay.proofs.LineEnds.{one_line}
-use Rattle.script_replay.proofs.Composing.{played_more, stopped_after, all_played, ended_after}
+use Rattle.script_replay.proofs.LineEnds.{one_line, more_lines}
+use Rattle.script_replay.proofs.Composing.{played_more, stopped_after, ended_after}
 
 -- what was read of the input, all but the rest, is the lines that were taken and what is pending
 pub record Reading (input rest : List ℕ) (now : Stand) (old new : Option (List ℕ)) : Type 0 where
+  pub whole : List ℕ
   pub taken : List (List ℕ)
-  pub cut : lines input ≡ taken ++ lines (now.pending ++ rest)
+  pub split : input ≡ whole ++ (now.pending ++ rest)
+  pub cut : AreWhole whole taken
   pub done : Played 1 AtStart now.progress taken old new
   pub counted : now.line ≡ length taken
   pub free : IsOpen now.pending
+
+lines_read : (input rest : List ℕ) (now : Stand) (old new : Option (List ℕ)) (r : Reading input rest now old new) → lines input ≡ r.taken ++ lines (now.pending ++ rest)
+lines_read input rest now old new r = ap lines r.split ∙ r.cut.cut (now.pending ++ rest)
 
 abbrev pub ReadSoFar : Option (List ℕ) → Option (List ℕ) → Stand → Option (List ℕ) → Option (List ℕ) → Type 0
 ReadSoFar None left now old new = IsOpen now.pending
@@ -31,31 +36,62 @@ read_kept (Some input) None after now old new r kept = absurd r
 read_kept (Some input) (Some rest) None now old new r kept = absurd kept
 read_kept (Some input) (Some rest) (Some more) now old new r kept = rw kept r
 
+piece_split : (s now : Stand) (piece rest more : List ℕ) (old new : Option (List ℕ)) → rest ≡ piece ++ more → (going : Going s now piece [] old new) → s.pending ++ rest ≡ going.whole ++ (now.pending ++ more)
+piece_split s now piece rest more old new taken going =
+    ap (λ (l : List ℕ). s.pending ++ l) taken ∙ sym (append_assoc s.pending piece more) ∙ ap (λ (l : List ℕ). l ++ more) going.split
+    ∙ ap (λ (l : List ℕ). (going.whole ++ l) ++ more) (append-nil now.pending) ∙ append_assoc going.whole now.pending more
+
 pub read_piece : (first left after : Option (List ℕ)) (piece : List ℕ) (s now : Stand) (old mid new : Option (List ℕ)) → ReadSoFar first left s old mid → Consumes left after piece → Going s now piece [] mid new
     → ReadSoFar first after now old new
 read_piece None left after piece s now old mid new r taken going = going.free
 read_piece (Some input) None after piece s now old mid new r taken going = absurd r
 read_piece (Some input) (Some rest) None piece s now old mid new r taken going = absurd taken
 read_piece (Some input) (Some rest) (Some more) piece s now old mid new r taken going = record {
+  whole = r.whole ++ going.whole;
   taken = r.taken ++ going.taken;
-  cut = r.cut ∙ rw (taken, going.cut more, append_assoc) refl;
+  split = r.split ∙ ap (λ (l : List ℕ). r.whole ++ l) (piece_split s now piece rest more mid new taken going) ∙ sym (append_assoc r.whole going.whole (now.pending ++ more));
+  cut = more_lines r.whole going.whole r.taken going.taken r.cut going.cut;
   done = played_more 1 (s.line + 1) AtStart s.progress now.progress r.taken going.taken old mid new r.done going.done (omega (arith, r.counted));
   counted = omega (arith, r.counted, going.counted, length-append r.taken going.taken);
   free = going.free;
 }
 
+-- a fault of lines is one of the script
+stops_so : (input : List ℕ) (left old new : Option (List ℕ)) (e : ReplayFault) → StoppedAt 1 AtStart (lines input) old new e → Stops input left old new e
+stops_so input left old new (faults.Config fault) stopped = stopped
+stops_so input left old new (faults.Wire fault) stopped = stopped
+stops_so input left old new (faults.Script line) stopped = stopped
+stops_so input left old new faults.Read stopped = absurd stopped
+stops_so input left old new faults.Write stopped = stopped
+stops_so input left old new faults.OutOfMemory stopped = stopped
+
 pub read_stopped : (first left after : Option (List ℕ)) (piece : List ℕ) (s : Stand) (old mid new : Option (List ℕ)) (e : ReplayFault) → ReadSoFar first left s old mid → Consumes left after piece → StoppedIn s piece mid new e
-    → IfSome first (λ input. Stops input old new e)
+    → IfSome first (λ input. Stops input after old new e)
 read_stopped None left after piece s old mid new e r taken stopped = tt
 read_stopped (Some input) None after piece s old mid new e r taken stopped = absurd r
 read_stopped (Some input) (Some rest) None piece s old mid new e r taken stopped = absurd taken
 read_stopped (Some input) (Some rest) (Some more) piece s old mid new e r taken stopped =
-    stopped_after 1 (s.line + 1) AtStart s.progress r.taken (lines (s.pending ++ (piece ++ more))) _ old mid new e r.done (omega (arith, r.counted)) (r.cut ∙ rw taken refl) (stopped more)
+    stops_so input (Some more) old new e
+    (stopped_after 1 (s.line + 1) AtStart s.progress r.taken (lines (s.pending ++ (piece ++ more))) _ old mid new e r.done (omega (arith, r.counted)) (lines_read input rest s old mid r ∙ rw taken refl) (stopped more))
 
-pub read_failed : (first left : Option (List ℕ)) (s : Stand) (old new : Option (List ℕ)) → ReadSoFar first left s old new → IfSome first (λ input. Stops input old new faults.Read)
+pub read_failed : (first left : Option (List ℕ)) (s : Stand) (old new : Option (List ℕ)) → ReadSoFar first left s old new → IfSome first (λ input. Stops input left old new faults.Read)
 read_failed None left s old new r = tt
 read_failed (Some input) None s old new r = absurd r
-read_failed (Some input) (Some rest) s old new r = record { first = r.taken; rest = lines (s.pending ++ rest); split = r.cut; wrote = all_played 1 AtStart s.progress r.taken old new r.done }
+read_failed (Some input) (Some rest) s old new r =
+    let all : lines r.whole ≡ r.taken = ap lines (sym (append-nil r.whole)) ∙ r.cut.cut [] ∙ append-nil r.taken in
+    record {
+      whole = r.whole;
+      pending = s.pending;
+      read = r.split ∙ sym (append_assoc r.whole s.pending rest);
+      ended = r.cut.ended;
+      free = r.free;
+      next = s.progress;
+      played = rw all r.done;
+    }
+
+pub last_is : (pending : List ℕ) → (length pending == 0) ≡ false → last_lines pending ≡ pending ∷ []
+last_is [] some = cc
+last_is (b ∷ bs) some = refl
 
 -- the last line may lack its line feed
 last_cut : (pending : List ℕ) → IsOpen pending → lines pending ≡ last_lines pending
@@ -64,7 +100,7 @@ last_cut (b ∷ bs) free = let full : (length (b ∷ bs) == 0) ≡ false = grind
 
 script_ends : (input rest : List ℕ) (s : Stand) (old new : Option (List ℕ)) (r : Reading input rest s old new) → rest ≡ [] → lines input ≡ r.taken ++ last_lines s.pending
 script_ends input rest s old new r end =
-    r.cut ∙ ap (λ (l : List ℕ). r.taken ++ lines (s.pending ++ l)) end ∙ ap (λ (l : List ℕ). r.taken ++ lines l) (append-nil s.pending)
+    lines_read input rest s old new r ∙ ap (λ (l : List ℕ). r.taken ++ lines (s.pending ++ l)) end ∙ ap (λ (l : List ℕ). r.taken ++ lines l) (append-nil s.pending)
     ∙ ap (λ (l : List (List ℕ)). r.taken ++ l) (last_cut s.pending r.free)
 
 pub read_last : (first left : Option (List ℕ)) (s : Stand) (old mid new : Option (List ℕ)) → ReadSoFar first left s old mid → IsAtEnd left
@@ -75,11 +111,12 @@ read_last (Some input) (Some rest) s old mid new r end last =
     ended_after 1 (s.line + 1) AtStart s.progress r.taken (last_lines s.pending) _ old mid new None r.done (omega (arith, r.counted)) (script_ends input rest s old mid r end) last
 
 pub last_stopped : (first left : Option (List ℕ)) (s : Stand) (old mid new : Option (List ℕ)) (e : ReplayFault) → ReadSoFar first left s old mid → IsAtEnd left
-    → StoppedAt (s.line + 1) s.progress (last_lines s.pending) mid new e → IfSome first (λ input. Stops input old new e)
+    → StoppedAt (s.line + 1) s.progress (last_lines s.pending) mid new e → IfSome first (λ input. Stops input left old new e)
 last_stopped None left s old mid new e r end stopped = tt
 last_stopped (Some input) None s old mid new e r end stopped = absurd r
 last_stopped (Some input) (Some rest) s old mid new e r end stopped =
-    stopped_after 1 (s.line + 1) AtStart s.progress r.taken (last_lines s.pending) _ old mid new e r.done (omega (arith, r.counted)) (script_ends input rest s old mid r end) stopped
+    stops_so input (Some rest) old new e
+    (stopped_after 1 (s.line + 1) AtStart s.progress r.taken (last_lines s.pending) _ old mid new e r.done (omega (arith, r.counted)) (script_ends input rest s old mid r end) stopped)
 
 pub read_nothing : (first left after : Option (List ℕ)) (buf : List ℕ) (n : ℕ) (now : Stand) (old new : Option (List ℕ)) → ReadSoFar first left now old new → Consumes left after (take n buf) → n ≡ 0 → ReadSoFar first after now old new
 read_nothing None left after buf n now old new r taken zero = r

@@ -1,14 +1,10 @@
 -- How a replay goes on, from piece to piece and from line to line.
-use Rattle.std.specs.Prelude.{◌≡◌, ℕ, ◌+◌, ◌≤◌, ◌==◌, false, List, [], ◌∷◌, ◌++◌, length, Option, Result, Ok, All}
-use Rattle.std.specs.Io.KnownBytes.{Appends}
+use Rattle.std.specs.Prelude.{◌≡◌, ℕ, ◌+◌, ◌≤◌, List, [], ◌∷◌, ◌++◌, length, Option, Result, Ok}
+use Rattle.std.specs.Io.{IsEmptyOrEndsWith}
 use Rattle.std.specs.Str.Lines.{lines}
-use Rattle.account_book.specs.Run.{ScriptFault, Progress, before, replay_from}
-use Rattle.script_replay.specs.Replays.{StoppedAt}
+use Rattle.account_book.specs.Run.{ScriptFault, Progress}
+use Rattle.script_replay.specs.Replays.{IsOpen, Played, StoppedAt}
 use Rattle.script_replay.specs.declared.fault.ReplayFault.{ReplayFault}
-
--- no line ends in the bytes
-abbrev pub IsOpen : List ℕ → Type 0
-IsOpen bytes = All (λ b. (b == 10) ≡ false) bytes
 
 -- the bytes begin with this line and its line feed, and the rest follows
 pub record EndsLine (bytes line rest : List ℕ) : Type 0 where
@@ -21,23 +17,23 @@ pub record Took {A : Type 0} (taken : Result (A × List ℕ) ScriptFault) (next 
   pub gave : taken ≡ Ok (next, text)
   pub grown : new ≡ old ++ text
 
--- Lines were replayed from where it stood to where it stands next, whatever comes after them, and what they come to was
--- written.
-pub record Played (number : ℕ) (first next : Progress) (lines : List (List ℕ)) (old new : Option (List ℕ)) : Type 0 where
-  pub text : List ℕ
-  pub played : (more : List (List ℕ)) → replay_from number first (lines ++ more) ≡ before text (replay_from (number + length lines) next more)
-  pub wrote : Appends old new text
-
 -- where a replay stands between two bytes: its progress, the lines so far, and what was read of the next line
 pub record Stand : Type 0 where
   pub progress : Progress
   pub line : ℕ
   pub pending : List ℕ
 
+-- bytes that end where a line does, or are none, and their lines
+pub record AreWhole (whole : List ℕ) (taken : List (List ℕ)) : Type 0 where
+  pub ended : IsEmptyOrEndsWith whole 10
+  pub cut : (more : List ℕ) → lines (whole ++ more) ≡ taken ++ lines more
+
 -- Of a piece all but the rest was taken, and then more may come.
 pub record Going (first now : Stand) (piece rest : List ℕ) (old new : Option (List ℕ)) : Type 0 where
+  pub whole : List ℕ
   pub taken : List (List ℕ)
-  pub cut : (more : List ℕ) → lines (first.pending ++ (piece ++ more)) ≡ taken ++ lines (now.pending ++ (rest ++ more))
+  pub split : first.pending ++ piece ≡ whole ++ (now.pending ++ rest)
+  pub cut : AreWhole whole taken
   pub done : Played (first.line + 1) first.progress now.progress taken old new
   pub counted : now.line ≡ first.line + length taken
   pub few : length taken + length rest ≤ length piece

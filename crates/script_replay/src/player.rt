@@ -3,8 +3,8 @@
 ghost use Rattle.std.specs.Prelude.{◌≡◌, ◌+◌, ◌<◌, ◌≤◌, ◌^◌, ◌∷◌, [], ◌++◌, List, ℕ, Option, Some, None, length, position, MatchOption, IfOk, IfErr, IfSome, OnOk, OnErr, IsErr, vec_len, ◌==◌};
 ghost use Rattle.std.specs.Io.KnownBytes.{IsAtEnd};
 ghost use Rattle.std.specs.Str.Lines.{lines, strip_carriage_return};
-ghost use Rattle.script_replay.specs.Replays.{Ended, StoppedAt, Replays, Stops};
-ghost use Rattle.script_replay.specs.Steps.{Stand, IsOpen, EndsLine, Played, Going, StoppedIn, last_lines};
+ghost use Rattle.script_replay.specs.Replays.{IsOpen, Played, Ended, StoppedAt, Replays, Stops};
+ghost use Rattle.script_replay.specs.Steps.{Stand, EndsLine, Going, StoppedIn, last_lines};
 ghost use Rattle.script_replay.specs.Views.{seen, stand};
 
 use crate::fault::ReplayFault;
@@ -166,7 +166,7 @@ fn replay_by<R: Read, W: Write>(
     ensures ok { OnOk result (IfSome (R.remaining reader.old) (λ input. Replays input
         (W.contents writer.old) (W.contents writer.new))) }
     ensures end { OnOk result (IsAtEnd (R.remaining reader.new)) }
-    ensures stopped { IfErr result (λ e. IfSome (R.remaining reader.old) (λ input. Stops input
+    ensures stopped { IfErr result (λ e. IfSome (R.remaining reader.old) (λ input. Stops input (R.remaining reader.new)
         (W.contents writer.old) (W.contents writer.new) e)) }
 {
     let mut player = Player {
@@ -197,7 +197,8 @@ fn replay_by<R: Read, W: Write>(
 /// The errors are `Config` and `Wire` where the configuration has the fault; `Script` where a line
 /// stands for no call, or has more than 20,000,000 bytes; `Read` where the reader failed or was
 /// called 2^32 times; `Write` where the writer failed or took nothing; and `OutOfMemory`. All that
-/// the lines before it were answered is written then; at `Write`, a front of it.
+/// the lines before it were answered is written then; at `Write`, a front of it. At `Read` these are
+/// all whole lines that the reader gave.
 pub fn replay<R: Read, W: Write>(
     alloc: Global,
     reader: &mut R,
@@ -208,8 +209,9 @@ pub fn replay<R: Read, W: Write>(
         (W.contents writer.old) (W.contents writer.new))) }
     // all of it.
     ensures end { OnOk result (IsAtEnd (R.remaining reader.new)) }
-    // At a fault, the run comes to it, and what was written is the run's up to there.
-    ensures stopped { IfErr result (λ e. IfSome (R.remaining reader.old) (λ input. Stops input
+    // At a fault, the run comes to it, and what was written is the run's up to there. Where the
+    // reader failed, that is the run of all whole lines that it gave.
+    ensures stopped { IfErr result (λ e. IfSome (R.remaining reader.old) (λ input. Stops input (R.remaining reader.new)
         (W.contents writer.old) (W.contents writer.new) e)) }
 {
     let mut piece = buffer(alloc, PIECE)?;

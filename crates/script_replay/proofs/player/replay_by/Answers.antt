@@ -26,7 +26,7 @@ returns-in_err-feed-in-Ok-clause-stopped g c =
     rw (p.1, p.2) (read_stopped _ _ _ _ _ _ _ _ _ c.loop.invariant.so_far c.in-Ok.ensures.bytes.0 c.in_err-feed-in-Ok.ensures.stopped)
 
 pub returns-then-ne-clause-stopped : goal.returns-then-ne-clause-stopped
-returns-then-ne-clause-stopped g c = read_failed _ _ _ _ _ c.loop.invariant.so_far
+returns-then-ne-clause-stopped g c = read_failed _ _ _ _ _ (read_kept _ _ _ _ _ _ c.loop.invariant.so_far c.in-Err.ensures.bytes)
 
 pub loop-preserved : goal.loop-preserved
 loop-preserved g c = elim c.match-read.branch [
