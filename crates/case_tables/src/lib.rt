@@ -11,4 +11,4 @@ mod table;
 pub use bytes::push_bytes;
 pub use case::{Case, Part};
 pub use fault::{CaseFault, TableFault};
-pub use run::{Subject, end, judge_case, read_file, run_file, tell_count};
+pub use run::{Subject, end, judge_case, read_file, run_file, run_files, tell_count};

@@ -138,6 +138,26 @@ where
     Ok(agree)
 }
 
+/// Runs files one after the other, each with what its cases are about, and says whether all agree.
+///
+/// # Errors
+/// As the fault says; it ends the run of the files.
+pub fn run_files<R: Files + Print + AllocGlobal, S: Subject>(
+    rt: &R,
+    files: &[(&'static str, S)],
+) -> Result<bool, TableFault>
+where
+    R::File: Read + Drop,
+{
+    let mut agree = true;
+    for (file, subject) in files {
+        if !run_file(rt, *file, subject)? {
+            agree = false;
+        }
+    }
+    Ok(agree)
+}
+
 /// How a program ends that ran its tables: 0 where all agree, 1 where a case differs, and else as
 /// the fault says, with its line on standard error.
 pub fn end(rt: &impl Eprint, outcome: Result<bool, TableFault>) -> ExitCode {

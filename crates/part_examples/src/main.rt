@@ -19,7 +19,7 @@ mod script_calls;
 mod scripts;
 mod written_answers;
 
-use case_tables::{Case, CaseFault, Subject, TableFault, end, run_file};
+use case_tables::{Case, CaseFault, Subject, end, run_files};
 use std::alloc::Global;
 use std::process::ExitCode;
 
@@ -76,16 +76,6 @@ impl Subject for Table {
     }
 }
 
-fn run(rt: &HostRuntime) -> Result<bool, TableFault> {
-    let mut agree = true;
-    for (file, table) in TABLES {
-        if !run_file(rt, file, &table)? {
-            agree = false;
-        }
-    }
-    Ok(agree)
-}
-
 fn main(rt: HostRuntime) -> ExitCode {
-    end(&rt, run(&rt))
+    end(&rt, run_files(&rt, &TABLES))
 }

@@ -9,32 +9,22 @@ mod request;
 mod requests;
 
 use crate::requests::Requests;
-use case_tables::{TableFault, end, run_file};
+use case_tables::{end, run_files};
 use std::process::ExitCode;
 
 /// The files of cases.
-const TABLES: [&str; 9] = [
-    "routes.txt",
-    "worked.txt",
-    "names.txt",
-    "invokes.txt",
-    "reservations.txt",
-    "operator.txt",
-    "runtimes.txt",
-    "extensions.txt",
-    "registrations.txt",
+const TABLES: [(&str, Requests); 9] = [
+    ("routes.txt", Requests),
+    ("worked.txt", Requests),
+    ("names.txt", Requests),
+    ("invokes.txt", Requests),
+    ("reservations.txt", Requests),
+    ("operator.txt", Requests),
+    ("runtimes.txt", Requests),
+    ("extensions.txt", Requests),
+    ("registrations.txt", Requests),
 ];
 
-fn run(rt: &HostRuntime) -> Result<bool, TableFault> {
-    let mut agree = true;
-    for file in TABLES {
-        if !run_file(rt, file, &Requests)? {
-            agree = false;
-        }
-    }
-    Ok(agree)
-}
-
 fn main(rt: HostRuntime) -> ExitCode {
-    end(&rt, run(&rt))
+    end(&rt, run_files(&rt, &TABLES))
 }

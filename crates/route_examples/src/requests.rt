@@ -17,6 +17,7 @@ use std::alloc::Global;
 /// | `request` | a request, which gives a line |
 /// | `body`, `bytes`, `times` | further bytes of the body of the request before it |
 /// | `methods M M ..` | a target a line, each of which gives a word for each of these methods |
+#[derive(Clone, Copy)]
 pub struct Requests;
 
 /// Adds what is done with the request that has been read, if there is one.

@@ -15,7 +15,7 @@ mod written;
 
 use crate::readings::Reading;
 use crate::written::Written;
-use case_tables::{Case, CaseFault, Subject, TableFault, end, run_file};
+use case_tables::{Case, CaseFault, Subject, end, run_files};
 use std::alloc::Global;
 use std::process::ExitCode;
 
@@ -52,16 +52,6 @@ const TABLES: [(&str, Table); 8] = [
     ("replies.txt", Table::Rendered),
 ];
 
-fn run(rt: &HostRuntime) -> Result<bool, TableFault> {
-    let mut agree = true;
-    for (file, table) in TABLES {
-        if !run_file(rt, file, &table)? {
-            agree = false;
-        }
-    }
-    Ok(agree)
-}
-
 fn main(rt: HostRuntime) -> ExitCode {
-    end(&rt, run(&rt))
+    end(&rt, run_files(&rt, &TABLES))
 }

@@ -4,15 +4,8 @@ use crate::questions::question_of;
 use crate::readings::push_reading;
 use crate::taking::{Taken, Unopened, is_early, open_book, take};
 use account_book::Book;
-use case_tables::{Case, CaseFault, Part, Subject};
+use case_tables::{Case, CaseFault, Part};
 use std::alloc::{AllocError, Global};
-
-/// What a book says that takes a script. The first line of a case is the configuration, in a part
-/// `script`; each further line of such a part is a call, in form 2, each line of a part `ask` a
-/// question, and each line of a part `would` a call of which is asked whether it would come too
-/// early. A case gives what the book says to its questions, and a line for each call that it refuses.
-#[derive(Clone, Copy)]
-pub struct Books;
 
 /// Lines of a file, and the number of the first.
 #[derive(Clone, Copy)]
@@ -166,23 +159,25 @@ fn push_unopened(
     Ok(())
 }
 
-impl Subject for Books {
-    fn give(&self, alloc: Global, case: &Case, given: &mut String) -> Result<(), CaseFault> {
-        let Some((part, parts)) = case.parts().split_first() else {
-            return Err(CaseFault::Missing { part: "script" });
-        };
-        if part.word() != "script" {
-            return Err(CaseFault::Unknown { line: part.line() });
-        }
-        let text = part.text();
-        let (config, behind) = text.split_once('\n').unwrap_or((text, ""));
-        let lines = Lines {
-            text: behind,
-            first: part.line().saturating_add(2),
-        };
-        match open_book(alloc, config.as_bytes()) {
-            Ok(mut book) => follow_all(alloc, &mut book, lines, parts, given),
-            Err(why) => push_unopened(alloc, given, why, &lines, parts),
-        }
+/// What a book says that takes a script. The first line of a case is the configuration, in a part
+/// `script`; each further line of such a part is a call, in form 2, each line of a part `ask` a
+/// question, and each line of a part `would` a call of which is asked whether it would come too
+/// early. A case gives what the book says to its questions, and a line for each call that it refuses.
+pub fn give(alloc: Global, case: &Case, given: &mut String) -> Result<(), CaseFault> {
+    let Some((part, parts)) = case.parts().split_first() else {
+        return Err(CaseFault::Missing { part: "script" });
+    };
+    if part.word() != "script" {
+        return Err(CaseFault::Unknown { line: part.line() });
+    }
+    let text = part.text();
+    let (config, behind) = text.split_once('\n').unwrap_or((text, ""));
+    let lines = Lines {
+        text: behind,
+        first: part.line().saturating_add(2),
+    };
+    match open_book(alloc, config.as_bytes()) {
+        Ok(mut book) => follow_all(alloc, &mut book, lines, parts, given),
+        Err(why) => push_unopened(alloc, given, why, &lines, parts),
     }
 }

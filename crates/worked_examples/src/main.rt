@@ -11,60 +11,49 @@ mod scripts;
 mod taking;
 mod texts;
 
-use crate::books::Books;
-use crate::scripts::Scripts;
-use case_tables::{Subject, TableFault, end, run_file};
+use case_tables::{Case, CaseFault, Subject, end, run_files};
+use std::alloc::Global;
 use std::process::ExitCode;
 
-/// The files of scripts.
-const SCRIPTS: [&str; 7] = [
-    "calls.txt",
-    "extensions.txt",
-    "times.txt",
-    "limits.txt",
-    "long.txt",
-    "faults.txt",
-    "streams.txt",
-];
-
-/// The files of books.
-const BOOKS: [&str; 5] = [
-    "books.txt",
-    "full.txt",
-    "readings.txt",
-    "rendered.txt",
-    "early.txt",
-];
-
-/// The file of scripts whose lines are too long to be replayed byte by byte. It is the last one:
-/// who refuses each request for memory in turn comes to it the least often.
-const LONG_LINES: [&str; 1] = ["long_lines.txt"];
-
-/// Runs the cases of files, and says whether all agree.
-fn run_files<S: Subject>(
-    rt: &HostRuntime,
-    files: &[&'static str],
-    subject: &S,
-) -> Result<bool, TableFault> {
-    let mut agree = true;
-    for file in files {
-        if !run_file(rt, *file, subject)? {
-            agree = false;
-        }
-    }
-    Ok(agree)
+/// What the cases of a file are about.
+#[derive(Clone, Copy)]
+enum Table {
+    /// Scripts, each replayed in every way.
+    Scripts,
+    /// Scripts whose lines are too long to be replayed byte by byte.
+    LongLines,
+    /// Books.
+    Books,
 }
 
-fn run(rt: &HostRuntime) -> Result<bool, TableFault> {
-    let scripts_agree = run_files(rt, &SCRIPTS, &Scripts { in_every_way: true })?;
-    let books_agree = run_files(rt, &BOOKS, &Books)?;
-    let long_lines = Scripts {
-        in_every_way: false,
-    };
-    let long_lines_agree = run_files(rt, &LONG_LINES, &long_lines)?;
-    Ok(scripts_agree && books_agree && long_lines_agree)
+/// The files. That of long lines is the last one: who refuses each request for memory in turn comes
+/// to it the least often.
+const TABLES: [(&str, Table); 13] = [
+    ("calls.txt", Table::Scripts),
+    ("extensions.txt", Table::Scripts),
+    ("times.txt", Table::Scripts),
+    ("limits.txt", Table::Scripts),
+    ("long.txt", Table::Scripts),
+    ("faults.txt", Table::Scripts),
+    ("streams.txt", Table::Scripts),
+    ("books.txt", Table::Books),
+    ("full.txt", Table::Books),
+    ("readings.txt", Table::Books),
+    ("rendered.txt", Table::Books),
+    ("early.txt", Table::Books),
+    ("long_lines.txt", Table::LongLines),
+];
+
+impl Subject for Table {
+    fn give(&self, alloc: Global, case: &Case, given: &mut String) -> Result<(), CaseFault> {
+        match self {
+            Table::Scripts => scripts::give(alloc, case, true, given),
+            Table::LongLines => scripts::give(alloc, case, false, given),
+            Table::Books => books::give(alloc, case, given),
+        }
+    }
 }
 
 fn main(rt: HostRuntime) -> ExitCode {
-    end(&rt, run(&rt))
+    end(&rt, run_files(&rt, &TABLES))
 }

@@ -3,18 +3,9 @@
 use crate::histories::{entries_answers, history_behind, shown_answers};
 use crate::pieces::{Page, Pieces};
 use crate::texts::{number_of, push_bytes, script_of};
-use case_tables::{Case, CaseFault, Subject};
+use case_tables::{Case, CaseFault};
 use script_replay::{ReplayFault, replay};
 use std::alloc::{AllocError, Global};
-
-/// What a script is answered. Its parts are those of a script; with `reader-fails` the reader fails
-/// behind it, with `room N` the writer takes N bytes. A case gives the answers, and at a fault the
-/// program's line on standard error and its status.
-#[derive(Clone, Copy)]
-pub struct Scripts {
-    /// Whether a script is replayed byte by byte, in form 2 and from its history too.
-    pub in_every_way: bool,
-}
 
 /// How a script is replayed.
 #[derive(Clone, Copy)]
@@ -149,15 +140,22 @@ fn push_others(
     push_history(alloc, case, way.script, whole, given)
 }
 
-impl Subject for Scripts {
-    fn give(&self, alloc: Global, case: &Case, given: &mut String) -> Result<(), CaseFault> {
-        let script = script_of(alloc, case, &["reader-fails", "room"])?;
-        let way = whole_way(case, script.as_slice())?;
-        let whole = text_of(alloc, case, &way)?;
-        given.push_str(whole.as_str())?;
-        if self.in_every_way {
-            push_others(alloc, case, &way, whole.as_str(), given)?;
-        }
-        Ok(())
+/// What a script is answered, replayed whole, and in every way byte by byte, in form 2 and from its
+/// history too. Its parts are those of a script; with `reader-fails` the reader fails behind it, with
+/// `room N` the writer takes N bytes. A case gives the answers, and at a fault the program's line on
+/// standard error and its status.
+pub fn give(
+    alloc: Global,
+    case: &Case,
+    in_every_way: bool,
+    given: &mut String,
+) -> Result<(), CaseFault> {
+    let script = script_of(alloc, case, &["reader-fails", "room"])?;
+    let way = whole_way(case, script.as_slice())?;
+    let whole = text_of(alloc, case, &way)?;
+    given.push_str(whole.as_str())?;
+    if in_every_way {
+        push_others(alloc, case, &way, whole.as_str(), given)?;
     }
+    Ok(())
 }
