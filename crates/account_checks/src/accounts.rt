@@ -79,6 +79,7 @@ fn play<
     given: &mut String,
 ) -> Result<(), CaseFault>
     requires configured { opening.config ≡ S.config }
+    requires salted { opening.salt ≡ S.salt }
     requires named { blanks ≡ S.names }
 {
     let opened: Result<Opened<R, S, K>, OpenFault> = match way {
@@ -88,7 +89,7 @@ fn play<
     play_opened(alloc, case, way, opened, given)
 }
 
-/// Names the configuration and the ledgers of a case.
+/// Names the configuration, the salt, the ledgers and the history of a case.
 fn play_by_brand<R: Wait + Threads + Copy + Send + Sync + Drop + 'static, K: Keep + Send + Sync>(
     rt: R,
     alloc: Global,
@@ -97,7 +98,8 @@ fn play_by_brand<R: Wait + Threads + Copy + Send + Sync + Drop + 'static, K: Kee
     opening: Opening,
     given: &mut String,
 ) -> Result<(), CaseFault> {
-    play::<R, Brand, K>(rt, alloc, case, way, opening, Blanks::new(), given)
+    let blanks = Blanks::new(alloc)?;
+    play::<R, Brand, K>(rt, alloc, case, way, opening, blanks, given)
 }
 
 /// Whether the tallies of a case keep everything.

@@ -12,7 +12,7 @@ use case_tables::CaseFault;
 use std::alloc::{AllocError, Global};
 use std::sync::Wait;
 use std::thread::{self, Threads};
-use usage_ledger::{Keep, Ledgers, Tally};
+use usage_ledger::{Front, Keep, Ledgers, Tally};
 
 /// How many milliseconds go by in a turn.
 const TURN: u64 = 500;
@@ -54,12 +54,13 @@ fn line_with(alloc: Global, line: &str, words: Words) -> Result<String, AllocErr
 fn one_call<R: Wait, S: Setup, K: Keep>(
     place: &Place<R, S>,
     tally: &mut Tally<K, S>,
+    front: &mut Front<S>,
     bells: &Bells,
     number: u64,
     line: &str,
 ) -> Result<Ticket, CaseFault> {
     let bell = bells.unnumbered(0)?;
-    match place.submit(tally, line.as_bytes(), bell)? {
+    match place.submit(tally, front, line.as_bytes(), bell)? {
         Taken::At(ticket) => Ok(ticket),
         _ => Err(malformed(number, "a call that is taken is wanted")),
     }
@@ -69,6 +70,7 @@ fn one_call<R: Wait, S: Setup, K: Keep>(
 fn one_turn<R: Wait, S: Setup, K: Keep>(
     place: &Place<R, S>,
     tally: &mut Tally<K, S>,
+    front: &mut Front<S>,
     bells: &Bells,
     turns: Turns<'_>,
     words: Words,
@@ -77,7 +79,7 @@ fn one_turn<R: Wait, S: Setup, K: Keep>(
     let mut number = turns.first;
     for line in turns.lines.split('\n') {
         let text = line_with(place.alloc, line, words)?;
-        let ticket = one_call(place, tally, bells, number, text.as_str())?;
+        let ticket = one_call(place, tally, front, bells, number, text.as_str())?;
         if line.contains(" next ") {
             words.parked = ticket;
         }
@@ -95,6 +97,7 @@ fn work<R: Wait, S: Setup, K: Keep>(
 ) -> Result<Tally<K, S>, CaseFault> {
     let Job { tally, env } = job;
     let mut tally = tally;
+    let mut front = place.account.front(&place.rt);
     let mut parked = 0;
     for turn in 0..turns.count {
         let words = Words {
@@ -102,7 +105,7 @@ fn work<R: Wait, S: Setup, K: Keep>(
             env,
             parked,
         };
-        parked = one_turn(place, &mut tally, bells, turns, words)?;
+        parked = one_turn(place, &mut tally, &mut front, bells, turns, words)?;
     }
     Ok(tally)
 }

@@ -12,7 +12,7 @@ use lambda_wire::Reply;
 use script::read_call;
 use std::alloc::{AllocError, Global};
 use std::sync::Wait;
-use usage_ledger::{Blanks, Keep, Tally, root};
+use usage_ledger::{Blanks, Front, Keep, Start, Tally, root};
 
 /// What became of a line.
 #[derive(Clone, Copy)]
@@ -74,10 +74,12 @@ fn untaken(refused: &Refused<Numbered>) -> Result<Taken, AllocError> {
 }
 
 impl<R: Wait, S: Setup> Place<R, S> {
-    /// Submits the call of a line by a tally, with a bell, which comes back where it is refused.
+    /// Submits the call of a line by a tally, with a bell, which comes back where it is refused. The
+    /// token is then that of the call, where one is taken.
     fn submit_once<K: Keep>(
         &self,
         tally: &mut Tally<K, S>,
+        front: &mut Front<S>,
         line: &[u8],
         bell: Option<Numbered>,
     ) -> Result<Taken, Refused<Numbered>> {
@@ -91,27 +93,32 @@ impl<R: Wait, S: Setup> Place<R, S> {
             return Ok(Taken::NoCall);
         };
         match self.account.submit(&self.rt, tally, now, call, bell) {
-            Ok(ticket) => Ok(Taken::At(ticket)),
+            Ok((ticket, seen)) => {
+                *front = seen;
+                Ok(Taken::At(ticket))
+            }
             Err(refused) => Err(refused),
         }
     }
 
     /// Submits the call of a line, with a bell, by a tally; once more, with the bell that came back,
-    /// where memory was refused: account and tally are then as they were.
+    /// where memory was refused: account and tally are then as they were. The token is then that of the
+    /// call, where one is taken.
     pub fn submit<K: Keep>(
         &self,
         tally: &mut Tally<K, S>,
+        front: &mut Front<S>,
         line: &[u8],
         bell: Numbered,
     ) -> Result<Taken, AllocError> {
-        let refused = match self.submit_once(tally, line, Some(bell)) {
+        let refused = match self.submit_once(tally, front, line, Some(bell)) {
             Ok(taken) => return Ok(taken),
             Err(refused) => refused,
         };
         if refused.refusal != Refusal::OutOfMemory {
             return untaken(&refused);
         }
-        match self.submit_once(tally, line, refused.bell) {
+        match self.submit_once(tally, front, line, refused.bell) {
             Ok(taken) => Ok(taken),
             Err(refused) => untaken(&refused),
         }
@@ -125,18 +132,18 @@ impl<R: Wait, S: Setup> Place<R, S> {
         Said::Reservation(self.account.reservation(&self.rt, function))
     }
 
-    /// Asks the account.
-    pub fn ask(&self, question: Question) -> Result<Said, AllocError> {
+    /// Asks the account, with a token, which then has seen the history that was read.
+    pub fn ask(&self, front: &mut Front<S>, question: Question) -> Result<Said, AllocError> {
         let (rt, account) = (&self.rt, &self.account);
         Ok(match question {
-            Question::Look(ticket) => Said::Look(account.look(rt, ticket)),
+            Question::Look(ticket) => Said::Look(account.look(rt, front, ticket)),
             Question::Due(now) => Said::Due(account.due(rt, now)),
             Question::Life => Said::Life(account.life(rt)),
             Question::Stats => Said::Stats(account.stats(rt)),
             Question::Reservation(function) => self.reservation(function),
-            Question::Render(ticket) => Said::Reply(account.render(rt, ticket)?),
+            Question::Render(ticket) => Said::Reply(account.render(rt, front, ticket)?),
             Question::Opening => Said::Text(Some(account.opening(rt)?)),
-            Question::History(ticket) => Said::Text(account.history(rt, ticket)?),
+            Question::History(ticket) => Said::Text(account.history(rt, front, ticket)?),
         })
     }
 }
@@ -156,6 +163,7 @@ pub fn open_account<R: Drop, S: Setup, K: Keep>(
     blanks: Blanks,
 ) -> Result<Opened<R, S, K>, OpenFault>
     requires configured { opening.config ≡ S.config }
+    requires salted { opening.salt ≡ S.salt }
     requires named { blanks ≡ S.names }
 {
     let Opening {
@@ -187,6 +195,7 @@ pub fn open_desk<R: Drop, S: Setup, K: Keep>(
     blanks: Blanks,
 ) -> Result<Opened<R, S, K>, OpenFault>
     requires configured { opening.config ≡ S.config }
+    requires salted { opening.salt ≡ S.salt }
     requires named { blanks ≡ S.names }
 {
     let Opening {
@@ -199,14 +208,19 @@ pub fn open_desk<R: Drop, S: Setup, K: Keep>(
         Ok(book) => book,
         Err(fault) => return Err(fault),
     };
-    let (totals, root) = root(alloc, blanks);
+    let Start {
+        totals,
+        tally,
+        line,
+        pen,
+    } = root(alloc, blanks);
     Ok(Opened {
         place: Place {
             rt,
             alloc,
             config: beside,
-            account: Account::share(Desk::open(alloc, book, totals)),
+            account: Account::share(Desk::open(alloc, book, totals), line, pen),
         },
-        root,
+        root: tally,
     })
 }

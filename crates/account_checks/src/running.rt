@@ -67,7 +67,7 @@ fn all_calls<P: Stand>(
 }
 
 /// Adds what each ticket was answered, and the first one behind the history.
-fn push_looks<P: Stand>(alloc: Global, stand: &P, given: &mut String) -> Result<(), CaseFault> {
+fn push_looks<P: Stand>(alloc: Global, stand: &mut P, given: &mut String) -> Result<(), CaseFault> {
     let Said::Stats(stats) = stand.ask(Question::Stats)? else {
         return Ok(());
     };
@@ -116,7 +116,7 @@ fn push_tally<P: Stand>(
 /// Asks what a line asks, and adds the line and what it is told.
 fn one_question<P: Stand>(
     alloc: Global,
-    stand: &P,
+    stand: &mut P,
     bells: &Bells,
     line: u64,
     text: &str,
@@ -142,7 +142,7 @@ fn one_question<P: Stand>(
 /// Asks what the lines of a part ask.
 fn all_questions<P: Stand>(
     alloc: Global,
-    stand: &P,
+    stand: &mut P,
     bells: &Bells,
     part: &Part,
     given: &mut String,

@@ -11,12 +11,14 @@ use case_tables::CaseFault;
 use std::alloc::AllocError;
 use std::sync::Wait;
 use std::thread::Threads;
-use usage_ledger::{JoinFault, Keep, Ledgers, Tally};
+use usage_ledger::{Front, JoinFault, Keep, Ledgers, Tally};
 
-/// An account with its tallies, and with the one that is held back.
+/// An account with its tallies, with the one that is held back, and with the token by which the account
+/// is asked: each call that is taken gives a new one.
 #[derive(Drop)]
 pub struct Seats<R, S: Setup, K: Keep> {
     place: Place<R, S>,
+    front: Front<S>,
     tallies: Vec<Tally<K, S>>,
     held_back: Option<Tally<K, S>>,
     settles_desk: bool,
@@ -99,13 +101,14 @@ fn settle_account<S: Setup, K: Keep>(
     }
 }
 
-impl<R: Drop, S: Setup + Drop, K: Keep> Seats<R, S, K> {
+impl<R: Wait + Drop, S: Setup + Drop, K: Keep> Seats<R, S, K> {
     /// An account with its first tally.
     pub fn new(opened: Opened<R, S, K>, settles_desk: bool) -> Result<Seats<R, S, K>, AllocError> {
         let Opened { place, root } = opened;
         let mut tallies = Vec::with_capacity(place.alloc, 1)?;
         tallies.push(root)?;
         Ok(Seats {
+            front: place.account.front(&place.rt),
             place,
             tallies,
             held_back: None,
@@ -145,12 +148,12 @@ impl<R: Wait + Drop, S: Setup + Drop, K: Keep> Stand for Seats<R, S, K> {
     fn take(&mut self, seat: usize, line: &[u8], bell: Numbered) -> Result<Taken, SeatFault> {
         match self.tallies.get_mut(seat) {
             None => Err(SeatFault::NoTally),
-            Some(tally) => Ok(self.place.submit(tally, line, bell)?),
+            Some(tally) => Ok(self.place.submit(tally, &mut self.front, line, bell)?),
         }
     }
 
-    fn ask(&self, question: Question) -> Result<Said, AllocError> {
-        self.place.ask(question)
+    fn ask(&mut self, question: Question) -> Result<Said, AllocError> {
+        self.place.ask(&mut self.front, question)
     }
 
     fn join(&mut self) -> Result<(), SeatFault> {
@@ -185,6 +188,7 @@ impl<R: Wait + Drop, S: Setup + Drop, K: Keep> Stand for Seats<R, S, K> {
             tallies,
             held_back,
             settles_desk,
+            ..
         } = self;
         Ending {
             settled: counted(settle_account(place.account, settles_desk, tallies)),

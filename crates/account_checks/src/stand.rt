@@ -82,7 +82,7 @@ pub trait Stand: Drop {
     fn take(&mut self, seat: usize, line: &[u8], bell: Numbered) -> Result<Taken, SeatFault>;
 
     /// Asks the account.
-    fn ask(&self, question: Question) -> Result<Said, AllocError>;
+    fn ask(&mut self, question: Question) -> Result<Said, AllocError>;
 
     /// Joins the tallies 1 and 2.
     fn join(&mut self) -> Result<(), SeatFault>;

@@ -2,6 +2,8 @@
 pub mod Turns
 -- What a step counts, and which entries it adds.
 pub mod Stepping
+-- What the pen writes at a step, and what is seen of it.
+pub mod Written
 -- The bells that stay are those of tickets that wait.
 pub mod Waiting
 -- Where a ticket's bell stands among bells in rising order, and that what stays of them is in that order.
@@ -18,7 +20,5 @@ pub mod Rising
 pub mod Agreeing
 -- How many answers a step gives.
 pub mod Noting
--- The text of an entry, as it is shown under the lock.
-pub mod ShownTexts
 -- Where nothing is kept, and nothing need be, all that is kept is right.
 pub mod KeepingNothing

@@ -1,18 +1,33 @@
 -- What an account shows to those who read it under its lock: what a history says that calls led to.
-use Rattle.std.specs.Prelude.{◌≡◌, ◌<◌, ◌≤◌, ℕ, List, Option, Some, None, length, reverse, slice_index_or}
+use Rattle.std.specs.Prelude.{◌≡◌, ◌+◌, ◌<◌, ◌≤◌, ℕ, List, Option, Some, None, length, reverse, slice_index_or}
 use Rattle.arn_ids.specs.declared.config.Config.{Config}
+use Rattle.call_model.specs.declared.call.Call.{Call}
 use Rattle.call_model.specs.declared.call.Entry.{Entry}
+use Rattle.call_model.specs.History.{call_of}
+use Rattle.call_model.specs.Next.{next}
 use Rattle.script.specs.AnswerText.{entry_text}
 use Rattle.account_book.specs.Reached.{IsReached}
+use Rattle.shared_history.specs.Sharing.{Extends}
 
 -- Some history that calls led to in this configuration, each of which a book takes, says it. (Which one it was can't be
 -- said: others may call as soon as the lock is free.)
 abbrev pub Shown : Config → (List Entry → Type 0) → Type 0
 Shown config says = (most : ℕ) × (h : List Entry) × IsReached config most h × says h
 
--- Such a history in an account with some salt says it, which may stand in identifiers.
-abbrev pub ShownWith : Config → (ℕ → List Entry → Type 0) → Type 0
-ShownWith config says = (salt : ℕ) × Shown config (says salt)
+-- What a thread sees under the lock: a history that calls led to, and that goes on where the one ends that it saw before.
+pub record Sees (config : Config) (before h : List Entry) : Type 0 where
+  pub later : Extends before h
+  pub most : ℕ
+  pub reached : IsReached config most h
+
+-- A call was taken at a moment: it made the next history of one that calls led to, and is its newest call, at its ticket.
+pub record IsTaken (config : Config) (now : ℕ) (call : Call) (ticket : ℕ) (h : List Entry) : Type 0 where
+  pub before : List Entry
+  pub most : ℕ
+  pub reached : IsReached config most before
+  pub goes_on : h ≡ next config before now call
+  pub newest : ticket + 1 ≡ length h
+  pub stands : call_of h ticket ≡ call
 
 -- a text is that of a history's entry with a ticket; none where the history ends before it
 abbrev pub IsTextOf : Config → ℕ → ℕ → Option (List ℕ) → List Entry → Type 0

@@ -1,11 +1,10 @@
 //! The account: a desk that threads share.
 
-ghost use Rattle.std.specs.Prelude.{◌≡◌, ◌≢◌, ◌+◌, ◌<◌, ◌≤◌, ◌^◌, ◌↔◌, ℕ, List, true, false, is_some, length, option_map, IfOk, IfErr, OnOk, IsErrOf};
+ghost use Rattle.std.specs.Prelude.{◌≡◌, ◌≢◌, ◌⊎◌, [], ◌+◌, ◌<◌, ◌≤◌, ◌^◌, ◌↔◌, ℕ, List, true, false, is_some, length, option_map, IfOk, IfErr, OnOk, IsErrOf};
 ghost use Rattle.std.specs.List.{list_all};
 ghost use Rattle.arn_ids.specs.Environments.{owners};
 ghost use Rattle.account_book.specs.declared.book.OpenFault.TheVariants.{EntriesOutOfRange};
 ghost use Rattle.call_model.specs.declared.answer.Answer.{Answer as Told};
-ghost use Rattle.call_model.specs.declared.call.Entry.{Entry};
 ghost use Rattle.call_model.specs.Counts.{stats};
 ghost use Rattle.call_model.specs.Heads.{head_of};
 ghost use Rattle.call_model.specs.History.{answer_of};
@@ -16,6 +15,7 @@ ghost use Rattle.script.specs.Limits.{IsWithin};
 ghost use Rattle.account_book.specs.Books.{life};
 ghost use Rattle.account_book.specs.HistoryText.{opening_text};
 ghost use Rattle.account_book.specs.ReplyText.{reply_text};
+ghost use Rattle.shared_history.specs.Sharing.{Extends};
 ghost use Rattle.usage_ledger.specs.Keeping.{Steps, Kept};
 ghost use Rattle.usage_ledger.specs.Tallies.{fresh};
 ghost use Rattle.account_lock.specs.Counting.{counts_of};
@@ -23,48 +23,75 @@ ghost use Rattle.account_lock.specs.Gathered.{counts_in, keeps_nothing};
 ghost use Rattle.account_lock.specs.Looks.{look_of};
 ghost use Rattle.account_lock.specs.Offers.{IsBack};
 ghost use Rattle.account_lock.specs.Settlement.{IsSettled, IsFault};
-ghost use Rattle.account_lock.specs.Shown.{IsTextOf, Shown, ShownWith};
+ghost use Rattle.account_lock.specs.Shown.{IsTaken, IsTextOf, Sees, Shown};
 ghost use Rattle.account_lock.specs.declared.fault.SettleFault.TheVariants.{TallyMissing};
 
 use crate::{Bell, Declined, Desk, Look, Refused, SettleFault, Settled, Step};
 use account_book::{Book, Life, OpenFault};
 use arn_ids::{Checked, FnNo};
-use call_model::{Call, Stats, Ticket};
+use call_model::{Call, Entry, Stats, Ticket};
 use lambda_wire::Reply;
+use shared_history::Source;
 use std::alloc::{AllocError, Global};
-use std::marker::{Brand, PhantomData};
+use std::marker::{Brand, Model};
 use std::sync::{Mutex, Wait};
-use usage_ledger::{Blanks, Keep, Ledgers, Tally, root};
+use usage_ledger::{Blanks, Front, Keep, Ledgers, Line, Pen, Start, Tally, root};
 
-/// Stands for the ledgers and the configuration of an account in its type, so that callers know both
-/// without the lock.
+/// Stands for the ledgers, the history, the configuration and the salt of an account in its type, so
+/// that callers know them without the lock.
 pub trait Setup: Ledgers {
+    ghost use Rattle.std.specs.Prelude.{ℕ};
     ghost use Rattle.arn_ids.specs.declared.config.Config.{Config};
 
     /// The configuration.
     ghost config: { Config };
+
+    /// The salt of its identifiers.
+    ghost salt: { ℕ };
 }
 
-/// A caller that names `Brand` picks the configuration in its proof; this one stands where none is
+/// A caller that names `Brand` picks configuration and salt in its proof; these stand where none are
 /// picked.
 impl Setup for Brand {
     ghost use Rattle.call_model.specs.Sample.{one};
 
     ghost config = { one };
+
+    ghost salt = { 0 };
 }
 
-/// A desk whose configuration is the one that its type names.
+/// What lies under the lock: a desk whose configuration and salt are those that its type names, and the
+/// pen of the history, which is the desk's. Contracts see the history.
 #[derive(Drop)]
 struct Locked<S: Setup, B> {
     desk: Desk<B, S>,
-    of: PhantomData<S>,
-    ghost configured: { desk.book.config ≡ S.config },
+    pen: Pen<S>,
 }
 
-/// One account, which threads share: its desk, of which one thread at a time makes a step or reads.
+impl<S: Setup, B> Model for Locked<S, B> {
+    ghost use Rattle.std.specs.Prelude.{◌≡◌, List};
+    ghost use Rattle.call_model.specs.declared.call.Entry.{Entry};
+
+    ghost Value = { List Entry };
+
+    ghost view = { λ l. l.pen };
+
+    ghost invariant = { λ l. (l.desk.book.config ≡ S.config) × (l.desk.book.salt ≡ S.salt) × (l.desk.book.history ≡ l.pen) };
+}
+
+/// One account, which threads share: its desk, of which one thread at a time makes a step or reads. What
+/// they see is of one history: each has seen a beginning of it.
 #[derive(Drop)]
 pub struct Account<S: Setup, B> {
     locked: Mutex<Locked<S, B>>,
+    line: Line<S>,
+}
+
+/// The pen writes what stands in the desk's book.
+struct OfDesk;
+
+impl<B, L: Ledgers> Source<Desk<B, L>, Entry> for OfDesk {
+    ghost history = { λ desk. desk.book.history };
 }
 
 /// Rings the bells of a step, once the lock is free, and gives the call's ticket.
@@ -79,48 +106,74 @@ fn ring_out<B: Bell>(step: Step<B>) -> Ticket
 }
 
 impl<S: Setup, B: Bell> Locked<S, B> {
-    /// One step of the desk.
+    /// One step of the desk, which the pen writes; and a token that has seen it.
     #[tactic(auto, using(crate::proofs::Stepping::one_call_within))]
     fn apply<K: Keep>(
         &mut self,
+        line: &Line<S>,
         tally: &mut Tally<K, S>,
         now: u64,
         call: Call,
         bell: Option<B>,
-    ) -> Result<Step<B>, Refused<B>>
+    ) -> Result<(Step<B>, Front<S>), Refused<B>>
         requires moment { now < 2 ^ 53 }
         requires within { IsWithin S.config call }
+        ensures taken { IfOk result (λ step. IsTaken S.config now call step.0.ticket step.1) }
         ensures counted { OnOk result (tally.new.held.counts.calls ≡ tally.old.held.counts.calls + 1) }
         ensures parts { (tally.new.held.parts ≡ tally.old.held.parts) × (tally.new.held.joined ≡ tally.old.held.joined) }
-        ensures made { IfOk result (λ step. (answers : List (ℕ × Told)) × (between : Kept) × Steps K.notes tally.old.held.kept answers between × K.makes between step.ticket (head_of call) tally.new.held.kept) }
+        ensures made { IfOk result (λ step. (answers : List (ℕ × Told)) × (between : Kept) × Steps K.notes tally.old.held.kept answers between × K.makes between step.0.ticket (head_of call) tally.new.held.kept) }
         ensures refused { IfErr result (λ refused. (refused.bell ≡ bell) × (tally.new.held ≡ tally.old.held)) }
     {
-        self.desk.apply(tally, now, call, bell)
+        self.desk.facts();
+        let step = match self.desk.apply(tally, now, call, bell) {
+            Ok(step) => step,
+            Err(refused) => return Err(refused),
+        };
+        self.pen.write::<Desk<B, S>, OfDesk>(line, &self.desk);
+        Ok((step, self.pen.front(line)))
     }
 
     /// The same of a call that is offered.
     #[tactic(auto, using(crate::proofs::Stepping::one_call_within))]
     fn offer<K: Keep>(
         &mut self,
+        line: &Line<S>,
         tally: &mut Tally<K, S>,
         now: u64,
         call: Call,
         bell: Option<B>,
-    ) -> Result<Step<B>, Declined<B>>
+    ) -> Result<(Step<B>, Front<S>), Declined<B>>
         requires moment { now < 2 ^ 53 }
         requires within { IsWithin S.config call }
+        ensures taken { IfOk result (λ step. IsTaken S.config now call step.0.ticket step.1) }
         ensures counted { OnOk result (tally.new.held.counts.calls ≡ tally.old.held.counts.calls + 1) }
         ensures parts { (tally.new.held.parts ≡ tally.old.held.parts) × (tally.new.held.joined ≡ tally.old.held.joined) }
-        ensures made { IfOk result (λ step. (answers : List (ℕ × Told)) × (between : Kept) × Steps K.notes tally.old.held.kept answers between × K.makes between step.ticket (head_of call) tally.new.held.kept) }
+        ensures made { IfOk result (λ step. (answers : List (ℕ × Told)) × (between : Kept) × Steps K.notes tally.old.held.kept answers between × K.makes between step.0.ticket (head_of call) tally.new.held.kept) }
         ensures declined { IfErr result (λ declined. IsBack call bell declined × (tally.new.held ≡ tally.old.held)) }
     {
-        self.desk.offer(tally, now, call, bell)
+        self.desk.facts();
+        let step = match self.desk.offer(tally, now, call, bell) {
+            Ok(step) => step,
+            Err(declined) => return Err(declined),
+        };
+        self.pen.write::<Desk<B, S>, OfDesk>(line, &self.desk);
+        Ok((step, self.pen.front(line)))
     }
 
-    fn look(&self, ticket: Ticket) -> Look
-        ensures { Shown S.config (λ h. result ≡ look_of (answer_of h ticket)) }
+    /// A token that has seen the history as it is.
+    fn front(&mut self, line: &Line<S>) -> Front<S>
+        ensures { Sees S.config [] result }
     {
         self.desk.facts();
+        self.pen.front(line)
+    }
+
+    fn look(&mut self, line: &Line<S>, front: &mut Front<S>, ticket: Ticket) -> Look
+        ensures seen { Sees S.config front.old front.new }
+        ensures value { result ≡ look_of (answer_of front.new ticket) }
+    {
+        self.desk.facts();
+        self.pen.show(line, front);
         self.desk.look(ticket)
     }
 
@@ -154,23 +207,37 @@ impl<S: Setup, B: Bell> Locked<S, B> {
         self.desk.reservation(function)
     }
 
-    fn render(&self, ticket: Ticket) -> Result<Option<Reply>, AllocError>
-        ensures { IfOk result (λ reply. ShownWith S.config (λ salt h. reply ≡ reply_text S.config salt h ticket)) }
+    fn render(
+        &mut self,
+        line: &Line<S>,
+        front: &mut Front<S>,
+        ticket: Ticket,
+    ) -> Result<Option<Reply>, AllocError>
+        ensures seen { Sees S.config front.old front.new }
+        ensures text { IfOk result (λ reply. reply ≡ reply_text S.config S.salt front.new ticket) }
     {
         self.desk.facts();
+        self.pen.show(line, front);
         self.desk.render(ticket)
     }
 
     fn opening(&self) -> Result<Vec<u8>, AllocError>
-        ensures { IfOk result (λ text. (salt : ℕ) × (most : ℕ) × (text.items ≡ opening_text S.config salt most)) }
+        ensures { IfOk result (λ text. (most : ℕ) × (text.items ≡ opening_text S.config S.salt most)) }
     {
         self.desk.opening()
     }
 
-    fn history(&self, ticket: Ticket) -> Result<Option<Vec<u8>>, AllocError>
-        ensures { IfOk result (λ text. ShownWith S.config (λ salt. IsTextOf S.config salt ticket (option_map (λ bytes. bytes.items) text))) }
+    fn history(
+        &mut self,
+        line: &Line<S>,
+        front: &mut Front<S>,
+        ticket: Ticket,
+    ) -> Result<Option<Vec<u8>>, AllocError>
+        ensures seen { Sees S.config front.old front.new }
+        ensures text { IfOk result (λ text. IsTextOf S.config S.salt ticket (option_map (λ bytes. bytes.items) text) front.new) }
     {
         self.desk.facts();
+        self.pen.show(line, front);
         self.desk.history(ticket)
     }
 }
@@ -178,7 +245,7 @@ impl<S: Setup, B: Bell> Locked<S, B> {
 impl<S: Setup, B: Bell> Account<S, B> {
     /// A new account, of at most so many entries: from the environments and one to 2^32. Its
     /// history is empty, and the tally has all parts of its four ledgers. Each blank becomes the
-    /// ledger that `S` names.
+    /// ledger that `S` names, and the history the one that it names.
     ///
     /// # Errors
     /// As `Book::open`: `EntriesOutOfRange`, else `OutOfMemory`.
@@ -190,6 +257,7 @@ impl<S: Setup, B: Bell> Account<S, B> {
         blanks: Blanks,
     ) -> Result<(Account<S, B>, Tally<K, S>), OpenFault>
         requires configured { config ≡ S.config }
+        requires salted { salt ≡ S.salt }
         requires named { blanks ≡ S.names }
         ensures range { IsErrOf result EntriesOutOfRange ↔ ((length (owners config) + 1 ≤ max_entries) × (max_entries ≤ 2 ^ 32) → ⊥) }
         ensures tally { IfOk result (λ opened. opened.1.held ≡ fresh (2 ^ 32)) }
@@ -198,24 +266,31 @@ impl<S: Setup, B: Bell> Account<S, B> {
             Ok(book) => book,
             Err(fault) => return Err(fault),
         };
-        let (totals, tally) = root(alloc, blanks);
-        Ok((Account::share(Desk::open(alloc, book, totals)), tally))
+        let Start {
+            totals,
+            tally,
+            line,
+            pen,
+        } = root(alloc, blanks);
+        let desk = Desk::open(alloc, book, totals);
+        Ok((Account::share(desk, line, pen), tally))
     }
 
-    /// Puts a desk behind a lock.
-    pub fn share(desk: Desk<B, S>) -> Account<S, B>
-        requires { desk.book.config ≡ S.config }
+    /// Puts a desk behind a lock, with the pen that has written its history.
+    pub fn share(desk: Desk<B, S>, line: Line<S>, pen: Pen<S>) -> Account<S, B>
+        requires configured { desk.book.config ≡ S.config }
+        requires salted { desk.book.salt ≡ S.salt }
+        requires written { pen ≡ desk.book.history }
     {
         Account {
-            locked: Mutex::new(Locked {
-                desk,
-                of: PhantomData,
-            }),
+            locked: Mutex::new(Locked { desk, pen }),
+            line,
         }
     }
 
     /// One step of the desk under the lock; then its bells ring, with the lock free. The tally
-    /// counts the call, and notes its head at the ticket that is given back.
+    /// counts the call, and notes its head at the ticket that is given back, with a token that has seen
+    /// the history from its beginning to this call.
     ///
     /// # Errors
     /// As `Desk::apply`; the tally is then as it was, and the bell comes back.
@@ -226,17 +301,21 @@ impl<S: Setup, B: Bell> Account<S, B> {
         now: u64,
         call: Call,
         bell: Option<B>,
-    ) -> Result<Ticket, Refused<B>>
+    ) -> Result<(Ticket, Front<S>), Refused<B>>
         requires moment { now < 2 ^ 53 }
         requires within { IsWithin S.config call }
+        ensures taken { IfOk result (λ taken. IsTaken S.config now call taken.0 taken.1) }
         ensures counted { OnOk result (tally.new.held.counts.calls ≡ tally.old.held.counts.calls + 1) }
         ensures parts { (tally.new.held.parts ≡ tally.old.held.parts) × (tally.new.held.joined ≡ tally.old.held.joined) }
-        ensures made { IfOk result (λ ticket. (answers : List (ℕ × Told)) × (between : Kept) × Steps K.notes tally.old.held.kept answers between × K.makes between ticket (head_of call) tally.new.held.kept) }
+        ensures made { IfOk result (λ taken. (answers : List (ℕ × Told)) × (between : Kept) × Steps K.notes tally.old.held.kept answers between × K.makes between taken.0 (head_of call) tally.new.held.kept) }
         ensures refused { IfErr result (λ refused. (refused.bell ≡ bell) × (tally.new.held ≡ tally.old.held)) }
     {
-        let step = self.locked.lock(rt).apply(tally, now, call, bell);
+        let step = self
+            .locked
+            .lock(rt)
+            .apply(&self.line, tally, now, call, bell);
         match step {
-            Ok(step) => Ok(ring_out(step)),
+            Ok((step, front)) => Ok((ring_out(step), front)),
             Err(refused) => Err(refused),
         }
     }
@@ -254,26 +333,46 @@ impl<S: Setup, B: Bell> Account<S, B> {
         now: u64,
         call: Call,
         bell: Option<B>,
-    ) -> Result<Ticket, Declined<B>>
+    ) -> Result<(Ticket, Front<S>), Declined<B>>
         requires moment { now < 2 ^ 53 }
         requires within { IsWithin S.config call }
+        ensures taken { IfOk result (λ taken. IsTaken S.config now call taken.0 taken.1) }
         ensures counted { OnOk result (tally.new.held.counts.calls ≡ tally.old.held.counts.calls + 1) }
         ensures parts { (tally.new.held.parts ≡ tally.old.held.parts) × (tally.new.held.joined ≡ tally.old.held.joined) }
-        ensures made { IfOk result (λ ticket. (answers : List (ℕ × Told)) × (between : Kept) × Steps K.notes tally.old.held.kept answers between × K.makes between ticket (head_of call) tally.new.held.kept) }
+        ensures made { IfOk result (λ taken. (answers : List (ℕ × Told)) × (between : Kept) × Steps K.notes tally.old.held.kept answers between × K.makes between taken.0 (head_of call) tally.new.held.kept) }
         ensures declined { IfErr result (λ declined. IsBack call bell declined × (tally.new.held ≡ tally.old.held)) }
     {
-        let step = self.locked.lock(rt).offer(tally, now, call, bell);
+        let step = self
+            .locked
+            .lock(rt)
+            .offer(&self.line, tally, now, call, bell);
         match step {
-            Ok(step) => Ok(ring_out(step)),
+            Ok((step, front)) => Ok((ring_out(step), front)),
             Err(declined) => Err(declined),
         }
     }
 
-    /// What a ticket was answered, in a history that calls led to.
-    pub fn look(&self, rt: &impl Wait, ticket: Ticket) -> Look
-        ensures { Shown S.config (λ h. result ≡ look_of (answer_of h ticket)) }
+    /// A token that has seen the history as it is.
+    pub fn front(&self, rt: &impl Wait) -> Front<S>
+        ensures { Sees S.config [] result }
     {
-        self.locked.lock(rt).look(ticket)
+        self.locked.lock(rt).front(&self.line)
+    }
+
+    /// Of what two tokens have seen, one is a beginning of the other: the account has one history.
+    pub fn agree(&self, one: &mut Front<S>, other: &mut Front<S>)
+        ensures agree { Extends one.old other.old ⊎ Extends other.old one.old }
+        ensures same { (one.new ≡ one.old) × (other.new ≡ other.old) }
+    {
+        one.agree(&self.line, other);
+    }
+
+    /// What a ticket was answered, in the history as it is, which the token then has seen.
+    pub fn look(&self, rt: &impl Wait, front: &mut Front<S>, ticket: Ticket) -> Look
+        ensures seen { Sees S.config front.old front.new }
+        ensures value { result ≡ look_of (answer_of front.new ticket) }
+    {
+        self.locked.lock(rt).look(&self.line, front, ticket)
     }
 
     /// Whether an environment is due at a moment in milliseconds: a `Tick` then expires it.
@@ -307,32 +406,45 @@ impl<S: Setup, B: Bell> Account<S, B> {
         self.locked.lock(rt).reservation(function)
     }
 
-    /// What the client of the call with a ticket gets, in a history that calls led to: the status, the
-    /// headers and the body of its answer; none while it has none.
+    /// What the client of the call with a ticket gets, in the history as it is, which the token then has
+    /// seen: the status, the headers and the body of its answer; none while it has none.
     ///
     /// The only error is want of memory.
-    pub fn render(&self, rt: &impl Wait, ticket: Ticket) -> Result<Option<Reply>, AllocError>
-        ensures { IfOk result (λ reply. ShownWith S.config (λ salt h. reply ≡ reply_text S.config salt h ticket)) }
+    pub fn render(
+        &self,
+        rt: &impl Wait,
+        front: &mut Front<S>,
+        ticket: Ticket,
+    ) -> Result<Option<Reply>, AllocError>
+        ensures seen { Sees S.config front.old front.new }
+        ensures text { IfOk result (λ reply. reply ≡ reply_text S.config S.salt front.new ticket) }
     {
-        self.locked.lock(rt).render(ticket)
+        self.locked.lock(rt).render(&self.line, front, ticket)
     }
 
     /// The text of the history before its first entry.
     ///
     /// The only error is want of memory.
     pub fn opening(&self, rt: &impl Wait) -> Result<Vec<u8>, AllocError>
-        ensures { IfOk result (λ text. (salt : ℕ) × (most : ℕ) × (text.items ≡ opening_text S.config salt most)) }
+        ensures { IfOk result (λ text. (most : ℕ) × (text.items ≡ opening_text S.config S.salt most)) }
     {
         self.locked.lock(rt).opening()
     }
 
-    /// The history text of the entry with a ticket; none past the end.
+    /// The text of the entry with a ticket, in the history as it is, which the token then has seen; none
+    /// past the end.
     ///
     /// The only error is want of memory.
-    pub fn history(&self, rt: &impl Wait, ticket: Ticket) -> Result<Option<Vec<u8>>, AllocError>
-        ensures { IfOk result (λ text. ShownWith S.config (λ salt. IsTextOf S.config salt ticket (option_map (λ bytes. bytes.items) text))) }
+    pub fn history(
+        &self,
+        rt: &impl Wait,
+        front: &mut Front<S>,
+        ticket: Ticket,
+    ) -> Result<Option<Vec<u8>>, AllocError>
+        ensures seen { Sees S.config front.old front.new }
+        ensures text { IfOk result (λ text. IsTextOf S.config S.salt ticket (option_map (λ bytes. bytes.items) text) front.new) }
     {
-        self.locked.lock(rt).history(ticket)
+        self.locked.lock(rt).history(&self.line, front, ticket)
     }
 
     /// Adds the shares of all tallies up, and compares what they keep with the history, once no

@@ -1,14 +1,25 @@
-//! What a settlement says. The function does nothing; its clause is the law.
+//! What a settlement says, and what is seen of a call that was taken. Each function does nothing; its
+//! clauses are the laws.
 
-ghost use Rattle.std.specs.Prelude.{◌≡◌, Bool, List};
+ghost use Rattle.std.specs.Prelude.{◌≡◌, ◌<◌, ℕ, Bool, List, length};
+ghost use Rattle.arn_ids.specs.declared.config.Config.{Config};
+ghost use Rattle.call_model.specs.declared.call.Call.{Call};
 ghost use Rattle.call_model.specs.declared.call.Entry.{Entry};
+ghost use Rattle.call_model.specs.History.{call_of};
 ghost use Rattle.usage_ledger.specs.Tallies.{Tallied};
 ghost use Rattle.account_lock.specs.declared.fault.SettleFault.{SettleFault};
 ghost use Rattle.account_lock.specs.declared.fault.SettleFault.TheVariants.{OutOfMemory};
 ghost use Rattle.account_lock.specs.Settlement.{IsSettled, IsFault};
+ghost use Rattle.account_lock.specs.Shown.{IsTaken, Sees};
 
 /// What is settled has no fault: an account settles exactly where none of the faults is there, want
 /// of memory aside.
 pub fn settled_without_fault()
     ensures { (all : Bool) (h : List Entry) (tallies : List Tallied) (fault : SettleFault) → IsSettled all h tallies → IsFault all fault h tallies → fault ≡ OutOfMemory }
+{}
+
+/// Whoever submitted a call and then sees the history finds the call there, at its own ticket.
+pub fn stands_where_it_was_taken()
+    ensures there { (config : Config) (now : ℕ) (call : Call) (ticket : ℕ) (seen then : List Entry) → IsTaken config now call ticket seen → Sees config seen then → ticket < length then }
+    ensures same { (config : Config) (now : ℕ) (call : Call) (ticket : ℕ) (seen then : List Entry) → IsTaken config now call ticket seen → Sees config seen then → call_of then ticket ≡ call }
 {}

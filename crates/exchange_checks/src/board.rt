@@ -1,17 +1,16 @@
 //! A service that is no account, and does as a case says.
 
 use account_book::Refusal;
-use account_lock::{Bell, Declined, Look, Refused, Setup};
+use account_lock::{Account, Bell, Declined, Look, Refused, Setup};
 use arn_ids::FnNo;
 use call_model::{Answer, Call, Stats, Ticket};
 use lambda_wire::{Reply, fault_reply};
 use long_poll::{OneShotBell, Service};
 use std::alloc::{AllocError, Global};
-use std::marker::PhantomData;
 use std::sync::Wait;
 use std::sync::atomic::AtomicU64;
 use std::sync::atomic::Ordering::SeqCst;
-use usage_ledger::{KeepNone, Tally};
+use usage_ledger::{Front, KeepNone, Tally};
 
 /// The ticket of every call that is taken.
 const TICKET: Ticket = 7;
@@ -27,7 +26,8 @@ pub enum Mood {
     Answers(u64),
 }
 
-/// Notes how many calls came, and the moment of the last one.
+/// Notes how many calls came, and the moment of the last one. Its fronts are those of an account that
+/// takes none.
 #[derive(Drop)]
 pub struct Board<S: Setup> {
     alloc: Global,
@@ -35,19 +35,19 @@ pub struct Board<S: Setup> {
     offered: AtomicU64,
     submitted: AtomicU64,
     last: AtomicU64,
-    of: PhantomData<S>,
+    account: Account<S, OneShotBell>,
 }
 
 impl<S: Setup> Board<S> {
     /// To which no call came.
-    pub fn new(alloc: Global, mood: Mood) -> Board<S> {
+    pub fn new(alloc: Global, mood: Mood, account: Account<S, OneShotBell>) -> Board<S> {
         Board {
             alloc,
             mood,
             offered: AtomicU64::new(0),
             submitted: AtomicU64::new(0),
             last: AtomicU64::new(0),
-            of: PhantomData,
+            account,
         }
     }
 
@@ -59,7 +59,12 @@ impl<S: Setup> Board<S> {
     }
 
     /// Takes a call, or refuses it.
-    fn take(&self, now: u64, bell: Option<OneShotBell>) -> Result<Ticket, Refused<OneShotBell>> {
+    fn take<R: Wait>(
+        &self,
+        rt: &R,
+        now: u64,
+        bell: Option<OneShotBell>,
+    ) -> Result<(Ticket, Front<S>), Refused<OneShotBell>> {
         self.last.store(now, SeqCst);
         if let Mood::Refuses = self.mood {
             let refusal = Refusal::JournalFull;
@@ -70,7 +75,7 @@ impl<S: Setup> Board<S> {
                 bell.ring();
             }
         }
-        Ok(TICKET)
+        Ok((TICKET, self.account.front(rt)))
     }
 }
 
@@ -79,13 +84,15 @@ impl<S: Setup> Service<KeepNone, S> for Board<S> {
 
     ghost submits = { λ _ _ _ _ _ _ _. Unit {0} };
 
-    ghost looks = { λ _ _ _. Unit {0} };
+    ghost shows = { λ _ _. Unit {0} };
 
-    ghost renders = { λ _ _ _. Unit {0} };
+    ghost looks = { λ _ _ _ _ _. Unit {0} };
+
+    ghost renders = { λ _ _ _ _ _. Unit {0} };
 
     ghost opens = { λ _ _. Unit {0} };
 
-    ghost tells = { λ _ _ _. Unit {0} };
+    ghost tells = { λ _ _ _ _ _. Unit {0} };
 
     ghost counts = { λ _ _. Unit {0} };
 
@@ -93,42 +100,51 @@ impl<S: Setup> Service<KeepNone, S> for Board<S> {
 
     fn submit<R: Wait>(
         &self,
-        _rt: &R,
+        rt: &R,
         _tally: &mut Tally<KeepNone, S>,
         now: u64,
         _call: Call,
         bell: Option<OneShotBell>,
-    ) -> Result<Ticket, Refused<OneShotBell>> {
+    ) -> Result<(Ticket, Front<S>), Refused<OneShotBell>> {
         self.submitted.fetch_add(1, SeqCst);
-        self.take(now, bell)
+        self.take(rt, now, bell)
     }
 
     fn offer<R: Wait>(
         &self,
-        _rt: &R,
+        rt: &R,
         _tally: &mut Tally<KeepNone, S>,
         now: u64,
         call: Call,
         bell: Option<OneShotBell>,
-    ) -> Result<Ticket, Declined<OneShotBell>> {
+    ) -> Result<(Ticket, Front<S>), Declined<OneShotBell>> {
         let before = self.offered.fetch_add(1, SeqCst);
         if matches!(self.mood, Mood::Answers(count) if before < count) {
             return Err(Declined::Premature { call, bell });
         }
-        match self.take(now, bell) {
-            Ok(ticket) => Ok(ticket),
+        match self.take(rt, now, bell) {
+            Ok(taken) => Ok(taken),
             Err(refused) => Err(Declined::Refused(refused)),
         }
     }
 
-    fn look<R: Wait>(&self, _rt: &R, _ticket: Ticket) -> Look {
+    fn front<R: Wait>(&self, rt: &R) -> Front<S> {
+        self.account.front(rt)
+    }
+
+    fn look<R: Wait>(&self, _rt: &R, _front: &mut Front<S>, _ticket: Ticket) -> Look {
         match self.mood {
             Mood::Answers(_) => Look::Given(Answer::Done),
             _ => Look::Waiting,
         }
     }
 
-    fn render<R: Wait>(&self, _rt: &R, ticket: Ticket) -> Result<Option<Reply>, AllocError> {
+    fn render<R: Wait>(
+        &self,
+        _rt: &R,
+        _front: &mut Front<S>,
+        ticket: Ticket,
+    ) -> Result<Option<Reply>, AllocError> {
         match self.mood {
             Mood::Answers(_) if ticket == TICKET => Ok(Some(fault_reply(
                 self.alloc, 200, "done", "Done",
@@ -141,7 +157,12 @@ impl<S: Setup> Service<KeepNone, S> for Board<S> {
         Ok(String::from_str(self.alloc, "a board\n")?.into_bytes())
     }
 
-    fn history<R: Wait>(&self, _rt: &R, ticket: Ticket) -> Result<Option<Vec<u8>>, AllocError> {
+    fn history<R: Wait>(
+        &self,
+        _rt: &R,
+        _front: &mut Front<S>,
+        ticket: Ticket,
+    ) -> Result<Option<Vec<u8>>, AllocError> {
         match ticket {
             0 | 1 => Ok(Some(String::from_str(self.alloc, "an entry\n")?.into_bytes())),
             _ => Ok(None),

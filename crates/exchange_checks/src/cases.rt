@@ -60,6 +60,7 @@ fn play<
     given: &mut String,
 ) -> Result<(), CaseFault>
     requires configured { config ≡ S.config }
+    requires salted { S.salt ≡ 0 }
     requires named { blanks ≡ S.names }
 {
     if config.environments() < 1 || config.functions().len() < 1 {
@@ -75,7 +76,7 @@ fn play<
         let account = Arc::new(alloc, account)?;
         return scene::play::<R, _, S>(rt, alloc, account, tally, case, given);
     };
-    let board = Arc::new(alloc, Board::<S>::new(alloc, mood_in(part)?))?;
+    let board = Arc::new(alloc, Board::<S>::new(alloc, mood_in(part)?, account))?;
     let service = Arc::try_clone(&board)?;
     scene::play::<R, _, S>(rt, alloc, service, tally, case, given)?;
     Ok(given.push_str(board.noted()?.as_str())?)
@@ -119,7 +120,7 @@ pub fn give<R: Wait + Threads + Clock + RandomSource + AllocGlobal + Copy + Send
         case,
         config,
         setup.max_entries,
-        Blanks::new(),
+        Blanks::new(alloc)?,
         given,
     )
 }

@@ -16,7 +16,7 @@ use long_poll::{Clock, Heard, OneShotBell, Service};
 use std::alloc::{AllocError, Global};
 use std::marker::PhantomData;
 use std::sync::Wait;
-use usage_ledger::{KeepNone, Tally};
+use usage_ledger::{Front, KeepNone, Tally};
 
 /// A clock that stands.
 #[derive(Drop)]
@@ -79,14 +79,14 @@ impl<S: Setup> Rows<S> {
         alloc: Global,
         service: &X,
         tally: &mut Tally<KeepNone, S>,
-    ) -> Result<(Ticket, Heard), CaseFault>
+    ) -> Result<(Ticket, Heard, Front<S>), CaseFault>
         requires { X.serves service.now ≡ S.config }
     {
         let _of = &self.of;
         let (bell, heard) = OneShotBell::pair(alloc)?;
         let call = Call::RuntimeNext { env: 1 };
         match service.submit(rt, tally, 500, call, Some(bell)) {
-            Ok(ticket) => Ok((ticket, heard)),
+            Ok((ticket, front)) => Ok((ticket, heard, front)),
             Err(_) => Err(CaseFault::Memory),
         }
     }

@@ -24,7 +24,7 @@ use std::sync::{Arc, Mutex, Wait};
 use std::thread::{self, Threads};
 use std::time::Clock;
 use std::{io, str};
-use usage_ledger::{KeepNone, Tally};
+use usage_ledger::{Front, KeepNone, Tally};
 
 /// How often a call is withdrawn that another thread waits for, since memory may be refused.
 const TRIES: u32 = 2;
@@ -190,9 +190,9 @@ impl<
     }
 
     /// Polls for the answer of a ticket; what came of that, as a line.
-    fn poll(&self, ticket: Ticket, heard: Heard) -> Result<String, CaseFault> {
+    fn poll(&self, ticket: Ticket, heard: Heard, front: Front<S>) -> Result<String, CaseFault> {
         let service = Arc::try_clone(&self.service)?;
-        let poll: Poll<R, X, Heard, KeepNone, S> = Poll::new(self.rt, service, ticket, heard);
+        let poll: Poll<R, X, Heard, KeepNone, S> = Poll::new(self.rt, service, ticket, heard, front);
         let came = ran(block_on(&self.rt, poll))?;
         Ok(format!(in self.alloc; "poll {ticket}: {came:?}\n")?)
     }
@@ -201,12 +201,13 @@ impl<
     fn poll_lost(&self, part: &Part, given: &mut String) -> Result<(), CaseFault> {
         let (bell, heard) = OneShotBell::pair(self.alloc)?;
         drop(bell);
-        let told = self.poll(number_of(part.line(), part.arguments())?, heard)?;
+        let ticket = number_of(part.line(), part.arguments())?;
+        let told = self.poll(ticket, heard, self.service.front(&self.rt))?;
         Ok(given.push_str(told.as_str())?)
     }
 
     /// Submits a runtime's Next with a bell.
-    fn park(&self) -> Result<(Ticket, Heard), CaseFault> {
+    fn park(&self) -> Result<(Ticket, Heard, Front<S>), CaseFault> {
         let mut tally = self.tally.lock(&self.rt);
         self.rows
             .park(&self.rt, self.alloc, &*self.service, &mut tally)
@@ -231,10 +232,10 @@ fn poll_across<
     X: Service<KeepNone, S> + Send + Sync,
     S: Setup + Drop + Send + Sync,
 >(scene: &Scene<R, X, S>, part: &Part, given: &mut String) -> Result<(), CaseFault> {
-    let (ticket, heard) = scene.park()?;
+    let (ticket, heard, front) = scene.park()?;
     let (told, asked) = thread::join(
         &scene.rt,
-        move || scene.poll(ticket, heard),
+        move || scene.poll(ticket, heard, front),
         || scene.ask_for_other(part, given),
     );
     asked?;

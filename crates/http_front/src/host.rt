@@ -24,9 +24,9 @@ use std::time::Duration;
 use usage_ledger::{Blanks, Keep, Tally};
 
 /// An account that is served over HTTP/1.1 on 127.0.0.1: on the invoke port for callers, and on a
-/// port of each environment for its runtime and its extensions. `S` names the configuration, `N` is
-/// the clock, in Unix milliseconds, `K` what each tally keeps, and the others are the account's
-/// ledgers.
+/// port of each environment for its runtime and its extensions. `S` names the configuration, the
+/// salt, the ledgers and the history of the account, `N` is the clock, in Unix milliseconds, and `K` what
+/// each tally keeps.
 #[derive(Drop)]
 pub struct Host<R, S: Setup, N, K: Keep> {
     rt: R,
@@ -72,6 +72,7 @@ impl<
         blanks: Blanks,
     ) -> Result<Host<R, S, N, K>, HostFault>
         requires configured { plan.config ≡ S.config }
+        requires salted { plan.salt ≡ S.salt }
         requires named { blanks ≡ S.names }
         ensures range { IsErrOf result (Config BadEntries) ↔ ((length (owners plan.config) + 1 ≤ plan.max_entries) × (plan.max_entries ≤ 2 ^ 32) → ⊥) }
     {

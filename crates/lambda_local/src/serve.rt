@@ -50,7 +50,8 @@ fn settled<S: Setup>(hosted: Hosted<S, KeepNone>) -> Result<Stats, ServeFault>
 }
 
 /// Serves a plan until it is stopped, settles, and gives the account's counts: those that the tallies
-/// of all its threads add up to. `S` names the configuration and the account's ledgers.
+/// of all its threads add up to. `S` names the configuration, the salt, the ledgers and the history of
+/// the account.
 fn serve_plan<R: Machine + Log, S: Setup + Drop + Send + Sync + 'static>(
     rt: R,
     plan: Plan,
@@ -58,6 +59,7 @@ fn serve_plan<R: Machine + Log, S: Setup + Drop + Send + Sync + 'static>(
     blanks: Blanks,
 ) -> Result<Stats, ServeFault>
     requires configured { plan.config ≡ S.config }
+    requires salted { plan.salt ≡ S.salt }
     requires named { blanks ≡ S.names }
     ensures { IfOk result (λ counts. (tallies : List Tallied) × AreSettled plan.config tallies counts) }
 {
@@ -76,11 +78,12 @@ fn serve_plan<R: Machine + Log, S: Setup + Drop + Send + Sync + 'static>(
     settled(served?)
 }
 
-/// Names the configuration and the ledgers.
+/// Names the configuration, the salt, the ledgers and the history.
 fn serve_by_brand<R: Machine + Log>(rt: R, plan: Plan, patience: u32) -> Result<Stats, ServeFault>
     ensures { IfOk result (λ counts. (tallies : List Tallied) × AreSettled plan.config tallies counts) }
 {
-    serve_plan::<R, Brand>(rt, plan, patience, Blanks::new())
+    let blanks = Blanks::new(rt.alloc()).map_err(|_fault| ServeFault::OutOfMemory)?;
+    serve_plan::<R, Brand>(rt, plan, patience, blanks)
 }
 
 /// Serves the configuration of a file until it is stopped, settles, and writes the account's counts

@@ -1,6 +1,7 @@
 -- What an exchange gives, from where it stands.
 use Rattle.std.proofs.Common.{ℕ, List, Option, Result, Ok, Err, IfOk, inl, inr}
 use Rattle.call_model.specs.declared.call.Call.{Call}
+use Rattle.call_model.specs.declared.call.Entry.{Entry}
 use Rattle.futures.specs.Poll.{IfReady, OnPending}
 use Rattle.futures.specs.Runs.{Runs}
 use Rattle.futures.specs.declared.task.Poll.{Poll}
@@ -10,7 +11,7 @@ use Rattle.lambda_wire.specs.declared.reply.Reply.{Reply}
 use Rattle.decisions.specs.declared.decide.Decision.TheVariants as decision
 use Rattle.http.specs.declared.request.Parts.{Parts}
 use Rattle.long_poll.specs.Bodies.{Collects}
-use Rattle.long_poll.specs.Exchanges.{Awaits, Exchanges, IsBegun, HasBegun}
+use Rattle.long_poll.specs.Exchanges.{Awaits, Exchanges, IsBegun, HasBegun, shown}
 use Rattle.long_poll.specs.Ringing.{WasHeard}
 use Rattle.long_poll.specs.Stages.{Gives, Starts}
 use Rattle.long_poll.specs.declared.bell.Heard.{Heard}
@@ -51,10 +52,10 @@ awaits_later renders ticket new old same (Err fault) h = (same h.0, h.1)
 -- a call was submitted, as was decided
 pub begun_submitted : {S K L N D : Type 0} (service : Service.Ghosts S K L) (clock : Clock.Ghosts N) (decider : Decide.Ghosts D)
     (s : S) (n : N) (d : D) (head : Parts) (body : List ℕ) (call : Call) → decider.decides d head body (decision.Submit call)
-    → (begun : Begun) → IsBegun service clock s n call begun → HasBegun service clock decider s n d head body begun
+    → (begun : Begun L) → IsBegun service clock s n call begun → HasBegun service clock decider s n d head body begun
 begun_submitted service clock decider s n d head body call made (Replied reply) h = (decision.Submit call, made, inr h)
 begun_submitted service clock decider s n d head body call made AsksForHistory h = absurd h
-begun_submitted service clock decider s n d head body call made (Parked ticket heard) h = (call, made, h)
+begun_submitted service clock decider s n d head body call made (Parked ticket heard front) h = (call, made, h)
 
 module _ {S K L N D B P E : Type 0} (service : Service.Ghosts S K L) (clock : Clock.Ghosts N) (decider : Decide.Ghosts D)
     (yields : B → Runs (Result (Frame P) E)) (reads : P → List ℕ → Type 0) {H : Type 0} (shows : H → Type 0) (s : S) (n : N) (d : D) where
@@ -69,32 +70,33 @@ module _ {S K L N D B P E : Type 0} (service : Service.Ghosts S K L) (clock : Cl
   exchanges_later parts new old later held same (Err BodyFailed) h = same (Err BodyFailed) h
 
   -- it has its reply
-  pub gives_reply : (stage : Stage B) (reply : Reply) → Starts service clock decider yields reads s n d stage (Ok (Replied reply))
+  pub gives_reply : (stage : Stage B L) (reply : Reply) → Starts service clock decider yields reads s n d stage (Ok (Replied reply))
       → Gives service clock decider yields reads s n d shows stage (Ok (outcome.Reply reply))
   gives_reply (Collecting parts collecting) reply h = h
-  gives_reply (Waiting ticket heard) reply h = absurd h
+  gives_reply (Waiting ticket heard front) reply h = absurd h
 
   -- the history is asked for, and this body shows it
-  pub gives_history : (stage : Stage B) (body : H) → Starts service clock decider yields reads s n d stage (Ok AsksForHistory) → shows body
+  pub gives_history : (stage : Stage B L) (body : H) → Starts service clock decider yields reads s n d stage (Ok AsksForHistory) → shows body
       → Gives service clock decider yields reads s n d shows stage (Ok (outcome.History body))
   gives_history (Collecting parts collecting) body h shown = (h.0, h.1, (h.2, shown))
-  gives_history (Waiting ticket heard) body h shown = absurd h
+  gives_history (Waiting ticket heard front) body h shown = absurd h
 
   -- it ended in a fault
-  pub gives_fault : (stage : Stage B) (fault : ExchangeFault) → Starts service clock decider yields reads s n d stage (Err fault)
+  pub gives_fault : (stage : Stage B L) (fault : ExchangeFault) → Starts service clock decider yields reads s n d stage (Err fault)
       → Gives service clock decider yields reads s n d shows stage (Err fault)
   gives_fault (Collecting parts collecting) BodyFailed h = h
   gives_fault (Collecting parts collecting) OutOfMemory h = tt
   gives_fault (Collecting parts collecting) BellLost h = absurd h
-  gives_fault (Waiting ticket heard) fault h = absurd h
+  gives_fault (Waiting ticket heard front) fault h = absurd h
 
   -- its call was submitted, and this came of the wait
-  pub gives_answer : (stage : Stage B) (ticket : ℕ) (heard : Heard) → Starts service clock decider yields reads s n d stage (Ok (Parked ticket heard))
-      → (r : Result (Outcome H) ExchangeFault) → Awaits (service.renders s) ticket heard r → Gives service clock decider yields reads s n d shows stage r
-  gives_answer (Collecting parts collecting) ticket heard h (Ok (outcome.Reply reply)) rendered =
-      (h.0, h.1, (decision.Submit h.2.0, h.2.1, inl (ticket, h.2.2.0, rendered.1)))
-  gives_answer (Collecting parts collecting) ticket heard h (Ok (outcome.History body)) rendered = absurd rendered
-  gives_answer (Collecting parts collecting) ticket heard h (Err BellLost) rendered = (h.0, h.1, (h.2.0, h.2.1, (ticket, heard, h.2.2, rendered.0, rendered.1)))
-  gives_answer (Collecting parts collecting) ticket heard h (Err OutOfMemory) rendered = tt
-  gives_answer (Collecting parts collecting) ticket heard h (Err BodyFailed) rendered = absurd rendered.1
-  gives_answer (Waiting t heard') ticket heard h r rendered = absurd h
+  pub gives_answer : (stage : Stage B L) (ticket : ℕ) (heard : Heard) (seen : List Entry)
+      → Starts service clock decider yields reads s n d stage (Ok (Parked ticket heard seen))
+      → (r : Result (Outcome H) ExchangeFault) → Awaits (shown service s seen) ticket heard r → Gives service clock decider yields reads s n d shows stage r
+  gives_answer (Collecting parts collecting) ticket heard seen h (Ok (outcome.Reply reply)) rendered =
+      (h.0, h.1, (decision.Submit h.2.0, h.2.1, inl (ticket, seen, h.2.2.0, rendered.1)))
+  gives_answer (Collecting parts collecting) ticket heard seen h (Ok (outcome.History body)) rendered = absurd rendered
+  gives_answer (Collecting parts collecting) ticket heard seen h (Err BellLost) rendered = (h.0, h.1, (h.2.0, h.2.1, (ticket, heard, seen, h.2.2, rendered.0, rendered.1)))
+  gives_answer (Collecting parts collecting) ticket heard seen h (Err OutOfMemory) rendered = tt
+  gives_answer (Collecting parts collecting) ticket heard seen h (Err BodyFailed) rendered = absurd rendered.1
+  gives_answer (Waiting t heard' front) ticket heard seen h r rendered = absurd h

@@ -2,6 +2,7 @@
 use Rattle.std.specs.Prelude.{◌≡◌, ◌⊎◌, ℕ, List, Option, Some, None, Result, Ok, Err}
 use Rattle.account_lock.specs.declared.desk.Refused.{Refused}
 use Rattle.call_model.specs.declared.call.Call.{Call}
+use Rattle.call_model.specs.declared.call.Entry.{Entry}
 use Rattle.futures.specs.Runs.{Runs}
 use Rattle.http.specs.declared.request.Parts.{Parts}
 use Rattle.http_body.specs.declared.frame.Frame.{Frame}
@@ -35,6 +36,10 @@ Renders renders ticket (Err BellLost) = renders ticket None
 Renders renders ticket (Err OutOfMemory) = Unit {0}
 Renders renders ticket (Err BodyFailed) = ⊥
 
+-- What is rendered at a ticket, by who had seen so much of the history.
+abbrev pub shown : {S K L : Type 0} → Service.Ghosts S K L → S → List Entry → ℕ → Option Reply → Type 0
+shown service s seen ticket reply = (then : List Entry) × service.renders s seen ticket reply then
+
 -- What is rendered once the bell was heard: a reply, never a history.
 abbrev pub Awaits : {H : Type 0} → (ℕ → Option Reply → Type 0) → ℕ → Heard → Result (Outcome H) ExchangeFault → Type 0
 Awaits renders ticket heard (Ok (outcome.Reply reply)) = WasHeard heard × Renders renders ticket (Ok reply)
@@ -50,7 +55,7 @@ module _ {S K L : Type 0} (service : Service.Ghosts S K L) where
 
   module _ {N : Type 0} (clock : Clock.Ghosts N) where
     -- A call was submitted at a reading of the clock, with a bell, and this came back.
-    pub record Submitted (s : S) (n : N) (call : Call) (back : Result ℕ (Refused OneShotBell)) : Type 0 where
+    pub record Submitted (s : S) (n : N) (call : Call) (back : Result (ℕ × List Entry) (Refused OneShotBell)) : Type 0 where
       pub reading : ℕ
       pub read : clock.reads n reading
       pub before : Held
@@ -58,29 +63,32 @@ module _ {S K L : Type 0} (service : Service.Ghosts S K L) where
       pub bell : OneShotBell
       pub came : service.submits s before (moment_of reading) call (Some bell) back after
 
-    -- A call was submitted, and this is rendered at the ticket that it got.
+    -- A call was submitted, and this is rendered at the ticket that it got, to who had seen the history that it made.
     abbrev pub IsRendered : S → N → Call → Option Reply → Type 0
-    IsRendered s n call rendered = (ticket : ℕ) × Submitted s n call (Ok ticket) × service.renders s ticket rendered
+    IsRendered s n call rendered =
+        (ticket : ℕ) × (seen : List Entry) × Submitted s n call (Ok (ticket, seen)) × shown service s seen ticket rendered
 
     -- A call was submitted and refused, and the reply says so.
     abbrev pub IsRefusal : S → N → Call → Reply → Type 0
     IsRefusal s n call reply =
         (refused : Refused OneShotBell) × Submitted s n call (Err refused) × (reply ≡ refusal_reply (is_invoke call) refused.refusal)
 
-    -- A call was submitted and has this ticket, and this hears the bell that went with it.
-    abbrev pub IsParked : S → N → Call → ℕ → Heard → Type 0
-    IsParked s n call ticket heard = (submitted : Submitted s n call (Ok ticket)) × (rings_at submitted.bell ≡ hears_at heard)
+    -- A call was submitted, has this ticket and made this history, and this hears the bell that went with it.
+    abbrev pub IsParked : S → N → Call → ℕ → Heard → List Entry → Type 0
+    IsParked s n call ticket heard seen =
+        (submitted : Submitted s n call (Ok (ticket, seen))) × (rings_at submitted.bell ≡ hears_at heard)
 
     -- A call was submitted, its bell was heard, and nothing is rendered at the ticket that it got.
     abbrev pub IsLost : S → N → Call → Type 0
     IsLost s n call =
-        (ticket : ℕ) × (heard : Heard) × IsParked s n call ticket heard × WasHeard heard × service.renders s ticket None
+        (ticket : ℕ) × (heard : Heard) × (seen : List Entry) × IsParked s n call ticket heard seen × WasHeard heard
+        × shown service s seen ticket None
 
     -- A call was submitted: it was refused and has its reply, or it has its ticket.
-    abbrev pub IsBegun : S → N → Call → Begun → Type 0
+    abbrev pub IsBegun : S → N → Call → Begun L → Type 0
     IsBegun s n call (Replied reply) = IsRefusal s n call reply
     IsBegun s n call AsksForHistory = ⊥
-    IsBegun s n call (Parked ticket heard) = IsParked s n call ticket heard
+    IsBegun s n call (Parked ticket heard front) = IsParked s n call ticket heard front
 
     module _ {D : Type 0} (decider : Decide.Ghosts D) where
       -- The reply to a request, by what is done with it.
@@ -113,8 +121,8 @@ module _ {S K L : Type 0} (service : Service.Ghosts S K L) where
             (body : List ℕ) × Reads reads source held body × ComesOf s n d head body (Ok answer)
 
       -- What a request with this head and this body has come to.
-      abbrev pub HasBegun : S → N → D → Parts → List ℕ → Begun → Type 0
+      abbrev pub HasBegun : S → N → D → Parts → List ℕ → Begun L → Type 0
       HasBegun s n d head body (Replied reply) = (made : Decision) × decider.decides d head body made × IsReply s n made reply
       HasBegun s n d head body AsksForHistory = decider.decides d head body (decision.Show History)
-      HasBegun s n d head body (Parked ticket heard) =
-          (call : Call) × decider.decides d head body (decision.Submit call) × IsParked s n call ticket heard
+      HasBegun s n d head body (Parked ticket heard front) =
+          (call : Call) × decider.decides d head body (decision.Submit call) × IsParked s n call ticket heard front

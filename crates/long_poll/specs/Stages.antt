@@ -3,7 +3,7 @@ use Rattle.std.specs.Prelude.{◌≡◌, ℕ, List, Result, Ok, Err}
 use Rattle.futures.specs.Runs.{Runs}
 use Rattle.http_body.specs.declared.frame.Frame.{Frame}
 use Rattle.long_poll.specs.Bodies.{Reads, Fails}
-use Rattle.long_poll.specs.Exchanges.{Exchanges, HasBegun, Awaits}
+use Rattle.long_poll.specs.Exchanges.{Exchanges, HasBegun, Awaits, shown}
 use Rattle.long_poll.specs.Ringing.{hears_at}
 use Rattle.long_poll.specs.declared.clock.Clock as Clock
 use Rattle.long_poll.specs.declared.connection.Begun.{Begun}
@@ -16,37 +16,37 @@ use Rattle.long_poll.specs.declared.outcome.Outcome.{Outcome}
 use Rattle.long_poll.specs.declared.service.Service as Service
 
 -- its body is being collected, and can be polled
-abbrev pub IsCollecting : {B : Type 0} → (B → Type 0) → Stage B → Type 0
+abbrev pub IsCollecting : {B L : Type 0} → (B → Type 0) → Stage B L → Type 0
 IsCollecting can_poll (Collecting parts collecting) = can_poll collecting.body
-IsCollecting can_poll (Waiting ticket heard) = ⊥
+IsCollecting can_poll (Waiting ticket heard front) = ⊥
 
 -- its answer is awaited
-abbrev pub IsWaiting : {B : Type 0} → Stage B → Type 0
+abbrev pub IsWaiting : {B L : Type 0} → Stage B L → Type 0
 IsWaiting (Collecting parts collecting) = ⊥
-IsWaiting (Waiting ticket heard) = Unit {0}
+IsWaiting (Waiting ticket heard front) = Unit {0}
 
 -- it can be polled
-abbrev pub CanGoOn : {B : Type 0} → (B → Type 0) → Stage B → Type 0
+abbrev pub CanGoOn : {B L : Type 0} → (B → Type 0) → Stage B L → Type 0
 CanGoOn can_poll (Collecting parts collecting) = can_poll collecting.body
-CanGoOn can_poll (Waiting ticket heard) = Unit {0}
+CanGoOn can_poll (Waiting ticket heard front) = Unit {0}
 
 -- the sources that it waits for: those of its body, or that of its bell
-abbrev pub WaitsFor : {B : Type 0} → (B → ℕ → Type 0) → Stage B → ℕ → Type 0
+abbrev pub WaitsFor : {B L : Type 0} → (B → ℕ → Type 0) → Stage B L → ℕ → Type 0
 WaitsFor needs (Collecting parts collecting) source = needs collecting.body source
-WaitsFor needs (Waiting ticket heard) source = source ≡ hears_at heard
+WaitsFor needs (Waiting ticket heard front) source = source ≡ hears_at heard
 
 module _ {S K L N D B P E : Type 0} (service : Service.Ghosts S K L) (clock : Clock.Ghosts N) (decider : Decide.Ghosts D)
     (yields : B → Runs (Result (Frame P) E)) (reads : P → List ℕ → Type 0) (s : S) (n : N) (d : D) where
   -- What it may give, where these bodies show the history.
-  abbrev pub Gives : {H : Type 0} → (H → Type 0) → Stage B → Result (Outcome H) ExchangeFault → Type 0
+  abbrev pub Gives : {H : Type 0} → (H → Type 0) → Stage B L → Result (Outcome H) ExchangeFault → Type 0
   Gives shows (Collecting parts collecting) = Exchanges service clock decider shows s n d reads (yields collecting.body) parts collecting.held
-  Gives shows (Waiting ticket heard) = Awaits (service.renders s) ticket heard
+  Gives shows (Waiting ticket heard front) = Awaits (shown service s front) ticket heard
 
   -- What it has come to once its body was collected.
-  abbrev pub Starts : Stage B → Result Begun ExchangeFault → Type 0
+  abbrev pub Starts : Stage B L → Result (Begun L) ExchangeFault → Type 0
   Starts (Collecting parts collecting) (Ok begun) =
       (body : List ℕ) × Reads reads (yields collecting.body) collecting.held body × HasBegun service clock decider s n d parts body begun
   Starts (Collecting parts collecting) (Err BodyFailed) = Fails (yields collecting.body)
   Starts (Collecting parts collecting) (Err OutOfMemory) = Unit {0}
   Starts (Collecting parts collecting) (Err BellLost) = ⊥
-  Starts (Waiting ticket heard) begun = ⊥
+  Starts (Waiting ticket heard front) begun = ⊥

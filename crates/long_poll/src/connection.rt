@@ -3,7 +3,7 @@
 ghost use Rattle.std.specs.Prelude.{◌≡◌, ◌≤◌, IfOk, IfErr};
 ghost use Rattle.std.specs.Arc.{arc_value};
 ghost use Rattle.script.specs.Limits.{IsWithin};
-ghost use Rattle.long_poll.specs.Exchanges.{Submitted, IsBegun, HasBegun, Renders};
+ghost use Rattle.long_poll.specs.Exchanges.{Submitted, IsBegun, HasBegun, Renders, shown};
 ghost use Rattle.long_poll.specs.Attempts.{IsAttempt};
 ghost use Rattle.long_poll.specs.Outcomes.{ShowsAllOf};
 
@@ -22,7 +22,7 @@ use std::alloc::{AllocError, Global};
 use std::sync::{Arc, Mutex, Wait};
 use std::time::Duration;
 use std::{thread, time};
-use usage_ledger::{Keep, Ledgers, Tally};
+use usage_ledger::{Front, Keep, Ledgers, Tally};
 
 /// The longest pause between two looks whether a call is still premature, in milliseconds.
 const LONGEST_PAUSE: u32 = 8;
@@ -45,20 +45,25 @@ pub struct Connection<R, S: Service<K, L>, D: Decide, N, K: Keep, L: Ledgers> {
 
 /// What a request has come to.
 #[derive(Drop)]
-pub(crate) enum Begun {
+pub(crate) enum Begun<L: Ledgers> {
     /// It has its reply.
     Replied(Reply),
     /// It asks for the history.
     AsksForHistory,
-    /// Its call was submitted, and something is heard once its ticket is answered.
-    Parked { ticket: Ticket, heard: Heard },
+    /// Its call was submitted, and something is heard once its ticket is answered. The front has seen
+    /// the history up to the call.
+    Parked {
+        ticket: Ticket,
+        heard: Heard,
+        front: Front<L>,
+    },
 }
 
 /// What came of an attempt to submit a call.
 #[derive(Drop)]
-enum Attempt {
+enum Attempt<L: Ledgers> {
     /// It was submitted, and this came back.
-    Made(Result<Ticket, Refused<OneShotBell>>),
+    Made(Result<(Ticket, Front<L>), Refused<OneShotBell>>),
     /// It was premature, and comes back with its bell.
     HeldBack(Call, OneShotBell),
 }
@@ -117,7 +122,7 @@ impl<
         &self,
         call: Call,
         bell: OneShotBell,
-    ) -> Result<Ticket, Refused<OneShotBell>>
+    ) -> Result<(Ticket, Front<L>), Refused<OneShotBell>>
         requires { IsWithin (S.serves (arc_value self.now.service)) call }
         ensures { (submitted : Submitted S.Service N.Clock (arc_value self.now.service) (arc_value self.now.clock) call result) × (submitted.bell ≡ bell) }
     {
@@ -128,7 +133,7 @@ impl<
     }
 
     /// Submits a call with its bell at the clock's reading, unless it is premature.
-    fn attempt(&self, call: Call, bell: OneShotBell) -> Attempt
+    fn attempt(&self, call: Call, bell: OneShotBell) -> Attempt<L>
         requires { IsWithin (S.serves (arc_value self.now.service)) call }
         ensures { IsAttempt S.Service N.Clock (arc_value self.now.service) (arc_value self.now.clock) call bell result }
     {
@@ -138,7 +143,7 @@ impl<
             .service
             .offer(&self.rt, &mut tally, now, call, Some(bell))
         {
-            Ok(ticket) => Attempt::Made(Ok(ticket)),
+            Ok(taken) => Attempt::Made(Ok(taken)),
             Err(Declined::Refused(refused)) => Attempt::Made(Err(refused)),
             Err(Declined::Premature { call, bell }) => match bell {
                 Some(bell) => Attempt::HeldBack(call, bell),
@@ -153,7 +158,7 @@ impl<
         &self,
         call: Call,
         bell: OneShotBell,
-    ) -> Result<Ticket, Refused<OneShotBell>>
+    ) -> Result<(Ticket, Front<L>), Refused<OneShotBell>>
         requires { IsWithin (S.serves (arc_value self.now.service)) call }
         ensures { (submitted : Submitted S.Service N.Clock (arc_value self.now.service) (arc_value self.now.clock) call result) × (submitted.bell ≡ bell) }
     {
@@ -178,7 +183,7 @@ impl<
     }
 
     /// Submits a call with a bell of its own. A Next is noted as open.
-    fn submit(&self, call: Call) -> Result<Begun, ExchangeFault>
+    fn submit(&self, call: Call) -> Result<Begun<L>, ExchangeFault>
         requires { IsWithin (S.serves (arc_value self.now.service)) call }
         ensures ok { IfOk result (IsBegun S.Service N.Clock (arc_value self.now.service) (arc_value self.now.clock) call) }
         ensures err { IfErr result (λ fault. fault ≡ ExchangeFault.OutOfMemory) }
@@ -192,17 +197,21 @@ impl<
                 is_invoke,
                 refused.refusal,
             )?)),
-            Ok(ticket) => {
+            Ok((ticket, front)) => {
                 if is_next {
                     self.open.note(ticket);
                 }
-                Ok(Begun::Parked { ticket, heard })
+                Ok(Begun::Parked {
+                    ticket,
+                    heard,
+                    front,
+                })
             }
         }
     }
 
     /// Decides a request, and does what is decided.
-    pub(crate) fn begin(&self, parts: &Parts, body: &Bytes) -> Result<Begun, ExchangeFault>
+    pub(crate) fn begin(&self, parts: &Parts, body: &Bytes) -> Result<Begun<L>, ExchangeFault>
         ensures ok { IfOk result (HasBegun S.Service N.Clock D.Decide (arc_value self.now.service) (arc_value self.now.clock) (arc_value self.now.decider) parts.now body.now) }
         ensures err { IfErr result (λ fault. fault ≡ ExchangeFault.OutOfMemory) }
     {
@@ -230,10 +239,14 @@ impl<
     }
 
     /// Renders the answer of a ticket, once it was heard. The note of a Next is taken back.
-    pub(crate) fn render(&self, ticket: Ticket) -> Result<Reply, ExchangeFault>
-        ensures { Renders (S.renders (arc_value self.now.service)) ticket result }
+    pub(crate) fn render(
+        &self,
+        front: &mut Front<L>,
+        ticket: Ticket,
+    ) -> Result<Reply, ExchangeFault>
+        ensures { Renders (shown S.Service (arc_value self.now.service) front.old) ticket result }
     {
-        match self.service.render(&self.rt, ticket) {
+        match self.service.render(&self.rt, front, ticket) {
             Err(AllocError) => Err(ExchangeFault::OutOfMemory),
             Ok(None) => Err(ExchangeFault::BellLost),
             Ok(Some(reply)) => {

@@ -24,15 +24,22 @@ use http::request::Parts;
 use http_body::Body;
 use std::sync::{Arc, Wait};
 use std::time;
-use usage_ledger::{Keep, Ledgers};
+use usage_ledger::{Front, Keep, Ledgers};
 
 /// Where an exchange stands.
 #[derive(Drop)]
-enum Stage<B> {
+enum Stage<B, L: Ledgers> {
     /// The body is being collected.
-    Collecting { parts: Parts, body: Collecting<B> },
-    /// The call was submitted, and its answer is awaited.
-    Waiting { ticket: Ticket, heard: Heard },
+    Collecting {
+        parts: Parts,
+        body: Collecting<B>,
+    },
+    /// The call was submitted, and its answer is awaited. The front has seen the history up to the call.
+    Waiting {
+        ticket: Ticket,
+        heard: Heard,
+        front: Front<L>,
+    },
 }
 
 /// One request: its body is collected, it is decided, its call is submitted, its answer awaited and
@@ -40,7 +47,7 @@ enum Stage<B> {
 #[derive(Drop)]
 pub struct Exchange<R, S: Service<K, L>, D: Decide, N, B, K: Keep, L: Ledgers> {
     connection: Arc<Connection<R, S, D, N, K, L>>,
-    stage: Stage<B>,
+    stage: Stage<B, L>,
 }
 
 impl<
@@ -72,7 +79,7 @@ where
     }
 
     /// Collects the body; then the request is decided, and its call submitted.
-    fn poll_start(&mut self, cx: &mut Context<'_>) -> Poll<Result<Begun, ExchangeFault>>
+    fn poll_start(&mut self, cx: &mut Context<'_>) -> Poll<Result<Begun<L>, ExchangeFault>>
         requires { IsCollecting B.can_poll self.old.stage }
         ensures value { IfReady result (Starts S.Service N.Clock D.Decide B.yields B.Data.converts (arc_value (arc_value self.old.connection).service) (arc_value (arc_value self.old.connection).clock) (arc_value (arc_value self.old.connection).decider) self.old.stage) }
         ensures again { OnPending result (IsCollecting B.can_poll self.new.stage) }
@@ -92,11 +99,15 @@ where
     }
 
     /// From now on the answer of this ticket is awaited. What was collected is let go.
-    fn park(&mut self, ticket: Ticket, heard: Heard)
-        ensures stage { self.new.stage ≡ stage.Waiting ticket heard }
+    fn park(&mut self, ticket: Ticket, heard: Heard, front: Front<L>)
+        ensures stage { self.new.stage ≡ stage.Waiting ticket heard front }
         ensures connection { self.new.connection ≡ self.old.connection }
     {
-        self.stage = Stage::Waiting { ticket, heard };
+        self.stage = Stage::Waiting {
+            ticket,
+            heard,
+            front,
+        };
     }
 
     /// The account's whole history.
@@ -120,9 +131,13 @@ where
     {
         match &mut self.stage {
             Stage::Collecting { .. } => unreachable!(),
-            Stage::Waiting { ticket, heard } => match heard.poll(cx) {
+            Stage::Waiting {
+                ticket,
+                heard,
+                front,
+            } => match heard.poll(cx) {
                 Poll::Pending => Poll::Pending,
-                Poll::Ready(()) => match self.connection.render(*ticket) {
+                Poll::Ready(()) => match self.connection.render(front, *ticket) {
                     Ok(reply) => Poll::Ready(Ok(Outcome::Reply(reply))),
                     Err(fault) => Poll::Ready(Err(fault)),
                 },
@@ -159,8 +174,14 @@ where
             Err(fault) => Poll::Ready(Err(fault)),
             Ok(Begun::Replied(reply)) => Poll::Ready(Ok(Outcome::Reply(reply))),
             Ok(Begun::AsksForHistory) => Poll::Ready(self.history()),
-            Ok(Begun::Parked { ticket, heard }) => {
-                self.park(ticket, heard);
+            Ok(
+                Begun::Parked {
+                    ticket,
+                    heard,
+                    front,
+                },
+            ) => {
+                self.park(ticket, heard, front);
                 self.poll_answer(cx)
             }
         }

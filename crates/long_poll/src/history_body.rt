@@ -12,7 +12,7 @@ use http_body::{Body, Frame};
 use std::alloc::AllocError;
 use std::marker::PhantomData;
 use std::sync::{Arc, Wait};
-use usage_ledger::{Keep, Ledgers, Tally};
+use usage_ledger::{Front, Keep, Ledgers, Tally};
 
 /// Which text comes next.
 #[derive(Clone, Copy, Debug, PartialEq, Eq)]
@@ -33,32 +33,35 @@ fn piece(bytes: Vec<u8>) -> Result<Bytes, AllocError>
 }
 
 /// The text of a history, streamed: its opening, then the text of each entry, from ticket 0 to the
-/// first that there is none of. Each is a frame of its own, and no more than one is in memory. Want of
+/// first that there is none of, all of one history. Each is a frame of its own, and no more than one is in memory. Want of
 /// memory ends the body with an error.
 #[derive(Drop)]
 pub struct HistoryBody<R, S, K: Keep, L: Ledgers> {
     rt: R,
     service: Arc<S>,
     stage: Stage,
+    front: Front<L>,
     of: PhantomData<Tally<K, L>>,
 }
 
 impl<R: Wait + Drop, S: Service<K, L>, K: Keep, L: Ledgers> HistoryBody<R, S, K, L> {
     /// The whole history of a service. It takes no memory.
     pub fn new(rt: R, service: Arc<S>) -> HistoryBody<R, S, K, L>
-        ensures { (result.service ≡ service) × (result.stage ≡ Stage.Opening) }
+        ensures { (result.service ≡ service) × (result.stage ≡ Stage.Opening) × S.shows (arc_value service) result.front }
     {
+        let front = service.front(&rt);
         HistoryBody {
             rt,
             service,
             stage: Stage::Opening,
+            front,
             of: PhantomData,
         }
     }
 
     /// The text before the first entry.
     fn opening(&mut self) -> Result<Frame<Bytes>, AllocError>
-        ensures value { Answers (S.opens (arc_value self.old.service)) (S.tells (arc_value self.old.service)) Stage.Opening (Some result) }
+        ensures value { Answers (S.opens (arc_value self.old.service)) (S.tells (arc_value self.old.service)) self.old.front Stage.Opening (Some result) self.new.front }
         ensures stage { self.new.stage ≡ behind Stage.Opening result }
         ensures same { self.new.service ≡ self.old.service }
     {
@@ -70,12 +73,12 @@ impl<R: Wait + Drop, S: Service<K, L>, K: Keep, L: Ledgers> HistoryBody<R, S, K,
 
     /// The text of an entry, none behind the last.
     fn entry(&mut self, ticket: Ticket) -> Result<Option<Frame<Bytes>>, AllocError>
-        ensures value { Answers (S.opens (arc_value self.old.service)) (S.tells (arc_value self.old.service)) (Stage.Entry ticket) (answer_of result) }
+        ensures value { Answers (S.opens (arc_value self.old.service)) (S.tells (arc_value self.old.service)) self.old.front (Stage.Entry ticket) (answer_of result) self.new.front }
         ensures stage { IfSome (answer_of result) (λ answer. self.new.stage ≡ behind (Stage.Entry ticket) answer) }
         ensures same { self.new.service ≡ self.old.service }
     {
         self.stage = Stage::Ended;
-        let Some(text) = self.service.history(&self.rt, ticket)? else {
+        let Some(text) = self.service.history(&self.rt, &mut self.front, ticket)? else {
             return Ok(None);
         };
         let text = piece(text)?;
@@ -95,7 +98,7 @@ impl<R: Wait + Drop, S: Service<K, L>, K: Keep, L: Ledgers> Body for HistoryBody
 
     type Error = AllocError;
 
-    ghost yields = { λ b. Frames (S.opens (arc_value b.service)) (S.tells (arc_value b.service)) b.stage };
+    ghost yields = { λ b. Frames (S.opens (arc_value b.service)) (S.tells (arc_value b.service)) b.front b.stage };
 
     fn poll_frame(
         &mut self,

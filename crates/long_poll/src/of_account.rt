@@ -1,6 +1,6 @@
 //! An account is a service.
 
-ghost use Rattle.std.specs.Prelude.{◌≡◌, ◌<◌, ◌^◌, ℕ, IfOk};
+ghost use Rattle.std.specs.Prelude.{◌≡◌, ◌<◌, ◌^◌, ℕ, [], IfOk};
 ghost use Rattle.call_model.specs.Counts.{stats};
 ghost use Rattle.call_model.specs.History.{answer_of};
 ghost use Rattle.call_model.specs.Limits.{reservation};
@@ -8,7 +8,7 @@ ghost use Rattle.script.specs.Limits.{IsWithin, IsFunction};
 ghost use Rattle.account_book.specs.HistoryText.{opening_text};
 ghost use Rattle.account_book.specs.ReplyText.{reply_text};
 ghost use Rattle.account_lock.specs.Looks.{look_of};
-ghost use Rattle.account_lock.specs.Shown.{IsTextOf, Shown, ShownWith};
+ghost use Rattle.account_lock.specs.Shown.{IsTextOf, Sees, Shown};
 ghost use Rattle.long_poll.specs.Submits.{Submits};
 
 use crate::{OneShotBell, Service};
@@ -18,22 +18,25 @@ use call_model::{Call, Stats, Ticket};
 use lambda_wire::Reply;
 use std::alloc::AllocError;
 use std::sync::Wait;
-use usage_ledger::{Keep, Tally};
+use usage_ledger::{Front, Keep, Tally};
 
-// What its readers give is what a history says that calls led to in its configuration: which one it was
-// under the lock no clause can say. A submit says what it did to the tally.
+// A submit gives a front that has seen the history which the call made. What is read with it is of a
+// history that goes on where that one ends; what is read without a front is of some history that calls led
+// to.
 impl<S: Setup + Drop, K: Keep> Service<K, S> for Account<S, OneShotBell> {
     ghost serves = { λ _. S.config };
 
-    ghost submits = { λ _ before _ call bell result after. Submits K.notes K.makes before call bell result after };
+    ghost submits = { λ _ before now call bell result after. Submits S.config K.notes K.makes before now call bell result after };
 
-    ghost looks = { λ _ ticket seen. Shown S.config (λ h. seen ≡ look_of (answer_of h ticket)) };
+    ghost shows = { λ _ seen. Sees S.config [] seen };
 
-    ghost renders = { λ _ ticket reply. ShownWith S.config (λ salt h. reply ≡ reply_text S.config salt h ticket) };
+    ghost looks = { λ _ before ticket look seen. Sees S.config before seen × (look ≡ look_of (answer_of seen ticket)) };
 
-    ghost opens = { λ _ text. (salt : ℕ) × (most : ℕ) × (text ≡ opening_text S.config salt most) };
+    ghost renders = { λ _ before ticket reply seen. Sees S.config before seen × (reply ≡ reply_text S.config S.salt seen ticket) };
 
-    ghost tells = { λ _ ticket text. ShownWith S.config (λ salt. IsTextOf S.config salt ticket text) };
+    ghost opens = { λ _ text. (most : ℕ) × (text ≡ opening_text S.config S.salt most) };
+
+    ghost tells = { λ _ before ticket text seen. Sees S.config before seen × IsTextOf S.config S.salt ticket text seen };
 
     ghost counts = { λ _ counted. Shown S.config (λ h. counted ≡ stats S.config h) };
 
@@ -46,7 +49,7 @@ impl<S: Setup + Drop, K: Keep> Service<K, S> for Account<S, OneShotBell> {
         now: u64,
         call: Call,
         bell: Option<OneShotBell>,
-    ) -> Result<Ticket, Refused<OneShotBell>> {
+    ) -> Result<(Ticket, Front<S>), Refused<OneShotBell>> {
         Account::submit(self, rt, tally, now, call, bell)
     }
 
@@ -57,24 +60,38 @@ impl<S: Setup + Drop, K: Keep> Service<K, S> for Account<S, OneShotBell> {
         now: u64,
         call: Call,
         bell: Option<OneShotBell>,
-    ) -> Result<Ticket, Declined<OneShotBell>> {
+    ) -> Result<(Ticket, Front<S>), Declined<OneShotBell>> {
         Account::offer(self, rt, tally, now, call, bell)
     }
 
-    fn look<R: Wait>(&self, rt: &R, ticket: Ticket) -> Look {
-        Account::look(self, rt, ticket)
+    fn front<R: Wait>(&self, rt: &R) -> Front<S> {
+        Account::front(self, rt)
     }
 
-    fn render<R: Wait>(&self, rt: &R, ticket: Ticket) -> Result<Option<Reply>, AllocError> {
-        Account::render(self, rt, ticket)
+    fn look<R: Wait>(&self, rt: &R, front: &mut Front<S>, ticket: Ticket) -> Look {
+        Account::look(self, rt, front, ticket)
+    }
+
+    fn render<R: Wait>(
+        &self,
+        rt: &R,
+        front: &mut Front<S>,
+        ticket: Ticket,
+    ) -> Result<Option<Reply>, AllocError> {
+        Account::render(self, rt, front, ticket)
     }
 
     fn opening<R: Wait>(&self, rt: &R) -> Result<Vec<u8>, AllocError> {
         Account::opening(self, rt)
     }
 
-    fn history<R: Wait>(&self, rt: &R, ticket: Ticket) -> Result<Option<Vec<u8>>, AllocError> {
-        Account::history(self, rt, ticket)
+    fn history<R: Wait>(
+        &self,
+        rt: &R,
+        front: &mut Front<S>,
+        ticket: Ticket,
+    ) -> Result<Option<Vec<u8>>, AllocError> {
+        Account::history(self, rt, front, ticket)
     }
 
     fn stats<R: Wait>(&self, rt: &R) -> Stats {

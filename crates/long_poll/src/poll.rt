@@ -2,7 +2,7 @@
 
 ghost use Rattle.std.specs.Prelude.{◌≡◌};
 ghost use Rattle.std.specs.Arc.{arc_value};
-ghost use Rattle.long_poll.specs.Answers.{Answers};
+ghost use Rattle.long_poll.specs.Answers.{Answers, found};
 
 use crate::Service;
 use account_lock::Look;
@@ -12,7 +12,7 @@ use futures::task;
 use futures::task::Context;
 use std::marker::PhantomData;
 use std::sync::{Arc, Wait};
-use usage_ledger::{Keep, Ledgers, Tally};
+use usage_ledger::{Front, Keep, Ledgers, Tally};
 
 /// The bell rang or was lost, and the ticket still waited.
 #[derive(Clone, Copy, Debug, PartialEq, Eq)]
@@ -25,20 +25,28 @@ pub struct Poll<R, S, H, K: Keep, L: Ledgers> {
     service: Arc<S>,
     ticket: Ticket,
     heard: H,
+    front: Front<L>,
     of: PhantomData<Tally<K, L>>,
 }
 
 impl<R: Wait + Drop, S: Service<K, L>, H: Future, K: Keep, L: Ledgers> Poll<R, S, H, K, L> {
     /// Waits for the answer of a ticket by what is heard once there is one, as the `Heard` of the
-    /// bell that went with its call. It takes no memory.
-    pub fn new(rt: R, service: Arc<S>, ticket: Ticket, heard: H) -> Poll<R, S, H, K, L>
-        ensures { (result.service ≡ service) × (result.ticket ≡ ticket) × (result.heard ≡ heard) }
+    /// bell that went with its call. The front is the one that came with the ticket. It takes no memory.
+    pub fn new(
+        rt: R,
+        service: Arc<S>,
+        ticket: Ticket,
+        heard: H,
+        front: Front<L>,
+    ) -> Poll<R, S, H, K, L>
+        ensures { (result.service ≡ service) × (result.ticket ≡ ticket) × (result.heard ≡ heard) × (result.front ≡ front) }
     {
         Poll {
             rt,
             service,
             ticket,
             heard,
+            front,
             of: PhantomData,
         }
     }
@@ -55,12 +63,15 @@ where
 
     ghost needs = { λ poll. H.needs poll.heard };
 
-    ghost gives = { λ poll. Answers (S.looks (arc_value poll.service) poll.ticket) (H.gives poll.heard) };
+    ghost gives = { λ poll. Answers (found S.Service (arc_value poll.service) poll.front poll.ticket) (H.gives poll.heard) };
 
     fn poll(&mut self, cx: &mut Context<'_>) -> task::Poll<Result<Answer, BellLost>> {
         match self.heard.poll(cx) {
             task::Poll::Pending => task::Poll::Pending,
-            task::Poll::Ready(_) => match self.service.look(&self.rt, self.ticket) {
+            task::Poll::Ready(_) => match self
+                .service
+                .look(&self.rt, &mut self.front, self.ticket)
+            {
                 Look::Given(answer) => task::Poll::Ready(Ok(answer)),
                 Look::Waiting => task::Poll::Ready(Err(BellLost)),
             },

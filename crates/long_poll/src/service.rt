@@ -3,6 +3,7 @@
 ghost use Rattle.std.specs.Prelude.{◌≡◌, ◌<◌, ◌^◌, ℕ, List, Option, Result, IfOk, option_map};
 ghost use Rattle.arn_ids.specs.declared.config.Config.{Config};
 ghost use Rattle.call_model.specs.declared.call.Call.{Call as Called};
+ghost use Rattle.call_model.specs.declared.call.Entry.{Entry};
 ghost use Rattle.call_model.specs.declared.stats.Stats.{Stats as Counted};
 ghost use Rattle.lambda_wire.specs.declared.reply.Reply.{Reply as Replied};
 ghost use Rattle.script.specs.Limits.{IsWithin, IsFunction};
@@ -19,28 +20,35 @@ use call_model::{Call, Stats, Ticket};
 use lambda_wire::Reply;
 use std::alloc::AllocError;
 use std::sync::Wait;
-use usage_ledger::{Keep, Ledgers, Tally};
+use usage_ledger::{Front, Keep, Ledgers, Tally};
 
 /// An account that connections share. Each method has a relation of its arguments and its answer,
-/// which the implementer names. The type parameters are a tally's: what it keeps, and its ledgers.
+/// which the implementer names. The type parameters are a tally's: what it keeps, and its ledgers. A
+/// front is a token that has seen a beginning of the account's history: a submit gives one that has seen
+/// it up to the call, and who reads with one is shown the history as it is, which goes on where the one
+/// ends that the front had seen.
 pub trait Service<K: Keep, L: Ledgers>: Drop {
     /// The configuration that it serves.
     ghost serves: { Self → Config };
 
-    /// What the tally held, the moment, the call, its bell, what came back, what the tally held then.
-    ghost submits: { Self → Held → ℕ → Called → Option Rings → Result ℕ (Back Rings) → Held → Type 0 };
+    /// What the tally held, the moment, the call, its bell, what came back, what the tally held then. A
+    /// ticket comes with the history that its front has seen.
+    ghost submits: { Self → Held → ℕ → Called → Option Rings → Result (ℕ × List Entry) (Back Rings) → Held → Type 0 };
 
-    /// The ticket, and what it was answered.
-    ghost looks: { Self → ℕ → Seen → Type 0 };
+    /// What is seen of the history.
+    ghost shows: { Self → List Entry → Type 0 };
 
-    /// The ticket, and what its client gets.
-    ghost renders: { Self → ℕ → Option Replied → Type 0 };
+    /// What was seen of the history, the ticket, what it was answered, and what is seen then.
+    ghost looks: { Self → List Entry → ℕ → Seen → List Entry → Type 0 };
+
+    /// What was seen of the history, the ticket, what its client gets, and what is seen then.
+    ghost renders: { Self → List Entry → ℕ → Option Replied → List Entry → Type 0 };
 
     /// The text of the history before its first entry.
     ghost opens: { Self → List ℕ → Type 0 };
 
-    /// The ticket, and the text of its entry.
-    ghost tells: { Self → ℕ → Option (List ℕ) → Type 0 };
+    /// What was seen of the history, the ticket, the text of its entry, and what is seen then.
+    ghost tells: { Self → List Entry → ℕ → Option (List ℕ) → List Entry → Type 0 };
 
     /// The counts.
     ghost counts: { Self → Counted → Type 0 };
@@ -60,7 +68,7 @@ pub trait Service<K: Keep, L: Ledgers>: Drop {
         now: u64,
         call: Call,
         bell: Option<OneShotBell>,
-    ) -> Result<Ticket, Refused<OneShotBell>>
+    ) -> Result<(Ticket, Front<L>), Refused<OneShotBell>>
         requires moment { now < 2 ^ 53 }
         requires within { IsWithin (serves self.now) call }
         ensures { submits self.now tally.old.held now call bell result tally.new.held };
@@ -77,20 +85,29 @@ pub trait Service<K: Keep, L: Ledgers>: Drop {
         now: u64,
         call: Call,
         bell: Option<OneShotBell>,
-    ) -> Result<Ticket, Declined<OneShotBell>>
+    ) -> Result<(Ticket, Front<L>), Declined<OneShotBell>>
         requires moment { now < 2 ^ 53 }
         requires within { IsWithin (serves self.now) call }
         ensures { Offers (submits self.now tally.old.held now call bell) tally.old.held call bell result tally.new.held };
 
+    /// A token that has seen the history as it is.
+    fn front<R: Wait>(&self, rt: &R) -> Front<L>
+        ensures { shows self.now result };
+
     /// What a ticket was answered.
-    fn look<R: Wait>(&self, rt: &R, ticket: Ticket) -> Look
-        ensures { looks self.now ticket result };
+    fn look<R: Wait>(&self, rt: &R, front: &mut Front<L>, ticket: Ticket) -> Look
+        ensures { looks self.now front.old ticket result front.new };
 
     /// What the client of the call with a ticket gets, none while the ticket has no answer.
     ///
     /// The only error is want of memory.
-    fn render<R: Wait>(&self, rt: &R, ticket: Ticket) -> Result<Option<Reply>, AllocError>
-        ensures { IfOk result (renders self.now ticket) };
+    fn render<R: Wait>(
+        &self,
+        rt: &R,
+        front: &mut Front<L>,
+        ticket: Ticket,
+    ) -> Result<Option<Reply>, AllocError>
+        ensures { IfOk result (λ reply. renders self.now front.old ticket reply front.new) };
 
     /// The text of the history before its first entry. The only error is want of memory.
     fn opening<R: Wait>(&self, rt: &R) -> Result<Vec<u8>, AllocError>
@@ -98,8 +115,13 @@ pub trait Service<K: Keep, L: Ledgers>: Drop {
 
     /// The history text of the entry with a ticket, none past the end. The only error is want of
     /// memory.
-    fn history<R: Wait>(&self, rt: &R, ticket: Ticket) -> Result<Option<Vec<u8>>, AllocError>
-        ensures { IfOk result (λ text. tells self.now ticket (option_map (λ bytes. bytes.items) text)) };
+    fn history<R: Wait>(
+        &self,
+        rt: &R,
+        front: &mut Front<L>,
+        ticket: Ticket,
+    ) -> Result<Option<Vec<u8>>, AllocError>
+        ensures { IfOk result (λ text. tells self.now front.old ticket (option_map (λ bytes. bytes.items) text) front.new) };
 
     /// The counts.
     fn stats<R: Wait>(&self, rt: &R) -> Stats

@@ -89,6 +89,7 @@ fn run<R: Machine, S: Setup + Drop + Send + Sync + 'static>(
     blanks: Blanks,
 ) -> Result<Left, HostFault>
     requires configured { plan.config ≡ S.config }
+    requires salted { plan.salt ≡ S.salt }
     requires named { blanks ≡ S.names }
 {
     let clock = SetClock {
@@ -128,7 +129,8 @@ fn serve<R: Machine>(rt: R, order: &Order, board: Arc<Board>) -> Result<Left, Ho
         Err(_) => return Err(HostFault::OutOfMemory),
     };
     let plan = Plan::check(rt.alloc(), setup)?;
-    run::<R, Brand>(rt, plan, order, board, Blanks::new())
+    let blanks = Blanks::new(rt.alloc())?;
+    run::<R, Brand>(rt, plan, order, board, blanks)
 }
 
 /// A service on a thread of its own.

@@ -1,22 +1,27 @@
-//! The four ledgers of an account, named by one type.
+//! The four ledgers of an account and its history, named by one type.
 
+use call_model::Entry;
+use shared_history::{Naming, Opened};
+use std::alloc::{AllocError, Global};
 use std::marker::{Brand, Model, PhantomData};
 use std::sync::ledger::{Blank, Ledger};
 
-/// Stands for the ledgers of one account in its types, so that only what belongs to one account
-/// meets. Each of the four has 2^32 parts.
+/// Stands for the ledgers and the history of one account in its types, so that only what belongs to
+/// one account meets. Each of the four ledgers has 2^32 parts.
 pub trait Ledgers {
     ghost use Rattle.usage_ledger.specs.Ledgers.{Names};
 
-    /// The names of the ledgers of the calls and of the admitted, throttled and failed invocations.
+    /// The names of the ledgers of the calls and of the admitted, throttled and failed invocations, and
+    /// that of the history.
     ghost names: { Names };
 }
 
 /// A caller that names `Brand` picks the names in its proof; these stand where none are picked.
 impl Ledgers for Brand {
+    ghost use Rattle.shared_history.specs.Sharing.{no_line};
     ghost use Rattle.usage_ledger.specs.Ledgers.{names};
 
-    ghost names = { names 0 0 0 0 };
+    ghost names = { names 0 0 0 0 no_line };
 }
 
 /// The ledger of the calls.
@@ -38,6 +43,24 @@ pub(crate) struct Throttled<L: Ledgers> {
 pub(crate) struct Failed<L: Ledgers> {
     of: PhantomData<L>,
 }
+
+/// The history of the account.
+pub struct History<L: Ledgers> {
+    of: PhantomData<L>,
+}
+
+impl<L: Ledgers> Naming for History<L> {
+    ghost line = { L.names.line };
+}
+
+/// What the threads of an account share beside its lock, so that what they see is of one history.
+pub type Line<L> = shared_history::Line<Entry, History<L>>;
+
+/// The token that writes the account's history. It lies under the lock.
+pub type Pen<L> = shared_history::Pen<Entry, History<L>>;
+
+/// A token that has seen a beginning of the account's history.
+pub type Front<L> = shared_history::Front<Entry, History<L>>;
 
 impl<L: Ledgers> Ledger for Calls<L> {
     ghost use Rattle.std.specs.Prelude.{◌^◌};
@@ -71,13 +94,15 @@ impl<L: Ledgers> Ledger for Failed<L> {
     ghost parts = { 2 ^ 32 };
 }
 
-/// Four ledgers that no account has yet, of 2^32 parts each. Contracts see their names.
+/// Four ledgers that no account has yet, of 2^32 parts each, and a history without an entry. Contracts
+/// see their names.
 #[derive(Drop)]
 pub struct Blanks {
     pub(crate) calls: Blank,
     pub(crate) admitted: Blank,
     pub(crate) throttled: Blank,
     pub(crate) failed: Blank,
+    pub(crate) history: Opened<Entry>,
 }
 
 impl Model for Blanks {
@@ -86,19 +111,20 @@ impl Model for Blanks {
 
     ghost Value = { Names };
 
-    ghost view = { λ b. names b.calls.name b.admitted.name b.throttled.name b.failed.name };
+    ghost view = { λ b. names b.calls.name b.admitted.name b.throttled.name b.failed.name b.history };
 
     ghost invariant = { λ b. (b.calls.parts ≡ 2 ^ 32) × (b.admitted.parts ≡ 2 ^ 32) × (b.throttled.parts ≡ 2 ^ 32) × (b.failed.parts ≡ 2 ^ 32) };
 }
 
 impl Blanks {
-    /// New ledgers, which no type stands for yet.
-    pub fn new() -> Blanks {
-        Blanks {
+    /// New ledgers and a new history, which no type stands for yet. The only error is want of memory.
+    pub fn new(alloc: Global) -> Result<Blanks, AllocError> {
+        Ok(Blanks {
             calls: Blank::new(1 << 32),
             admitted: Blank::new(1 << 32),
             throttled: Blank::new(1 << 32),
             failed: Blank::new(1 << 32),
-        }
+            history: Opened::new(alloc)?,
+        })
     }
 }

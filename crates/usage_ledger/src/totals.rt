@@ -1,11 +1,11 @@
 //! The totals of an account's four counts.
 
-ghost use Rattle.std.specs.Prelude.{◌≡◌, ◌^◌};
+ghost use Rattle.std.specs.Prelude.{◌≡◌, ◌^◌, []};
 ghost use Rattle.usage_ledger.specs.Counts.{no_counts, plus};
 ghost use Rattle.usage_ledger.specs.Tallies.{fresh, with_held};
 
-use crate::ledgers::{Admitted, Calls, Failed, Throttled};
-use crate::{Blanks, Counts, Keep, Ledgers, Tally};
+use crate::ledgers::{Admitted, Calls, Failed, History, Throttled};
+use crate::{Blanks, Counts, Keep, Ledgers, Line, Pen, Tally};
 use std::alloc::Global;
 use std::marker::Model;
 use std::sync::ledger::Book;
@@ -29,33 +29,52 @@ impl<L: Ledgers> Model for Totals<L> {
     ghost view = { λ t. counts t.calls.total t.admitted.total t.throttled.total t.failed.total };
 }
 
-/// The totals of a new account, and the tally that has all parts. Each blank becomes the ledger
-/// that `L` names.
-pub fn root<K: Keep, L: Ledgers>(alloc: Global, blanks: Blanks) -> (Totals<L>, Tally<K, L>)
+/// What a new account begins with.
+#[derive(Drop)]
+pub struct Start<K: Keep, L: Ledgers> {
+    /// The totals, before anything was counted.
+    pub totals: Totals<L>,
+    /// The tally that has all parts.
+    pub tally: Tally<K, L>,
+    /// The line of the history.
+    pub line: Line<L>,
+    /// The pen of the history, which has no entry.
+    pub pen: Pen<L>,
+}
+
+/// What a new account begins with. Each blank becomes the ledger that `L` names, and the history the one
+/// that it names.
+pub fn root<K: Keep, L: Ledgers>(alloc: Global, blanks: Blanks) -> Start<K, L>
     requires { blanks ≡ L.names }
-    ensures totals { result.0 ≡ no_counts }
-    ensures tally { result.1.held ≡ fresh (2 ^ 32) }
+    ensures totals { result.totals ≡ no_counts }
+    ensures tally { result.tally.held ≡ fresh (2 ^ 32) }
+    ensures history { result.pen ≡ [] }
 {
     let Blanks {
         calls,
         admitted,
         throttled,
         failed,
+        history,
     } = blanks;
     let (calls, of_calls) = calls.open::<Calls<L>>();
     let (admitted, of_admitted) = admitted.open::<Admitted<L>>();
     let (throttled, of_throttled) = throttled.open::<Throttled<L>>();
     let (failed, of_failed) = failed.open::<Failed<L>>();
+    let (line, pen) = history.named::<History<L>>();
     let totals = Totals {
         calls,
         admitted,
         throttled,
         failed,
     };
-    (
+    let tally = Tally::all(alloc, of_calls, of_admitted, of_throttled, of_failed);
+    Start {
         totals,
-        Tally::all(alloc, of_calls, of_admitted, of_throttled, of_failed),
-    )
+        tally,
+        line,
+        pen,
+    }
 }
 
 impl<L: Ledgers> Totals<L> {

@@ -10,7 +10,7 @@ use std::fmt::Debug;
 use std::marker::Brand;
 use std::process::Abort;
 use usage_ledger::{
-    Blanks, Counts, JoinFault, Keep, KeepAll, KeepNone, Ledgers, Tally, Totals, root,
+    Blanks, Counts, JoinFault, Keep, KeepAll, KeepNone, Ledgers, Start, Tally, root,
 };
 
 const ALL_PARTS: u64 = 4_294_967_296;
@@ -121,8 +121,12 @@ enum Scene {
     NoRoom,
 }
 
-fn all<L: Ledgers>(rt: &impl Abort, root: (Totals<L>, Tally<KeepAll, L>)) {
-    let (mut totals, mut tally) = root;
+fn all<L: Ledgers>(rt: &impl Abort, start: Start<KeepAll, L>) {
+    let Start {
+        mut totals,
+        mut tally,
+        ..
+    } = start;
     assert_eq!(rt; tally.parts(), ALL_PARTS);
     assert!(rt; !tally.joined());
     keeps(rt, &tally, &[], &[]);
@@ -271,17 +275,20 @@ fn play<L: Ledgers>(rt: &impl Abort, alloc: Global, scene: Scene, blanks: Blanks
 {
     match scene {
         Scene::All => all::<L>(rt, root(alloc, blanks)),
-        Scene::Nothing => nothing::<L>(rt, root(alloc, blanks).1),
-        Scene::Split => split::<L>(rt, root(alloc, blanks).1),
-        Scene::Join => join::<L>(rt, root(alloc, blanks).1),
-        Scene::Refusal => refusal::<L>(rt, alloc, root(alloc, blanks).1),
-        Scene::NoRoom => no_room::<L>(rt, root(alloc, blanks).1),
+        Scene::Nothing => nothing::<L>(rt, root(alloc, blanks).tally),
+        Scene::Split => split::<L>(rt, root(alloc, blanks).tally),
+        Scene::Join => join::<L>(rt, root(alloc, blanks).tally),
+        Scene::Refusal => refusal::<L>(rt, alloc, root(alloc, blanks).tally),
+        Scene::NoRoom => no_room::<L>(rt, root(alloc, blanks).tally),
     }
 }
 
 /// Plays a scene with a new account.
 fn account(rt: &impl Abort, alloc: Global, scene: Scene) {
-    play::<Brand>(rt, alloc, scene, Blanks::new());
+    let Ok(blanks) = Blanks::new(alloc) else {
+        panic!(rt; "memory was refused")
+    };
+    play::<Brand>(rt, alloc, scene, blanks);
 }
 
 #[test]

@@ -10,7 +10,7 @@ returns-in-Ok-Parked-clause-value g c =
     let came = rw (c.park.ensures.stage, c.park.ensures.connection, c.poll_start.ensures.connection) at c.poll_answer-in-Ok-Parked.ensures.value in
     once_ready c.poll_answer-in-Ok-Parked.result
     (λ r h. gives_answer g.S.Service g.N.Clock g.D.Decide g.B.Body.yields g.B.Data.Into.converts (ShowsAllOf (arc_value shared.service)) (arc_value shared.service) (arc_value shared.clock)
-    (arc_value shared.decider) c.args.self.now.stage c.in-Ok-Parked.ticket c.in-Ok-Parked.heard (search rules) r h) came
+    (arc_value shared.decider) c.args.self.now.stage c.in-Ok-Parked.ticket c.in-Ok-Parked.heard c.in-Ok-Parked.front (search rules) r h) came
 
 pub returns-in-Ok-Parked-clause-same : goal.returns-in-Ok-Parked-clause-same
 returns-in-Ok-Parked-clause-same g c =
@@ -18,4 +18,4 @@ returns-in-Ok-Parked-clause-same g c =
     let later = rw (c.park.ensures.stage, c.park.ensures.connection, c.poll_start.ensures.connection) at c.poll_answer-in-Ok-Parked.ensures.same in
     while_pending c.poll_answer-in-Ok-Parked.result
     (λ same x h. gives_answer g.S.Service g.N.Clock g.D.Decide g.B.Body.yields g.B.Data.Into.converts (ShowsAllOf (arc_value shared.service)) (arc_value shared.service) (arc_value shared.clock)
-    (arc_value shared.decider) c.args.self.now.stage c.in-Ok-Parked.ticket c.in-Ok-Parked.heard (search rules) x (same x h)) later
+    (arc_value shared.decider) c.args.self.now.stage c.in-Ok-Parked.ticket c.in-Ok-Parked.heard c.in-Ok-Parked.front (search rules) x (same x h)) later

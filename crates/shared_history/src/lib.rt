@@ -1,0 +1,15 @@
+//! One history that threads share: a list that only grows, of which each token knows a beginning.
+//!
+//! The list exists in proofs alone. What threads share is a word that never changes, and a token has
+//! no bytes: a step of theirs is a plain load of that word.
+#![tactic(auto)]
+
+mod front;
+mod line;
+mod pen;
+mod view;
+
+pub use front::Front;
+pub use line::{Line, Naming, Opened};
+pub use pen::{Pen, Source};
+pub use view::{Shares, View};

@@ -1,0 +1,141 @@
+//! The pen, which alone writes the history.
+
+ghost use Rattle.std.specs.Prelude.{◌≡◌, []};
+ghost use Rattle.shared_history.specs.Sharing.{pen_view, Extends};
+
+use crate::front::Front;
+use crate::line::{Line, Naming};
+use crate::view::View;
+use atomic_table::{Join, Play, Seat, Split};
+use std::marker::{Brand, Model, PhantomData};
+
+/// Where a history is read off.
+pub trait Source<X, T> {
+    ghost use Rattle.std.specs.Prelude.{List};
+
+    /// The history that a value has, the newest first.
+    ghost history: { X → List T };
+}
+
+/// The history that is written; the caller of `write_as` names `Brand`, and picks it in its proof.
+trait Writing<T> {
+    ghost use Rattle.std.specs.Prelude.{List};
+
+    ghost history: { List T };
+}
+
+impl<T> Writing<T> for Brand {
+    ghost use Rattle.std.specs.Prelude.{[]};
+
+    ghost history = { [] };
+}
+
+/// The pen writes.
+struct Writes<W> {
+    of: PhantomData<W>,
+}
+
+impl<T, W: Writing<T>> Play<(), View<T>> for Writes<W> {
+    ghost use Rattle.shared_history.specs.Sharing.{Wrote};
+
+    ghost then = { λ _ before _ after. Wrote W.history before after };
+}
+
+/// The pen compares what another token has seen with all that was written.
+struct Compares;
+
+impl<T> Play<(), View<T>> for Compares {
+    ghost use Rattle.shared_history.specs.Sharing.{Compared};
+
+    ghost then = { λ _ before _ after. Compared before after };
+}
+
+/// The pen lets a new token see all that was written.
+struct Lets;
+
+impl<T> Split<View<T>> for Lets {
+    ghost use Rattle.shared_history.specs.Sharing.{front_view};
+
+    ghost left = { λ v. v };
+
+    ghost right = { λ v. front_view v.all };
+}
+
+/// The pen hears what another token has seen.
+struct Hears;
+
+impl<T> Join<View<T>> for Hears {
+    ghost use Rattle.shared_history.specs.Sharing.{heard, front_view};
+    ghost use Rattle.std.specs.Prelude.{[]};
+
+    ghost both = { λ v w. heard v w };
+
+    ghost spent = { front_view [] };
+}
+
+/// The one token that knows the whole history, and writes it. Contracts see the history, the newest
+/// first.
+#[derive(Drop)]
+pub struct Pen<T, N: Naming> {
+    seat: Seat<(), View<T>>,
+    of: PhantomData<N>,
+}
+
+impl<T, N: Naming> Model for Pen<T, N> {
+    ghost use Rattle.std.specs.Prelude.{◌≡◌, List, []};
+    ghost use Rattle.shared_history.specs.Sharing.{pen_view};
+
+    ghost Value = { List T };
+
+    ghost view = { λ p. p.seat.me.0.all };
+
+    ghost invariant = { λ p. (p.seat.table_id ≡ N.line) × (p.seat.me ≡ (pen_view p.seat.me.0.all, [])) };
+}
+
+impl<T, N: Naming> Pen<T, N> {
+    /// The pen of a history without an entry.
+    pub(crate) fn of(seat: Seat<(), View<T>>) -> Pen<T, N>
+        requires { (seat.table_id ≡ N.line) × (seat.me ≡ (pen_view [], [])) }
+        ensures { result ≡ [] }
+    {
+        Pen {
+            seat,
+            of: PhantomData,
+        }
+    }
+
+    /// Writes on, until the history is the one that this value has. It takes no memory.
+    pub fn write<X, M: Source<X, T>>(&mut self, line: &Line<T, N>, about: &X)
+        requires { Extends self.old (M.history about.now) }
+        ensures { self.new ≡ M.history about.now }
+    {
+        self.write_as::<X, Brand>(line, about);
+    }
+
+    fn write_as<X, W: Writing<T>>(&mut self, line: &Line<T, N>, _about: &X)
+        requires { Extends self.old W.history }
+        ensures { self.new ≡ W.history }
+    {
+        line.table.shared.load::<Writes<W>>(&mut self.seat, 0);
+    }
+
+    /// A token that has seen all that was written. It takes no memory.
+    pub fn front(&mut self, line: &Line<T, N>) -> Front<T, N>
+        ensures all { result ≡ self.old }
+        ensures same { self.new ≡ self.old }
+    {
+        Front::of(line.table.shared.split_seat::<Lets>(&mut self.seat))
+    }
+
+    /// Shows all that was written to a token, which had seen a beginning of it. It takes no memory.
+    pub fn show(&mut self, line: &Line<T, N>, front: &mut Front<T, N>)
+        ensures all { front.new ≡ self.old }
+        ensures longer { Extends front.old self.old }
+        ensures same { self.new ≡ self.old }
+    {
+        let copy = front.copy(line);
+        line.table.shared.join_seat::<Hears>(&mut self.seat, copy);
+        line.table.shared.load::<Compares>(&mut self.seat, 0);
+        *front = self.front(line);
+    }
+}
