@@ -1,5 +1,5 @@
 use Rattle.std.proofs.Common.{◌≡◌, Option, Some, None, Result, Ok, Err, refl}
-use Rattle.core.specs.Result.{result_transpose}
+use Rattle.std.specs.Result.{result_transpose}
 use Rattle.long_poll.specs.HistoryFrames.{answer_of}
 use Rattle.long_poll.proofs.history_body.HistoryBodyBody.poll_frame.Goals as goal
 
