@@ -192,7 +192,9 @@ impl<
     /// Polls for the answer of a ticket; what came of that, as a line.
     fn poll(&self, ticket: Ticket, heard: Heard, front: Front<S>) -> Result<String, CaseFault> {
         let service = Arc::try_clone(&self.service)?;
-        let poll: Poll<R, X, Heard, KeepNone, S> = Poll::new(self.rt, service, ticket, heard, front);
+        let poll: Poll<R, X, Heard, KeepNone, S> = Poll::new(
+            self.rt, service, ticket, heard, front,
+        );
         let came = ran(block_on(&self.rt, poll))?;
         Ok(format!(in self.alloc; "poll {ticket}: {came:?}\n")?)
     }
