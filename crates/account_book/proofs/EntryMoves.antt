@@ -19,7 +19,7 @@ use Rattle.call_model.proofs.Puts.{filter_answer}
 use Rattle.call_model.proofs.Rising.{IsRising, rising_same}
 use Rattle.call_model.proofs.StepLaws.{moves_are}
 use Rattle.env_phase.proofs.Homes.{home_new, home_old}
-use Rattle.script.specs.Limits.{IsEnv}
+use Rattle.call_model.specs.Within.{IsEnv}
 use Rattle.account_book.specs.declared.reach.Reach.{Reach}
 use Rattle.account_book.specs.declared.reach.Reach.TheVariants.{Nowhere, At, Everywhere}
 use Rattle.account_book.specs.Fleets.{moves_at, put_all, merged}

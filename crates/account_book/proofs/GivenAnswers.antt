@@ -18,7 +18,7 @@ use Rattle.call_model.proofs.StepLaws.{stand_is}
 use Rattle.deadlines.specs.Due.{first}
 use Rattle.env_phase.specs.Taking.{registered_name}
 use Rattle.env_phase.proofs.Extent.{none_joins}
-use Rattle.script.specs.Limits.{IsWithin}
+use Rattle.call_model.specs.Within.{IsWithin}
 use Rattle.account_book.specs.declared.reach.Reach.{Reach}
 use Rattle.account_book.specs.declared.reach.Reach.TheVariants.{Nowhere, At, Everywhere}
 use Rattle.account_book.specs.declared.site.Site.{Site}

@@ -12,7 +12,7 @@ use Rattle.call_model.specs.Next.{IsLegal}
 use Rattle.call_model.specs.Own.{own, own_ticket, is_own}
 use Rattle.call_model.proofs.OwnTexts.{named_own, own_gist as own_gist_of}
 use Rattle.replies.specs.Replies.{reply_of}
-use Rattle.script.specs.CallCounts.{request_count}
+use Rattle.call_model.specs.CallCounts.{request_count}
 use Rattle.account_book.specs.ReplyText.{own_gist, reply_text}
 
 -- an Invoke at a ticket of a function is one of that function

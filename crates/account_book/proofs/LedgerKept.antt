@@ -7,7 +7,7 @@ use Rattle.call_model.specs.declared.call.Entry.{Entry}
 use Rattle.call_model.specs.Counts.{admitted, throttled, failed, is_throttle, is_failure}
 use Rattle.call_model.specs.History.{answer_of, is_stop}
 use Rattle.call_model.proofs.AfterEntry.{admitted_cons, answers_that_cons}
-use Rattle.script.specs.CallCounts.{request_count}
+use Rattle.call_model.specs.CallCounts.{request_count}
 use Rattle.account_book.specs.declared.ledger.Ledger.TheInside.{Inside}
 use Rattle.account_book.specs.declared.totals.Totals.{Totals}
 use Rattle.account_book.specs.Indexes.{noted}

@@ -5,7 +5,7 @@ use Rattle.std.specs.Str.Lines.{lines, lines_of_parts, strip_carriage_return}
 use Rattle.std.proofs.lemmas.Bool.Decides.{nat_tests}
 use Rattle.std.proofs.lemmas.List.Elements.{All-nil, All-cons}
 use Rattle.std.proofs.lemmas.List.Splits.{slice_split_at}
-use Rattle.script.proofs.TextFieldLemmas.{both}
+use Rattle.arn_ids.proofs.Printable.{both}
 use Rattle.script.proofs.WordBounds.{Fits, is_plain}
 
 abbrev pub is_break : ℕ → Bool

@@ -6,7 +6,8 @@ use Rattle.call_model.specs.Generation.{ready}
 use Rattle.call_model.specs.Laws.{is_taken}
 use Rattle.call_model.specs.Stand.{Stand, at_hand}
 use Rattle.call_model.specs.Table.{closes, kept}
-use Rattle.call_model.proofs.AtHand.{is_invoke, from_after, from_kept, from_closing}
+use Rattle.call_model.specs.Calls.{is_invoke}
+use Rattle.call_model.proofs.AtHand.{from_after, from_kept, from_closing}
 
 at_hand_after : (fixed : Fixed) (step : Step) (s : Stand) (call : Call) (p : ℕ) → at_hand (stand_after fixed step s call).phase ≡ Some p → (is_invoke call ≡ true) ⊎ (at_hand s.phase ≡ Some p)
 unfolding stand_after finished turned first_stand

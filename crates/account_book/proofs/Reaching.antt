@@ -8,8 +8,8 @@ use Rattle.call_model.specs.declared.call.Entry.{Entry}
 use Rattle.call_model.specs.History.{is_expiry}
 use Rattle.call_model.specs.Next.{IsLegal, due, entry_of, expiries, entered, moment_at, last_moment, added, next}
 use Rattle.call_model.proofs.NextLegal.{legal_next}
-use Rattle.script.specs.Limits.{IsWithin}
-use Rattle.script.specs.Numbers.{greatest_moment}
+use Rattle.call_model.specs.Within.{IsWithin}
+use Rattle.arn_ids.specs.Limits.{greatest_moment}
 use Rattle.account_book.specs.Reached.{IsTakenAfter, led_to, AreTaken, IsReached}
 use Rattle.account_book.proofs.HistoryLines.{AreHandedIn}
 

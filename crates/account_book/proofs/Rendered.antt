@@ -15,7 +15,7 @@ use Rattle.call_model.proofs.Basics.{some-none}
 use Rattle.call_model.proofs.NamedTickets.{IsBounded, entry_bounded}
 use Rattle.replies.specs.Gists.{IsTraced}
 use Rattle.call_model.specs.Isolation.{Gist}
-use Rattle.script.specs.CallCounts.{request_count}
+use Rattle.call_model.specs.CallCounts.{request_count}
 use Rattle.account_book.specs.ReplyText.{own_gist}
 use Rattle.account_book.specs.Taking.{IsKnown, AllKnown}
 

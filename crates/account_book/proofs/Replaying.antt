@@ -11,8 +11,8 @@ use Rattle.call_model.specs.declared.call.Entry.{Entry}
 use Rattle.call_model.specs.Counts.{full}
 use Rattle.call_model.specs.Next.{IsLegal, due, entry_of, expiries, moment_at, last_moment, added, next}
 use Rattle.script.specs.CallText.{call_text}
-use Rattle.script.specs.Limits.{IsWithin}
-use Rattle.script.specs.Numbers.{greatest_moment}
+use Rattle.call_model.specs.Within.{IsWithin}
+use Rattle.arn_ids.specs.Limits.{greatest_moment}
 use Rattle.script.proofs.LineBounds.{HasShortBodies, call_line_fits}
 use Rattle.script.proofs.ReadAgain.{no_mark, read_again}
 use Rattle.account_book.specs.Book.{Kept}

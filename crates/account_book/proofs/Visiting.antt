@@ -17,15 +17,15 @@ use Rattle.call_model.specs.Life.{stand}
 use Rattle.call_model.specs.Next.{IsLegal, Follows}
 use Rattle.call_model.specs.Stand.{is_number}
 use Rattle.call_model.proofs.Rising.{IsRising}
-use Rattle.call_model.proofs.AtHand.{is_invoke}
+use Rattle.call_model.specs.Calls.{is_invoke}
 use Rattle.call_model.proofs.Basics.{none-some, eqb-self}
 use Rattle.call_model.proofs.Flight.{place_for_between}
 use Rattle.call_model.proofs.OwnTickets.{placed_function}
 use Rattle.concurrency_pool.specs.Meets.{numbers, by_throttle}
 use Rattle.concurrency_pool.specs.Pools.{throttle}
 use Rattle.concurrency_pool.proofs.History as pool
-use Rattle.script.proofs.PastLemmas.{no_call}
-use Rattle.script.specs.Limits.{IsEnv}
+use Rattle.call_model.proofs.PastLemmas.{no_call}
+use Rattle.call_model.specs.Within.{IsEnv}
 use Rattle.account_book.specs.Answering.{most_answers}
 use Rattle.account_book.specs.declared.reach.Reach.{Reach}
 use Rattle.account_book.specs.declared.reach.Reach.TheVariants.{Nowhere, At, Everywhere}

@@ -14,7 +14,7 @@ use Rattle.lambda_wire.specs.declared.fault.WireFault.TheVariants.{TooLong}
 use Rattle.lambda_wire.proofs.PlainText.{setup_plain}
 use Rattle.lambda_wire.proofs.SetupAgain.{setup_read_again}
 use Rattle.call_model.specs.declared.call.Entry.{Entry}
-use Rattle.script.proofs.TextFieldLemmas.{both}
+use Rattle.arn_ids.proofs.Printable.{both}
 use Rattle.script.proofs.WordBounds.{fits_word}
 use Rattle.script.proofs.LineBounds.{HasShortBodies}
 use Rattle.account_book.specs.HistoryText.{opening_text, history_text, answers_text}

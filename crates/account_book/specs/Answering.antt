@@ -10,7 +10,7 @@ use Rattle.call_model.specs.History.{is_stop}
 use Rattle.call_model.specs.Life.{stand}
 use Rattle.concurrency_pool.specs.Numbers.{Numbers}
 use Rattle.concurrency_pool.specs.Pools.{may_reserve, with_reserved}
-use Rattle.script.specs.Limits.{IsEnv}
+use Rattle.call_model.specs.Within.{IsEnv}
 
 -- For how many answers a call wants room: a Stop at every environment, any other call at one, where the call itself, the
 -- waiting call, the runtime's Next and that of each extension may get one; and for the book's own.

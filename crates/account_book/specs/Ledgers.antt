@@ -3,7 +3,7 @@ use Rattle.std.specs.Prelude.{◌≡◌, ℕ, ◌+◌, ◌*◌, ◌≤◌, ◌^�
 use Rattle.call_model.specs.declared.call.Entry.{Entry}
 use Rattle.call_model.specs.Counts.{admitted, throttled, failed}
 use Rattle.call_model.specs.History.{stopped}
-use Rattle.script.specs.CallCounts.{call_counts}
+use Rattle.call_model.specs.CallCounts.{call_counts}
 use Rattle.account_book.specs.declared.ledger.Ledger.TheInside.{Inside}
 use Rattle.account_book.specs.declared.totals.Totals.{Totals}
 use Rattle.account_book.specs.Indexes.{answers_by_ticket}

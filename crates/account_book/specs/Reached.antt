@@ -8,8 +8,8 @@ use Rattle.call_model.specs.declared.call.Call.{Call}
 use Rattle.call_model.specs.declared.call.Entry.{Entry}
 use Rattle.call_model.specs.Counts.{full}
 use Rattle.call_model.specs.Next.{next}
-use Rattle.script.specs.AnswerText.{body_of}
-use Rattle.script.specs.Limits.{IsTimed}
+use Rattle.call_model.specs.Calls.{body_of}
+use Rattle.call_model.specs.Within.{IsTimed}
 
 -- a configuration, a salt and a greatest number of entries that a book can have
 pub record IsBooked (config : Config) (salt max_entries : ℕ) : Type 0 where

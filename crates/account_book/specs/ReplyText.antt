@@ -6,7 +6,7 @@ use Rattle.call_model.specs.declared.answer.Answer.{Answer}
 use Rattle.call_model.specs.declared.call.Entry.{Entry}
 use Rattle.call_model.specs.History.{answer_of, call_of, upto}
 use Rattle.call_model.specs.Isolation.{Gist, named_in, source_of}
-use Rattle.script.specs.CallCounts.{request_count}
+use Rattle.call_model.specs.CallCounts.{request_count}
 use Rattle.replies.specs.Replies.{reply_of}
 
 -- an answer to a ticket with the calls that it is made of, and their request counts

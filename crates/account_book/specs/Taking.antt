@@ -8,7 +8,7 @@ use Rattle.call_model.specs.declared.call.Entry.{Entry}
 use Rattle.call_model.specs.History.{requests}
 use Rattle.call_model.specs.Life.{stand}
 use Rattle.call_model.specs.After.{fixed_of}
-use Rattle.script.specs.Limits.{IsEnv, IsWithin}
+use Rattle.call_model.specs.Within.{IsEnv, IsWithin}
 use Rattle.account_book.specs.declared.site.Site.{Site}
 
 -- an environment as the history has it, with its function's number

@@ -7,7 +7,7 @@ ghost use Rattle.call_model.specs.Limits.{place_for};
 ghost use Rattle.call_model.specs.Next.{IsLegal, Follows, entry_of, entered};
 ghost use Rattle.concurrency_pool.specs.Meets.{numbers};
 ghost use Rattle.env_phase.specs.Taking.{registered_name};
-ghost use Rattle.script.specs.CallCounts.{request_count};
+ghost use Rattle.call_model.specs.CallCounts.{request_count};
 ghost use Rattle.account_book.specs.Answering.{most_answers, in_force, IsInOrder};
 ghost use Rattle.account_book.specs.Fleets.{flown};
 ghost use Rattle.account_book.specs.Reaches.{book_answer, homed};

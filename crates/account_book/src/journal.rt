@@ -14,8 +14,8 @@ ghost use Rattle.call_model.specs.Limits.{place_for, reservation, verdict, admit
 ghost use Rattle.call_model.specs.Next.{IsLegal, Follows, entry_of, entered, due, last_moment, expiries_at};
 ghost use Rattle.deadlines.specs.Due.{first};
 ghost use Rattle.env_phase.specs.Taking.{registered_name, is_off};
-ghost use Rattle.script.specs.CallCounts.{call_counts};
-ghost use Rattle.script.specs.Limits.{IsWithin};
+ghost use Rattle.call_model.specs.CallCounts.{call_counts};
+ghost use Rattle.call_model.specs.Within.{IsWithin};
 ghost use Rattle.account_book.specs.Answering.{most_answers, first_or_0, IsRoom, IsNarrow};
 ghost use Rattle.account_book.specs.Premature.{awaits};
 ghost use Rattle.account_book.specs.Reaches.{book_answer};

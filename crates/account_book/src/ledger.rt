@@ -3,7 +3,7 @@
 ghost use Rattle.std.specs.Prelude.{◌≡◌, ◌+◌, ◌-◌, ◌∷◌, ◌<◌, ◌≤◌, ◌^◌, ◌||◌, [], ℕ, length, reverse, None, All, OnOk, slice_get, option_map};
 ghost use Rattle.call_model.specs.Counts.{admitted, throttled, failed};
 ghost use Rattle.call_model.specs.History.{answer_of, is_stop, stopped};
-ghost use Rattle.script.specs.CallCounts.{call_counts, request_count};
+ghost use Rattle.call_model.specs.CallCounts.{call_counts, request_count};
 ghost use Rattle.account_book.specs.Indexes.{noted};
 ghost use Rattle.account_book.specs.Ledgers.{answer_limit, totals};
 

@@ -2,7 +2,7 @@
 
 ghost use Rattle.std.specs.Prelude.{◌≡◌, reverse};
 ghost use Rattle.account_book.specs.Reaches.{at_most, reach};
-ghost use Rattle.call_model.specs.History.{call_of, env_of, poll_env};
+ghost use Rattle.call_model.specs.History.{call_of, poll_env};
 
 use arn_ids::EnvNo;
 use call_model::{Call, Entry, Ticket};
@@ -37,13 +37,13 @@ impl Reach {
         match call {
             Call::Stop => Reach::Everywhere,
             Call::Withdraw { ticket } => Reach::at_most(poll_env_at(entries, *ticket)),
-            _ => Reach::at_most(place.or(env_of(call))),
+            _ => Reach::at_most(place.or(call.environment())),
         }
     }
 }
 
 /// The environment of the Next with a ticket, where it is one.
-#[tactic(auto, using(script::proofs::PastLemmas::call_here, script::proofs::PastLemmas::no_call_here))]
+#[tactic(auto, using(call_model::proofs::PastLemmas::call_here, call_model::proofs::PastLemmas::no_call_here))]
 fn poll_env_at(entries: &Blocks<Entry>, ticket: Ticket) -> Option<EnvNo>
     ensures { result ≡ poll_env (call_of (reverse entries.now.0) ticket) }
 {
@@ -60,26 +60,6 @@ fn poll_env(call: &Call) -> Option<EnvNo>
     match call {
         Call::RuntimeNext { env } => Some(*env),
         Call::ExtNext { env, .. } => Some(*env),
-        _ => None,
-    }
-}
-
-/// The environment that a call names.
-fn env_of(call: &Call) -> Option<EnvNo>
-    ensures { result ≡ env_of call.now }
-{
-    match call {
-        Call::RuntimeNext { env } => Some(*env),
-        Call::Response { env, .. } => Some(*env),
-        Call::ResponseTooLarge { env, .. } => Some(*env),
-        Call::Failure { env, .. } => Some(*env),
-        Call::InitFailure { env, .. } => Some(*env),
-        Call::Register { env, .. } => Some(*env),
-        Call::ExtNext { env, .. } => Some(*env),
-        Call::ExtInitFailure { env, .. } => Some(*env),
-        Call::ExtExitFailure { env, .. } => Some(*env),
-        Call::Spindown { env } => Some(*env),
-        Call::Expire { env } => Some(*env),
         _ => None,
     }
 }

@@ -8,10 +8,9 @@ ghost use Rattle.account_book.specs.ReplyText.{reply_text};
 ghost use Rattle.account_book.specs.Taking.{AllKnown};
 
 use arn_ids::Checked;
-use call_model::{Answer, Call, Ticket};
+use call_model::{Answer, Call, Past, Ticket};
 use lambda_wire::Reply;
 use replies::{Gist, reply};
-use script::Past;
 use std::alloc::{AllocError, Global};
 
 /// The ticket whose call an answer is made of, else the answered one itself.

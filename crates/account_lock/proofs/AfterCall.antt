@@ -7,7 +7,7 @@ use Rattle.call_model.specs.Counts.{admitted, throttled, failed, stats}
 use Rattle.call_model.specs.History.{pending}
 use Rattle.call_model.specs.Next.{IsLegal}
 use Rattle.call_model.proofs.NextLegal.{legal_next}
-use Rattle.script.specs.Limits.{IsWithin}
+use Rattle.call_model.specs.Within.{IsWithin}
 use Rattle.account_book.specs.Book.{Kept as Booked}
 use Rattle.account_book.proofs.Reaching.{no_expiry}
 use Rattle.usage_ledger.specs.declared.counts.Counts.{Counts}

@@ -15,7 +15,7 @@ use Rattle.call_model.specs.declared.head.Head.{Head}
 use Rattle.call_model.specs.History.{answer_of, call_of}
 use Rattle.call_model.specs.Next.{IsLegal}
 use Rattle.call_model.proofs.Once.{fresh}
-use Rattle.script.proofs.PastLemmas.{call_at}
+use Rattle.call_model.proofs.PastLemmas.{call_at}
 use Rattle.usage_ledger.specs.Tallies.{Tallied}
 use Rattle.account_lock.specs.Gathered.{times, receipts_of, calls_of}
 use Rattle.account_lock.specs.Failing.{FirstFailure, lesser}

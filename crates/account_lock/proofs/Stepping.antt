@@ -9,7 +9,7 @@ use Rattle.call_model.specs.Counts.{calls, admitted, throttled, failed, is_throt
 use Rattle.call_model.specs.History.{is_expiry}
 use Rattle.call_model.specs.Next.{added, next, expiries, entered, entry_of, moment_at, due}
 use Rattle.call_model.proofs.AfterEntry.{calls_cons, calls_append, admitted_append, answers_that_append}
-use Rattle.script.specs.Limits.{IsWithin}
+use Rattle.call_model.specs.Within.{IsWithin}
 use Rattle.account_book.proofs.Reaching.{no_expiry}
 use Rattle.usage_ledger.specs.Counts.{counts, plus}
 use Rattle.account_lock.specs.Counting.{counts_of}

@@ -11,7 +11,7 @@ ghost use Rattle.call_model.specs.History.{answer_of};
 ghost use Rattle.call_model.specs.Limits.{reservation};
 ghost use Rattle.call_model.specs.Next.{due};
 ghost use Rattle.deadlines.specs.Due.{first};
-ghost use Rattle.script.specs.Limits.{IsWithin};
+ghost use Rattle.call_model.specs.Within.{IsWithin};
 ghost use Rattle.account_book.specs.Books.{life};
 ghost use Rattle.account_book.specs.HistoryText.{opening_text};
 ghost use Rattle.account_book.specs.ReplyText.{reply_text};

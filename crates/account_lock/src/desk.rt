@@ -8,7 +8,7 @@ ghost use Rattle.call_model.specs.History.{answer_of};
 ghost use Rattle.call_model.specs.Limits.{reservation};
 ghost use Rattle.call_model.specs.Next.{due};
 ghost use Rattle.deadlines.specs.Due.{first};
-ghost use Rattle.script.specs.Limits.{IsWithin};
+ghost use Rattle.call_model.specs.Within.{IsWithin};
 ghost use Rattle.script.specs.AnswerText.{entry_text};
 ghost use Rattle.account_book.specs.Books.{life};
 ghost use Rattle.account_book.specs.HistoryText.{opening_text};

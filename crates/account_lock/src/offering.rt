@@ -3,7 +3,7 @@
 ghost use Rattle.std.specs.Prelude.{◌≡◌, ◌+◌, ◌<◌, ◌^◌, ◌↔◌, true, false, length, IfOk, IfErr, MatchResult};
 ghost use Rattle.call_model.specs.Counts.{full};
 ghost use Rattle.call_model.specs.Heads.{head_of};
-ghost use Rattle.script.specs.Limits.{IsWithin};
+ghost use Rattle.call_model.specs.Within.{IsWithin};
 ghost use Rattle.account_book.specs.Premature.{premature};
 ghost use Rattle.account_book.specs.declared.book.Refusal.TheVariants.{JournalFull};
 ghost use Rattle.usage_ledger.specs.Counts.{plus};

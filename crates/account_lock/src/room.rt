@@ -1,7 +1,7 @@
 //! The room that a step wants, made before its first change.
 
 ghost use Rattle.std.specs.Prelude.{◌≡◌, ◌+◌, ◌≤◌, [], length, vec_len, vec_capacity, IfOk, OnOk};
-ghost use Rattle.script.specs.Limits.{IsWithin};
+ghost use Rattle.call_model.specs.Within.{IsWithin};
 ghost use Rattle.account_lock.specs.Bells.{given};
 ghost use Rattle.account_lock.specs.Desks.{added_to};
 

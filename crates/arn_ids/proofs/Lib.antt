@@ -4,3 +4,5 @@ pub mod Bounds
 pub mod WordsRead
 pub mod Parts
 pub mod Arns
+pub mod Printable
+pub mod Pieces

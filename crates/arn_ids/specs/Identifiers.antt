@@ -1,6 +1,7 @@
 -- The 128 bits of an identifier: a high word from the salt, and a low word that says what it identifies.
-use Rattle.std.specs.Prelude.{ℕ, ◌+◌, ◌*◌, ◌/◌, ◌%◌, ◌^◌, ◌==◌, if◌then◌else◌, List, Option, Some, None, option_map}
+use Rattle.std.specs.Prelude.{ℕ, ◌+◌, ◌*◌, ◌/◌, ◌%◌, ◌^◌, ◌&&◌, ◌==◌, nat_lt, if◌then◌else◌, List, codes, Option, Some, None, option_map}
 use Rattle.std.specs.Int.{w128, to_be_bytes, from_be_bytes}
+use Rattle.uuid.specs.Text.{hyphenated_text, lower}
 use Rattle.arn_ids.specs.declared.identifiers.IdKind.{IdKind}
 use Rattle.arn_ids.specs.declared.identifiers.IdKind.TheVariants.{Request, Extension, Event}
 use Rattle.arn_ids.specs.declared.identifiers.IdParts.{IdParts}
@@ -22,6 +23,10 @@ low_word kind number count = nibble kind * 2 ^ 60 + number * 2 ^ 48 + count
 -- the sixteen bytes of an identifier
 unfoldable pub identifier_of : ℕ → IdKind → ℕ → ℕ → List ℕ
 identifier_of salt kind number count = to_be_bytes w128 (high_word salt * 2 ^ 64 + low_word kind number count)
+
+-- an identifier as it is written (RFC 9562, section 4); a dash for a number or a count that no identifier has
+unfoldable pub id_word : ℕ → IdKind → ℕ → ℕ → List ℕ
+id_word salt kind number count = if nat_lt number 4096 && nat_lt count (2 ^ 48) then hyphenated_text lower (identifier_of salt kind number count) else codes "-"
 
 -- the kind that four bits stand for
 abbrev pub kind_of : ℕ → Option IdKind

@@ -9,6 +9,7 @@ use Rattle.call_model.specs.declared.call.Call.TheVariants.{Invoke, RuntimeNext,
 use Rattle.call_model.specs.declared.call.Entry.{Entry}
 use Rattle.arn_ids.specs.declared.config.Config.{Config}
 use Rattle.call_model.specs.History.{call_of, place_of}
+use Rattle.call_model.specs.Calls.{is_invoke}
 use Rattle.call_model.specs.Stand.{Stand, at_hand, bound_of, is_number, is_known}
 use Rattle.call_model.specs.Table.{reborn, settled, kept, closes, or_closing, placed, clock_started, unbound, is_registered, own_answer}
 use Rattle.call_model.specs.Life.{Life, life, phase, stand, seen, concerns, names, limit_of}
@@ -72,11 +73,6 @@ from_placed now limit n (Starting d b) p e = inl (cc)
 from_placed now limit n (Closing reason until b) p e = inl (cc)
 from_placed now limit n (Busy q d) p e = inr e
 from_placed now limit n Off p e = inr e
-
--- a call is an Invoke
-abbrev pub is_invoke : Call → Bool
-is_invoke (Invoke f qualified trace body) = true
-is_invoke _ = false
 
 choice : (P Q : Phase) (b : Bool) (p : ℕ) → (at_hand P ≡ Some p → at_hand Q ≡ Some p) → at_hand (if b then P else Q) ≡ Some p → at_hand Q ≡ Some p
 choice P Q true p f e = f e

@@ -20,7 +20,8 @@ use Rattle.call_model.specs.Answers.{verdict_answer, own_first, first_answer, se
 use Rattle.call_model.specs.Next.{IsLegal, Follows}
 use Rattle.call_model.proofs.Pairs.{eqb-other, is_some_none}
 use Rattle.call_model.proofs.Once.{fresh, answers_at, pending_cons}
-use Rattle.call_model.proofs.AtHand.{is_invoke, IsHeld, held, bound_at_hand, placed_here}
+use Rattle.call_model.specs.Calls.{is_invoke}
+use Rattle.call_model.proofs.AtHand.{IsHeld, held, bound_at_hand, placed_here}
 use Rattle.call_model.proofs.Scans.{legal_silent}
 use Rattle.call_model.proofs.PhaseStep.{phase_step, cell_of}
 use Rattle.call_model.proofs.Basics.{number_some, or_right, some-none}

@@ -19,7 +19,8 @@ use Rattle.call_model.specs.Next.{IsLegal, Follows}
 use Rattle.call_model.proofs.Pairs.{eqb-other, is_some_none}
 use Rattle.call_model.proofs.Once.{answers_at}
 use Rattle.call_model.proofs.AfterEntry.{place_of_old, place_of_new, call_of_new, pending_new}
-use Rattle.call_model.proofs.AtHand.{is_invoke, held, from_entry, placed_here}
+use Rattle.call_model.specs.Calls.{is_invoke}
+use Rattle.call_model.proofs.AtHand.{held, from_entry, placed_here}
 use Rattle.call_model.proofs.BoundWaits.{invoke_second}
 use Rattle.call_model.proofs.Lives.{lives, placed_free}
 use Rattle.call_model.proofs.Charges.{charged_here}

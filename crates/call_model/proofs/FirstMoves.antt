@@ -19,7 +19,8 @@ use Rattle.call_model.specs.After.{Step, step_at, first_moves, poll_gets, give, 
 use Rattle.call_model.proofs.Pairs.{eqb-other}
 use Rattle.call_model.proofs.Once.{no_role}
 use Rattle.call_model.proofs.OwnStands.{call_past}
-use Rattle.call_model.proofs.AtHand.{is_invoke, held}
+use Rattle.call_model.specs.Calls.{is_invoke}
+use Rattle.call_model.proofs.AtHand.{held}
 use Rattle.call_model.proofs.BoundWaits.{generation_part, held_home}
 use Rattle.call_model.proofs.Frame.{env_place}
 use Rattle.call_model.proofs.Extensions.{own_value, named_here, counts_fall}

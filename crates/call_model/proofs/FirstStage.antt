@@ -17,7 +17,7 @@ use Rattle.call_model.specs.After.{left, poll_gets, actor_gets, step_at, member_
 use Rattle.call_model.proofs.Pairs.{eqb-other}
 use Rattle.call_model.proofs.Scans.{still, asked, member_steps, parked_step, IsSilent, generation_below, last_below, member_step}
 use Rattle.call_model.specs.Limits.{place_for}
-use Rattle.call_model.proofs.AtHand.{is_invoke}
+use Rattle.call_model.specs.Calls.{is_invoke}
 use Rattle.call_model.proofs.Extensions.{own_value, named_here, registered_count, blank, unregistered}
 use Rattle.call_model.proofs.AnswerValues.{IsFirst, plain_none, first_ending, first_accepted, first_valued, first_registered}
 use Rattle.call_model.proofs.Once.{fresh, silent_first}

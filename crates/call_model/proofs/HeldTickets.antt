@@ -8,7 +8,7 @@ use Rattle.call_model.specs.History.{answer_in, call_of}
 use Rattle.call_model.specs.Generation.{Generation, Extension, Member, TheRuntime, TheExtension, parked, extensions, member, members}
 use Rattle.call_model.specs.Stand.{Stand, Role, NoRole, Waiting, RuntimePoll, ExtensionPoll, is_number, role, member_role, waits_as, at_hand}
 use Rattle.call_model.specs.After.{give, give_each, waiting_call}
-use Rattle.call_model.proofs.AtHand.{is_invoke}
+use Rattle.call_model.specs.Calls.{is_invoke}
 use Rattle.call_model.proofs.BoundWaits.{IsPart, invoke_asks}
 use Rattle.call_model.proofs.Extensions.{IsUnder}
 use Rattle.call_model.proofs.Roles.{IsIn, under_in, other_number, not_both, one_asker, parked_asks_for}

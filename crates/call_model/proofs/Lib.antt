@@ -62,5 +62,7 @@ pub mod OwnAnswers
 pub mod OwnLegal
 pub mod OwnTexts
 pub mod NamedTickets
+-- The calls and the counts of a history, by ticket.
+pub mod PastLemmas
 -- Histories that show what the laws need.
 pub mod Witness

@@ -22,7 +22,8 @@ use Rattle.call_model.specs.Answers.{first_answer, second_answer, first_entry}
 use Rattle.call_model.specs.Next.{IsLegal, Follows}
 use Rattle.call_model.proofs.Once.{fresh, pending_cons, answers_at}
 use Rattle.call_model.proofs.Pairs.{eqb-other}
-use Rattle.call_model.proofs.AtHand.{is_invoke, IsHeld, held, from_entry, from_after, placed_here}
+use Rattle.call_model.specs.Calls.{is_invoke}
+use Rattle.call_model.proofs.AtHand.{IsHeld, held, from_entry, from_after, placed_here}
 use Rattle.call_model.proofs.BoundWaits.{held_home, invoke_role}
 use Rattle.call_model.proofs.Scans.{legal_silent}
 use Rattle.call_model.proofs.PhaseStep.{phase_step, cell_of, members_after, runtime_after, filter_none}

@@ -25,7 +25,8 @@ use Rattle.call_model.specs.Laws.{delivers, deliveries, is_outcome}
 use Rattle.call_model.specs.Next.{IsLegal, Follows}
 use Rattle.call_model.proofs.Pairs.{eqb-other, is_some_none, times_in}
 use Rattle.call_model.proofs.Once.{answers_at, pending_cons, answers_past, answers_once, none_given}
-use Rattle.call_model.proofs.AtHand.{held, from_entry, is_invoke, placed_here, busy_at_hand}
+use Rattle.call_model.specs.Calls.{is_invoke}
+use Rattle.call_model.proofs.AtHand.{held, from_entry, placed_here, busy_at_hand}
 use Rattle.call_model.proofs.BoundWaits.{generation_part, last_asks, invoke_asks}
 use Rattle.call_model.proofs.Lives.{placed_free}
 use Rattle.call_model.proofs.Scans.{generation_below, last_below}

@@ -17,7 +17,8 @@ use Rattle.call_model.specs.Next.{IsLegal, Follows}
 use Rattle.call_model.specs.After.{step_at, fixed_of, count_at, request_of, if_held, cell_at}
 use Rattle.call_model.proofs.Pairs.{eqb-other}
 use Rattle.call_model.proofs.Rising.{passed}
-use Rattle.call_model.proofs.AtHand.{IsHeld, held, is_invoke, from_kept, from_closing}
+use Rattle.call_model.specs.Calls.{is_invoke}
+use Rattle.call_model.proofs.AtHand.{IsHeld, held, from_kept, from_closing}
 use Rattle.call_model.proofs.BoundWaits.{invoke_second}
 use Rattle.call_model.proofs.Extensions.{own_value, named_here, registrations_more}
 use Rattle.call_model.proofs.AnswerValues.{IsFirst, plain, plain_none, valued, entry_is_first, first_valued, early}

@@ -21,7 +21,8 @@ use Rattle.call_model.specs.Next.{IsLegal, Follows}
 use Rattle.call_model.specs.After.{Step, step_at, fixed_of, count_at, first_stand, turned, expires_now, request_of, cell_at, closing_ends, members_first, runtime_first, restarted, settled_stand, stand_after, finished}
 use Rattle.call_model.proofs.Pairs.{eqb-other}
 use Rattle.call_model.proofs.Once.{fresh, pending_cons}
-use Rattle.call_model.proofs.AtHand.{IsHeld, held, is_invoke, placed_here, from_kept, from_closing}
+use Rattle.call_model.specs.Calls.{is_invoke}
+use Rattle.call_model.proofs.AtHand.{IsHeld, held, placed_here, from_kept, from_closing}
 use Rattle.call_model.proofs.Scans.{IsSilent, legal_silent}
 use Rattle.call_model.proofs.AnswerValues.{IsFirst, plain_none, entry_is_first, first_is_first}
 use Rattle.call_model.proofs.FirstStage.{not_named_call, runtime_stage, first_silent, members_stage}

@@ -12,7 +12,8 @@ use Rattle.call_model.specs.Stand.{is_number, at_hand, role, RuntimePoll, Extens
 use Rattle.call_model.specs.Life.{life, phase, stand, seen, request_at, registrations}
 use Rattle.call_model.specs.Next.{IsLegal}
 use Rattle.call_model.proofs.Pairs.{eqb-other}
-use Rattle.call_model.proofs.AtHand.{held, is_invoke}
+use Rattle.call_model.specs.Calls.{is_invoke}
+use Rattle.call_model.proofs.AtHand.{held}
 use Rattle.call_model.proofs.BoundWaits.{IsPart, generation_part, last_asks, invoke_asks}
 use Rattle.call_model.proofs.Extensions.{IsUnder, counts_fall}
 use Rattle.call_model.proofs.Basics.{eqb-self, some-none}

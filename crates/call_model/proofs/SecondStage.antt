@@ -17,7 +17,8 @@ use Rattle.call_model.specs.Next.{IsLegal, Follows}
 use Rattle.call_model.specs.After.{fixed_of, step_at, count_at, first_stand, expires_now, closing_ends, cell_at, left, Step, stand_after, finished, turned, restarted, settled_stand, settled_phase, member_second, if_held, runtime_first, members_first, with_events}
 use Rattle.call_model.proofs.Scans.{IsSilent, legal_silent, last_below, generation_below}
 use Rattle.call_model.proofs.Frame.{AreHere, poll_home, generation_here, last_here}
-use Rattle.call_model.proofs.AtHand.{held, is_invoke, from_after}
+use Rattle.call_model.specs.Calls.{is_invoke}
+use Rattle.call_model.proofs.AtHand.{held, from_after}
 use Rattle.call_model.proofs.BoundWaits.{IsPart, generation_part}
 use Rattle.call_model.proofs.Extensions.{IsUnder, counts_fall}
 use Rattle.call_model.proofs.AnswerValues.{IsFirst, entry_is_first, first_is_first, first_registered}

@@ -19,8 +19,13 @@ pub mod Laws
 -- Words of isolation by reservation, for whoever reads those laws.
 pub mod Own
 pub mod Isolation
--- The head of a call, which a receipt keeps.
+-- What a call names and its bytes, its head, which a receipt keeps, and the words of reasons.
+pub mod Calls
 pub mod Heads
+pub mod Words
+-- Which calls are within the limits of the service, and the count in each request identifier.
+pub mod Within
+pub mod CallCounts
 -- The step of one environment as a function of its stand: the form in which the code goes. Nobody need believe it, since
 -- the law `step` ties it to the words above.
 pub mod After

@@ -1,5 +1,8 @@
 //! Answers, reasons and phases.
 
+ghost use Rattle.std.specs.Prelude.{◌≡◌};
+ghost use Rattle.call_model.specs.Words.{reason_word, throttle_word};
+
 use crate::Ticket;
 
 /// Why an environment closes (Extensions API, Shutdown phase: `shutdownReason`).
@@ -13,6 +16,19 @@ pub enum Reason {
     Spindown,
 }
 
+impl Reason {
+    /// Its word (Extensions API: `shutdownReason`).
+    pub fn as_str(self) -> &'static str
+        ensures { result.now ≡ reason_word self }
+    {
+        match self {
+            Reason::Timeout => "TIMEOUT",
+            Reason::Failure => "FAILURE",
+            Reason::Spindown => "SPINDOWN",
+        }
+    }
+}
+
 /// Why an invocation is not admitted (Invoke: `TooManyRequestsException` and its reasons).
 #[derive(Clone, Copy, Debug, PartialEq, Eq)]
 pub enum Throttle {
@@ -24,6 +40,19 @@ pub enum Throttle {
     Account,
     /// None of the function's environments is free (this service's own).
     Environments,
+}
+
+impl Throttle {
+    /// Its word (Invoke: the `Reason` of `TooManyRequestsException`).
+    pub fn as_str(self) -> &'static str
+        ensures { result.now ≡ throttle_word self }
+    {
+        match self {
+            Throttle::Function => "ReservedFunctionConcurrentInvocationLimitExceeded",
+            Throttle::Account => "ConcurrentInvocationLimitExceeded",
+            Throttle::Environments => "LocalEnvironmentLimitExceeded",
+        }
+    }
 }
 
 /// Why a call is refused.

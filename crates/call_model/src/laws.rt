@@ -1,13 +1,14 @@
 //! Laws over the definitions: what holds of every legal history. Each function does nothing; its clauses are the laws.
 
-ghost use Rattle.std.specs.Prelude.{◌≡◌, ◌≤◌, ℕ, Bool, true, false, cond, List, [], ◌∷◌, ◌++◌, length, Option, Some, None, count_by, filter, is_some, not, ◌+◌, ◌&&◌, ◌==◌};
+ghost use Rattle.std.specs.Prelude.{◌≡◌, ◌<◌, ◌≤◌, ℕ, Bool, true, false, cond, List, [], ◌∷◌, ◌++◌, length, reverse, slice_index, Option, Some, None, count_by, filter, is_some, not, ◌+◌, ◌&&◌, ◌==◌};
 ghost use Rattle.call_model.specs.declared.call.Call.{Call};
 ghost use Rattle.call_model.specs.declared.call.Entry.{Entry};
 ghost use Rattle.call_model.specs.declared.answer.Answer.{Answer};
 ghost use Rattle.call_model.specs.declared.answer.Throttle.TheVariants.{Environments as ByEnvironments};
 ghost use Rattle.arn_ids.specs.declared.config.Config.{Config};
 ghost use Rattle.arn_ids.specs.Environments.{function_of, environments, function_at};
-ghost use Rattle.call_model.specs.History.{pending, answered, place_of, call_of, answer_in, answer_of, is_expiry};
+ghost use Rattle.call_model.specs.History.{pending, answered, place_of, call_of, answer_in, answer_of, is_expiry, is_invoke_of, requests, upto};
+ghost use Rattle.call_model.specs.CallCounts.{call_counts};
 ghost use Rattle.call_model.specs.Generation.{Actor};
 ghost use Rattle.call_model.specs.Stand.{is_number};
 ghost use Rattle.call_model.specs.Answers.{home};
@@ -97,4 +98,10 @@ pub fn step()
     ensures moves { (config : Config) (h : List Entry) (entry : Entry) (e : ℕ) → IsLegal config (entry ∷ h) → concerns h e entry ≡ true → filter (λ a. is_number (home (entry ∷ h) a.0) e) entry.answers ≡ moves_of (fixed_of config e) (step_at h entry (count_at config h entry e)) (stand config h e) entry.call }
     // An invocation placed there was charged before the entry and isn't after just where ended_by names it.
     ensures ended { (config : Config) (h : List Entry) (entry : Entry) (e p : ℕ) → IsLegal config (entry ∷ h) → (is_number (place_of h p) e && (is_charged config h p && not (is_charged config (entry ∷ h) p))) ≡ is_number (ended_by (phase config h e) (phase config (entry ∷ h) e)) p }
+{}
+
+/// The count that stands at the ticket of an Invoke is how many Invokes of its function the history
+/// has up to it: the count in its request identifier.
+pub fn counts_are_requests()
+    ensures { (h : List Entry) (t f : ℕ) → t < length h → is_invoke_of f (call_of h t) ≡ true → slice_index (reverse (call_counts h)) t ≡ requests (upto h t) f }
 {}

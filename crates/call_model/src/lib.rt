@@ -5,9 +5,12 @@ mod answer;
 mod call;
 mod head;
 pub mod laws;
+mod parts;
+mod past;
 mod stats;
 
 pub use answer::{Answer, Phase, Reason, Refusal, Throttle};
 pub use call::{Answers, Call, Entry, Ticket};
 pub use head::{Head, Kind};
+pub use past::Past;
 pub use stats::Stats;

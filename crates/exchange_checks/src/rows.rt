@@ -1,11 +1,11 @@
 //! What a request is decided to be in these checks, by its path alone, and their clock.
 
 ghost use Rattle.std.specs.Prelude.{◌≡◌, true, IfOk, IfSome};
-ghost use Rattle.script.specs.Limits.{IsEnv, IsFunction};
-ghost use Rattle.script.specs.TextFields.{is_body};
+ghost use Rattle.call_model.specs.Within.{IsEnv, IsFunction, is_body};
 ghost use Rattle.decisions.specs.Decisions.{IsAllowed};
 
 use account_lock::Setup;
+use arn_ids::LONGEST_BODY;
 use bytes::Bytes;
 use call_model::{Call, Ticket};
 use case_tables::CaseFault;
@@ -40,7 +40,7 @@ pub struct Rows<S: Setup> {
 fn payload(body: &Bytes) -> Result<Option<Bytes>, AllocError>
     ensures { IfOk result (λ payload. IfSome payload (λ bytes. is_body bytes ≡ true)) }
 {
-    if body.as_slice().len() > 6_291_456 {
+    if body.as_slice().len() > LONGEST_BODY {
         return Ok(None);
     }
     Ok(Some(body.clone()?))

@@ -4,6 +4,7 @@ ghost use Rattle.std.specs.Prelude.{◌<◌, ◌^◌};
 
 use account_book::{Life, Refusal};
 use account_lock::{Account, Setup};
+use arn_ids::GREATEST_MOMENT;
 use call_model::Call;
 use long_poll::{Clock, OneShotBell};
 use std::sync::Wait;
@@ -15,9 +16,6 @@ use usage_ledger::{Keep, Tally};
 
 /// How many milliseconds pass between two looks whether something is due.
 const BEAT: u64 = 50;
-
-/// The greatest moment that an account takes, 2^53 - 1.
-const GREATEST_MOMENT: u64 = 9_007_199_254_740_991;
 
 /// The moment of a call that is submitted now: what the clock reads, and 2^53 - 1 where it reads
 /// more.

@@ -12,9 +12,8 @@ use Rattle.lambda_wire.specs.Requests.{read_payload, read_count, read_events}
 use Rattle.lambda_wire.specs.declared.request_reader.Events.{Events}
 use Rattle.lambda_wire.specs.declared.fault.WireFault.{WireFault}
 use Rattle.lambda_wire.specs.declared.fault.WireFault.TheVariants as wire
-use Rattle.script.specs.Numbers.{greatest_reservation}
-use Rattle.script.specs.TextFields.{is_body}
-use Rattle.script.specs.Limits.{IsEnv, IsFunction, IsCount, IsTrace, IsWithin}
+use Rattle.arn_ids.specs.Limits.{longest_body, greatest_reservation}
+use Rattle.call_model.specs.Within.{is_body, IsEnv, IsFunction, IsCount, IsTrace, IsWithin}
 use Rattle.decisions.specs.Decisions.{IsAllowed}
 use Rattle.decisions.specs.declared.decide.Decision.{Decision}
 use Rattle.decisions.specs.declared.decide.Decision.TheVariants.{Submit, Show}
@@ -102,10 +101,10 @@ decided config true x y h k = h
 decided config false x y h k = k
 
 -- by whether the body is too long
-by_length : (config : Config) (body : List ℕ) (x y : Decision) → IsAllowed config x → (is_body body ≡ true → IsAllowed config y) → IsAllowed config (cond (nat_lt 6291456 (length body)) x y)
-by_length config body x y h k = go (nat_lt 6291456 (length body)) refl
+by_length : (config : Config) (body : List ℕ) (x y : Decision) → IsAllowed config x → (is_body body ≡ true → IsAllowed config y) → IsAllowed config (cond (nat_lt longest_body (length body)) x y)
+by_length config body x y h k = go (nat_lt longest_body (length body)) refl
   where
-    go : (b : Bool) → nat_lt 6291456 (length body) ≡ b → IsAllowed config (cond b x y)
+    go : (b : Bool) → nat_lt longest_body (length body) ≡ b → IsAllowed config (cond b x y)
     go true e = h
     go false e = k (short (length body) e)
 
@@ -116,9 +115,9 @@ submitted-allowed config body made h = by_length config body too_large (Submit m
 
 response-allowed : (config : Config) (e : ℕ) (body : List ℕ) (o : Option ℕ) → IsEnv config e → Gives o IsCount → IsAllowed config (response e body o)
 response-allowed config e body None env h = wrong_request-allowed config
-response-allowed config e body (Some id) env h = go (nat_lt 6291456 (length body)) refl
+response-allowed config e body (Some id) env h = go (nat_lt longest_body (length body)) refl
   where
-    go : (b : Bool) → nat_lt 6291456 (length body) ≡ b → IsAllowed config (Submit (cond b (call.ResponseTooLarge e id) (call.Response e id body)))
+    go : (b : Bool) → nat_lt longest_body (length body) ≡ b → IsAllowed config (Submit (cond b (call.ResponseTooLarge e id) (call.Response e id body)))
     go true l = (env, h.holds)
     go false l = (env, h.holds, short (length body) l)
 

@@ -25,10 +25,9 @@ use Rattle.lambda_wire.specs.Reading.{◌>>=◌, json_in, number_of, number_belo
 use Rattle.lambda_wire.specs.Requests.{payload_of, read_payload, reservation_of, read_count}
 use Rattle.lambda_wire.specs.declared.fault.WireFault.{WireFault}
 use Rattle.lambda_wire.specs.declared.fault.WireFault.TheVariants as wire
-use Rattle.script.specs.Numbers.{digits_in, number_in, from_one, greatest_reservation}
-use Rattle.script.specs.TextFields.{is_body, is_trace}
-use Rattle.script.specs.Lines.{env_in}
-use Rattle.script.specs.Limits.{IsEnv, IsFunction, IsCount, IsTrace}
+use Rattle.arn_ids.specs.Numbers.{digits_in, number_in, from_one, env_in}
+use Rattle.arn_ids.specs.Limits.{longest_body, greatest_reservation}
+use Rattle.call_model.specs.Within.{is_body, is_trace, IsEnv, IsFunction, IsCount, IsTrace}
 use Rattle.http_routes.specs.Paths.{path_part}
 use Rattle.http_routes.specs.Heads.{header, header_text, that, trace_of}
 use Rattle.http_routes.specs.Identifiers.{count_of, of_request, of_extension, identifier_in, request_count, extension_count, request_of, extension_of}
@@ -198,7 +197,7 @@ trace_within p = go (trace_of p) (that_passes is_trace (header (codes "x-amzn-tr
 
 -- bodies
 
-pub short : (n : ℕ) → nat_lt 6291456 n ≡ false → nat_le n 6291456 ≡ true
+pub short : (n : ℕ) → nat_lt longest_body n ≡ false → nat_le n longest_body ≡ true
 short n h = grind (arith, nat_tests, h)
 
 -- what a reading has, where it reads something
@@ -219,10 +218,10 @@ payload_short : (bytes : List ℕ) → is_body bytes ≡ true → Reads (payload
 payload_short [] h = reads (codes "{}") refl
 payload_short (b ∷ bytes) h = then_reads (json_in (b ∷ bytes)) (λ _. Ok (b ∷ bytes)) (λ d. reads (b ∷ bytes) h)
 
-limited : {A : Type 0} {Q : A → Type 0} (bytes : List ℕ) (r : Result A WireFault) → (is_body bytes ≡ true → Reads r Q) → Reads (cond (nat_lt 6291456 (length bytes)) (Err wire.TooLong) r) Q
-limited {A = A} {Q = Q} bytes r h = go (nat_lt 6291456 (length bytes)) refl
+limited : {A : Type 0} {Q : A → Type 0} (bytes : List ℕ) (r : Result A WireFault) → (is_body bytes ≡ true → Reads r Q) → Reads (cond (nat_lt longest_body (length bytes)) (Err wire.TooLong) r) Q
+limited {A = A} {Q = Q} bytes r h = go (nat_lt longest_body (length bytes)) refl
   where
-    go : (b : Bool) → nat_lt 6291456 (length bytes) ≡ b → Reads (cond b (Err wire.TooLong) r) Q
+    go : (b : Bool) → nat_lt longest_body (length bytes) ≡ b → Reads (cond b (Err wire.TooLong) r) Q
     go true e = fails wire.TooLong
     go false e = h (short (length bytes) e)
 

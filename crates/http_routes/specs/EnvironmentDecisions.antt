@@ -4,6 +4,7 @@ use Rattle.std.specs.Prelude.{ℕ, Bool, nat_lt, if◌then◌else◌, List, leng
 use Rattle.http.specs.Uri.{uri_path}
 use Rattle.http.specs.declared.request.Parts.{Parts}
 use Rattle.arn_ids.specs.Environments.{function_of}
+use Rattle.arn_ids.specs.Limits.{longest_body}
 use Rattle.arn_ids.specs.declared.config.Config.{Config}
 use Rattle.call_model.specs.declared.call.Call.{Call}
 use Rattle.call_model.specs.declared.call.Call.TheVariants as call
@@ -22,7 +23,7 @@ use Rattle.http_routes.specs.declared.routes.EnvironmentRoute.TheVariants.{Next,
 
 -- a body has at most 6,291,456 bytes (Lambda quotas: invocation payload)
 abbrev pub is_too_long : List ℕ → Bool
-is_too_long body = nat_lt 6291456 (length body)
+is_too_long body = nat_lt longest_body (length body)
 
 -- a call whose body isn't too long
 abbrev pub submitted : List ℕ → Call → Decision

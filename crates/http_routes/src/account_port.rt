@@ -15,14 +15,13 @@ use crate::refusals::{
     unreadable_reservation, wrong_invocation_type, wrong_method,
 };
 use crate::routes::{AccountRoute, account_route};
-use arn_ids::{Checked, EnvNo, FnNo};
+use arn_ids::{Checked, EnvNo, FnNo, read_environment};
 use bytes::Bytes;
 use call_model::Call;
 use decisions::{Decision, Shown};
 use http::request::Parts;
 use lambda_wire::{WireFault, read_invoke_body, read_reservation};
 use matchit::Router;
-use script::read_environment;
 use std::alloc::{AllocError, Global};
 
 /// Invoke of a function, with the payload that the body is.

@@ -1,7 +1,7 @@
 //! What is done with a request on an environment's port.
 
 ghost use Rattle.std.specs.Prelude.{◌≡◌, IfOk};
-ghost use Rattle.script.specs.Limits.{IsEnv};
+ghost use Rattle.call_model.specs.Within.{IsEnv};
 ghost use Rattle.call_model.specs.declared.call.Call.TheVariants as calls;
 ghost use Rattle.http_routes.specs.EnvironmentDecisions as spec;
 ghost use Rattle.http_routes.specs.Routes.{environment_rows};
@@ -13,7 +13,7 @@ use crate::refusals::{
     wrong_method, wrong_request,
 };
 use crate::routes::{EnvironmentRoute, environment_route};
-use arn_ids::{Checked, EnvNo, Text};
+use arn_ids::{Checked, EnvNo, LONGEST_BODY, Text};
 use bytes::Bytes;
 use call_model::Call;
 use decisions::Decision;
@@ -22,13 +22,10 @@ use lambda_wire::{WireFault, read_register};
 use matchit::Router;
 use std::alloc::{AllocError, Global};
 
-/// How many bytes the body of a request may have (Lambda quotas: invocation payload).
-const MAX_BYTES: usize = 6_291_456;
-
 fn is_too_long(body: &Bytes) -> bool
     ensures { result ≡ spec.is_too_long body.now }
 {
-    body.len() > MAX_BYTES
+    body.len() > LONGEST_BODY
 }
 
 /// A call without bytes.

@@ -3,6 +3,7 @@ use Rattle.std.specs.Prelude.{ℕ, ◌^◌, Bool, ◌||◌, nat_lt, if◌then◌
 use Rattle.std.specs.List.{list_all, list_any}
 use Rattle.serde_json.specs.Data.{Data}
 use Rattle.serde_json.specs.Find.{get, as_object}
+use Rattle.arn_ids.specs.Limits.{longest_body}
 use Rattle.lambda_wire.specs.Reading.{◌>>=◌, wanted, json_in, or_else, required, text_of, list_of, number_below}
 use Rattle.lambda_wire.specs.declared.fault.WireFault.{WireFault}
 use Rattle.lambda_wire.specs.declared.fault.WireFault.TheVariants.{TooLong, BadEvent}
@@ -10,7 +11,7 @@ use Rattle.lambda_wire.specs.declared.request_reader.Events.{Events}
 
 -- the body of a request has at most 6,291,456 bytes (Lambda quotas: invocation payload)
 abbrev pub within_limit : {A : Type 0} → List ℕ → Result A WireFault → Result A WireFault
-within_limit bytes reading = if nat_lt 6291456 (length bytes) then Err TooLong else reading
+within_limit bytes reading = if nat_lt longest_body (length bytes) then Err TooLong else reading
 
 -- a payload is JSON and is taken as it stands; no bytes at all stand for an empty object
 abbrev pub payload_of : List ℕ → Result (List ℕ) WireFault

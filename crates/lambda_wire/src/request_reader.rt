@@ -3,19 +3,17 @@
 ghost use Rattle.std.specs.Prelude.{◌≡◌, ◌<◌, length, IsErrOf, IfOk, bytes_eq};
 ghost use Rattle.std.specs.List.{list_all, list_any};
 ghost use Rattle.serde_json.specs.View.{view};
+ghost use Rattle.arn_ids.specs.Limits.{longest_body};
 ghost use Rattle.lambda_wire.specs.Reading as spec;
 ghost use Rattle.lambda_wire.specs.Requests.{is_event, events_of, registration_of, reservation_of, read_payload, read_events, read_count};
 
 use crate::fault::WireFault;
 use crate::json_check::check_json;
 use crate::members::{json_of, number_u32, texts_or_none};
-use arn_ids::Text;
+use arn_ids::{LONGEST_BODY, Text};
 use bytes::Bytes;
 use serde_json::Value;
 use std::alloc::{AllocError, Global};
-
-/// How many bytes the body of a request may have (Lambda quotas: invocation payload).
-const MAX_BYTES: usize = 6_291_456;
 
 /// The events that an extension asks for (Extensions API, Register).
 #[derive(Clone, Copy, Debug, PartialEq, Eq)]
@@ -34,9 +32,9 @@ pub struct Events {
 pub fn read_invoke_body(alloc: Global, bytes: &Bytes) -> Result<Bytes, WireFault>
     ensures payload { spec.Gives result (read_payload bytes.now) }
     // The length is looked at first, and takes no memory.
-    ensures too_long { 6291456 < length bytes.now → IsErrOf result WireFault.TooLong }
+    ensures too_long { longest_body < length bytes.now → IsErrOf result WireFault.TooLong }
 {
-    if bytes.len() > MAX_BYTES {
+    if bytes.len() > LONGEST_BODY {
         return Err(WireFault::TooLong);
     }
     if bytes.is_empty() {
@@ -94,9 +92,9 @@ fn registration(alloc: Global, value: &Value) -> Result<Events, WireFault>
 pub fn read_register(alloc: Global, bytes: &[u8]) -> Result<Events, WireFault>
     ensures events { spec.Gives result (read_events bytes.now) }
     // The length is looked at first, and takes no memory.
-    ensures too_long { 6291456 < length bytes.now → IsErrOf result WireFault.TooLong }
+    ensures too_long { longest_body < length bytes.now → IsErrOf result WireFault.TooLong }
 {
-    if bytes.len() > MAX_BYTES {
+    if bytes.len() > LONGEST_BODY {
         return Err(WireFault::TooLong);
     }
     let value = json_of(alloc, bytes)?;
@@ -121,9 +119,9 @@ fn reservation(value: &Value) -> Result<u32, WireFault>
 pub fn read_reservation(alloc: Global, bytes: &[u8]) -> Result<u32, WireFault>
     ensures count { spec.Gives result (read_count bytes.now) }
     // The length is looked at first, and takes no memory.
-    ensures too_long { 6291456 < length bytes.now → IsErrOf result WireFault.TooLong }
+    ensures too_long { longest_body < length bytes.now → IsErrOf result WireFault.TooLong }
 {
-    if bytes.len() > MAX_BYTES {
+    if bytes.len() > LONGEST_BODY {
         return Err(WireFault::TooLong);
     }
     let value = json_of(alloc, bytes)?;

@@ -11,7 +11,8 @@ use Rattle.usage_ledger.specs.Tallies.{Held}
 use Rattle.long_poll.specs.Bodies.{Reads, Fails}
 use Rattle.long_poll.specs.Moments.{moment_of}
 use Rattle.long_poll.specs.Ringing.{rings_at, hears_at, WasHeard}
-use Rattle.long_poll.specs.Refusals.{is_invoke, refusal_reply}
+use Rattle.call_model.specs.Calls.{is_invoke}
+use Rattle.long_poll.specs.Refusals.{refusal_reply}
 use Rattle.long_poll.specs.Views.{stats_reply, reservation_reply}
 use Rattle.long_poll.specs.declared.bell.Heard.{Heard}
 use Rattle.long_poll.specs.declared.bell.OneShotBell.{OneShotBell}

@@ -2,16 +2,9 @@
 use Rattle.std.specs.Prelude.{ℕ, Bool, true, false, List, codes}
 use Rattle.account_book.specs.declared.book.Refusal.{Refusal}
 use Rattle.account_book.specs.declared.book.Refusal.TheVariants.{JournalFull, OutOfMemory}
-use Rattle.call_model.specs.declared.call.Call.{Call}
-use Rattle.call_model.specs.declared.call.Call.TheVariants.{Invoke}
 use Rattle.lambda_wire.specs.Replies.{fault_reply, invoke_fault_reply}
 use Rattle.lambda_wire.specs.declared.body_writer.InvokeFault.TheVariants.{Service}
 use Rattle.lambda_wire.specs.declared.reply.Reply.{Reply}
-
--- whether a caller invokes a function (Lambda API, Invoke)
-abbrev pub is_invoke : Call → Bool
-is_invoke (Invoke f qualified trace body) = true
-is_invoke _ = false
 
 -- what is said of a refusal
 abbrev pub message_of : Refusal → List ℕ

@@ -3,8 +3,7 @@
 ghost use Rattle.std.specs.Prelude.{◌≡◌, ℕ};
 ghost use Rattle.long_poll.specs.Moments.{moment_of};
 
-/// The greatest moment that an account takes, 2^53 - 1.
-const GREATEST_MOMENT: u64 = 9_007_199_254_740_991;
+use arn_ids::GREATEST_MOMENT;
 
 /// A clock: Unix milliseconds in the server.
 pub trait Clock {

@@ -2,14 +2,14 @@
 
 ghost use Rattle.std.specs.Prelude.{◌≡◌, ◌≤◌, IfOk, IfErr};
 ghost use Rattle.std.specs.Arc.{arc_value};
-ghost use Rattle.script.specs.Limits.{IsWithin};
+ghost use Rattle.call_model.specs.Within.{IsWithin};
 ghost use Rattle.long_poll.specs.Exchanges.{Submitted, IsBegun, HasBegun, Renders, shown};
 ghost use Rattle.long_poll.specs.Attempts.{IsAttempt};
 ghost use Rattle.long_poll.specs.Outcomes.{ShowsAllOf};
 
 use crate::clock::moment;
 use crate::history_body::HistoryBody;
-use crate::refusal::{is_invoke, refusal_reply};
+use crate::refusal::refusal_reply;
 use crate::views::{reservation_reply, stats_reply};
 use crate::{Clock, ExchangeFault, Heard, OneShotBell, OpenPoll, Service};
 use account_lock::{Declined, Refused};
@@ -190,7 +190,7 @@ impl<
     {
         let (bell, heard) = OneShotBell::pair(self.alloc)?;
         let is_next = matches!(call, Call::RuntimeNext { .. } | Call::ExtNext { .. });
-        let is_invoke = is_invoke(&call);
+        let is_invoke = call.is_invoke();
         match self.submit_in_patience(call, bell) {
             Err(refused) => Ok(Begun::Replied(refusal_reply(
                 self.alloc,

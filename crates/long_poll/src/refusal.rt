@@ -4,16 +4,8 @@ ghost use Rattle.std.specs.Prelude.{◌≡◌, IfOk};
 ghost use Rattle.long_poll.specs.Refusals as spec;
 
 use account_book::Refusal;
-use call_model::Call;
 use lambda_wire::{InvokeFault, Reply, fault_reply, invoke_fault_reply};
 use std::alloc::{AllocError, Global};
-
-/// Whether a caller invokes a function.
-pub(crate) fn is_invoke(call: &Call) -> bool
-    ensures { result ≡ spec.is_invoke call.now }
-{
-    matches!(call, Call::Invoke { .. })
-}
 
 /// What is said of a refusal.
 fn message_of(refusal: Refusal) -> &'static str

@@ -10,10 +10,9 @@ use Rattle.http_header.proofs.TokenLemmas.{AllPass-from_test}
 use Rattle.uuid.specs.Text.{hex_digit, nibble, lower, hyphenated_text, is_hyphen_place, digit_place}
 use Rattle.uuid.proofs.TextLemmas.{by_index_at, by_index_length, nibble_small}
 use Rattle.arn_ids.specs.Words.{is_digit, is_name_byte, is_region_byte, is_printable, is_word}
-use Rattle.arn_ids.specs.Identifiers.{identifier_of}
+use Rattle.arn_ids.specs.Identifiers.{identifier_of, id_word}
 use Rattle.arn_ids.specs.declared.identifiers.IdKind.{IdKind}
-use Rattle.script.specs.AnswerText.{id_word, invoked}
-use Rattle.script.specs.TextFields.{is_trace}
+use Rattle.call_model.specs.Within.{is_trace}
 use Rattle.arn_ids.specs.Environments.{function_at}
 use Rattle.arn_ids.specs.Faults.{first_fault}
 use Rattle.arn_ids.specs.Grammar.{qualifier_text}
@@ -24,7 +23,7 @@ use Rattle.arn_ids.proofs.Bounds.{name_is, account_is, region_is}
 use Rattle.call_model.specs.declared.call.Call.{Call}
 use Rattle.call_model.specs.declared.answer.Refusal.{Refusal}
 use Rattle.call_model.specs.declared.answer.Refusal.TheVariants.{State, Replaced, BadId, Unknown, TooLarge, Container, NameInUse, TooMany, NotIdle, BadReservation}
-use Rattle.replies.specs.Words.{invoked_function, is_qualified, arn_text, no_trace}
+use Rattle.replies.specs.Words.{function_number, invoked_function, is_qualified, arn_text, no_trace}
 use Rattle.replies.specs.Refusals.{refusal_words}
 use Rattle.replies.proofs.NoFunction.{beyond}
 
@@ -108,7 +107,7 @@ spelled_fits region account name qualifier a b c d =
 pub arn_fits : (config : Config) (call : Call) → first_fault config ≡ None → IsFieldValue (arn_text config call)
 arn_fits config call sound =
     spelled_fits config.home.region config.home.account (invoked_function config call).name (qualifier_text (is_qualified call))
-    (region_fits config sound) (account_fits config sound) (name_fits config (invoked call) sound) (qualifier_fits (is_qualified call))
+    (region_fits config sound) (account_fits config sound) (name_fits config (function_number call) sound) (qualifier_fits (is_qualified call))
 
 kind_passes : (refusal : Refusal) → list_all is_value_byte (refusal_words refusal).1 ≡ true
 kind_passes State = refl

@@ -3,7 +3,7 @@ use Rattle.std.specs.Prelude.{Some}
 use Rattle.call_model.specs.declared.call.Call.{Call}
 use Rattle.call_model.specs.declared.call.Call.TheVariants.{Invoke}
 use Rattle.call_model.specs.Isolation.{Gist as GistOfTicket}
-use Rattle.script.specs.Limits.{IsTrace}
+use Rattle.call_model.specs.Within.{IsTrace}
 use Rattle.replies.specs.declared.gist.Gist.{Gist}
 
 -- the gist of an answered ticket

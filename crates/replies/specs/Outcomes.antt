@@ -9,7 +9,8 @@ use Rattle.call_model.specs.declared.call.Call.{Call}
 use Rattle.call_model.specs.declared.call.Call.TheVariants.{Invoke}
 use Rattle.call_model.specs.declared.answer.Throttle.{Throttle}
 use Rattle.call_model.specs.Isolation.{Gist}
-use Rattle.script.specs.AnswerText.{body_of, throttle_word}
+use Rattle.call_model.specs.Calls.{body_of}
+use Rattle.call_model.specs.Words.{throttle_word}
 use Rattle.replies.specs.Words.{request_text, invoked_function}
 
 -- The invocation ran: the bytes of the report, marked where they tell of a failure (Lambda API, Invoke: Response Elements).

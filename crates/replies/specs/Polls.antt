@@ -7,7 +7,8 @@ use Rattle.arn_ids.specs.declared.config.Config.{Config}
 use Rattle.arn_ids.specs.declared.identifiers.IdKind.TheVariants.{Extension, Event}
 use Rattle.call_model.specs.declared.answer.Reason.{Reason}
 use Rattle.call_model.specs.Isolation.{Gist}
-use Rattle.script.specs.AnswerText.{body_of, reason_word}
+use Rattle.call_model.specs.Calls.{body_of}
+use Rattle.call_model.specs.Words.{reason_word}
 use Rattle.replies.specs.Words.{request_text, env_text, env_function, arn_text, trace_text, account_text}
 
 -- An invocation is delivered to a runtime: the payload of its Invoke as it stands (Runtime API, Next invocation).

@@ -9,11 +9,16 @@ use Rattle.arn_ids.specs.declared.identifiers.IdKind.TheVariants.{Request}
 use Rattle.call_model.specs.declared.call.Call.{Call}
 use Rattle.call_model.specs.declared.call.Call.TheVariants.{Invoke, Register}
 use Rattle.call_model.specs.History.{env_of}
-use Rattle.script.specs.AnswerText.{id_word, invoked}
+use Rattle.arn_ids.specs.Identifiers.{id_word}
+use Rattle.call_model.specs.Calls.{invoked}
+
+-- the number of the function that a call invokes; 0 for a call that is no Invoke
+abbrev pub function_number : Call → ℕ
+function_number call = unwrap_or (invoked call) 0
 
 -- the request identifier of an Invoke, by its number among its function's (Runtime API: Lambda-Runtime-Aws-Request-Id)
 abbrev pub request_text : ℕ → Call → ℕ → List ℕ
-request_text salt call count = id_word salt Request (invoked call) count
+request_text salt call count = id_word salt Request (function_number call) count
 
 -- the environment that a call names; 0 for a call that names none
 abbrev pub env_at : Call → ℕ
@@ -25,7 +30,7 @@ env_text salt kind call count = id_word salt kind (env_at call) count
 
 -- the function that a call invokes
 abbrev pub invoked_function : Config → Call → Function
-invoked_function config call = function_at config (invoked call)
+invoked_function config call = function_at config (function_number call)
 
 -- the function of the environment that a call names
 abbrev pub env_function : Config → Call → Function

@@ -9,7 +9,6 @@ ghost use Rattle.replies.specs.Words as spec;
 use crate::calls::is_qualified;
 use arn_ids::{Checked, EnvNo, FnNo, Function};
 use call_model::Call;
-use script::{env_of, invoked};
 use std::alloc::{AllocError, Global};
 
 /// The function with a number.
@@ -53,11 +52,18 @@ fn name_of(config: &Checked, number: FnNo) -> &str
     }
 }
 
+/// The number of the function that a call invokes, 0 where it is no Invoke.
+pub(crate) fn function_number(call: &Call) -> FnNo
+    ensures { result ≡ spec.function_number call.now }
+{
+    call.function().unwrap_or(0)
+}
+
 /// The timeout of the function that a call invokes, in seconds.
 pub(crate) fn timeout_s(config: &Checked, call: &Call) -> u32
     ensures { result ≡ (spec.invoked_function config.now call.now).timeout_s }
 {
-    match function_in(config, invoked(call)) {
+    match function_in(config, function_number(call)) {
         Some(function) => function.timeout_s,
         None => 0,
     }
@@ -68,7 +74,7 @@ pub(crate) fn arn_text(alloc: Global, config: &Checked, call: &Call) -> Result<S
     ensures value { IfOk result (λ text. string_bytes text ≡ spec.arn_text config.now call.now) }
     ensures fits { IsFieldValue (spec.arn_text config.now call.now) }
 {
-    let name = name_of(config, invoked(call));
+    let name = name_of(config, function_number(call));
     arn_ids::arn_text(alloc, config.home(), name, is_qualified(call))
 }
 
@@ -77,7 +83,8 @@ pub(crate) fn env_function<'a>(config: &'a Checked, call: &Call) -> (&'a str, &'
     ensures name { result.0.now ≡ (spec.env_function config.now call.now).name }
     ensures handler { result.1.now ≡ (spec.env_function config.now call.now).handler }
 {
-    match function_in(config, function_of(config, env_of(call))) {
+    let env = call.environment().unwrap_or(0);
+    match function_in(config, function_of(config, env)) {
         Some(function) => (function.name.as_str(), function.handler.as_str()),
         None => ("", ""),
     }

@@ -8,7 +8,7 @@ ghost use Rattle.replies.specs.Outcomes as spec;
 use crate::Gist;
 use crate::calls::shared_body;
 use crate::functions::timeout_s;
-use crate::words::{request_text, throttle_word};
+use crate::words::request_text;
 use arn_ids::{Checked, Row};
 use bytes::Bytes;
 use call_model::{Call, Throttle};
@@ -118,7 +118,7 @@ pub(crate) fn throttled(
     Ok(Reply {
         status: 429,
         headers: error_headers(alloc, Some(request), "TooManyRequestsException")?,
-        body: Bytes::from_vec(write_throttle(alloc, throttle_word(reason))?)?,
+        body: Bytes::from_vec(write_throttle(alloc, reason.as_str())?)?,
     })
 }
 

@@ -7,7 +7,7 @@ ghost use Rattle.replies.specs.Polls as spec;
 use crate::Gist;
 use crate::calls::{shared_body, trace_of, wants_account};
 use crate::functions::{arn_text, env_function};
-use crate::words::{env_text, reason_word, request_text};
+use crate::words::{env_text, request_text};
 use arn_ids::{Checked, IdKind};
 use bytes::Bytes;
 use call_model::Reason;
@@ -85,7 +85,7 @@ pub(crate) fn shutdown_event(
     Ok(Reply {
         status: 200,
         headers: event_headers(alloc, event)?,
-        body: Bytes::from_vec(write_shutdown_event(alloc, until, reason_word(reason))?)?,
+        body: Bytes::from_vec(write_shutdown_event(alloc, until, reason.as_str())?)?,
     })
 }
 

@@ -1,20 +1,20 @@
-//! Identifiers, and the words of reasons.
+//! Identifiers as they are written.
 
 ghost use Rattle.std.specs.Prelude.{◌≡◌, ◌≤◌, length};
+ghost use Rattle.arn_ids.specs.Identifiers.{id_word as written};
 ghost use Rattle.arn_ids.specs.declared.identifiers.IdKind.TheVariants.{Request};
 ghost use Rattle.http_header.specs.FieldValue.{IsFieldValue};
-ghost use Rattle.script.specs.AnswerText as answers;
 ghost use Rattle.replies.specs.Words as spec;
 
+use crate::functions::function_number;
 use arn_ids::{IdKind, event_id, extension_id, request_id};
-use call_model::{Call, Reason, Throttle};
-use script::{env_of, invoked};
+use call_model::Call;
 
 /// An identifier; a dash for a number or a count that no identifier has.
-#[tactic(auto, unfolding(script::specs::AnswerText::id_word), using(crate::proofs::FieldValues::id_fits))]
+#[tactic(auto, unfolding(arn_ids::specs::Identifiers::id_word), using(crate::proofs::FieldValues::id_fits))]
 fn id_word<'b>(buffer: &'b mut [u8], salt: u64, kind: IdKind, number: u32, count: u64) -> &'b str
     requires { 36 ≤ length buffer.old }
-    ensures { result.now ≡ answers.id_word salt kind number count }
+    ensures { result.now ≡ written salt kind number count }
 {
     if number >= 4096 {
         return "-";
@@ -37,7 +37,7 @@ pub(crate) fn request_text<'b>(buffer: &'b mut [u8], salt: u64, call: &Call, cou
     ensures value { result.now ≡ spec.request_text salt call.now count }
     ensures fits { IsFieldValue result.now }
 {
-    id_word(buffer, salt, IdKind::Request, invoked(call), count)
+    id_word(buffer, salt, IdKind::Request, function_number(call), count)
 }
 
 /// The identifier of an event or an extension of the environment that a call names.
@@ -53,27 +53,6 @@ pub(crate) fn env_text<'b>(
     ensures value { result.now ≡ spec.env_text salt kind call.now count }
     ensures fits { IsFieldValue result.now }
 {
-    id_word(buffer, salt, kind, env_of(call), count)
-}
-
-/// Why an environment ends.
-pub(crate) fn reason_word(reason: Reason) -> &'static str
-    ensures { result.now ≡ answers.reason_word reason }
-{
-    match reason {
-        Reason::Timeout => "TIMEOUT",
-        Reason::Failure => "FAILURE",
-        Reason::Spindown => "SPINDOWN",
-    }
-}
-
-/// Why an invocation isn't admitted.
-pub(crate) fn throttle_word(throttle: Throttle) -> &'static str
-    ensures { result.now ≡ answers.throttle_word throttle }
-{
-    match throttle {
-        Throttle::Function => "ReservedFunctionConcurrentInvocationLimitExceeded",
-        Throttle::Account => "ConcurrentInvocationLimitExceeded",
-        Throttle::Environments => "LocalEnvironmentLimitExceeded",
-    }
+    let env = call.environment().unwrap_or(0);
+    id_word(buffer, salt, kind, env, count)
 }

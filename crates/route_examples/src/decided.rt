@@ -1,7 +1,7 @@
 //! What is done with a request, as a line.
 
 ghost use Rattle.std.specs.Prelude.{◌≡◌, [], ◌∷◌, IfOk};
-ghost use Rattle.script.specs.CallCounts.{request_count};
+ghost use Rattle.call_model.specs.CallCounts.{request_count};
 
 use crate::port::Door;
 use arn_ids::Checked;

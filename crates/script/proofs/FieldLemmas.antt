@@ -2,7 +2,7 @@
 use Rattle.std.proofs.Common.{◌≡◌, ℕ, ◌==◌, List, ◌∷◌, None, refl}
 use Rattle.call_model.specs.declared.call.Call.{Call}
 use Rattle.script.specs.Lines.{fields, one_field, alone}
-use Rattle.script.proofs.Pieces.{pieces_begin}
+use Rattle.arn_ids.proofs.Pieces.{pieces_begin}
 
 pub too_many : (a more : List ℕ) → one_field (a ∷ fields more) ≡ None
 too_many a more = rw (pieces_begin (λ b. b == 32) more).2 refl

@@ -1,9 +1,7 @@
-pub mod Pieces
 pub mod TextFieldLemmas
 pub mod FieldLemmas
 pub mod WritingLemmas
 pub mod CallLemmas
-pub mod PastLemmas
 pub mod WithinLemmas
 pub mod NumberLemmas
 pub mod SplitLemmas

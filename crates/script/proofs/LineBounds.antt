@@ -21,12 +21,14 @@ use Rattle.call_model.specs.declared.answer.Throttle.TheVariants.{Function, Acco
 use Rattle.call_model.specs.declared.answer.Refusal.{Refusal}
 use Rattle.call_model.specs.declared.answer.Refusal.TheVariants.{State, Replaced, BadId, Unknown, TooLarge, Container, NameInUse, TooMany, NotIdle, BadReservation}
 use Rattle.call_model.specs.History.{call_of}
-use Rattle.script.specs.TextFields.{text_field, is_body, is_trace}
+use Rattle.call_model.specs.Within.{is_body, is_trace, IsTrace, IsWithin}
+use Rattle.script.specs.TextFields.{text_field}
 use Rattle.script.specs.CallText.{line_of, or_dash, flag, events, reservation, call_words, before_moment, call_text}
-use Rattle.script.specs.AnswerText.{body_of, body_word, request_word, env_word, reason_word, throttle_word, refusal_word, answer_words}
-use Rattle.script.specs.Limits.{IsTrace, IsWithin}
+use Rattle.call_model.specs.Calls.{body_of}
+use Rattle.call_model.specs.Words.{reason_word, throttle_word}
+use Rattle.script.specs.AnswerText.{body_word, request_word, env_word, refusal_word, answer_words}
 use Rattle.script.specs.Writing.{spaced}
-use Rattle.script.proofs.TextFieldLemmas.{both}
+use Rattle.arn_ids.proofs.Printable.{both}
 use Rattle.script.proofs.WordBounds.{Fits, is_plain, fits_weaker, fits_append, fits_cons, fits_word, fits_decimal, fits_id, fits_text}
 
 -- ---- words in a line

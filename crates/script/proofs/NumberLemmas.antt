@@ -3,7 +3,7 @@ use Rattle.std.proofs.Common.{◌≡◌, ◌≢◌, ℕ, ◌+◌, ◌-◌, ◌*�
 use Rattle.std.proofs.lemmas.Fmt.{decimal_by_steps}
 use Rattle.std.proofs.lemmas.Bool.Decides.{nat_tests}
 use Rattle.arn_ids.specs.Words.{is_digit}
-use Rattle.script.specs.Numbers.{digits_in, number_in}
+use Rattle.arn_ids.specs.Numbers.{digits_in, number_in}
 
 -- the digits go on with one more
 abbrev one_more : ℕ → ℕ → ℕ → Option ℕ

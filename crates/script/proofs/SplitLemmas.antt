@@ -13,7 +13,8 @@ use Rattle.script.specs.declared.words.TheConstants.{ESCAPED}
 use Rattle.script.specs.TextFields.{is_escaped, escaped, text_field}
 use Rattle.script.specs.Lines.{fields}
 use Rattle.script.specs.CallText.{line_of}
-use Rattle.script.proofs.TextFieldLemmas.{same_test, same_text, both}
+use Rattle.arn_ids.proofs.Printable.{both}
+use Rattle.script.proofs.TextFieldLemmas.{same_test, same_text}
 
 -- a byte that is no space
 abbrev pub IsPlain : ℕ → Type 0

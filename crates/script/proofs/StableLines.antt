@@ -13,17 +13,20 @@ use Rattle.call_model.specs.Isolation.{named}
 use Rattle.call_model.proofs.AfterEntry.{call_of_old}
 use Rattle.call_model.proofs.NamedTickets.{IsBounded}
 use Rattle.script.specs.CallText.{line_of}
-use Rattle.script.specs.CallCounts.{request_count}
+use Rattle.call_model.specs.CallCounts.{request_count}
 use Rattle.script.specs.TextFields.{text_field}
-use Rattle.script.specs.AnswerText.{id_word, invoked, body_of, body_word, request_word, env_word, reason_word, answer_words, answer_line, answer_lines}
+use Rattle.arn_ids.specs.Identifiers.{id_word}
+use Rattle.call_model.specs.Calls.{invoked, body_of}
+use Rattle.call_model.specs.Words.{reason_word}
+use Rattle.script.specs.AnswerText.{body_word, request_word, env_word, answer_words, answer_line, answer_lines}
 
 upto_old : (e : Entry) (h : List Entry) (t : ℕ) → t < length h → upto (e ∷ h) t ≡ upto h t
 upto_old e h t lt = let is : nat_lt t (length h) ≡ true = grind (arith, nat_tests) in rw is refl
 
 request_old : (salt : ℕ) (e : Entry) (h : List Entry) (p : ℕ) → p < length h → request_word salt (e ∷ h) p ≡ request_word salt h p
 request_old salt e h p lt =
-    ap (λ (c : Call). id_word salt Request (invoked c) (request_count (upto (e ∷ h) p) c)) (call_of_old e h p lt)
-    ∙ ap (λ (k : List Entry). id_word salt Request (invoked (call_of h p)) (request_count k (call_of h p))) (upto_old e h p lt)
+    ap (λ (c : Call). id_word salt Request (unwrap_or (invoked c) 0) (request_count (upto (e ∷ h) p) c)) (call_of_old e h p lt)
+    ∙ ap (λ (k : List Entry). id_word salt Request (unwrap_or (invoked (call_of h p)) 0) (request_count k (call_of h p))) (upto_old e h p lt)
 
 body_old : (e : Entry) (h : List Entry) (p : ℕ) → p < length h → body_word (e ∷ h) p ≡ body_word h p
 body_old e h p lt = ap (λ (c : Call). text_field (body_of c)) (call_of_old e h p lt)

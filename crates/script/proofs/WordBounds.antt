@@ -6,11 +6,10 @@ use Rattle.std.proofs.lemmas.Bool.{leb-true, le-leb, or_parts}
 use Rattle.std.proofs.lemmas.Bool.Decides.{nat_tests}
 use Rattle.std.proofs.lemmas.List.Folds.{list_all-append}
 use Rattle.uuid.specs.Text.{by_index, hex_digit, nibble, is_hyphen_place, digit_place, hyphen, hyphenated_text, lower}
-use Rattle.arn_ids.specs.Identifiers.{identifier_of}
+use Rattle.arn_ids.specs.Identifiers.{identifier_of, id_word}
 use Rattle.arn_ids.specs.declared.identifiers.IdKind.{IdKind}
 use Rattle.script.specs.TextFields.{is_escaped, text_byte, escaped, text_field}
-use Rattle.script.specs.AnswerText.{id_word}
-use Rattle.script.proofs.TextFieldLemmas.{both}
+use Rattle.arn_ids.proofs.Printable.{both}
 
 -- bytes without a control byte
 abbrev pub is_plain : List ℕ → Bool

@@ -1,49 +1,25 @@
 -- The lines of answers.
-use Rattle.std.specs.Prelude.{ℕ, ◌^◌, ◌&&◌, nat_lt, if◌then◌else◌, List, [], ◌∷◌, ◌++◌, codes, unwrap_or, decimal}
+use Rattle.std.specs.Prelude.{ℕ, List, [], ◌∷◌, ◌++◌, codes, unwrap_or, decimal}
 use Rattle.std.specs.List.{flat_map}
-use Rattle.uuid.specs.Text.{hyphenated_text, lower}
-use Rattle.arn_ids.specs.Identifiers.{identifier_of}
+use Rattle.arn_ids.specs.Identifiers.{id_word}
 use Rattle.arn_ids.specs.declared.identifiers.IdKind.{IdKind}
 use Rattle.arn_ids.specs.declared.identifiers.IdKind.TheVariants.{Request, Extension, Event}
 use Rattle.arn_ids.specs.declared.config.Config.{Config}
-use Rattle.call_model.specs.declared.call.Call.{Call}
-use Rattle.call_model.specs.declared.call.Call.TheVariants.{Invoke, Response, Failure, InitFailure, ExtInitFailure, ExtExitFailure}
 use Rattle.call_model.specs.declared.call.Entry.{Entry}
 use Rattle.call_model.specs.declared.answer.Answer.{Answer}
 use Rattle.call_model.specs.declared.answer.Answer.TheVariants.{Delivered, Told, Ending, Registered, Accepted, Done, Output, Error, TimedOut, InitTimedOut, OutputTooLarge, Throttled, Stopped, Withdrawn, Refused, Reserved, Unreserved}
-use Rattle.call_model.specs.declared.answer.Reason.{Reason}
-use Rattle.call_model.specs.declared.answer.Reason.TheVariants.{Timeout, Failure as Failed, Spindown}
-use Rattle.call_model.specs.declared.answer.Throttle.{Throttle}
-use Rattle.call_model.specs.declared.answer.Throttle.TheVariants.{Function, Account, Environments}
 use Rattle.call_model.specs.declared.answer.Refusal.{Refusal}
 use Rattle.call_model.specs.declared.answer.Refusal.TheVariants.{State, Replaced, BadId, Unknown, TooLarge, Container, NameInUse, TooMany, NotIdle, BadReservation}
 use Rattle.call_model.specs.History.{call_of, env_of, upto}
+use Rattle.call_model.specs.Calls.{invoked, body_of}
+use Rattle.call_model.specs.Words.{reason_word, throttle_word}
 use Rattle.script.specs.CallText.{line_of, call_text}
-use Rattle.script.specs.CallCounts.{request_count}
+use Rattle.call_model.specs.CallCounts.{request_count}
 use Rattle.script.specs.TextFields.{text_field}
-
--- an identifier (RFC 9562, section 4); a dash for a number or a count that no identifier has
-unfoldable pub id_word : ℕ → IdKind → ℕ → ℕ → List ℕ
-id_word salt kind number count = if nat_lt number 4096 && nat_lt count (2 ^ 48) then hyphenated_text lower (identifier_of salt kind number count) else codes "-"
-
--- the function that a call invokes; 0 for a call that is no Invoke
-abbrev pub invoked : Call → ℕ
-invoked (Invoke f qualified trace body) = f
-invoked _ = 0
-
--- the bytes of a call: a payload, an output or a report; none for a call that has none
-abbrev pub body_of : Call → List ℕ
-body_of (Invoke f qualified trace body) = body
-body_of (Response e id body) = body
-body_of (Failure e id body) = body
-body_of (InitFailure e body) = body
-body_of (ExtInitFailure e x body) = body
-body_of (ExtExitFailure e x body) = body
-body_of _ = []
 
 -- the request identifier of the Invoke with a ticket (Runtime API: Lambda-Runtime-Aws-Request-Id)
 abbrev pub request_word : ℕ → List Entry → ℕ → List ℕ
-request_word salt h p = id_word salt Request (invoked (call_of h p)) (request_count (upto h p) (call_of h p))
+request_word salt h p = id_word salt Request (unwrap_or (invoked (call_of h p)) 0) (request_count (upto h p) (call_of h p))
 
 -- the identifier of an event or an extension of the environment that the call with a ticket names
 abbrev pub env_word : ℕ → IdKind → List Entry → ℕ → ℕ → List ℕ
@@ -52,18 +28,6 @@ env_word salt kind h t count = id_word salt kind (unwrap_or (env_of (call_of h t
 -- the field of the bytes of the call with a ticket
 abbrev pub body_word : List Entry → ℕ → List ℕ
 body_word h t = text_field (body_of (call_of h t))
-
--- why an environment ends (Extensions API: shutdownReason)
-abbrev pub reason_word : Reason → List ℕ
-reason_word Timeout = codes "TIMEOUT"
-reason_word Failed = codes "FAILURE"
-reason_word Spindown = codes "SPINDOWN"
-
--- why an invocation isn't admitted (Invoke: the Reason of TooManyRequestsException)
-abbrev pub throttle_word : Throttle → List ℕ
-throttle_word Function = codes "ReservedFunctionConcurrentInvocationLimitExceeded"
-throttle_word Account = codes "ConcurrentInvocationLimitExceeded"
-throttle_word Environments = codes "LocalEnvironmentLimitExceeded"
 
 -- why a call is refused
 abbrev pub refusal_word : Refusal → List ℕ

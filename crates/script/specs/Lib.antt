@@ -1,9 +1,6 @@
-pub mod Numbers
 pub mod TextFields
 pub mod Lines
-pub mod Limits
 pub mod Views
 pub mod CallText
-pub mod CallCounts
 pub mod AnswerText
 pub mod Writing

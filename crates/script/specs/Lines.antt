@@ -1,11 +1,12 @@
 -- The lines of a script, and the call that each stands for.
-use Rattle.std.specs.Prelude.{ℕ, Bool, true, false, ◌&&◌, ◌==◌, if◌then◌else◌, List, [], ◌∷◌, length, codes, bytes_eq, Option, Some, None, option_map, option_and_then}
+use Rattle.std.specs.Prelude.{ℕ, Bool, true, false, ◌&&◌, ◌==◌, if◌then◌else◌, List, [], ◌∷◌, codes, bytes_eq, Option, Some, None, option_map, option_and_then}
 use Rattle.std.specs.List.{slice_split}
-use Rattle.arn_ids.specs.Environments.{owners, number_named}
+use Rattle.arn_ids.specs.Environments.{number_named}
 use Rattle.arn_ids.specs.declared.config.Config.{Config}
 use Rattle.call_model.specs.declared.call.Call.{Call}
 use Rattle.call_model.specs.declared.call.Call.TheVariants.{Invoke, RuntimeNext, Response, ResponseTooLarge, Failure, InitFailure, Register, ExtNext, ExtInitFailure, ExtExitFailure, Tick, Withdraw, Spindown, Stop, Reserve}
-use Rattle.script.specs.Numbers.{number_in, from_one, greatest_moment, greatest_count, greatest_ticket, greatest_reservation}
+use Rattle.arn_ids.specs.Numbers.{number_in, env_in}
+use Rattle.arn_ids.specs.Limits.{greatest_moment, greatest_count, greatest_ticket, greatest_reservation}
 use Rattle.script.specs.TextFields.{body_in, name_in, trace_in}
 
 infixl 10 ◌>>=◌
@@ -38,12 +39,6 @@ four_fields (a ∷ more) = option_map (λ b. (a, b.0, b.1, b.2)) (three_fields m
 abbrev pub alone : Call → List (List ℕ) → Option Call
 alone call [] = Some call
 alone call (a ∷ more) = None
-
--- an environment of the configuration, by its number
-abbrev pub env_in : Config → List ℕ → Option ℕ
-env_in config field = do
-  e ← number_in (length (owners config)) field
-  from_one e
 
 -- the count in an identifier
 abbrev pub count_in : List ℕ → Option ℕ

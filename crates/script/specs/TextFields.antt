@@ -1,9 +1,10 @@
 -- The text fields of a script: an equals sign, and bytes of which some are percent-encoded.
-use Rattle.std.specs.Prelude.{ℕ, ◌/◌, ◌%◌, Bool, true, ◌||◌, ◌==◌, nat_le, nat_lt, if◌then◌else◌, List, [], ◌∷◌, length, codes, bytes_eq, Option, Some, None, option_map, option_and_then}
+use Rattle.std.specs.Prelude.{ℕ, ◌/◌, ◌%◌, Bool, true, ◌||◌, ◌==◌, nat_lt, if◌then◌else◌, List, [], ◌∷◌, codes, bytes_eq, Option, Some, None, option_map, option_and_then}
 use Rattle.std.specs.List.{flat_map}
 use Rattle.std.specs.Fmt.{digit_glyph}
 use Rattle.percent_encoding.specs.Percent.{percent_decode}
-use Rattle.arn_ids.specs.Words.{is_printable, is_word, is_label}
+use Rattle.arn_ids.specs.Words.{is_label}
+use Rattle.call_model.specs.Within.{is_body, is_trace}
 
 -- a byte below 0x21, the percent sign, or a byte above 0x7E
 abbrev pub is_escaped : ℕ → Bool
@@ -29,14 +30,6 @@ text_in (b ∷ bs) = if b == 61 then Some (percent_decode bs) else None
 -- a text that passes a test
 abbrev pub text_that : (List ℕ → Bool) → List ℕ → Option (List ℕ)
 text_that passes field = option_and_then (λ text. if passes text then Some text else None) (text_in field)
-
--- a payload, an output or a report has at most 6,291,456 bytes (Lambda quotas: invocation payload)
-abbrev pub is_body : List ℕ → Bool
-is_body body = nat_le (length body) 6291456
-
--- a trace: 1 to 256 printing characters
-abbrev pub is_trace : List ℕ → Bool
-is_trace = is_word is_printable 256
 
 -- a body's field
 abbrev pub body_in : List ℕ → Option (List ℕ)

@@ -4,37 +4,17 @@ ghost use Rattle.std.specs.Prelude.{◌≡◌, ◌<◌, ◌++◌, length, revers
 ghost use Rattle.std.specs.List.{flat_map};
 ghost use Rattle.call_model.specs.declared.call.Entry.{Entry};
 ghost use Rattle.script.specs.AnswerText as spec;
-ghost use Rattle.script.specs.AnswerText.{answer_words, answer_line, answer_lines, entry_text, reason_word, throttle_word, refusal_word};
-ghost use Rattle.script.specs.CallCounts.{call_counts};
+ghost use Rattle.script.specs.AnswerText.{answer_words, answer_line, answer_lines, entry_text, refusal_word};
+ghost use Rattle.call_model.specs.CallCounts.{call_counts};
 ghost use Rattle.script.specs.Writing.{Adds, spaced, marked_lines};
 
 use crate::call_writer::push_call;
-use crate::past::Past;
+use crate::past_words::{body_word, env_word, request_word};
 use crate::words::{Word, end_line, push_spaced, push_word, push_words};
 use arn_ids::{Checked, IdKind};
-use call_model::{Answer, Entry, Reason, Refusal, Throttle, Ticket};
+use call_model::{Answer, Entry, Past, Refusal, Ticket};
 use entry_blocks::Blocks;
 use std::alloc::AllocError;
-
-fn reason_text(reason: Reason) -> &'static str
-    ensures { result.now ≡ reason_word reason }
-{
-    match reason {
-        Reason::Timeout => "TIMEOUT",
-        Reason::Failure => "FAILURE",
-        Reason::Spindown => "SPINDOWN",
-    }
-}
-
-fn throttle_text(throttle: Throttle) -> &'static str
-    ensures { result.now ≡ throttle_word throttle }
-{
-    match throttle {
-        Throttle::Function => "ReservedFunctionConcurrentInvocationLimitExceeded",
-        Throttle::Account => "ConcurrentInvocationLimitExceeded",
-        Throttle::Environments => "LocalEnvironmentLimitExceeded",
-    }
-}
 
 fn refusal_text(refusal: Refusal) -> &'static str
     ensures { result.now ≡ refusal_word refusal }
@@ -68,9 +48,9 @@ fn push_answer_words(
             out,
             &[
                 Word::Plain("deliver"),
-                past.request(invoke),
+                request_word(past, invoke),
                 Word::Number(deadline),
-                past.body(invoke),
+                body_word(past, invoke),
             ],
         ),
         Answer::Told {
@@ -81,8 +61,8 @@ fn push_answer_words(
             out,
             &[
                 Word::Plain("tell"),
-                past.at_env(IdKind::Event, ticket, event),
-                past.request(invoke),
+                env_word(past, IdKind::Event, ticket, event),
+                request_word(past, invoke),
                 Word::Number(deadline),
             ],
         ),
@@ -94,8 +74,8 @@ fn push_answer_words(
             out,
             &[
                 Word::Plain("shutdown"),
-                past.at_env(IdKind::Event, ticket, event),
-                Word::Plain(reason_text(reason)),
+                env_word(past, IdKind::Event, ticket, event),
+                Word::Plain(reason.as_str()),
                 Word::Number(until),
             ],
         ),
@@ -104,20 +84,20 @@ fn push_answer_words(
                 out,
                 &[
                     Word::Plain("registered"),
-                    past.at_env(IdKind::Extension, ticket, count),
+                    env_word(past, IdKind::Extension, ticket, count),
                 ],
             )
         }
         Answer::Accepted => push_words(out, &[Word::Plain("accepted")]),
         Answer::Done => push_words(out, &[Word::Plain("done")]),
-        Answer::Output { source } => push_words(out, &[Word::Plain("output"), past.body(source)]),
-        Answer::Error { source } => push_words(out, &[Word::Plain("error"), past.body(source)]),
+        Answer::Output { source } => push_words(out, &[Word::Plain("output"), body_word(past, source)]),
+        Answer::Error { source } => push_words(out, &[Word::Plain("error"), body_word(past, source)]),
         Answer::TimedOut => push_words(out, &[Word::Plain("timeout")]),
         Answer::InitTimedOut => push_words(out, &[Word::Plain("init-timeout")]),
         Answer::OutputTooLarge => push_words(out, &[Word::Plain("too-large-output")]),
         Answer::Throttled(reason) => push_words(
             out,
-            &[Word::Plain("throttled"), Word::Plain(throttle_text(reason))],
+            &[Word::Plain("throttled"), Word::Plain(reason.as_str())],
         ),
         Answer::Stopped => push_words(out, &[Word::Plain("stopped")]),
         Answer::Withdrawn => push_words(out, &[Word::Plain("withdrawn")]),

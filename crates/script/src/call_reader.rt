@@ -3,26 +3,23 @@
 ghost use Rattle.std.specs.Prelude.{◌≡◌, codes, IfOk, IfSome};
 ghost use Rattle.script.specs.Lines as spec;
 ghost use Rattle.script.specs.Lines.{call_in};
-ghost use Rattle.script.specs.Limits.{IsTimed};
+ghost use Rattle.call_model.specs.Within.{IsTimed};
 ghost use Rattle.script.specs.Views.{fields_left};
 
 use crate::fields::{cut, four_fields, one_field, three_fields, two_fields};
-use crate::numbers::{number, number_u32, read_environment};
 use crate::text_fields::{body, extension_name, trace};
-use arn_ids::{Checked, EnvNo};
+use arn_ids::{
+    Checked, EnvNo, GREATEST_COUNT, GREATEST_MOMENT, read_environment, read_number, read_number_u32,
+};
 use bytes::Bytes;
 use call_model::Call;
 use std::alloc::{AllocError, Global};
-
-const GREATEST_MOMENT: u64 = (1 << 53) - 1;
-
-const GREATEST_COUNT: u64 = (1 << 48) - 1;
 
 /// The count in an identifier.
 fn count_number(field: &[u8]) -> Option<u64>
     ensures { result ≡ spec.count_in field.now }
 {
-    number(field, GREATEST_COUNT)
+    read_number(field, GREATEST_COUNT)
 }
 
 fn is_qualified(field: &[u8]) -> Option<bool>
@@ -73,7 +70,7 @@ fn reservation(field: &[u8]) -> Option<Option<u32>>
     if field == b"-".as_slice() {
         return Some(None);
     }
-    let count = number_u32(field, u32::MAX)?;
+    let count = read_number_u32(field, u32::MAX)?;
     Some(Some(count))
 }
 
@@ -203,7 +200,7 @@ fn register(
 fn withdraw(line: Option<&[u8]>) -> Option<Call>
     ensures { result ≡ spec.withdraw_in (fields_left line.entry) }
 {
-    let ticket = number(one_field(line)?, u64::MAX)?;
+    let ticket = read_number(one_field(line)?, u64::MAX)?;
     Some(Call::Withdraw { ticket })
 }
 
@@ -334,7 +331,7 @@ fn timed_call(
         return Ok(None);
     };
     let (word, rest) = cut(rest);
-    let Some(moment) = number(moment, GREATEST_MOMENT) else {
+    let Some(moment) = read_number(moment, GREATEST_MOMENT) else {
         return Ok(None);
     };
     let Some(call) = call_by_word(alloc, config, reserves, word, rest)? else {

@@ -5,12 +5,10 @@ ghost use Rattle.arn_ids.specs.Words.{is_word, is_printable as is_printable_byte
 ghost use Rattle.script.specs.TextFields.{text_in, text_that, body_in, name_in, trace_in};
 ghost use Rattle.script.specs.TextFields as spec;
 
-use arn_ids::{Text, is_printable_word};
+use arn_ids::{LONGEST_BODY, Text, is_printable_word};
 use bytes::Bytes;
 use percent_encoding::percent_decode;
 use std::alloc::{AllocError, Global};
-
-const LONGEST_BODY: usize = 6_291_456;
 
 const LONGEST_TRACE: usize = 256;
 

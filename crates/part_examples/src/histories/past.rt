@@ -3,7 +3,7 @@
 ghost use Rattle.std.specs.Prelude.{◌≡◌, ◌+◌, ◌^◌, ◌<◌, ◌≤◌, ◌∷◌, length, reverse};
 ghost use Rattle.std.specs.List.{count_by};
 ghost use Rattle.call_model.specs.History.{is_invoke_of};
-ghost use Rattle.script.specs.CallCounts.{call_counts, request_count};
+ghost use Rattle.call_model.specs.CallCounts.{call_counts, request_count};
 
 use arn_ids::FnNo;
 use call_model::{Call, Entry};
@@ -22,7 +22,7 @@ pub struct Past {
 impl Model for Past {
     ghost use Rattle.std.specs.Prelude.{◌≡◌, List, reverse};
     ghost use Rattle.call_model.specs.declared.call.Entry.{Entry as TheEntry};
-    ghost use Rattle.script.specs.CallCounts.{call_counts};
+    ghost use Rattle.call_model.specs.CallCounts.{call_counts};
 
     ghost Value = { List TheEntry };
 

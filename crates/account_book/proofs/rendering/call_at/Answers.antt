@@ -1,6 +1,6 @@
 use Rattle.std.proofs.Common.{◌∙◌, ap}
 use Rattle.call_model.specs.declared.call.Entry.{Entry}
-use Rattle.script.proofs.PastLemmas.{call_here}
+use Rattle.call_model.proofs.PastLemmas.{call_here}
 use Rattle.account_book.proofs.rendering.call_at.Goals as goal
 
 pub returns : goal.returns

@@ -1,6 +1,6 @@
 use Rattle.std.proofs.Common.{◌==◌, sym}
 use Rattle.std.proofs.lemmas.List.{take_rest}
-use Rattle.script.proofs.Pieces.{split_some, split_none}
+use Rattle.arn_ids.proofs.Pieces.{split_some, split_none}
 use Rattle.http_routes.proofs.heads.cut.Goals as goal
 
 pub returns-in-Some : goal.returns-in-Some

@@ -1,5 +1,5 @@
 use Rattle.std.proofs.Common.{◌≡◌, true, false, sym}
-use Rattle.script.proofs.TextFieldLemmas.{utf8_from_word}
+use Rattle.arn_ids.proofs.Printable.{utf8_from_word}
 use Rattle.http_routes.proofs.heads.printable_text.Goals as goal
 
 pub unreachable-requires : goal.unreachable-requires

@@ -1,6 +1,6 @@
 use Rattle.std.proofs.Common.{◌≡◌, true}
 use Rattle.arn_ids.specs.Words.{is_word, is_printable}
-use Rattle.script.proofs.TextFieldLemmas.{utf8_from_word}
+use Rattle.arn_ids.proofs.Printable.{utf8_from_word}
 use Rattle.script.proofs.text_fields.printable_text.Goals as goal
 
 pub unreachable-requires : goal.unreachable-requires

@@ -1,6 +1,6 @@
 use Rattle.std.proofs.Common.{◌∙◌, sym, ap, reverse, arith}
 use Rattle.std.proofs.lemmas.List.{reverse-reverse}
-use Rattle.script.specs.CallCounts.{call_counts}
+use Rattle.call_model.specs.CallCounts.{call_counts}
 use Rattle.script_replay.proofs.AddedEntries.{lines_step}
 use Rattle.script_replay.proofs.book.push_from.Goals as goal
 

@@ -9,8 +9,8 @@ use Rattle.call_model.proofs.NextLegal.{none_due_at, next_entered}
 use Rattle.account_book.specs.declared.book.Book.TheInside.{Inside}
 use Rattle.account_book.specs.Book.{Kept}
 use Rattle.account_book.specs.Books.{IsBook}
-use Rattle.script.specs.AnswerText.{body_of}
-use Rattle.script.specs.Limits.{IsWithin}
+use Rattle.call_model.specs.Calls.{body_of}
+use Rattle.call_model.specs.Within.{IsWithin}
 use Rattle.call_model.proofs.Added.{room_for_stop}
 use Rattle.account_book.proofs.Reaching.{reached_next}
 use Rattle.account_book.specs.Pages.{Pages}

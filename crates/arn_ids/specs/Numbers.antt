@@ -1,6 +1,8 @@
--- The numbers of a script: decimal, without leading zeros, each with a greatest value.
-use Rattle.std.specs.Prelude.{ℕ, ◌+◌, ◌-◌, ◌*◌, ◌&&◌, ◌==◌, nat_le, if◌then◌else◌, List, [], ◌∷◌, Option, Some, None}
+-- Numbers in texts: decimal, without leading zeros, each with a greatest value.
+use Rattle.std.specs.Prelude.{ℕ, ◌+◌, ◌-◌, ◌*◌, ◌&&◌, ◌==◌, nat_le, if◌then◌else◌, List, [], ◌∷◌, length, Option, Some, None, option_and_then}
 use Rattle.arn_ids.specs.Words.{is_digit}
+use Rattle.arn_ids.specs.Environments.{owners}
+use Rattle.arn_ids.specs.declared.config.Config.{Config}
 
 -- the number that n goes on to with these digits, where it stays within most
 abbrev pub digits_in : ℕ → ℕ → List ℕ → Option ℕ
@@ -17,18 +19,6 @@ number_in most (b ∷ c ∷ bs) = if b == 48 then None else digits_in most 0 (b 
 abbrev pub from_one : ℕ → Option ℕ
 from_one n = if nat_le 1 n then Some n else None
 
--- the greatest moment: milliseconds that a JSON number holds exactly
-abbrev pub greatest_moment : ℕ
-greatest_moment = 9007199254740991
-
--- the greatest count in an identifier
-abbrev pub greatest_count : ℕ
-greatest_count = 281474976710655
-
--- the greatest ticket
-abbrev pub greatest_ticket : ℕ
-greatest_ticket = 18446744073709551615
-
--- the greatest reservation that a line can ask for
-abbrev pub greatest_reservation : ℕ
-greatest_reservation = 4294967295
+-- an environment of the configuration, by its number
+abbrev pub env_in : Config → List ℕ → Option ℕ
+env_in config text = option_and_then from_one (number_in (length (owners config)) text)

@@ -10,7 +10,7 @@ use Rattle.call_model.specs.declared.call.Call.TheVariants.{Invoke, RuntimeNext,
 use Rattle.std.proofs.lemmas.Bool.{eqb-true}
 use Rattle.call_model.specs.declared.call.Entry.{Entry}
 use Rattle.call_model.specs.History.{call_of, upto, requests, is_invoke_of}
-use Rattle.script.specs.CallCounts.{call_counts, request_count}
+use Rattle.call_model.specs.CallCounts.{call_counts, request_count}
 
 pub no_call : (h : List Entry) (t : ℕ) → length h ≤ t → call_of h t ≡ Expire 0
 no_call [] t far = refl

@@ -1,6 +1,6 @@
 use Rattle.std.proofs.Common.{◌≡◌, ◌≤◌, length}
-use Rattle.script.specs.Numbers.{digits_in}
-use Rattle.script.proofs.numbers.digits.Given as goal
+use Rattle.arn_ids.specs.Numbers.{digits_in}
+use Rattle.arn_ids.proofs.numbers.digits.Given as goal
 
 abbrev pub invariant-loop-first : goal.invariant-loop-first
 invariant-loop-first l = record {

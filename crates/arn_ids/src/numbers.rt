@@ -1,13 +1,12 @@
-//! Decimal numbers.
+//! Decimal numbers in texts.
 
 ghost use Rattle.std.specs.Prelude.{◌≡◌, ◌≤◌, IfSome};
-ghost use Rattle.script.specs.Lines.{env_in};
-ghost use Rattle.script.specs.Numbers.{number_in, digits_in};
+ghost use Rattle.arn_ids.specs.Numbers.{number_in, digits_in, env_in};
 
-use arn_ids::{Checked, EnvNo};
+use crate::{Checked, EnvNo};
 
 /// A decimal number of at most `most`, without leading zeros.
-pub(crate) fn number(text: &[u8], most: u64) -> Option<u64>
+pub fn read_number(text: &[u8], most: u64) -> Option<u64>
     ensures value { result ≡ number_in most text.now }
     ensures within { IfSome result (λ n. n ≤ most) }
 {
@@ -19,10 +18,10 @@ pub(crate) fn number(text: &[u8], most: u64) -> Option<u64>
 }
 
 /// The same where `most` is below 2^32.
-pub(crate) fn number_u32(text: &[u8], most: u32) -> Option<u32>
+pub fn read_number_u32(text: &[u8], most: u32) -> Option<u32>
     ensures { result ≡ number_in most text.now }
 {
-    let number = number(text, u64::from(most))?;
+    let number = read_number(text, u64::from(most))?;
     Some(number as u32)
 }
 
@@ -51,6 +50,6 @@ fn digits(text: &[u8], most: u64) -> Option<u64>
 pub fn read_environment(config: &Checked, text: &[u8]) -> Option<EnvNo>
     ensures { result ≡ env_in config.now text.now }
 {
-    let env = number_u32(text, config.environments())?;
+    let env = read_number_u32(text, config.environments())?;
     if env == 0 { None } else { Some(env) }
 }

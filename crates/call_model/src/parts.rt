@@ -1,0 +1,65 @@
+//! What a call names, and its bytes.
+
+ghost use Rattle.std.specs.Prelude.{◌≡◌};
+ghost use Rattle.call_model.specs.History.{env_of};
+ghost use Rattle.call_model.specs.Calls as spec;
+
+use crate::Call;
+use arn_ids::{EnvNo, FnNo};
+
+impl Call {
+    /// Whether a caller invokes a function.
+    pub fn is_invoke(&self) -> bool
+        ensures { result ≡ spec.is_invoke self.now }
+    {
+        match self {
+            Call::Invoke { .. } => true,
+            _ => false,
+        }
+    }
+
+    /// The function that the call invokes.
+    pub fn function(&self) -> Option<FnNo>
+        ensures { result ≡ spec.invoked self.now }
+    {
+        match self {
+            Call::Invoke { function, .. } => Some(*function),
+            _ => None,
+        }
+    }
+
+    /// The environment that the call names.
+    pub fn environment(&self) -> Option<EnvNo>
+        ensures { result ≡ env_of self.now }
+    {
+        match self {
+            Call::RuntimeNext { env } => Some(*env),
+            Call::Response { env, .. } => Some(*env),
+            Call::ResponseTooLarge { env, .. } => Some(*env),
+            Call::Failure { env, .. } => Some(*env),
+            Call::InitFailure { env, .. } => Some(*env),
+            Call::Register { env, .. } => Some(*env),
+            Call::ExtNext { env, .. } => Some(*env),
+            Call::ExtInitFailure { env, .. } => Some(*env),
+            Call::ExtExitFailure { env, .. } => Some(*env),
+            Call::Spindown { env } => Some(*env),
+            Call::Expire { env } => Some(*env),
+            _ => None,
+        }
+    }
+
+    /// The bytes of the call, a payload, an output or a report; none where it has none.
+    pub fn body(&self) -> &[u8]
+        ensures { result.now ≡ spec.body_of self.now }
+    {
+        match self {
+            Call::Invoke { body, .. } => body.as_slice(),
+            Call::Response { body, .. } => body.as_slice(),
+            Call::Failure { body, .. } => body.as_slice(),
+            Call::InitFailure { body, .. } => body.as_slice(),
+            Call::ExtInitFailure { body, .. } => body.as_slice(),
+            Call::ExtExitFailure { body, .. } => body.as_slice(),
+            _ => &[],
+        }
+    }
+}

@@ -1,0 +1,48 @@
+//! What an answer tells of the calls before it.
+
+ghost use Rattle.std.specs.Prelude.{◌≡◌, reverse, MatchOption};
+ghost use Rattle.call_model.specs.declared.call.Call.TheVariants.{Expire as NoCall};
+ghost use Rattle.call_model.specs.History.{call_of, upto};
+ghost use Rattle.call_model.specs.CallCounts.{call_counts, request_count};
+
+use crate::{Call, Entry, Ticket};
+use entry_blocks::Blocks;
+
+/// The entries of a history, the oldest first, with the count in the request identifier of each
+/// Invoke.
+#[derive(Clone, Copy)]
+pub struct Past<'a> {
+    /// What every identifier is made with.
+    pub salt: u64,
+    /// The entries, the oldest first.
+    pub entries: &'a Blocks<Entry>,
+    /// For each entry the count in its request identifier, 0 where its call is no Invoke.
+    pub counts: &'a Blocks<u64>,
+    ghost counted: { reverse counts.now.0 ≡ call_counts (reverse entries.now.0) },
+}
+
+impl<'a> Past<'a> {
+    /// The call with a ticket, where there is one.
+    #[tactic(auto, using(crate::proofs::PastLemmas::no_call_here))]
+    pub fn call(&self, ticket: Ticket) -> Option<&'a Call>
+        ensures { MatchOption result (call_of (reverse self.now.entries.now.0) ticket ≡ NoCall 0) (λ call. call.now ≡ call_of (reverse self.now.entries.now.0) ticket) }
+    {
+        let place = ticket as usize;
+        if place >= self.entries.len() {
+            return None;
+        }
+        Some(&self.entries.at(place).call)
+    }
+
+    /// The count in the request identifier of the Invoke with a ticket; 0 where there is none.
+    #[tactic(auto, using(crate::proofs::PastLemmas::no_count_here))]
+    pub fn count(&self, ticket: Ticket) -> u64
+        ensures { let h = reverse self.now.entries.now.0 in result ≡ request_count (upto h ticket) (call_of h ticket) }
+    {
+        let place = ticket as usize;
+        if place >= self.counts.len() {
+            return 0;
+        }
+        *self.counts.at(place)
+    }
+}

@@ -1,0 +1,60 @@
+//! What the words of an answer say of the calls before it.
+
+ghost use Rattle.std.specs.Prelude.{◌≡◌, reverse};
+ghost use Rattle.arn_ids.specs.Identifiers.{id_word as written};
+ghost use Rattle.script.specs.AnswerText as spec;
+ghost use Rattle.script.specs.Writing.{word_text};
+
+use crate::words::Word;
+use arn_ids::{IdKind, event_id, extension_id, request_id};
+use call_model::{Past, Ticket};
+
+/// An identifier; a dash for a number or a count that no identifier has.
+#[tactic(auto, unfolding(arn_ids::specs::Identifiers::id_word))]
+fn id_word(salt: u64, kind: IdKind, number: u32, count: u64) -> Word<'static>
+    ensures { word_text result ≡ written salt kind number count }
+{
+    if number >= 4096 {
+        return Word::Plain("-");
+    }
+    if count >= 1 << 48 {
+        return Word::Plain("-");
+    }
+    Word::Identifier(match kind {
+        IdKind::Request => request_id(salt, number, count),
+        IdKind::Extension => extension_id(salt, number, count),
+        IdKind::Event => event_id(salt, number, count),
+    })
+}
+
+/// The request identifier of the Invoke with a ticket.
+pub(crate) fn request_word(past: &Past, ticket: Ticket) -> Word<'static>
+    ensures { word_text result ≡ spec.request_word past.now.salt (reverse past.now.entries.now.0) ticket }
+{
+    let function = match past.call(ticket) {
+        None => 0,
+        Some(call) => call.function().unwrap_or(0),
+    };
+    id_word(past.salt, IdKind::Request, function, past.count(ticket))
+}
+
+/// The identifier of an event or an extension at the environment of the call with a ticket.
+pub(crate) fn env_word(past: &Past, kind: IdKind, ticket: Ticket, count: u64) -> Word<'static>
+    ensures { word_text result ≡ spec.env_word past.now.salt kind (reverse past.now.entries.now.0) ticket count }
+{
+    let env = match past.call(ticket) {
+        None => 0,
+        Some(call) => call.environment().unwrap_or(0),
+    };
+    id_word(past.salt, kind, env, count)
+}
+
+/// The bytes of the call with a ticket.
+pub(crate) fn body_word<'a>(past: &Past<'a>, ticket: Ticket) -> Word<'a>
+    ensures { word_text result ≡ spec.body_word (reverse past.now.entries.now.0) ticket }
+{
+    match past.call(ticket) {
+        None => Word::Text(&[]),
+        Some(call) => Word::Text(call.body()),
+    }
+}
