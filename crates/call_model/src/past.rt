@@ -1,4 +1,4 @@
-//! What an answer tells of the calls before it.
+//! The calls of a history and their counts, by ticket.
 
 ghost use Rattle.std.specs.Prelude.{◌≡◌, reverse, MatchOption};
 ghost use Rattle.call_model.specs.declared.call.Call.TheVariants.{Expire as NoCall};
