@@ -3,6 +3,7 @@ use Rattle.std.proofs.Common.{◌≡◌, ℕ, ◌+◌, ◌-◌, ◌≤◌, Bool,
 use Rattle.std.proofs.lemmas.Bool.{cases_lt, eqb-true}
 use Rattle.arn_ids.specs.declared.config.Config.{Config}
 use Rattle.arn_ids.specs.Environments.{owners, function_of}
+use Rattle.arn_ids.proofs.Bounds.{label_between}
 use Rattle.call_model.specs.declared.answer.Throttle.{Throttle}
 use Rattle.call_model.specs.declared.answer.Answer.{Answer}
 use Rattle.call_model.specs.declared.call.Call.{Call}
@@ -24,6 +25,7 @@ use Rattle.call_model.proofs.OwnTickets.{placed_function}
 use Rattle.concurrency_pool.specs.Meets.{numbers, by_throttle}
 use Rattle.concurrency_pool.specs.Pools.{throttle}
 use Rattle.concurrency_pool.proofs.History as pool
+use Rattle.env_phase.specs.Taking.{registered_name, IsShort}
 use Rattle.call_model.proofs.PastLemmas.{no_call}
 use Rattle.call_model.specs.Within.{IsEnv}
 use Rattle.account_book.specs.Answering.{most_answers}
@@ -96,6 +98,11 @@ site_of config h e low high =
 pub no_stop : (h : List Entry) (place : Option ℕ) (call : Call) (e : ℕ) → reach h place call ≡ At e → is_stop call ≡ false
 no_stop h place Stop e q = absurd (everywhere e q)
 no_stop h place call e q = refl
+
+-- the name that a known call brings has its place
+pub known_short : (config : Config) (call : Call) → IsKnown config call → IsShort (registered_name call)
+known_short config (Register e name invoke shutdown account) k = (label_between name k.1).1
+known_short config call k = tt
 
 -- only a Stop reaches all
 pub all_stop : (h : List Entry) (place : Option ℕ) (call : Call) → reach h place call ≡ Everywhere → is_stop call ≡ true

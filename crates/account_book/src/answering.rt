@@ -16,7 +16,7 @@ ghost use Rattle.account_book.specs.Taking.{IsKnown, AllKnown, sites as sites_in
 use crate::fleet::{Fleet, Visit};
 use crate::reach::Reach;
 use crate::room::Roomy;
-use arn_ids::{Checked, EnvNo, Text};
+use arn_ids::{Checked, EnvNo};
 use call_model::{Answer, Call, Entry, Ticket};
 use entry_blocks::Blocks;
 
@@ -51,8 +51,7 @@ pub fn count_call(
 }
 
 /// Answers a call that is placed here or nowhere: with what it makes of the environments that it
-/// concerns, and with the book's own answer, where that has one. A Register comes with a copy of its
-/// name.
+/// concerns, and with the book's own answer, where that has one.
 pub fn answer_call(
     config: &Checked,
     entries: &Blocks<Entry>,
@@ -60,7 +59,6 @@ pub fn answer_call(
     visit: Visit<'_>,
     place: Option<EnvNo>,
     own: Option<Answer>,
-    name: Option<Text>,
     answers: &mut Roomy<(Ticket, Answer)>,
 )
     requires moment { visit.moment < 2 ^ 53 }
@@ -72,7 +70,6 @@ pub fn answer_call(
     requires known { IsKnown config.now visit.call.now }
     requires placed { place ≡ place_for config.now (reverse entries.now.0) visit.call.now }
     requires own { own ≡ book_answer config.now (reverse entries.now.0) visit.call.now }
-    requires named { name ≡ registered_name visit.call.now }
     requires sites { fleet.old.sites ≡ sites_in config.now (reverse entries.now.0) }
     requires pool { fleet.old.pool ≡ numbers config.now (reverse entries.now.0) }
     requires counts { visit.requests.now ≡ request_counts config.now (entered config.now (reverse entries.now.0) visit.moment visit.call.now) }
@@ -83,7 +80,7 @@ pub fn answer_call(
     ensures widest { registered_name visit.entry.call.now ≡ None → fleet.new.widest ≡ fleet.old.widest }
     ensures answers { answers.new.0 ≡ answers_to config.now (reverse entries.now.0) visit.entry.moment visit.entry.call.now }
 {
-    visit_environments(config, entries, fleet, visit, place, name, answers);
+    visit_environments(config, entries, fleet, visit, place, answers);
     put_in_force(fleet, visit.call, own);
     if let Some(own) = own {
         answers.push((visit.ticket, own));
@@ -97,7 +94,6 @@ fn visit_environments(
     fleet: &mut Fleet,
     visit: Visit<'_>,
     place: Option<EnvNo>,
-    name: Option<Text>,
     answers: &mut Roomy<(Ticket, Answer)>,
 )
     requires moment { visit.moment < 2 ^ 53 }
@@ -108,7 +104,6 @@ fn visit_environments(
     requires follows { Follows config.now (reverse entries.now.0) (entry_of config.now (reverse entries.now.0) visit.moment visit.call.now) }
     requires known { IsKnown config.now visit.call.now }
     requires placed { place ≡ place_for config.now (reverse entries.now.0) visit.call.now }
-    requires named { name ≡ registered_name visit.call.now }
     requires sites { fleet.old.sites ≡ sites_in config.now (reverse entries.now.0) }
     requires pool { fleet.old.pool ≡ numbers config.now (reverse entries.now.0) }
     requires counts { visit.requests.now ≡ request_counts config.now (entered config.now (reverse entries.now.0) visit.moment visit.call.now) }
@@ -123,7 +118,7 @@ fn visit_environments(
     fleet.facts();
     match Reach::of(entries, place, visit.call) {
         Reach::Nowhere => {}
-        Reach::At(env) => fleet.take_at(env, visit, name, answers),
+        Reach::At(env) => fleet.take_at(env, visit, answers),
         Reach::Everywhere => fleet.take_all(visit, answers),
     }
 }

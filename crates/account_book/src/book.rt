@@ -1,6 +1,6 @@
 //! The book of an account: what callers hand their calls to.
 
-ghost use Rattle.std.specs.Prelude.{◌≡◌, ◌+◌, ◌*◌, ◌<◌, ◌≤◌, ◌^◌, ◌↔◌, [], length, reverse, All, IfOk, IfErr, Err, Some, None, true, false, is_some, slice_get, slice_index_or, option_map, MatchOption};
+ghost use Rattle.std.specs.Prelude.{◌≡◌, ◌+◌, ◌*◌, ◌<◌, ◌≤◌, ◌^◌, ◌↔◌, ℕ, [], length, reverse, All, IfOk, IfErr, Err, Some, None, true, false, is_some, slice_get, slice_index_or, option_map, MatchOption};
 ghost use Rattle.arn_ids.specs.Environments.{owners};
 ghost use Rattle.arn_ids.specs.Faults.{first_fault};
 ghost use Rattle.call_model.specs.declared.call.Call.TheVariants.{Stop};
@@ -10,7 +10,6 @@ ghost use Rattle.call_model.specs.History.{answer_of, stopped};
 ghost use Rattle.call_model.specs.Limits.{reservation};
 ghost use Rattle.call_model.specs.Next.{IsLegal, added, next, due, moment_at};
 ghost use Rattle.deadlines.specs.Due.{first};
-ghost use Rattle.env_phase.specs.Taking.{registered_name};
 ghost use Rattle.call_model.specs.Calls.{body_of};
 ghost use Rattle.script.specs.AnswerText.{entry_text};
 ghost use Rattle.call_model.specs.CallCounts.{call_counts};
@@ -30,7 +29,7 @@ use crate::journal::Journal;
 use crate::ranges::config_fits;
 use crate::rendering::render;
 use crate::room::Roomy;
-use arn_ids::{Checked, FnNo, Text};
+use arn_ids::{Checked, FnNo};
 use call_model::{Answer, Call, Entry, Past, Stats, Ticket};
 use entry_blocks::Blocks;
 use lambda_wire::Reply;
@@ -158,19 +157,6 @@ fn body_fits(call: &Call)
     }
 }
 
-/// A copy of the name that a Register brings.
-fn copied_name(alloc: Global, call: &Call) -> Result<Option<Text>, AllocError>
-    ensures { IfOk result (λ name. name ≡ registered_name call.now) }
-{
-    match call {
-        Call::Register { name, .. } => {
-            let copy = String::from_str(alloc, name.as_str())?;
-            Ok(Some(Text::new(copy)))
-        }
-        _ => Ok(None),
-    }
-}
-
 /// For how many entries a call wants room.
 fn room_wanted(environments: u64, call: &Call) -> u64
     requires { environments ≤ 256 }
@@ -221,17 +207,19 @@ impl Book {
         if self.full(&call) {
             return Err(Refusal::JournalFull);
         }
-        Ok(self.take(now, call)?)
+        let expiries = self.count_due(now);
+        Ok(self.take(now, call, expiries)?)
     }
 
-    /// Takes a call as `apply` does. It requires that the journal isn't `full` for the call, so that whoever
-    /// has asked needn't ask twice.
+    /// Takes a call as `apply` does. It requires that the journal isn't `full` for the call, and takes how
+    /// many environments are due before it (`count_due`), so that whoever has asked needn't ask twice.
     ///
     /// The only error is want of memory. The book is then as it was.
-    pub fn take(&mut self, now: u64, call: Call) -> Result<Ticket, AllocError>
+    pub fn take(&mut self, now: u64, call: Call, expiries: usize) -> Result<Ticket, AllocError>
         requires moment { now < 2 ^ 53 }
         requires within { IsWithin self.old.config call }
         requires free { full self.old.config self.old.max_entries self.old.history call ≡ false }
+        requires expiries { expiries ≡ length (due self.old.config self.old.history (moment_at self.old.history now)) }
         ensures step { IfOk result (λ ticket. self.new ≡ record self.old { history = next self.old.config self.old.history now call }) }
         ensures ticket { IfOk result (λ ticket. ticket + 1 ≡ length self.new.history) }
         ensures refused { IfErr result (λ refusal. self.new ≡ self.old) }
@@ -240,28 +228,36 @@ impl Book {
         body_fits(&call);
         let moment = now.max(self.journal.last_moment());
         let widest = self.journal.widest();
-        let rooms = make_rooms(self.alloc, self.journal.count_due(moment), widest + 4)?;
+        let rooms = make_rooms(self.alloc, expiries, widest + 4)?;
         let wanted = answers_wanted(widest, self.journal.environments(), &call);
         let answers = Roomy::with_room(self.alloc, wanted)?;
-        let name = copied_name(self.alloc, &call)?;
         self.journal.make_room(rooms.len() + 1)?;
         self.journal.expire_due(moment, rooms);
-        self.journal.take(moment, call, name, answers);
+        self.journal.take(moment, call, answers);
         Ok(self.journal.entries().len() as u64 - 1)
     }
 
-    /// How many answers a call gives at most that is handed in at a moment: those of its own entry, and
-    /// of the expiries before it. Who notes answers makes room for so many. They are few: at most 14 for
-    /// each environment that is due, and 14 for the call itself; for a Stop 24 for each environment, and
-    /// one.
-    pub fn most_given(&self, now: u64, call: &Call) -> usize
+    /// How many environments are due where a call is handed in at a moment: each of them expires before
+    /// the call is taken.
+    pub fn count_due(&self, now: u64) -> usize
+        ensures value { result ≡ length (due self.now.config self.now.history (moment_at self.now.history now)) }
+        ensures few { result ≤ 256 }
+    {
+        let last = self.journal.last_moment();
+        self.journal.count_due(now.max(last))
+    }
+
+    /// How many answers a call gives at most that is handed in at a moment at which so many environments
+    /// are due (`count_due`): those of its own entry, and of the expiries before it. Who notes answers
+    /// makes room for so many. They are few: at most 14 for each environment that is due, and 14 for the
+    /// call itself; for a Stop 24 for each environment, and one.
+    pub fn most_given(&self, expiries: usize, call: &Call) -> usize
         requires within { IsWithin self.now.config call.now }
-        ensures enough { answers_in (added self.now.config self.now.history now call.now) ≤ result }
-        ensures few { result ≤ 14 * length (due self.now.config self.now.history (moment_at self.now.history now)) + most_answers 10 (length (owners self.now.config)) call.now }
+        requires few_due { expiries ≤ 256 }
+        ensures enough { (now : ℕ) → expiries ≡ length (due self.now.config self.now.history (moment_at self.now.history now)) → answers_in (added self.now.config self.now.history now call.now) ≤ result }
+        ensures few { result ≤ 14 * expiries + most_answers 10 (length (owners self.now.config)) call.now }
     {
         self.journal.facts();
-        let last = self.journal.last_moment();
-        let expiries = self.journal.count_due(now.max(last));
         let widest = self.journal.widest();
         let own = answers_wanted(widest, self.journal.environments(), call);
         expiries * (widest + 4) + own

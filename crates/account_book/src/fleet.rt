@@ -11,7 +11,7 @@ ghost use Rattle.concurrency_pool.specs.Pools.{usage_at, throttle, with_in_fligh
 ghost use Rattle.deadlines.specs.Due.{first_due};
 ghost use Rattle.placement.specs.Places.{place_among};
 ghost use Rattle.account_book.specs.Taking.{sites as sites_in};
-ghost use Rattle.env_phase.specs.Taking.{registered_name, is_off, has_answered};
+ghost use Rattle.env_phase.specs.Taking.{registered_name, IsShort, is_off, has_answered};
 ghost use Rattle.account_book.specs.Fleets.{site_at, moved, moves_at, put_all, merged, flown, deadline_at, place_at, is_due, IsFew};
 ghost use Rattle.account_book.specs.Premature.{in_way};
 
@@ -19,7 +19,7 @@ use crate::opening::open_sites;
 use crate::premature::is_any_awaited;
 use crate::room::Roomy;
 use crate::site::Site;
-use arn_ids::{Checked, EnvNo, FnNo, Text};
+use arn_ids::{Checked, EnvNo, FnNo};
 use call_model::{Answer, Call, Throttle, Ticket};
 use concurrency_pool::Pool;
 use deadlines::Due;
@@ -217,23 +217,16 @@ impl Fleet {
         ensures room { answers.old.1 ≤ answers.new.1 + 24 * length self.old.sites }
     {
         for index in 0..self.sites.as_slice().len() {
-            self.take_at(index as u32 + 1, visit, None, answers);
+            self.take_at(index as u32 + 1, visit, answers);
         }
     }
 
-    /// Lets one environment take a call, with a copy of the name that a Register brings, and puts its
-    /// answers in their places among the others.
-    pub fn take_at(
-        &mut self,
-        env: EnvNo,
-        visit: Visit<'_>,
-        name: Option<Text>,
-        answers: &mut Roomy<(Ticket, Answer)>,
-    )
+    /// Lets one environment take a call, and puts its answers in their places among the others.
+    pub fn take_at(&mut self, env: EnvNo, visit: Visit<'_>, answers: &mut Roomy<(Ticket, Answer)>)
         requires from_one { 1 ≤ env }
         requires there { env ≤ length self.old.sites }
         requires moment { visit.moment < 2 ^ 53 }
-        requires named { name ≡ registered_name visit.call.now }
+        requires short { IsShort (registered_name visit.call.now) }
         requires counted { length visit.requests.now ≡ length self.old.pool.functions }
         requires few { IsFew (site_at self.old.sites env) }
         requires room { length (moves_at visit.ticket visit.moment visit.requests.now visit.call.now (site_at self.old.sites env)) ≤ answers.old.1 }
@@ -251,7 +244,7 @@ impl Fleet {
             count: visit.requests[site.function as usize - 1],
         };
         let was = site.environment.is_taken();
-        site.take(step, visit.call, name, answers);
+        site.take(step, visit.call, answers);
         let is = site.environment.is_taken();
         self.due.set(env, site.environment.deadline());
         self.places.note(env, Class::of(site.environment.phase()));

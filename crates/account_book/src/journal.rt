@@ -26,7 +26,7 @@ use crate::fleet::{Fleet, Visit};
 use crate::ledger::Ledger;
 use crate::opening::open_counts;
 use crate::room::Roomy;
-use arn_ids::{Checked, EnvNo, FnNo, Text};
+use arn_ids::{Checked, EnvNo, FnNo};
 use call_model::{Answer, Call, Entry, Refusal, Stats, Ticket};
 use entry_blocks::Blocks;
 use std::alloc::{AllocError, Global};
@@ -218,21 +218,13 @@ impl Journal {
         self.fleet.first_due(moment)
     }
 
-    /// Takes a call at a moment at which nothing is due, with a copy of the name that a Register
-    /// brings and room for its answers.
-    pub fn take(
-        &mut self,
-        moment: u64,
-        call: Call,
-        name: Option<Text>,
-        answers: Roomy<(Ticket, Answer)>,
-    )
+    /// Takes a call at a moment at which nothing is due, with room for its answers.
+    pub fn take(&mut self, moment: u64, call: Call, answers: Roomy<(Ticket, Answer)>)
         requires moment { moment < 2 ^ 53 }
         requires later { last_moment self.old.history ≤ moment }
         requires none_due { due self.old.config self.old.history moment ≡ [] }
         requires called { is_expiry call ≡ false }
         requires within { IsWithin self.old.config call }
-        requires named { name ≡ registered_name call }
         requires room { 0 < self.old.room }
         requires answers { most_answers self.old.widest (length (owners self.old.config)) call ≤ answers.1 }
         requires empty { answers.0 ≡ [] }
@@ -240,7 +232,7 @@ impl Journal {
         ensures history { self.new.history ≡ entered self.old.config self.old.history moment call }
     {
         let verdict = self.verdict(&call);
-        self.enter(moment, call, verdict, name, answers);
+        self.enter(moment, call, verdict, answers);
     }
 
     /// What the account says to a call.
@@ -318,20 +310,12 @@ impl Journal {
     }
 
     /// Takes a call to which the account says this, as the next entry.
-    fn enter(
-        &mut self,
-        moment: u64,
-        call: Call,
-        verdict: Verdict,
-        name: Option<Text>,
-        answers: Roomy<(Ticket, Answer)>,
-    )
+    fn enter(&mut self, moment: u64, call: Call, verdict: Verdict, answers: Roomy<(Ticket, Answer)>)
         requires moment { moment < 2 ^ 53 }
         requires follows { Follows self.old.config self.old.history (entry_of self.old.config self.old.history moment call) }
         requires known { IsKnown self.old.config call }
         requires placed { verdict.place ≡ place_for self.old.config self.old.history call }
         requires own { verdict.own ≡ book_answer self.old.config self.old.history call }
-        requires named { name ≡ registered_name call }
         requires room { 0 < self.old.room }
         requires answers { most_answers self.old.widest (length (owners self.old.config)) call ≤ answers.1 }
         requires empty { answers.0 ≡ [] }
@@ -356,7 +340,6 @@ impl Journal {
             visit,
             verdict.place,
             verdict.own,
-            name,
             &mut answers,
         );
         self.ledger
@@ -396,7 +379,7 @@ impl Journal {
                     place: None,
                     own: None,
                 };
-                self.enter(moment, Call::Expire { env }, verdict, None, answers);
+                self.enter(moment, Call::Expire { env }, verdict, answers);
                 self.facts();
             }
         }

@@ -1,11 +1,11 @@
 //! One environment of an account.
 
 ghost use Rattle.std.specs.Prelude.{◌≡◌, ◌+◌, ◌<◌, ◌≤◌, ◌^◌, length};
-ghost use Rattle.env_phase.specs.Taking.{step_of, taken, given, registered_name};
+ghost use Rattle.env_phase.specs.Taking.{step_of, taken, given, registered_name, IsShort};
 ghost use Rattle.account_book.specs.Fleets.{put_all, is_due, IsFew};
 
 use crate::room::Roomy;
-use arn_ids::{FnNo, Text};
+use arn_ids::FnNo;
 use call_model::{Answer, Call, Ticket};
 use env_phase::{Environment, Step};
 use extension_set::Moves;
@@ -30,25 +30,18 @@ impl Site {
         }
     }
 
-    /// Takes a call that concerns it, with a copy of the name that a Register brings, and puts its
-    /// answers in their places among the others.
-    pub fn take(
-        &mut self,
-        step: Step,
-        call: &Call,
-        name: Option<Text>,
-        answers: &mut Roomy<(Ticket, Answer)>,
-    )
+    /// Takes a call that concerns it, and puts its answers in their places among the others.
+    pub fn take(&mut self, step: Step, call: &Call, answers: &mut Roomy<(Ticket, Answer)>)
         requires moment { step.now < 2 ^ 53 }
         requires few { IsFew self.old }
-        requires named { name ≡ registered_name call.now }
+        requires short { IsShort (registered_name call.now) }
         requires room { length (given self.old.environment (step_of step) call.now) ≤ answers.old.1 }
         ensures site { self.new ≡ record self.old { environment = taken self.old.environment (step_of step) call.now } }
         ensures given { answers.new.0 ≡ put_all (given self.old.environment (step_of step) call.now) answers.old.0 }
         ensures room { answers.new.1 + length (given self.old.environment (step_of step) call.now) ≡ answers.old.1 }
     {
         let mut moves = Moves::new();
-        self.environment.take(step, call, name, &mut moves);
+        self.environment.take(step, call, &mut moves);
         put_all(answers, moves.as_slice());
     }
 }

@@ -128,7 +128,9 @@ impl<B: Bell, L: Ledgers> Desk<B, L> {
                 bell,
             });
         }
-        let most = most_given(&self.book, now, &call);
+        // One count of the environments that are due serves the room for bells and the book's own.
+        let expiries = self.book.count_due(now);
+        let most = most_given(&self.book, expiries, &call);
         let Ok(rings) = make_room(self.alloc, &mut self.bells, tally, most) else {
             return Err(Refused {
                 refusal: Refusal::OutOfMemory,
@@ -137,6 +139,7 @@ impl<B: Bell, L: Ledgers> Desk<B, L> {
         };
         let mut rings = rings;
         let head = call.head();
+        // The counts are kept: to read them before the step and after it costs a copy of five numbers.
         let before = self.book.stats();
         let start = self.book.len();
         let Desk {
@@ -145,7 +148,7 @@ impl<B: Bell, L: Ledgers> Desk<B, L> {
             totals,
             ..
         } = self;
-        let Ok(ticket) = book.take(now, call) else {
+        let Ok(ticket) = book.take(now, call, expiries) else {
             return Err(Refused {
                 refusal: Refusal::OutOfMemory,
                 bell,

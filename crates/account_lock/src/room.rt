@@ -1,6 +1,7 @@
 //! The room that a step wants, made before its first change.
 
-ghost use Rattle.std.specs.Prelude.{◌≡◌, ◌+◌, ◌≤◌, [], length, vec_len, vec_capacity, IfOk, OnOk};
+ghost use Rattle.std.specs.Prelude.{◌≡◌, ◌+◌, ◌≤◌, ℕ, [], length, vec_len, vec_capacity, IfOk, OnOk};
+ghost use Rattle.call_model.specs.Next.{due, moment_at};
 ghost use Rattle.call_model.specs.Within.{IsWithin};
 ghost use Rattle.account_lock.specs.Bells.{given};
 ghost use Rattle.account_lock.specs.Desks.{added_to};
@@ -10,12 +11,13 @@ use call_model::{Call, Ticket};
 use std::alloc::{AllocError, Global};
 use usage_ledger::{Keep, Ledgers, Tally};
 
-/// For how many answers a step wants room.
-pub(crate) fn most_given(book: &Book, now: u64, call: &Call) -> usize
-    requires { IsWithin book.now.config call.now }
-    ensures { length (given (added_to book.now now call.now)) ≤ result }
+/// For how many answers a step wants room, at a moment at which so many environments are due.
+pub(crate) fn most_given(book: &Book, expiries: usize, call: &Call) -> usize
+    requires within { IsWithin book.now.config call.now }
+    requires few_due { expiries ≤ 256 }
+    ensures { (now : ℕ) → expiries ≡ length (due book.now.config book.now.history (moment_at book.now.history now)) → length (given (added_to book.now now call.now)) ≤ result }
 {
-    book.most_given(now, call)
+    book.most_given(expiries, call)
 }
 
 /// Makes room for a bell among those that wait, for so many answers in the tally and for one call,

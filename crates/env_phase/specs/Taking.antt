@@ -1,5 +1,5 @@
 -- What an environment is when it is opened, and after a call.
-use Rattle.std.specs.Prelude.{ℕ, ◌*◌, Bool, true, false, ◌&&◌, List, [], Option, Some, None, is_none}
+use Rattle.std.specs.Prelude.{ℕ, ◌*◌, ◌≤◌, length, Bool, true, false, ◌&&◌, List, [], Option, Some, None, is_none}
 use Rattle.arn_ids.specs.declared.config.Function.{Function}
 use Rattle.call_model.specs.declared.answer.Answer.{Answer}
 use Rattle.call_model.specs.declared.answer.Phase.{Phase}
@@ -26,6 +26,11 @@ step_of step = record { ticket = step.ticket; now = step.now; count = step.count
 abbrev pub registered_name : Call → Option (List ℕ)
 registered_name (Register e name invoke shutdown account) = Some name
 registered_name _ = None
+
+-- no name, or one of at most 128 bytes
+abbrev pub IsShort : Option (List ℕ) → Type 0
+IsShort None = Unit {0}
+IsShort (Some name) = length name ≤ 128
 
 -- an environment after a call
 abbrev pub taken : Known → Step → Call → Known

@@ -10,7 +10,7 @@ ghost use Rattle.call_model.specs.Laws.{is_taken};
 ghost use Rattle.call_model.specs.Next.{deadline_of};
 ghost use Rattle.call_model.specs.Stand.{bound_of};
 ghost use Rattle.call_model.specs.After.{expires_now};
-ghost use Rattle.env_phase.specs.Taking.{opened, is_off, has_answered, registered_name, step_of, taken, given};
+ghost use Rattle.env_phase.specs.Taking.{opened, is_off, has_answered, registered_name, IsShort, step_of, taken, given};
 
 use crate::Step;
 use crate::phases::{at_hand, bound_of, is_busy, is_closing};
@@ -88,15 +88,15 @@ impl Environment {
     }
 
     /// Takes a call that concerns this environment: an Invoke that is placed here, a call that names
-    /// it or one of its tickets, or a Stop. The name is that which a Register brings, none for any
-    /// other call; the moves are the entry's answers to this environment's tickets, in rising ticket
-    /// order. It never fails and takes no memory.
-    pub fn take(&mut self, step: Step, call: &Call, name: Option<Text>, moves: &mut Moves)
+    /// it or one of its tickets, or a Stop. A Register brings a name of at most 128 bytes; the moves
+    /// are the entry's answers to this environment's tickets, in rising ticket order. It never fails
+    /// and takes no memory.
+    pub fn take(&mut self, step: Step, call: &Call, moves: &mut Moves)
         requires moment { step.now < 2 ^ 53 }
         requires empty { moves.old ≡ [] }
         requires few { self.old.stand.events < 2 ^ 52 }
         requires few_registered { self.old.stand.registrations < 2 ^ 52 }
-        requires named { name ≡ registered_name call.now }
+        requires short { IsShort (registered_name call.now) }
         ensures stand { self.new ≡ taken self.old (step_of step) call.now }
         ensures given { moves.new ≡ given self.old (step_of step) call.now }
         // At most two answers to each extension, and one each to the waiting call, to the runtime
@@ -106,17 +106,17 @@ impl Environment {
         ensures events { self.new.stand.events ≤ self.old.stand.events + 24 }
         ensures registrations { self.new.stand.registrations ≤ self.old.stand.registrations + 1 }
     {
-        self.take_in_stages(step, call, name, moves);
+        self.take_in_stages(step, call, moves);
     }
 
     /// The table's cell for the call, and then what comes after each entry.
     #[tactic(auto, unfolding(call_model::specs::After::stand_after, call_model::specs::After::moves_of))]
-    fn take_in_stages(&mut self, step: Step, call: &Call, name: Option<Text>, moves: &mut Moves)
+    fn take_in_stages(&mut self, step: Step, call: &Call, moves: &mut Moves)
         requires moment { step.now < 2 ^ 53 }
         requires empty { moves.old ≡ [] }
         requires few { self.old.stand.events < 2 ^ 52 }
         requires few_registered { self.old.stand.registrations < 2 ^ 52 }
-        requires named { name ≡ registered_name call.now }
+        requires short { IsShort (registered_name call.now) }
         ensures stand { self.new ≡ taken self.old (step_of step) call.now }
         ensures given { moves.new ≡ given self.old (step_of step) call.now }
         ensures ten_before { length self.old.stand.members ≤ 10 }
@@ -124,7 +124,7 @@ impl Environment {
     {
         let before = self.phase;
         let expires = self.expires(call);
-        self.first(step, call, name, moves);
+        self.first(step, call, moves);
         self.finish(step.now, expires, before, moves);
     }
 

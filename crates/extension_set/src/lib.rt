@@ -3,6 +3,7 @@
 
 mod member;
 mod moves;
+mod name;
 mod register_fault;
 mod set;
 mod turn;

@@ -1,6 +1,6 @@
 //! One extension of an environment.
 
-ghost use Rattle.std.specs.Prelude.{◌≡◌, ◌<◌, ◌^◌, ◌&&◌, ◌||◌, length, not, bytes_eq, is_none, Some};
+ghost use Rattle.std.specs.Prelude.{◌≡◌, ◌<◌, ◌^◌, ◌&&◌, ◌||◌, ◌≤◌, length, not, bytes_eq, is_none, Some};
 ghost use Rattle.call_model.specs.Generation.{TheExtension, asks, has_count, hears_end, is_ending, reports_exit};
 ghost use Rattle.call_model.specs.Polls.{at_close, delivered, replaced};
 ghost use Rattle.call_model.specs.Stand.{ExtensionPoll};
@@ -8,6 +8,7 @@ ghost use Rattle.call_model.specs.After.{give, left, member_second};
 ghost use Rattle.extension_set.specs.Registering.{owes_end, registered};
 ghost use Rattle.extension_set.specs.Turns.{poll_gets, member_after};
 
+use crate::name::Name;
 use crate::turn::CLOSING_LIMIT;
 use crate::{Moves, Turn};
 use arn_ids::Text;
@@ -20,7 +21,7 @@ pub(crate) struct Member {
     /// The count in its identifier, from 1 over all generations of its environment.
     count: u64,
     /// Its `Lambda-Extension-Name`.
-    name: Text,
+    name: Name,
     /// Whether it registered for the event INVOKE.
     invoke: bool,
     /// Whether it registered for the event SHUTDOWN.
@@ -44,13 +45,15 @@ impl Model for Member {
 }
 
 impl Member {
-    /// An extension that registers now, with the count in its identifier. (Extensions API: Register)
-    pub(crate) fn registered(count: u64, name: Text, invoke: bool, shutdown: bool) -> Member
-        ensures { result ≡ registered (record { count = count; name = name; invoke = invoke; shutdown = shutdown }) }
+    /// An extension that registers now, with the count in its identifier and a name of at most 128
+    /// bytes. (Extensions API: Register)
+    pub(crate) fn registered(count: u64, name: &Text, invoke: bool, shutdown: bool) -> Member
+        requires short { length name.now ≤ 128 }
+        ensures { result ≡ registered (record { count = count; name = name.now; invoke = invoke; shutdown = shutdown }) }
     {
         Member {
             count,
-            name,
+            name: Name::of(name),
             invoke,
             shutdown,
             next: None,
@@ -71,7 +74,7 @@ impl Member {
     pub(crate) fn is_named(&self, name: &Text) -> bool
         ensures { result ≡ bytes_eq name.now self.now.extension.name }
     {
-        name.as_str() == self.name.as_str()
+        self.name.is(name)
     }
 
     /// Whether it has no Next parked.

@@ -70,19 +70,21 @@ impl ExtensionSet {
     }
 
     /// Registers an extension with the count in its identifier, where its name is free and fewer
-    /// than ten are registered; else the set stays as it was. (Extensions API: Register)
+    /// than ten are registered; else the set stays as it was. A name of at most 128 bytes stands in
+    /// the extension's own place. (Extensions API: Register)
     pub fn register(
         &mut self,
-        name: Text,
+        name: &Text,
         invoke: bool,
         shutdown: bool,
         count: u64,
     ) -> Result<(), RegisterFault>
-        ensures verdict { result ≡ admits self.old name }
-        ensures added { OnOk result (self.new ≡ registered (record { count = count; name = name; invoke = invoke; shutdown = shutdown }) ∷ self.old) }
+        requires short { length name.now ≤ 128 }
+        ensures verdict { result ≡ admits self.old name.now }
+        ensures added { OnOk result (self.new ≡ registered (record { count = count; name = name.now; invoke = invoke; shutdown = shutdown }) ∷ self.old) }
         ensures kept { OnErr result (self.new ≡ self.old) }
     {
-        self.admits(&name)?;
+        self.admits(name)?;
         match self
             .members
             .push(Member::registered(count, name, invoke, shutdown))

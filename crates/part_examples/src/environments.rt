@@ -1,18 +1,18 @@
 //! Environments, call by call.
 
-ghost use Rattle.std.specs.Prelude.{◌≡◌, ◌<◌, ◌^◌, IfOk};
-ghost use Rattle.env_phase.specs.Taking.{registered_name};
+ghost use Rattle.std.specs.Prelude.{◌≡◌, ◌<◌, ◌^◌, true};
+ghost use Rattle.env_phase.specs.Taking.{registered_name, IsShort};
 
 use crate::answers::say_answers;
 use crate::configurations::configuration_of;
 use crate::lines::{Calls, LineFault, Words, make_calls, tell};
 use crate::script_calls::call_of;
-use arn_ids::{Checked, Text};
+use arn_ids::Checked;
 use call_model::Call;
 use case_tables::{Case, CaseFault};
 use env_phase::{Environment, Step};
 use extension_set::Moves;
-use std::alloc::{AllocError, Global};
+use std::alloc::Global;
 use std::marker::Model;
 
 /// How many calls an environment takes in a case.
@@ -36,16 +36,13 @@ impl Model for Driven {
     ghost invariant = { λ d. (d.environment.stand.events ≤ 24 * d.calls) × (d.environment.stand.registrations ≤ d.calls) × (d.calls ≤ 1000) };
 }
 
-/// The name that a Register brings.
-fn name_of(alloc: Global, call: &Call) -> Result<Option<Text>, AllocError>
-    ensures { IfOk result (λ name. name ≡ registered_name call.now) }
+/// Whether a call brings no name, or one of at most 128 bytes.
+fn is_short(call: &Call) -> bool
+    ensures { result ≡ true → IsShort (registered_name call.now) }
 {
     match call {
-        Call::Register { name, .. } => {
-            let copy = String::from_str(alloc, name.as_str())?;
-            Ok(Some(Text::new(copy)))
-        }
-        _ => Ok(None),
+        Call::Register { name, .. } => name.as_str().len() <= 128,
+        _ => true,
     }
 }
 
@@ -66,15 +63,14 @@ fn open(alloc: Global, config: &Checked) -> Result<Driven, LineFault> {
 
 impl Driven {
     /// Has the environment take a call, whose answers are put into the moves.
-    fn take(&mut self, alloc: Global, step: Step, call: &Call) -> Result<Moves, LineFault>
+    fn take(&mut self, step: Step, call: &Call) -> Result<Moves, LineFault>
         requires { step.now < 2 ^ 53 }
     {
-        let name = name_of(alloc, call)?;
-        if self.calls >= MOST_CALLS {
+        if self.calls >= MOST_CALLS || !is_short(call) {
             return Err(LineFault::Malformed);
         }
         let mut moves = Moves::new();
-        self.environment.take(step, call, name, &mut moves);
+        self.environment.take(step, call, &mut moves);
         self.calls += 1;
         Ok(moves)
     }
@@ -139,7 +135,7 @@ impl Account {
         if step.now >= 1 << 53 {
             return Err(LineFault::Malformed);
         }
-        let moves = self.driven.take(alloc, step, &call)?;
+        let moves = self.driven.take(step, &call)?;
         say_phase(alloc, &self.driven.environment, &moves, given)
     }
 }

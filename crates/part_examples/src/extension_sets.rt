@@ -46,7 +46,10 @@ fn register(
     }
     let invoke = events.contains('i');
     let shutdown = events.contains('s');
-    let verdict = set.register(name, invoke, shutdown, words.last_number()?);
+    if name.as_str().len() > 128 {
+        return Err(LineFault::Malformed);
+    }
+    let verdict = set.register(&name, invoke, shutdown, words.last_number()?);
     say_verdict(alloc, verdict, given)
 }
 

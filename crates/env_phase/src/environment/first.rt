@@ -7,13 +7,12 @@ ghost use Rattle.call_model.specs.After.{first_stand, first_moves, over_now};
 ghost use Rattle.call_model.specs.Polls.{replaced};
 ghost use Rattle.extension_set.specs.Turns.{next_after, poll_gets};
 ghost use Rattle.env_phase.specs.First.{polled, answers, joined, request_kept, IsWelcome};
-ghost use Rattle.env_phase.specs.Taking.{registered_name, step_of};
+ghost use Rattle.env_phase.specs.Taking.{registered_name, IsShort, step_of};
 
 use super::Environment;
 use super::answers::is_registered;
 use crate::Step;
 use crate::phases::at_hand;
-use arn_ids::Text;
 use call_model::{Answer, Call, Phase, Refusal, Ticket};
 use extension_set::{Moves, Turn};
 
@@ -35,12 +34,11 @@ fn replaced(ticket: Ticket, call: &Call) -> Option<Answer>
 }
 
 impl Environment {
-    /// The table's cell for a call, with its first answers. The name is that of the extension which
-    /// it registers.
-    pub(super) fn first(&mut self, step: Step, call: &Call, name: Option<Text>, moves: &mut Moves)
+    /// The table's cell for a call, with its first answers.
+    pub(super) fn first(&mut self, step: Step, call: &Call, moves: &mut Moves)
         requires moment { step.now < 2 ^ 53 }
         requires empty { moves.old ≡ [] }
-        requires named { name ≡ registered_name call.now }
+        requires short { IsShort (registered_name call.now) }
         requires few { self.old.stand.registrations < 2 ^ 52 }
         ensures stand { self.new ≡ record { fixed = self.old.fixed; stand = first_stand self.old.fixed (step_of step) self.old.stand call.now } }
         ensures given { moves.new ≡ first_moves (step_of step) self.old.stand call.now }
@@ -51,7 +49,7 @@ impl Environment {
         let request = self.request_after(step, phase, caller.is_some());
         let stopped = self.is_over(call);
         self.answer(turn, caller, call, moves);
-        self.add_extension(call, name, turn.own);
+        self.add_extension(call, turn.own);
         self.enter(phase, request, stopped);
     }
 
@@ -134,20 +132,21 @@ impl Environment {
 
     /// Adds the extension that the call brings, where it is answered Registered. (Extensions API:
     /// Register)
-    fn add_extension(&mut self, call: &Call, name: Option<Text>, own: Option<Answer>)
-        requires named { name ≡ registered_name call.now }
+    fn add_extension(&mut self, call: &Call, own: Option<Answer>)
+        requires short { IsShort (registered_name call.now) }
         requires welcome { IsWelcome self.old.stand.members (as_registered call.now own) }
         requires few { self.old.stand.registrations < 2 ^ 52 }
         ensures { self.new ≡ record { fixed = self.old.fixed; stand = joined call.now own self.old.stand } }
     {
         self.registrations += u64::from(is_registered(own));
         if let Call::Register {
+            name,
             invoke,
             shutdown,
             ..
         } = call
         {
-            if let (Some(Answer::Registered { count }), Some(name)) = (own, name) {
+            if let Some(Answer::Registered { count }) = own {
                 match self.extensions.register(name, *invoke, *shutdown, count) {
                     Ok(()) => {}
                     Err(_) => unreachable!(),

@@ -19,7 +19,7 @@ use Rattle.account_book.proofs.Concerned.{sites_nowhere, sites_at, sites_everywh
 use Rattle.account_book.proofs.EntryMoves.{homed_nowhere, homed_at, homed_everywhere}
 use Rattle.account_book.proofs.Extent.{few_site, few_sites}
 use Rattle.account_book.proofs.FleetMeets.{sites_length, numbers_flown}
-use Rattle.account_book.proofs.Visiting.{reach_within, site_of, few_there, room_there, admitted_there, all_stop}
+use Rattle.account_book.proofs.Visiting.{reach_within, site_of, few_there, room_there, admitted_there, all_stop, known_short}
 use Rattle.account_book.proofs.Visits.{site_is_at}
 use Rattle.std.proofs.lemmas.List.Elements.{All-get_or}
 use Rattle.account_book.proofs.answering.visit_environments.Goals as goal
@@ -66,6 +66,9 @@ take_at-requires-clause-from_one c = (found c.args.config.now (reverse c.args.en
 
 pub take_at-requires-clause-there : goal.take_at-requires-clause-there
 take_at-requires-clause-there c = (found c.args.config.now (reverse c.args.entries.now.0) c.args.visit.moment c.args.visit.call.now c.args.place c.args.fleet.now.sites c.args.fleet.now.pool c.args.visit.requests.now c.in-At.env (record { legal = c.requires.legal; all_known = c.requires.all_known; follows = c.requires.follows; known = c.requires.known; placed = c.requires.placed; is = c.requires.sites; pool_is = c.requires.pool; counts = c.requires.counts }) (sym c.of.ensures ∙ c.in-At.is)).2
+
+pub take_at-requires-clause-short : goal.take_at-requires-clause-short
+take_at-requires-clause-short c = known_short c.args.config.now c.args.visit.call.now c.requires.known
 
 pub take_at-requires-clause-few : goal.take_at-requires-clause-few
 take_at-requires-clause-few c = rw ((found c.args.config.now (reverse c.args.entries.now.0) c.args.visit.moment c.args.visit.call.now c.args.place c.args.fleet.now.sites c.args.fleet.now.pool c.args.visit.requests.now c.in-At.env (record { legal = c.requires.legal; all_known = c.requires.all_known; follows = c.requires.follows; known = c.requires.known; placed = c.requires.placed; is = c.requires.sites; pool_is = c.requires.pool; counts = c.requires.counts }) (sym c.of.ensures ∙ c.in-At.is)).3) (few_site c.args.config.now (reverse c.args.entries.now.0) c.in-At.env c.requires.legal (rw (length-reverse c.args.entries.now.0) c.requires.short))

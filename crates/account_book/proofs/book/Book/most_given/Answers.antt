@@ -1,15 +1,11 @@
-use Rattle.std.proofs.Common.{◌≡◌, ℕ, ◌+◌, ◌*◌, ◌≤◌, Bool, true, false, if◌then◌else◌, sym, ap, max, ◌∙◌, arith}
+use Rattle.std.proofs.Common.{◌≡◌, ℕ, ◌+◌, ◌*◌, ◌≤◌, Bool, true, false, if◌then◌else◌, sym, ap, arith}
 use Rattle.std.proofs.Math.Nat.{mul-le-mul_left}
 use Rattle.call_model.specs.declared.call.Call.{Call}
 use Rattle.call_model.specs.History.{is_stop}
-use Rattle.call_model.specs.Next.{moment_at}
 use Rattle.account_book.specs.Answering.{most_answers}
 use Rattle.account_book.specs.Book.{Kept}
 use Rattle.account_book.proofs.GivenAnswers.{few_given}
 use Rattle.account_book.proofs.book.Book.most_given.Goals as goal
-
-at_moment : (c : goal.After-answers_wanted-own) → c.max.result ≡ moment_at c.self.inside.journal.history c.args.now
-at_moment c = c.max.ensures ∙ ap (max c.args.now) c.last_moment-last.ensures.value
 
 -- with ten extensions an entry has the most
 with_ten : (expiries environments widest : ℕ) (call : Call) → widest ≤ 10 → expiries * (widest + 4) + most_answers widest environments call ≤ 14 * expiries + most_answers 10 environments call
@@ -23,12 +19,12 @@ with_ten expiries environments widest call ten = omega (arith, own (is_stop call
     own false = omega (arith, ten)
 
 pub returns-clause-enough : goal.returns-clause-enough
-returns-clause-enough c =
+returns-clause-enough c = λ now is.
     let j = c.self.inside.journal in
-    rw (sym c.self.view_is, c.count_due-expiries.ensures.value, c.answers_wanted-own.ensures, c.environments.ensures.value, at_moment c)
-    (few_given j.config j.history c.args.now c.args.call.now c.widest-widest.result c.facts.ensures.legal c.facts.ensures.all_known (rw (ap (λ (k : Kept). k.config) (sym c.self.view_is)) at c.requires.within) (rw (sym c.widest-widest.ensures.value) at c.facts.ensures.narrow))
+    rw (sym c.self.view_is, c.answers_wanted-own.ensures, c.environments.ensures.value, rw (sym c.self.view_is) at is)
+    (few_given j.config j.history now c.args.call.now c.widest-widest.result c.facts.ensures.legal c.facts.ensures.all_known (rw (ap (λ (k : Kept). k.config) (sym c.self.view_is)) at c.requires.within) (rw (sym c.widest-widest.ensures.value) at c.facts.ensures.narrow))
 
 pub returns-clause-few : goal.returns-clause-few
 returns-clause-few c =
-    rw (sym c.self.view_is, c.count_due-expiries.ensures.value, c.answers_wanted-own.ensures, c.environments.ensures.value, at_moment c)
-    (with_ten _ _ c.widest-widest.result c.args.call.now c.widest-widest.ensures.ten)
+    rw (sym c.self.view_is, c.answers_wanted-own.ensures, c.environments.ensures.value)
+    (with_ten c.args.expiries _ c.widest-widest.result c.args.call.now c.widest-widest.ensures.ten)

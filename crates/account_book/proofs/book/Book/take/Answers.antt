@@ -24,7 +24,13 @@ stops config h now call q = ap stopped (next_entered config h now call) ∙ ap (
 pub make_room-requires : goal.make_room-requires
 make_room-requires c =
     let free : full c.self.inside.journal.config c.self.inside.max_entries c.self.inside.journal.history c.args.call ≡ false = rw (sym c.self.view_is) at c.requires.free in
-    omega (arith, room_for c.self.inside.journal.config c.self.inside.max_entries c.self.inside.journal.history c.args.call c.max-moment.result free, c.in_ok-rooms.ensures.as_many, c.self.invariant.few, c.count_due.ensures.value, c.len.ensures)
+    omega (arith, room_for c.self.inside.journal.config c.self.inside.max_entries c.self.inside.journal.history c.args.call (moment_at c.self.inside.journal.history c.args.now) free, c.in_ok-rooms.ensures.as_many, c.self.invariant.few, rw (sym c.self.view_is) at c.requires.expiries, c.len.ensures)
+
+pub expire_due-requires-clause-as_many : goal.expire_due-requires-clause-as_many
+expire_due-requires-clause-as_many c =
+    let j = c.self.inside.journal in
+    let moment : c.max-moment.result ≡ moment_at j.history c.args.now = c.max-moment.ensures ∙ ap (max c.args.now) c.last_moment.ensures.value in
+    rw (c.in_ok-make_room.ensures.same.0, c.in_ok-make_room.ensures.same.1, moment) (c.in_ok-rooms.ensures.as_many ∙ rw (sym c.self.view_is) at c.requires.expiries)
 
 pub take-requires-clause-later : goal.take-requires-clause-later
 take-requires-clause-later c =

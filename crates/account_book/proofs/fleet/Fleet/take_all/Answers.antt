@@ -33,6 +33,9 @@ few_moves f w ticket now requests call i view k lt =
 pub take_at-requires-clause-counted : goal.take_at-requires-clause-counted
 take_at-requires-clause-counted c = c.requires.counted ∙ sym (ap (λ (p : Numbers). length p.functions) c.loop-index.invariant.pool ∙ flown_length c.loop-index.self.sites 1 c.args.self.now.pool.functions)
 
+pub take_at-requires-clause-short : goal.take_at-requires-clause-short
+take_at-requires-clause-short c = rw c.requires.unnamed tt
+
 pub take_at-requires-clause-few : goal.take_at-requires-clause-few
 take_at-requires-clause-few c =
     let lt : c.loop-index.index < length c.args.self.now.sites = within c.self.inside c.args.self.now c.loop-index.index (length c.as_slice-index-end.result.now) c.self.view_is c.loop-index-test.true (ap length c.as_slice-index-end.ensures.value) in

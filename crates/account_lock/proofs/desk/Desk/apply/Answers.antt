@@ -14,12 +14,12 @@ serve_step-requires-clause-start g c = within c.self.inside.book c.take.new.self
 pub serve_step-requires-clause-notes : goal.serve_step-requires-clause-notes
 serve_step-requires-clause-notes g c =
     let few = behind c.self.inside.book c.take.new.self c.args.now c.args.call c.len-start.result c.in-Ok-take.ensures.step c.len-start.ensures.value in
-    omega (arith, ap length few, c.most_given-most.ensures, c.in-Ok.ensures.tally.0)
+    omega (arith, ap length few, c.most_given-most.ensures c.args.now c.count_due-expiries.ensures.value, c.in-Ok.ensures.tally.0)
 
 pub serve_step-requires-clause-room : goal.serve_step-requires-clause-room
 serve_step-requires-clause-room g c =
     let few = behind c.self.inside.book c.take.new.self c.args.now c.args.call c.len-start.result c.in-Ok-take.ensures.step c.len-start.ensures.value in
-    omega (arith, ap length few, c.most_given-most.ensures, c.in-Ok.ensures.rings.1, ap length c.in-Ok.ensures.rings.0)
+    omega (arith, ap length few, c.most_given-most.ensures c.args.now c.count_due-expiries.ensures.value, c.in-Ok.ensures.rings.1, ap length c.in-Ok.ensures.rings.0)
 
 pub serve_step-requires-clause-rising : goal.serve_step-requires-clause-rising
 serve_step-requires-clause-rising g c =
