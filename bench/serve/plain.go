@@ -81,6 +81,25 @@ func readBody(r *http.Request) ([]byte, error) {
 	return body, err
 }
 
+// An environment that works on nothing, nil where none is: one whose runtime asks, else one whose runtime has answered
+// and is on its way to ask again. The lock is held.
+func freeEnvironment() *environment {
+	var at *environment
+	for n := 1; n < len(environments); n++ {
+		e := &environments[n]
+		if e.open != nil || e.asks == 0 {
+			continue
+		}
+		if e.bell != nil {
+			return e
+		}
+		if at == nil {
+			at = e
+		}
+	}
+	return at
+}
+
 func invoke(w http.ResponseWriter, r *http.Request) {
 	if r.ContentLength > mostBytes {
 		text(w, 413, `{"Message":"Payload is too long","Type":"User"}`)
@@ -96,12 +115,7 @@ func invoke(w http.ResponseWriter, r *http.Request) {
 	}
 	i := &invocation{payload: payload, answered: make(chan struct{})}
 	lock.Lock()
-	var at *environment
-	for n := 1; n < len(environments) && at == nil; n++ {
-		if e := &environments[n]; e.bell != nil && e.open == nil {
-			at = e
-		}
-	}
+	at := freeEnvironment()
 	if at == nil {
 		throttled++
 		lock.Unlock()
@@ -112,7 +126,9 @@ func invoke(w http.ResponseWriter, r *http.Request) {
 	keep(0, payload)
 	invoked++
 	at.open, at.count = i, invoked
-	ring(at.bell)
+	if at.bell != nil {
+		ring(at.bell)
+	}
 	lock.Unlock()
 	deadline := time.NewTimer(timeout)
 	defer deadline.Stop()

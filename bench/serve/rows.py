@@ -111,12 +111,13 @@ class Tables:
             with Client(self.load, service, "round", environments, size, invocations, processors=processors[1]) as client:
                 used, switched = service.processor(), service.switches()
                 rate, half, most, throttles = map(float, client.go())
-                return {"rate": rate, "half": half, "most": most, "throttles": throttles / invocations * 100,
-                        "processor": (service.processor() - used) / invocations * 1e6,
+                if throttles > invocations / 100:
+                    print(f"bench: {kind.name}: {throttles:,.0f} of {invocations:,} invocations were throttled, and made again", file=sys.stderr, flush=True)
+                return {"rate": rate, "half": half, "most": most, "processor": (service.processor() - used) / invocations * 1e6,
                         "switches": (service.switches() - switched) / invocations}
 
     def round_trips(self):
-        self.head("processors", "environments", "payload", "service", "a second", "p50 µs", "p99 µs", "processor µs", "switches", "throttled %",
+        self.head("processors", "environments", "payload", "service", "a second", "p50 µs", "p99 µs", "processor µs", "switches",
                   *(f"rate / {base.name}" for base in self.bases()), "processor / plain C")
         ours = self.kinds[0]
         for size, called in SIZES.items():
@@ -138,10 +139,10 @@ class Tables:
                     for kind, its in samples.items():
                         self.row(name, str(environments), called, kind.name, *([
                             spread([it["rate"] for it in its]),
-                            *(median([it[what] for it in its]) for what in ("half", "most", "processor", "switches", "throttles")),
+                            *(median([it[what] for it in its]) for what in ("half", "most", "processor", "switches")),
                             *(self.beside(samples, kind, base, "rate", aims.get(base)) for base in self.bases()),
                             self.beside(samples, kind, self.plain, "processor"),
-                        ] if its else ["failed", *["-"] * (6 + len(self.bases()))]))
+                        ] if its else ["failed", *["-"] * (5 + len(self.bases()))]))
 
     def small_ones(self, kind, processors):
         found = {}
