@@ -126,8 +126,8 @@ class Tables:
                 invocations = max(invocations // 2 if environments == 1 else invocations, environments)
                 for name, processors in self.placements.items():
                     where = f"{called}, environments {environments}, processors {name}"
-                    # Both ends of each body that is kept, and the client's buffers.
-                    wanted = 2 * size * (invocations * 1.05 + 2 * environments)
+                    # What came and what went out of each invocation is kept, the client has buffers, and Go's collector takes twice.
+                    wanted = 2 * size * (invocations * 1.05 + 2 * environments) * (2 if self.go else 1)
                     if wanted > memory_free():
                         print(f"bench: {where}: left out, since it wants {wanted / 1e9:.1f} GB of memory", file=sys.stderr, flush=True)
                         continue
