@@ -1,7 +1,8 @@
 /* The same service written plainly, to measure against: one lock, one thread a connection, long polls
    on condition variables, a journal that keeps what was handed in, and nothing proved. A payload is read
    as JSON before it is taken, an invocation has a deadline, and a Next whose runtime goes away while it
-   waits is withdrawn. One function f, runtimes alone.
+   waits is withdrawn. As in ours, a caller is not throttled by a runtime that has answered and is on its way
+   to ask again. One function f, runtimes alone.
 
    usage: plain INVOKE_PORT ENVIRONMENTS   (environment n listens on INVOKE_PORT + n) */
 #define _GNU_SOURCE
@@ -174,6 +175,18 @@ static void ring(int bell) {
     eventfd_write(bell, 1);
 }
 
+/* An environment that works on nothing, 0 where none is: one whose runtime asks, else one whose runtime has answered
+   and is on its way to ask again. The lock is held. */
+static int free_environment(void) {
+    int at = 0;
+    for (int e = 1; e <= environment_count; e++) {
+        if (environments[e].open || !environments[e].asks) continue;
+        if (environments[e].is_asking) return e;
+        if (!at) at = e;
+    }
+    return at;
+}
+
 static int invoke(struct connection *c, char *payload, size_t size) {
     if (size > MOST_BYTES) {
         free(payload);
@@ -188,9 +201,7 @@ static int invoke(struct connection *c, char *payload, size_t size) {
     i->payload = payload;
     i->payload_size = size;
     pthread_mutex_lock(&lock);
-    int at = 0;
-    for (int e = 1; e <= environment_count && !at; e++)
-        if (environments[e].is_asking && !environments[e].open) at = e;
+    int at = free_environment();
     if (!at) {
         throttled++;
         pthread_mutex_unlock(&lock);
@@ -202,7 +213,7 @@ static int invoke(struct connection *c, char *payload, size_t size) {
     keep(0, payload, size);
     environments[at].open = i;
     environments[at].count = ++invoked;
-    ring(environments[at].bell);
+    if (environments[at].is_asking) ring(environments[at].bell);
     struct timespec deadline;
     clock_gettime(CLOCK_REALTIME, &deadline);
     deadline.tv_sec += TIMEOUT;
