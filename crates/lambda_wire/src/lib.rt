@@ -8,6 +8,7 @@ mod fault;
 mod header_writer;
 mod json_check;
 mod members;
+mod payload_scratch;
 mod reply;
 mod request_reader;
 mod setup;
@@ -24,5 +25,6 @@ pub use header_writer::{
     registered_headers,
 };
 pub use reply::{Reply, fault_reply, invoke_fault_reply};
+pub use payload_scratch::PayloadScratch;
 pub use request_reader::{Events, read_invoke_body, read_register, read_reservation};
 pub use setup::Setup;

@@ -17,8 +17,9 @@ use bytes::Bytes;
 use call_model::{Call, Ticket};
 use decisions::{Decide, Decision, Shown};
 use http::request::Parts;
-use lambda_wire::Reply;
+use lambda_wire::{PayloadScratch, Reply};
 use std::alloc::{AllocError, Global};
+use std::cell::Cell;
 use std::sync::{Arc, Mutex, Wait};
 use std::time::Duration;
 use std::{thread, time};
@@ -40,6 +41,8 @@ pub struct Connection<R, S: Service<K, L>, D: Decide, N, K: Keep, L: Ledgers> {
     tally: Arc<Mutex<Tally<K, L>>>,
     open: Arc<OpenPoll>,
     patience: u32,
+    // The room in which payloads are read, by one decision at a time.
+    scratch: Cell<PayloadScratch>,
     ghost agree: { S.serves (arc_value service) ≡ D.decides_for (arc_value decider) },
 }
 
@@ -109,6 +112,7 @@ impl<
             tally,
             open,
             patience,
+            scratch: Cell::new(PayloadScratch::new()),
         }
     }
 
@@ -215,7 +219,10 @@ impl<
         ensures ok { IfOk result (HasBegun S.Service N.Clock D.Decide (arc_value self.now.service) (arc_value self.now.clock) (arc_value self.now.decider) parts.now body.now) }
         ensures err { IfErr result (λ fault. fault ≡ ExchangeFault.OutOfMemory) }
     {
-        match self.decider.decide(self.alloc, parts, body)? {
+        let mut scratch = self.scratch.take();
+        let decided = self.decider.decide(self.alloc, &mut scratch, parts, body);
+        self.scratch.set(scratch);
+        match decided? {
             Decision::Reply(reply) => Ok(Begun::Replied(reply)),
             Decision::Show(Shown::Stats) => {
                 let stats = self.service.stats(&self.rt);
