@@ -10,7 +10,7 @@ use arn_ids::FnNo;
 use bytes::Bytes;
 use call_model::Call;
 use http::request::Parts;
-use lambda_wire::Reply;
+use lambda_wire::{PayloadScratch, Reply};
 use std::alloc::{AllocError, Global};
 
 /// What is shown of an account without a call.
@@ -46,9 +46,15 @@ pub trait Decide {
     /// The configuration that it decides for.
     ghost decides_for: { Self → Config };
 
-    /// What is done with a request of this head and body, whose bytes a call shares. The only error is
-    /// want of memory.
-    fn decide(&self, alloc: Global, parts: &Parts, body: &Bytes) -> Result<Decision, AllocError>
+    /// What is done with a request of this head and body, whose bytes a call shares. A payload is read
+    /// in the scratch's room. The only error is want of memory.
+    fn decide(
+        &self,
+        alloc: Global,
+        scratch: &mut PayloadScratch,
+        parts: &Parts,
+        body: &Bytes,
+    ) -> Result<Decision, AllocError>
         ensures decision { IfOk result (λ decision. decides self.now parts.now body.now decision) }
         // A call is one that the account's book takes, and a function that is shown is there.
         ensures allowed { IfOk result (IsAllowed (decides_for self.now)) };

@@ -11,7 +11,7 @@ use call_model::{Call, Ticket};
 use case_tables::CaseFault;
 use decisions::{Decide, Decision, Shown};
 use http::request::Parts;
-use lambda_wire::{Reply, fault_reply, json_headers};
+use lambda_wire::{PayloadScratch, Reply, fault_reply, json_headers};
 use long_poll::{Clock, Heard, OneShotBell, Service};
 use std::alloc::{AllocError, Global};
 use std::marker::PhantomData;
@@ -117,7 +117,13 @@ impl<S: Setup> Decide for Rows<S> {
 
     ghost decides_for = { λ _. S.config };
 
-    fn decide(&self, alloc: Global, parts: &Parts, body: &Bytes) -> Result<Decision, AllocError> {
+    fn decide(
+        &self,
+        alloc: Global,
+        _scratch: &mut PayloadScratch,
+        parts: &Parts,
+        body: &Bytes,
+    ) -> Result<Decision, AllocError> {
         let _of = &self.of;
         match parts.uri.path() {
             "/next" => Ok(Decision::Submit(Call::RuntimeNext { env: 1 })),

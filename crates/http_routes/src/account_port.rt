@@ -20,13 +20,14 @@ use bytes::Bytes;
 use call_model::Call;
 use decisions::{Decision, Shown};
 use http::request::Parts;
-use lambda_wire::{WireFault, read_invoke_body, read_reservation};
+use lambda_wire::{PayloadScratch, WireFault, read_invoke_body, read_reservation};
 use matchit::Router;
 use std::alloc::{AllocError, Global};
 
 /// Invoke of a function, with the payload that the body is.
 fn invoke(
     alloc: Global,
+    scratch: &mut PayloadScratch,
     parts: &Parts,
     body: &Bytes,
     function: FnNo,
@@ -37,7 +38,7 @@ fn invoke(
     if !is_synchronous(parts) {
         return wrong_invocation_type(alloc);
     }
-    match read_invoke_body(alloc, body) {
+    match read_invoke_body(alloc, scratch, body) {
         Ok(body) => Ok(Decision::Submit(Call::Invoke {
             function,
             qualified,
@@ -72,6 +73,7 @@ fn reserve(alloc: Global, body: &Bytes, function: FnNo) -> Result<Decision, Allo
 /// An Invoke.
 fn on_invoke(
     alloc: Global,
+    scratch: &mut PayloadScratch,
     config: &Checked,
     parts: &Parts,
     body: &Bytes,
@@ -84,7 +86,7 @@ fn on_invoke(
         Target::Function {
             function,
             qualified,
-        } => invoke(alloc, parts, body, function, qualified),
+        } => invoke(alloc, scratch, parts, body, function, qualified),
     }
 }
 
@@ -150,6 +152,7 @@ fn spindown(alloc: Global, config: &Checked, parts: &Parts) -> Result<Decision, 
 /// What is done on a route. The bodies of this service's own routes aren't looked at.
 fn on_route(
     alloc: Global,
+    scratch: &mut PayloadScratch,
     config: &Checked,
     parts: &Parts,
     body: &Bytes,
@@ -164,7 +167,7 @@ fn on_route(
         return wrong_method(alloc);
     }
     match route {
-        AccountRoute::Invoke => on_invoke(alloc, config, parts, body),
+        AccountRoute::Invoke => on_invoke(alloc, scratch, config, parts, body),
         AccountRoute::Concurrency => on_concurrency(alloc, config, parts, body),
         AccountRoute::ReadConcurrency => on_read_concurrency(alloc, config, parts),
         AccountRoute::Stop => Ok(Decision::Submit(Call::Stop)),
@@ -178,6 +181,7 @@ fn on_route(
 #[tactic(auto, unfolding(crate::specs::AccountDecisions::account_decision))]
 pub(crate) fn account_decision(
     alloc: Global,
+    scratch: &mut PayloadScratch,
     router: &Router<AccountRoute>,
     config: &Checked,
     parts: &Parts,
@@ -187,7 +191,7 @@ pub(crate) fn account_decision(
     ensures { IfOk result (λ d. d ≡ spec.account_decision config.now parts.now body.now) }
 {
     match account_route(router, parts.uri.path()) {
-        Some(route) => on_route(alloc, config, parts, body, route),
+        Some(route) => on_route(alloc, scratch, config, parts, body, route),
         None => not_found(alloc),
     }
 }

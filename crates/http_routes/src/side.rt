@@ -13,6 +13,7 @@ use arn_ids::{Checked, EnvNo};
 use bytes::Bytes;
 use decisions::{Decide, Decision};
 use http::request::Parts;
+use lambda_wire::PayloadScratch;
 use matchit::Router;
 use std::alloc::{AllocError, Global};
 use std::marker::Model;
@@ -92,14 +93,28 @@ impl Side {
 
     /// What is done with a request of this head and body: `Submit` its call, `Reply` with a refusal,
     /// or `Show` what is asked for. The first refusal that holds is given; the call shares
-    /// the body, which isn't copied. The only error is want of memory.
-    pub fn decide(&self, alloc: Global, parts: &Parts, body: &Bytes) -> Result<Decision, AllocError>
+    /// the body, which isn't copied. A payload is read in the scratch's room. The only error is want of
+    /// memory.
+    pub fn decide(
+        &self,
+        alloc: Global,
+        scratch: &mut PayloadScratch,
+        parts: &Parts,
+        body: &Bytes,
+    ) -> Result<Decision, AllocError>
         ensures decision { IfOk result (λ d. d ≡ decision self.now parts.now body.now) }
         // A call is one that the account's book takes, and a function that is shown is there.
         ensures allowed { IfOk result (IsAllowed self.now.config) }
     {
         match &self.routes {
-            Routes::Account(router) => account_decision(alloc, router, &self.config, parts, body),
+            Routes::Account(router) => account_decision(
+                alloc,
+                scratch,
+                router,
+                &self.config,
+                parts,
+                body,
+            ),
             Routes::Environment(env, router) => environment_decision(
                 alloc,
                 router,
@@ -121,7 +136,13 @@ impl Decide for Side {
 
     ghost decides_for = { λ side. side.config };
 
-    fn decide(&self, alloc: Global, parts: &Parts, body: &Bytes) -> Result<Decision, AllocError> {
-        Side::decide(self, alloc, parts, body)
+    fn decide(
+        &self,
+        alloc: Global,
+        scratch: &mut PayloadScratch,
+        parts: &Parts,
+        body: &Bytes,
+    ) -> Result<Decision, AllocError> {
+        Side::decide(self, alloc, scratch, parts, body)
     }
 }

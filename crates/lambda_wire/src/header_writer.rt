@@ -1,6 +1,6 @@
 //! The headers of replies.
 
-ghost use Rattle.std.specs.Prelude.{◌≡◌, IfOk, MatchOption, option_map};
+ghost use Rattle.std.specs.Prelude.{◌≡◌, IfOk, MatchOption, option_map, string_bytes};
 ghost use Rattle.http_header.specs.FieldValue.{plain_value, IsFieldValue};
 ghost use Rattle.lambda_wire.specs.Headers as spec;
 
@@ -17,6 +17,18 @@ fn value(alloc: Global, text: &str) -> Result<HeaderValue, AllocError>
     ensures { IfOk result (λ v. v ≡ plain_value text.now) }
 {
     match HeaderValue::from_str(alloc, text) {
+        Ok(value) => Ok(value),
+        Err(HeaderValueError::OutOfMemory) => Err(AllocError),
+        Err(HeaderValueError::Invalid) => unreachable!(),
+    }
+}
+
+/// A text that becomes a header's value, in the memory that it has.
+fn value_of(text: String) -> Result<HeaderValue, AllocError>
+    requires { IsFieldValue (string_bytes text) }
+    ensures { IfOk result (λ v. v ≡ plain_value (string_bytes text)) }
+{
+    match HeaderValue::from_string(text) {
         Ok(value) => Ok(value),
         Err(HeaderValueError::OutOfMemory) => Err(AllocError),
         Err(HeaderValueError::Invalid) => unreachable!(),
@@ -45,19 +57,19 @@ pub fn json_headers(alloc: Global) -> Result<Headers, AllocError>
 }
 
 /// The headers of a delivery: the request identifier, when the invocation times out, in
-/// milliseconds, the invoked ARN and the trace (Runtime API, Next invocation).
+/// milliseconds, the invoked ARN, whose memory it keeps, and the trace (Runtime API, Next invocation).
 #[tactic(auto, unfolding(crate::specs::Headers::next_headers))]
 pub fn next_headers(
     alloc: Global,
     request: &str,
     deadline: u64,
-    arn: &str,
+    arn: String,
     trace: &str,
 ) -> Result<Headers, AllocError>
     requires request { IsFieldValue request.now }
-    requires arn { IsFieldValue arn.now }
+    requires arn { IsFieldValue (string_bytes arn) }
     requires trace { IsFieldValue trace.now }
-    ensures { IfOk result (λ h. h ≡ spec.next_headers request.now deadline arn.now trace.now) }
+    ensures { IfOk result (λ h. h ≡ spec.next_headers request.now deadline (string_bytes arn) trace.now) }
 {
     let mut headers = json_with_room(alloc, 5)?;
     headers.push((
@@ -70,7 +82,7 @@ pub fn next_headers(
     ))?;
     headers.push((
         HeaderName::from_static("lambda-runtime-invoked-function-arn"),
-        value(alloc, arn)?,
+        value_of(arn)?,
     ))?;
     headers.push((
         HeaderName::from_static("lambda-runtime-trace-id"),

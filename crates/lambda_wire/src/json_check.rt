@@ -9,6 +9,7 @@ ghost use Rattle.lambda_wire.specs.Reading as spec;
 ghost use Rattle.lambda_wire.specs.JsonParts.{all_in_range};
 
 use crate::fault::WireFault;
+use crate::payload_scratch::PayloadScratch;
 use fast_float::Numeral;
 use json::{Invalid, Reader, Scratch, Token};
 use std::alloc::{AllocError, Global};
@@ -131,16 +132,29 @@ fn is_readable_json(text: &str, scratch: &mut Scratch) -> Result<bool, AllocErro
     Ok(check_value(&mut reader, MAX_DEPTH).is_ok() && reader.next().is_none())
 }
 
+/// Whether a value can be built of the text, which is read in this room.
+fn is_json(alloc: Global, room: &mut PayloadScratch, text: &str) -> Result<bool, AllocError>
+    ensures { IfOk result (λ readable. readable ≡ is_some (read text.now)) }
+{
+    let mut scratch = room.take(alloc)?;
+    let readable = is_readable_json(text, &mut scratch)?;
+    room.keep(scratch, text.len());
+    Ok(readable)
+}
+
 /// Ok where `json_of` reads the bytes; else the fault with which it doesn't, want of memory aside.
-pub(crate) fn check_json(alloc: Global, bytes: &[u8]) -> Result<(), WireFault>
+pub(crate) fn check_json(
+    alloc: Global,
+    room: &mut PayloadScratch,
+    bytes: &[u8],
+) -> Result<(), WireFault>
     ensures { MatchResult result (λ _. IsOk (spec.json_in bytes.now))
         (λ e. spec.Fails e (spec.json_in bytes.now)) }
 {
     let Ok(text) = str::from_utf8(bytes) else {
         return Err(WireFault::NotJson);
     };
-    let mut scratch = Scratch::new(alloc);
-    if is_readable_json(text, &mut scratch)? {
+    if is_json(alloc, room, text)? {
         Ok(())
     } else {
         Err(WireFault::NotJson)

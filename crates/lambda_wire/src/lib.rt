@@ -8,13 +8,14 @@ mod fault;
 mod header_writer;
 mod json_check;
 mod members;
+mod payload_scratch;
 mod reply;
 mod request_reader;
 mod setup;
 
 pub use body_writer::{
-    InvokeFault, write_fault, write_invoke_event, write_invoke_fault, write_registered,
-    write_reservation, write_shutdown_event, write_status, write_throttle,
+    InvokeFault, status_body, write_fault, write_invoke_event, write_invoke_fault,
+    write_registered, write_reservation, write_shutdown_event, write_throttle,
 };
 pub use config_reader::read_config;
 pub use config_writer::write_config;
@@ -23,6 +24,7 @@ pub use header_writer::{
     Headers, error_headers, event_headers, invoke_headers, json_headers, next_headers,
     registered_headers,
 };
+pub use payload_scratch::PayloadScratch;
 pub use reply::{Reply, fault_reply, invoke_fault_reply};
 pub use request_reader::{Events, read_invoke_body, read_register, read_reservation};
 pub use setup::Setup;

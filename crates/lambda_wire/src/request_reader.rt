@@ -10,6 +10,7 @@ ghost use Rattle.lambda_wire.specs.Requests.{is_event, events_of, registration_o
 use crate::fault::WireFault;
 use crate::json_check::check_json;
 use crate::members::{json_of, number_u32, texts_or_none};
+use crate::payload_scratch::PayloadScratch;
 use arn_ids::{LONGEST_BODY, Text};
 use bytes::Bytes;
 use serde_json::Value;
@@ -25,11 +26,16 @@ pub struct Events {
 }
 
 /// Reads the payload of an Invoke: JSON (RFC 8259) of at most 6,291,456 bytes, which is taken as it
-/// stands and shares its memory; an empty body stands for `{}` (Lambda API, Invoke: Payload).
+/// stands and shares its memory; an empty body stands for `{}` (Lambda API, Invoke: Payload). It is read
+/// in the scratch's room, whatever was read there before.
 ///
 /// The errors are `TooLong`, `NotJson` (white space alone is no JSON), and `OutOfMemory`.
 #[tactic(auto, unfolding(crate::specs::Requests::read_payload))]
-pub fn read_invoke_body(alloc: Global, bytes: &Bytes) -> Result<Bytes, WireFault>
+pub fn read_invoke_body(
+    alloc: Global,
+    scratch: &mut PayloadScratch,
+    bytes: &Bytes,
+) -> Result<Bytes, WireFault>
     ensures payload { spec.Gives result (read_payload bytes.now) }
     // The length is looked at first, and takes no memory.
     ensures too_long { longest_body < length bytes.now → IsErrOf result WireFault.TooLong }
@@ -40,7 +46,7 @@ pub fn read_invoke_body(alloc: Global, bytes: &Bytes) -> Result<Bytes, WireFault
     if bytes.is_empty() {
         return Ok(Bytes::from_static(b"{}"));
     }
-    check_json(alloc, bytes.as_slice())?;
+    check_json(alloc, scratch, bytes.as_slice())?;
     Ok(bytes.clone()?)
 }
 

@@ -17,15 +17,20 @@ use bytes::Bytes;
 use call_model::{Call, Ticket};
 use decisions::{Decide, Decision, Shown};
 use http::request::Parts;
-use lambda_wire::Reply;
+use lambda_wire::{PayloadScratch, Reply};
 use std::alloc::{AllocError, Global};
+use std::cell::Cell;
 use std::sync::{Arc, Mutex, Wait};
 use std::time::Duration;
 use std::{thread, time};
 use usage_ledger::{Front, Keep, Ledgers, Tally};
 
-/// The longest pause between two looks whether a call is still premature, in milliseconds.
-const LONGEST_PAUSE: u32 = 8;
+/// The first pause between two looks whether a call is still premature, in microseconds. A runtime that
+/// is on its way to its next invocation wants no longer as a rule, and its caller waits no longer then.
+const FIRST_PAUSE: u64 = 50;
+
+/// The longest such pause, in microseconds.
+const LONGEST_PAUSE: u64 = 8_000;
 
 /// What the exchanges of one connection share: the account and who decides its requests, both of
 /// one configuration, a clock, the connection's tally, the note of its open Next, and its patience:
@@ -40,6 +45,8 @@ pub struct Connection<R, S: Service<K, L>, D: Decide, N, K: Keep, L: Ledgers> {
     tally: Arc<Mutex<Tally<K, L>>>,
     open: Arc<OpenPoll>,
     patience: u32,
+    // The room in which payloads are read, by one decision at a time.
+    scratch: Cell<PayloadScratch>,
     ghost agree: { S.serves (arc_value service) ≡ D.decides_for (arc_value decider) },
 }
 
@@ -68,8 +75,8 @@ enum Attempt<L: Ledgers> {
     HeldBack(Call, OneShotBell),
 }
 
-/// The pause behind another one, in milliseconds: twice as long, up to the longest.
-fn next_pause(pause: u32) -> u32
+/// The pause behind another one, in microseconds: twice as long, up to the longest.
+fn next_pause(pause: u64) -> u64
     requires { 1 ≤ pause }
     ensures { 1 ≤ result }
 {
@@ -109,6 +116,7 @@ impl<
             tally,
             open,
             patience,
+            scratch: Cell::new(PayloadScratch::new()),
         }
     }
 
@@ -164,8 +172,8 @@ impl<
     {
         let mut call = call;
         let mut bell = bell;
-        let mut left = self.patience;
-        let mut pause = 1;
+        let mut left = u64::from(self.patience) * 1_000;
+        let mut pause = FIRST_PAUSE;
         while left > 0 {
             match self.attempt(call, bell) {
                 Attempt::Made(back) => return back,
@@ -175,7 +183,7 @@ impl<
                 }
             }
             let now = left.min(pause);
-            thread::sleep(&self.rt, Duration::from_millis(u64::from(now)));
+            thread::sleep(&self.rt, Duration::from_micros(now));
             left -= now;
             pause = next_pause(pause);
         }
@@ -215,7 +223,10 @@ impl<
         ensures ok { IfOk result (HasBegun S.Service N.Clock D.Decide (arc_value self.now.service) (arc_value self.now.clock) (arc_value self.now.decider) parts.now body.now) }
         ensures err { IfErr result (λ fault. fault ≡ ExchangeFault.OutOfMemory) }
     {
-        match self.decider.decide(self.alloc, parts, body)? {
+        let mut scratch = self.scratch.take();
+        let decided = self.decider.decide(self.alloc, &mut scratch, parts, body);
+        self.scratch.set(scratch);
+        match decided? {
             Decision::Reply(reply) => Ok(Begun::Replied(reply)),
             Decision::Show(Shown::Stats) => {
                 let stats = self.service.stats(&self.rt);

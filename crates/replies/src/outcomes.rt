@@ -13,8 +13,8 @@ use arn_ids::{Checked, Row};
 use bytes::Bytes;
 use call_model::{Call, Throttle};
 use lambda_wire::{
-    InvokeFault, Reply, error_headers, invoke_headers, json_headers, write_fault,
-    write_invoke_fault, write_reservation, write_status, write_throttle,
+    InvokeFault, Reply, error_headers, invoke_headers, json_headers, status_body, write_fault,
+    write_invoke_fault, write_reservation, write_throttle,
 };
 use std::alloc::{AllocError, Global};
 use uuid::Uuid;
@@ -166,7 +166,7 @@ pub(crate) fn done_with(alloc: Global, status: u16) -> Result<Reply, AllocError>
     Ok(Reply {
         status,
         headers: json_headers(alloc)?,
-        body: Bytes::from_vec(write_status(alloc)?)?,
+        body: status_body(),
     })
 }
 

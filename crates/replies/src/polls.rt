@@ -36,7 +36,7 @@ pub(crate) fn delivery(
     let trace = trace_of(gist.source);
     Ok(Reply {
         status: 200,
-        headers: next_headers(alloc, request, deadline, arn.as_str(), trace)?,
+        headers: next_headers(alloc, request, deadline, arn, trace)?,
         body: shared_body(gist.source)?,
     })
 }

@@ -11,7 +11,7 @@ use case_tables::CaseFault;
 use entry_blocks::Blocks;
 use http::request::Parts;
 use http_routes::{Decision, Shown};
-use lambda_wire::Reply;
+use lambda_wire::{PayloadScratch, Reply};
 use script::push_entry;
 use std::alloc::{AllocError, Global};
 use std::str;
@@ -26,7 +26,8 @@ pub fn decided(
     head: &Parts,
     body: &Bytes,
 ) -> Result<Decision, AllocError> {
-    door.side.decide(alloc, head, body)
+    let mut scratch = PayloadScratch::new();
+    door.side.decide(alloc, &mut scratch, head, body)
 }
 
 /// Adds bytes as text.

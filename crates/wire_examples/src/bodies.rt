@@ -4,8 +4,8 @@ use crate::arguments::Arguments;
 use crate::reply_text::push_line;
 use case_tables::CaseFault;
 use lambda_wire::{
-    InvokeFault, write_fault, write_invoke_event, write_invoke_fault, write_registered,
-    write_reservation, write_shutdown_event, write_status, write_throttle,
+    InvokeFault, status_body, write_fault, write_invoke_event, write_invoke_fault,
+    write_registered, write_reservation, write_shutdown_event, write_throttle,
 };
 use std::alloc::Global;
 
@@ -20,7 +20,7 @@ pub fn form_of(arguments: &Arguments) -> Result<InvokeFault, CaseFault> {
 }
 
 fn status(alloc: Global) -> Result<Vec<u8>, CaseFault> {
-    Ok(write_status(alloc)?)
+    Ok(status_body().as_slice().to_vec(alloc)?)
 }
 
 fn reservation(alloc: Global, arguments: &Arguments) -> Result<Vec<u8>, CaseFault> {

@@ -47,7 +47,7 @@ fn next(alloc: Global, arguments: &Arguments) -> Result<Headers, CaseFault> {
     let arn = value_of(alloc, arguments, "arn")?;
     let trace = value_of(alloc, arguments, "trace")?;
     let request = text_of(arguments, &request)?;
-    let arn = text_of(arguments, &arn)?;
+    let arn = String::from_str(alloc, text_of(arguments, &arn)?)?;
     let trace = text_of(arguments, &trace)?;
     Ok(next_headers(alloc, request, deadline, arn, trace)?)
 }

@@ -5,8 +5,8 @@ use crate::reply_text::push_line;
 use bytes::Bytes;
 use case_tables::{Case, CaseFault, Part, push_bytes};
 use lambda_wire::{
-    Events, Setup, WireFault, read_config, read_invoke_body, read_register, read_reservation,
-    write_config,
+    Events, PayloadScratch, Setup, WireFault, read_config, read_invoke_body, read_register,
+    read_reservation, write_config,
 };
 use std::alloc::Global;
 
@@ -31,9 +31,14 @@ fn push_fault(alloc: Global, fault: WireFault, given: &mut String) -> Result<(),
     Ok(given.push_str(format!(in alloc; "{fault:?}\n")?.as_str())?)
 }
 
-fn push_payload(alloc: Global, bytes: &[u8], given: &mut String) -> Result<(), CaseFault> {
+fn push_payload(
+    alloc: Global,
+    scratch: &mut PayloadScratch,
+    bytes: &[u8],
+    given: &mut String,
+) -> Result<(), CaseFault> {
     let body = Bytes::copy_from_slice(alloc, bytes)?;
-    match read_invoke_body(alloc, &body) {
+    match read_invoke_body(alloc, scratch, &body) {
         Ok(payload) if payload.as_slice() == bytes => Ok(given.push_str("as it stands\n")?),
         Ok(payload) => Ok(push_line(given, payload.as_slice())?),
         Err(fault) => push_fault(alloc, fault, given),
@@ -79,28 +84,30 @@ fn push_configuration(alloc: Global, bytes: &[u8], given: &mut String) -> Result
 /// Adds what a body says.
 fn push_reading(
     alloc: Global,
+    scratch: &mut PayloadScratch,
     reading: Reading,
     bytes: &[u8],
     given: &mut String,
 ) -> Result<(), CaseFault> {
     match reading {
-        Reading::Payloads => push_payload(alloc, bytes, given),
+        Reading::Payloads => push_payload(alloc, scratch, bytes, given),
         Reading::Registrations => push_registration(alloc, bytes, given),
         Reading::Reservations => push_reservation(alloc, bytes, given),
         Reading::Configurations => push_configuration(alloc, bytes, given),
     }
 }
 
-/// Adds what each line of a part says.
+/// Adds what each line of a part says. One scratch serves them all.
 fn push_each(
     alloc: Global,
+    scratch: &mut PayloadScratch,
     reading: Reading,
     part: &Part,
     given: &mut String,
 ) -> Result<(), CaseFault> {
     let lines = part.text();
     for line in lines.strip_suffix('\n').unwrap_or(lines).split('\n') {
-        push_reading(alloc, reading, line.as_bytes(), given)?;
+        push_reading(alloc, scratch, reading, line.as_bytes(), given)?;
     }
     Ok(())
 }
@@ -121,11 +128,12 @@ pub fn give(
     case: &Case,
     given: &mut String,
 ) -> Result<(), CaseFault> {
+    let mut scratch = PayloadScratch::new();
     match case.parts() {
-        [part] if part.word() == "each" => push_each(alloc, reading, part, given),
+        [part] if part.word() == "each" => push_each(alloc, &mut scratch, reading, part, given),
         parts => {
             let bytes = bytes_of(alloc, parts)?;
-            push_reading(alloc, reading, bytes.as_slice(), given)
+            push_reading(alloc, &mut scratch, reading, bytes.as_slice(), given)
         }
     }
 }
