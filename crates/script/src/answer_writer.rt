@@ -90,8 +90,14 @@ fn push_answer_words(
         }
         Answer::Accepted => push_words(out, &[Word::Plain("accepted")]),
         Answer::Done => push_words(out, &[Word::Plain("done")]),
-        Answer::Output { source } => push_words(out, &[Word::Plain("output"), body_word(past, source)]),
-        Answer::Error { source } => push_words(out, &[Word::Plain("error"), body_word(past, source)]),
+        Answer::Output { source } => push_words(
+            out,
+            &[Word::Plain("output"), body_word(past, source)],
+        ),
+        Answer::Error { source } => push_words(
+            out,
+            &[Word::Plain("error"), body_word(past, source)],
+        ),
         Answer::TimedOut => push_words(out, &[Word::Plain("timeout")]),
         Answer::InitTimedOut => push_words(out, &[Word::Plain("init-timeout")]),
         Answer::OutputTooLarge => push_words(out, &[Word::Plain("too-large-output")]),
