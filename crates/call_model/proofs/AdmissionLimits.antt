@@ -1,5 +1,5 @@
 -- No admission takes a reserved function past its reservation, nor the unreserved ones together past the remainder.
-use Rattle.std.proofs.Common.{◌≡◌, ℕ, ◌+◌, ◌<◌, ◌≤◌, Bool, true, false, cond, List, [], ◌∷◌, length, Option, Some, None, sym, refl, ◌∙◌, inl, inr, arith, is_some, is_none, ◌&&◌, ◌||◌, true≢false, count_by, ◌-◌, eqb, ap, ap₂, subst, ◌⊎◌, ◌==◌, if◌then◌else◌, nat_le, sum_by}
+use Rattle.std.proofs.Common.{◌≡◌, ℕ, ◌+◌, ◌<◌, ◌≤◌, Bool, true, false, cond, List, [], ◌∷◌, length, Option, Some, None, sym, refl, ◌∙◌, inl, inr, arith, is_some, is_none, ◌&&◌, ◌||◌, true≢false, count_by, ◌-◌, ap, ap₂, subst, ◌⊎◌, ◌==◌, if◌then◌else◌, nat_le, sum_by}
 use Rattle.call_model.specs.declared.call.Entry.{Entry}
 use Rattle.arn_ids.specs.declared.config.Config.{Config}
 use Rattle.call_model.specs.History.{answer_in, pending, with_tickets, is_invoke_of, stopped}
@@ -9,7 +9,7 @@ use Rattle.call_model.specs.Next.{IsLegal, Follows}
 use Rattle.call_model.proofs.Once.{pending_cons}
 use Rattle.call_model.proofs.AtHand.{from_entry, busy_at_hand, at_hand_is}
 use Rattle.call_model.proofs.BoundWaits.{bound_waits}
-use Rattle.call_model.proofs.Basics.{count_cons, counted_once, and_left, and_right}
+use Rattle.call_model.proofs.Basics.{count_cons, counted_once, and_left, and_right, eqb-self}
 use Rattle.std.specs.List.{list_any}
 use Rattle.std.proofs.lemmas.Bool.Decides.{eqb_tells, nat_tests}
 use Rattle.std.proofs.lemmas.Bool.{eqb-true}
@@ -246,9 +246,6 @@ ever_within_reservation config (entry ∷ h) f n l q r = go (admits f entry) ref
 unreserved_admitted : (config : Config) (h : List Entry) (entry : Entry) → ((f : ℕ) × ((admits f entry ≡ true) × (reservation config h f ≡ None))) ⊎ ((d : ℕ) → (admits d entry && is_none (reservation config h d)) ≡ false)
 unreserved_admitted config h entry = go entry.call entry.place
   where
-    same : (t : ℕ) → eqb t t ≡ true
-    same t = grind (arith, nat_tests)
-
     not_both : (a b c : Bool) → c ≡ false → ((a && b) && c) ≡ false
     not_both true true c q = q
     not_both true false c q = refl
@@ -265,7 +262,7 @@ unreserved_admitted config h entry = go entry.call entry.place
     no_and false b = refl
 
     by_reservation : (g : ℕ) (r : Option ℕ) → reservation config h g ≡ r → ((f : ℕ) × ((((g == f) && true) ≡ true) × (reservation config h f ≡ None))) ⊎ ((d : ℕ) → (((g == d) && true) && is_none (reservation config h d)) ≡ false)
-    by_reservation g None q = inl (g, (rw (same g) refl, q))
+    by_reservation g None q = inl (g, (rw (eqb-self g) refl, q))
     by_reservation g (Some n) q = inr (λ d. at_one g d (ap is_none q))
 
     go : (call : Call) (o : Option ℕ) → ((f : ℕ) × (((is_invoke_of f call && is_some o) ≡ true) × (reservation config h f ≡ None))) ⊎ ((d : ℕ) → ((is_invoke_of d call && is_some o) && is_none (reservation config h d)) ≡ false)

@@ -1,5 +1,5 @@
 -- What one more entry changes of what a history says of its tickets.
-use Rattle.std.proofs.Common.{◌≡◌, ℕ, ◌+◌, ◌<◌, Bool, true, false, cond, List, [], ◌∷◌, ◌++◌, length, Option, Some, None, sym, refl, ap, ◌∙◌, arith, ◌≢◌, is_some, is_none, not, ◌&&◌, count_by}
+use Rattle.std.proofs.Common.{◌≡◌, ℕ, ◌+◌, ◌<◌, Bool, cond, List, [], ◌∷◌, ◌++◌, length, Option, Some, None, sym, refl, ap, ◌∙◌, arith, ◌≢◌, is_some, is_none, not, ◌&&◌, count_by}
 use Rattle.std.proofs.lemmas.List.Sums.{sum_by-cons, sum_by-append}
 use Rattle.call_model.specs.declared.answer.Answer.{Answer}
 use Rattle.call_model.specs.declared.call.Entry.{Entry}
@@ -8,7 +8,7 @@ use Rattle.call_model.specs.History.{answer_in, answer_of, or_else, pending, cal
 use Rattle.call_model.specs.Next.{IsLegal}
 use Rattle.call_model.proofs.Pairs.{eqb-other}
 use Rattle.call_model.proofs.Once.{fresh, silent}
-use Rattle.call_model.proofs.Basics.{eqb-self, some-none, count_cons}
+use Rattle.call_model.proofs.Basics.{eqb-self, some-none, count_cons, and_false}
 use Rattle.call_model.specs.Counts.{calls, admitted, answers_that}
 
 -- The new ticket's call is the entry's,
@@ -33,10 +33,6 @@ answer_of_stays config entry h t a l q =
   where
     new : t ≢ length h
     new eqb-self = absurd (some-none (sym q ∙ fresh config h t l.0 (omega (arith, eqb-self))))
-
-    and_false : (b : Bool) → (b && false) ≡ false
-    and_false true = refl
-    and_false false = refl
 
 -- The new ticket waits where its call is no expiry and has no answer in its own entry.
 pub pending_new : (config : Config) (entry : Entry) (h : List Entry) → IsLegal config h → pending (entry ∷ h) (length h) ≡ (not (is_expiry entry.call) && is_none (answer_in entry.answers (length h)))

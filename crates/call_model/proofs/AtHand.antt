@@ -1,5 +1,5 @@
 -- The invocation that an environment has at hand was placed there.
-use Rattle.std.proofs.Common.{◌≡◌, ℕ, ◌<◌, Bool, true, false, eqb, List, [], ◌∷◌, length, Option, Some, None, sym, refl, ap, ◌∙◌, subst, inl, inr, arith, ◌≢◌, ◌⊎◌, ◌||◌, true≢false, if◌then◌else◌}
+use Rattle.std.proofs.Common.{◌≡◌, ℕ, ◌<◌, Bool, true, false, List, [], ◌∷◌, length, Option, Some, None, sym, refl, ap, ◌∙◌, subst, inl, inr, arith, ◌≢◌, ◌⊎◌, ◌||◌, true≢false, if◌then◌else◌}
 use Rattle.std.proofs.lemmas.Bool.Decides.{nat_tests}
 use Rattle.call_model.specs.declared.answer.Reason.{Reason}
 use Rattle.call_model.specs.declared.answer.Phase.{Phase}
@@ -20,8 +20,9 @@ use Rattle.call_model.proofs.Scans.{legal_silent}
 use Rattle.call_model.proofs.PhaseStep.{phase_step, cell_of}
 use Rattle.call_model.specs.Limits.{is_busy_with}
 use Rattle.std.proofs.lemmas.Bool.{eqb-true}
-use Rattle.call_model.proofs.Basics.{some-none}
+use Rattle.call_model.proofs.Basics.{some-none, eqb-self}
 use Rattle.call_model.proofs.Elsewhere.{life_elsewhere}
+use Rattle.std.proofs.Math.Bool.{or-false}
 
 pub bound_at_hand : (P : Phase) (p : ℕ) → bound_of P ≡ Some p → at_hand P ≡ Some p
 bound_at_hand (Busy q d) p e = absurd (some-none (sym e))
@@ -137,12 +138,8 @@ kept_older entry h e p k =
 pub placed_here : (h : List Entry) (entry : Entry) (e : ℕ) → is_invoke entry.call ≡ true → concerns h e entry ≡ true → is_number entry.place e ≡ true
 placed_here h entry e i c = go entry.call i c
   where
-    or_no : (a : Bool) → (a || false) ≡ true → a ≡ true
-    or_no true q = refl
-    or_no false q = q
-
     go : (call : Call) → is_invoke call ≡ true → (is_number entry.place e || names h e call) ≡ true → is_number entry.place e ≡ true
-    go (Invoke f qualified trace body) a b = or_no (is_number entry.place e) b
+    go (Invoke f qualified trace body) a b = sym (or-false (is_number entry.place e)) ∙ b
     go call a b = absurd (true≢false (sym a))
 
 pub held : (config : Config) (h : List Entry) (e p : ℕ) → IsLegal config h → at_hand (phase config h e) ≡ Some p → IsHeld h e p
@@ -154,11 +151,8 @@ held config (entry ∷ h) e p l q =
       | inr old ↦ kept_older entry h e p (held config h e p l.0 old)
     ]
   where
-    same : (t : ℕ) → eqb t t ≡ true
-    same t = grind (arith, nat_tests)
-
     newly : length h ≡ p → is_invoke entry.call ≡ true → concerns h e entry ≡ true → IsHeld (entry ∷ h) e p
-    newly at i c = subst (λ n. IsHeld (entry ∷ h) e n) at (record { older = omega arith; invoke = rw (same (length h)) i; placed = rw (same (length h)) (placed_here h entry e i c) })
+    newly at i c = subst (λ n. IsHeld (entry ∷ h) e n) at (record { older = omega arith; invoke = rw (eqb-self (length h)) i; placed = rw (eqb-self (length h)) (placed_here h entry e i c) })
 
 pub busy_at_hand : (P : Phase) (t : ℕ) → is_busy_with P t ≡ true → at_hand P ≡ Some t
 busy_at_hand (Busy p d) t e = ap (λ (n : ℕ). Some n) (eqb-true p t e)

@@ -37,10 +37,6 @@ map_same f g e (x ∷ xs) = ap₂ ◌∷◌ (e x) (map_same f g e xs)
 pub count_cons : {X : Type 0} (p : X → Bool) (x : X) (xs : List X) → count_by p (x ∷ xs) ≡ cond (p x) 1 0 + count_by p xs
 count_cons p x xs = sum_by-cons (λ y. cond (p y) 1 0) x xs
 
-pub or_right : (a b : Bool) → (a || b) ≡ false → b ≡ false
-or_right true b q = absurd (true≢false q)
-or_right false b q = q
-
 pub some-none : {A : Type 0} {a : A} → Some a ≡ None → ⊥
 some-none q = cc
 

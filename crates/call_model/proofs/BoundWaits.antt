@@ -1,6 +1,5 @@
 -- A bound invocation is pending.
-use Rattle.std.proofs.Common.{◌≡◌, ℕ, ◌<◌, Bool, true, false, eqb, List, [], ◌∷◌, length, Option, Some, None, sym, refl, ap, ◌∙◌, subst, inl, inr, arith, ◌≢◌, ◌⊎◌, not, ◌&&◌, map, true≢false, if◌then◌else◌}
-use Rattle.std.proofs.lemmas.Bool.Decides.{nat_tests}
+use Rattle.std.proofs.Common.{◌≡◌, ℕ, ◌<◌, Bool, true, false, List, [], ◌∷◌, length, Option, Some, None, sym, refl, ap, ◌∙◌, subst, inl, inr, arith, ◌≢◌, ◌⊎◌, not, ◌&&◌, map, true≢false, if◌then◌else◌}
 use Rattle.std.specs.List.{find}
 use Rattle.call_model.specs.declared.answer.Reason.{Reason}
 use Rattle.call_model.specs.declared.answer.Phase.{Phase}
@@ -24,10 +23,11 @@ use Rattle.call_model.specs.Calls.{is_invoke}
 use Rattle.call_model.proofs.AtHand.{IsHeld, held, bound_at_hand, placed_here}
 use Rattle.call_model.proofs.Scans.{legal_silent}
 use Rattle.call_model.proofs.PhaseStep.{phase_step, cell_of}
-use Rattle.call_model.proofs.Basics.{number_some, or_right, some-none}
+use Rattle.call_model.proofs.Basics.{number_some, some-none, eqb-self}
 use Rattle.call_model.proofs.Elsewhere.{life_elsewhere}
 use Rattle.call_model.proofs.Visits.{visit, if_concerned, if_ended}
 use Rattle.call_model.proofs.Cells.{in_row, in_table, first_stop}
+use Rattle.std.proofs.lemmas.Bool.{or_parts}
 
 -- each entry of a generation stands in the history under its ticket
 abbrev pub IsPart : List Entry → Generation → Type 0
@@ -43,12 +43,9 @@ unfolding life lived after
 generation_part config [] e = tt
 generation_part config (entry ∷ h) e = go (concerns h e entry) (part_older entry h (life config h e).generation (generation_part config h e))
   where
-    same : (t : ℕ) → eqb t t ≡ true
-    same t = grind (arith, nat_tests)
-
     at_end : (b : Bool) → IsPart (entry ∷ h) (life config h e).generation → IsPart (entry ∷ h) (if_ended b (visit config h e entry)).generation
     at_end true k = tt
-    at_end false k = ((omega arith, rw (same (length h)) refl), k)
+    at_end false k = ((omega arith, rw (eqb-self (length h)) refl), k)
 
     go : (b : Bool) → IsPart (entry ∷ h) (life config h e).generation → IsPart (entry ∷ h) (if_concerned b (visit config h e entry)).generation
     go false k = k
@@ -227,11 +224,8 @@ quiet_at config h entry e p f k nothing =
 own_placed : (config : Config) (h : List Entry) (entry : Entry) (e : ℕ) → Follows config h entry → is_invoke entry.call ≡ true → is_number entry.place e ≡ true → answer_in entry.answers (length h) ≡ None
 unfolding first_answer own_first
 own_placed config h entry e f i at =
-    rw (f.answers) (is_some_none _ (answers_at config h entry.moment entry.call (length h) (omega arith) ∙ rw (first, invoke_second config h (first_entry config h entry.moment entry.call) (length h) (rw (same (length h)) i)) refl))
+    rw (f.answers) (is_some_none _ (answers_at config h entry.moment entry.call (length h) (omega arith) ∙ rw (first, invoke_second config h (first_entry config h entry.moment entry.call) (length h) (rw (eqb-self (length h)) i)) refl))
   where
-    same : (t : ℕ) → eqb t t ≡ true
-    same t = grind (arith, nat_tests)
-
     admitted : (v : Verdict) → is_number (admitted_to v) e ≡ true → verdict_answer v ≡ None
     admitted (Admits d) q = refl
     admitted AfterStop q = absurd (true≢false (sym q))
@@ -242,7 +236,7 @@ own_placed config h entry e f i at =
     by_call call a q = absurd (true≢false (sym a))
 
     first : first_answer config h entry.moment entry.call (length h) ≡ None
-    first = rw (same (length h)) (by_call entry.call i (ap (λ (o : Option ℕ). is_number o e) (sym (f.place)) ∙ at))
+    first = rw (eqb-self (length h)) (by_call entry.call i (ap (λ (o : Option ℕ). is_number o e) (sym (f.place)) ∙ at))
 
 -- A bound invocation is pending.
 pub bound_waits : (config : Config) (h : List Entry) (e p : ℕ) → IsLegal config h → bound_of (phase config h e) ≡ Some p → pending h p ≡ true
@@ -262,11 +256,8 @@ bound_waits config (entry ∷ h) e p l q = go (concerns h e entry) refl (bound_w
         pending_cons entry h p (omega (arith, k.older)) ∙ rw (w, quiet_at config h entry e p l.1 k n) refl
 
     newly : length h ≡ p → is_invoke entry.call ≡ true → concerns h e entry ≡ true → pending (entry ∷ h) p ≡ true
-    newly at i c = subst (λ n. pending (entry ∷ h) n ≡ true) at (rw (same (length h), own_placed config h entry e l.1 i (placed_here h entry e i c), fresh config h (length h) l.0 (omega arith)) (no_expiry entry.call i))
+    newly at i c = subst (λ n. pending (entry ∷ h) n ≡ true) at (rw (eqb-self (length h), own_placed config h entry e l.1 i (placed_here h entry e i c), fresh config h (length h) l.0 (omega arith)) (no_expiry entry.call i))
       where
-        same : (t : ℕ) → eqb t t ≡ true
-        same t = grind (arith, nat_tests)
-
         no_expiry : (call : Call) → is_invoke call ≡ true → (not (is_expiry call) && true) ≡ true
         no_expiry (Invoke g qualified trace body) a = refl
         no_expiry call a = absurd (true≢false (sym a))
@@ -274,7 +265,7 @@ bound_waits config (entry ∷ h) e p l q = go (concerns h e entry) refl (bound_w
     go : (c : Bool) → concerns h e entry ≡ c → (bound_of (phase config h e) ≡ Some p → pending h p ≡ true) → pending (entry ∷ h) p ≡ true
     go false w ih =
         let b : bound_of (phase config h e) ≡ Some p = ap (λ (x : Life). bound_of x.phase) (sym (life_elsewhere config h entry e w)) ∙ q in
-        older_waits b (ih b) (λ n. absurd (true≢false (sym n ∙ or_right (is_number entry.place e) (names h e entry.call) w)))
+        older_waits b (ih b) (λ n. absurd (true≢false (sym n ∙ (or_parts (is_number entry.place e) (names h e entry.call) w).1)))
     go true w ih =
         let split : (closes s entry.call ≡ None) × (bound_of (kept entry.moment (limit_of config e entry.moment) (length h) s entry.call) ≡ Some p) =
         from_closing entry.moment (closes s entry.call) (kept entry.moment (limit_of config e entry.moment) (length h) s entry.call) p

@@ -12,7 +12,7 @@ use Rattle.call_model.proofs.Pairs.{eqb-other}
 use Rattle.call_model.proofs.AtHand.{held, busy_at_hand, at_hand_is}
 use Rattle.call_model.proofs.BoundWaits.{bound_waits}
 use Rattle.call_model.proofs.Lives.{lives}
-use Rattle.call_model.proofs.Basics.{count_cons, and_left, and_right, number_some}
+use Rattle.call_model.proofs.Basics.{count_cons, and_left, and_right, number_some, eqb-self}
 
 -- a pair of with_tickets is a ticket of the history with its entry
 abbrev pub IsIn : List Entry → ℕ × Entry → Type 0
@@ -31,10 +31,7 @@ in_more entry h (x ∷ xs) o = ((omega (arith, o.0.0), rw (other) (o.0.1), rw (o
 
 pub entries_in : (h : List Entry) → AreIn h (with_tickets h)
 entries_in [] = tt
-entries_in (entry ∷ h) = ((omega arith, rw (same (length h)) refl, rw (same (length h)) refl), in_more entry h (with_tickets h) (entries_in h))
-  where
-    same : (t : ℕ) → eqb t t ≡ true
-    same t = grind (arith, nat_tests)
+entries_in (entry ∷ h) = ((omega arith, rw (eqb-self (length h)) refl, rw (eqb-self (length h)) refl), in_more entry h (with_tickets h) (entries_in h))
 
 pub count_same : (h : List Entry) (p q : ℕ × Entry → Bool) → ((x : ℕ × Entry) → IsIn h x → p x ≡ q x) → (xs : List (ℕ × Entry)) → AreIn h xs → count_by p xs ≡ count_by q xs
 count_same h p q f [] o = refl
@@ -78,11 +75,8 @@ charged_here config h e x l i = both_ways (is_number x.1.place e && charged conf
     t : ℕ
     t = x.0
 
-    same : (n : ℕ) → eqb n n ≡ true
-    same n = grind (arith, nat_tests)
-
     to_number : at_hand (phase config h e) ≡ Some t → is_number (at_hand (phase config h e)) t ≡ true
-    to_number q = rw q (same t)
+    to_number q = rw q (eqb-self t)
 
     hand : (a b : Bool) → pending h t ≡ a → is_busy_with (phase config h e) t ≡ b → (a || b) ≡ true → is_number (place_of h t) e ≡ true → at_hand (phase config h e) ≡ Some t
     hand true b p q r k = lives config h e t l k p
@@ -98,7 +92,7 @@ charged_here config h e x l i = both_ways (is_number x.1.place e && charged conf
         to_number (hand (pending h t) (is_busy_with (phase config h e) t) refl refl (in_place x.1.place (number_some x.1.place e k) (and_right (is_number x.1.place e) (charged config h x.0 x.1) q)) (ap (λ (o : Option ℕ). is_number o e) i.2 ∙ k))
 
     out_place : (o : Option ℕ) → o ≡ Some e → (pending h t || is_busy_with (phase config h e) t) ≡ true → (is_number o e && (is_some o && (pending h t || busy_at config h o t))) ≡ true
-    out_place o q = subst (λ (o : Option ℕ). (pending h t || is_busy_with (phase config h e) t) ≡ true → (is_number o e && (is_some o && (pending h t || busy_at config h o t))) ≡ true) (sym q) (λ r. rw (same e) r)
+    out_place o q = subst (λ (o : Option ℕ). (pending h t || is_busy_with (phase config h e) t) ≡ true → (is_number o e && (is_some o && (pending h t || busy_at config h o t))) ≡ true) (sym q) (λ r. rw (eqb-self e) r)
 
     waits : at_hand (phase config h e) ≡ Some t → (pending h t || is_busy_with (phase config h e) t) ≡ true
     waits q = elim (at_hand_is (phase config h e) t q) [

@@ -1,227 +1,34 @@
 -- An invocation is delivered at most once.
 use Rattle.call_model.proofs.BoundWaits as W
-use Rattle.std.proofs.Common.{◌≡◌, ℕ, suc, ◌+◌, ◌-◌, Bool, true, false, List, length, Option, Some, None, sym, refl, ap, ◌∙◌, not, ◌&&◌, ◌||◌, ◌==◌, true≢false, if◌then◌else◌, nat_lt, zero, ◌<◌, ◌≤◌, cond, [], ◌∷◌, ap₂, subst, inl, inr, arith, ◌⊎◌, count_by, nat_le}
+use Rattle.std.proofs.Common.{◌≡◌, ℕ, true, false, List, length, Option, Some, None, sym, ap, ◌∙◌, true≢false, inl, inr, arith, ◌∷◌, ◌-◌, refl, Bool, if◌then◌else◌, subst, suc, ◌+◌, ◌<◌, ◌≤◌, [], count_by, ◌⊎◌, zero, cond, nat_le}
 use Rattle.std.specs.List.{find}
 use Rattle.call_model.specs.declared.answer.Answer.{Answer}
-use Rattle.call_model.specs.declared.answer.Answer.TheVariants.{Delivered, Told, Ending, Output, TimedOut, OutputTooLarge, Stopped, Withdrawn, Refused, Reserved}
-use Rattle.call_model.specs.declared.answer.Refusal.{Refusal}
-use Rattle.call_model.specs.declared.answer.Refusal.TheVariants.{NameInUse, TooMany, BadReservation}
-use Rattle.call_model.specs.declared.answer.Reason.{Reason}
+use Rattle.call_model.specs.declared.answer.Answer.TheVariants.{Told}
 use Rattle.call_model.specs.declared.answer.Phase.{Phase}
 use Rattle.call_model.specs.declared.answer.Phase.TheVariants.{Starting, Idle, Busy, Closing, Off}
 use Rattle.call_model.specs.declared.call.Call.{Call}
-use Rattle.call_model.specs.declared.call.Call.TheVariants.{Invoke, RuntimeNext, ExtNext, Tick, Withdraw, Stop, Reserve}
 use Rattle.call_model.specs.declared.call.Entry.{Entry}
 use Rattle.arn_ids.specs.declared.config.Config.{Config}
-use Rattle.arn_ids.specs.Environments.{function_at}
-use Rattle.call_model.specs.History.{stopped, env_of, or_else, answer_in, call_of, place_of}
-use Rattle.call_model.specs.Generation.{Member, hears_end, reports_exit}
-use Rattle.call_model.specs.Stand.{Stand, is_number, is_busy, role, Role, NoRole, Waiting, RuntimePoll, ExtensionPoll, bound_of, member_role, waits_as}
-use Rattle.call_model.specs.Table.{own_answer, closes, to_waiting, kept}
-use Rattle.call_model.specs.Polls.{at_close, replaced, by_role, delivered, begun}
-use Rattle.call_model.specs.Life.{stand, names, Life, phase, seen, concerns, limit_of}
-use Rattle.call_model.specs.Limits.{verdict, Verdict, AfterStop, Refuses, Admits, reserved_in_all, or_zero, reservation, is_busy_with}
-use Rattle.call_model.specs.Answers.{first_answer, home, own_first, own_at, verdict_answer, reserve_answer, other_answer, answer_at, answers, answer_to, first_answers, first_entry, second_answer, second_at, each_from, with_answer, numbered, event_at}
-use Rattle.std.proofs.lemmas.Bool.{cases_lt, eqb-true}
-use Rattle.std.proofs.lemmas.Bool.Decides.{nat_tests}
+use Rattle.call_model.specs.History.{or_else, answer_in, place_of}
+use Rattle.call_model.specs.Generation.{Member}
+use Rattle.call_model.specs.Stand.{is_busy, Stand, is_number, role, Waiting, RuntimePoll, member_role, waits_as, Role, NoRole, ExtensionPoll, bound_of}
+use Rattle.call_model.specs.Table.{closes, kept}
+use Rattle.call_model.specs.Polls.{begun, delivered}
+use Rattle.call_model.specs.Life.{stand, phase, Life, seen, concerns, limit_of}
+use Rattle.call_model.specs.Limits.{is_busy_with, or_zero}
+use Rattle.call_model.specs.Answers.{answer_to, first_answers, first_entry, second_answer, home, second_at, answers, each_from}
+use Rattle.std.proofs.lemmas.Bool.{cases_lt, eq-eqb, eqb-true}
 use Rattle.call_model.specs.Laws.{delivers, deliveries}
-use Rattle.call_model.specs.Next.{IsLegal, Follows}
+use Rattle.call_model.specs.Next.{Follows, IsLegal}
 use Rattle.call_model.proofs.Once.{fresh}
-use Rattle.call_model.proofs.AtHand.{IsHeld, held, from_entry, bound_at_hand, busy_at_hand, at_hand_is}
+use Rattle.call_model.proofs.AtHand.{from_entry, busy_at_hand, at_hand_is, IsHeld, held, bound_at_hand}
 use Rattle.call_model.proofs.Scans.{legal_silent}
 use Rattle.call_model.proofs.PhaseStep.{phase_step, cell_of}
-use Rattle.call_model.proofs.FirstPhase.{phase_first, first_in, first_past}
-use Rattle.call_model.proofs.Basics.{count_cons, number_some, some-none}
+use Rattle.call_model.proofs.FirstPhase.{first_in, first_past, phase_first}
+use Rattle.call_model.proofs.Basics.{some-none, number_some}
 use Rattle.call_model.proofs.Elsewhere.{life_elsewhere}
-use Rattle.call_model.proofs.Cells.{own_values, waiting_values}
-
--- an answer of a Busy that begins, or one that only a Busy gives
-abbrev pub special : Option Answer → Bool
-special (Some (Delivered p d)) = true
-special (Some (Told p d event)) = true
-special (Some (Output source)) = true
-special (Some OutputTooLarge) = true
-special (Some TimedOut) = true
-special _ = false
-
--- the own answers are none of these
-own_plain : (s : Stand) (call : Call) → special (own_answer s call) ≡ false
-own_plain s call = own_values (λ a. special a ≡ false) s refl refl (λ kind. refl) refl (λ reason until. refl) call
-
-pub own_first_plain : (config : Config) (h : List Entry) (call : Call) → special (own_first config h call) ≡ false
-unfolding own_first
-own_first_plain config h (Invoke f qualified trace body) = go (verdict config h f)
-  where
-    go : (v : Verdict) → special (verdict_answer v) ≡ false
-    go AfterStop = refl
-    go (Refuses reason) = refl
-    go (Admits e) = refl
-own_first_plain config h Tick = refl
-own_first_plain config h (Withdraw t) = refl
-own_first_plain config h Stop = refl
-own_first_plain config h (Reserve f c) = go (stopped h) c
-  where
-    two : (b : Bool) (k : ℕ) → special (Some (if b then Refused BadReservation else Reserved k)) ≡ false
-    two true k = refl
-    two false k = refl
-
-    go : (b : Bool) (c : Option ℕ) → special (Some (if b then Stopped else reserve_answer config h f c)) ≡ false
-    go true c = refl
-    go false None = refl
-    go false (Some k) = two (nat_lt (length (function_at config f).slots) k || nat_lt config.account_limit (((reserved_in_all config h - or_zero (reservation config h f)) + k) + config.least_remainder)) k
-own_first_plain config h call = at_env (env_of call)
-  where
-    at_env : (o : Option ℕ) → special (own_at config h call o) ≡ false
-    at_env None = refl
-    at_env (Some e) = own_plain (stand config h e) call
-
-or_plain : (a b : Option Answer) → special a ≡ false → special b ≡ false → special (or_else a b) ≡ false
-or_plain None b p q = q
-or_plain (Some a) b p q = p
-
-close_plain : (now : ℕ) (c : Option Reason) (call : Call) (r : Role) → special (at_close now c call r) ≡ false
-close_plain now (Some reason) call (ExtensionPoll x) = go (hears_end x && not (reports_exit x.extension.count call))
-  where
-    go : (b : Bool) → special (if b then Some (Ending reason (now + 2000) 0) else Some (Refused Rattle.call_model.specs.declared.answer.Refusal.TheVariants.Container)) ≡ false
-    go true = refl
-    go false = refl
-close_plain now (Some reason) call RuntimePoll = refl
-close_plain now (Some reason) call NoRole = refl
-close_plain now (Some reason) call Waiting = refl
-close_plain now None call r = refl
-
-replaced_plain : (t : ℕ) (call : Call) (r : Role) → special (replaced t call r) ≡ false
-replaced_plain t (RuntimeNext e) RuntimePoll = refl
-replaced_plain t (ExtNext e x) (ExtensionPoll y) = go (y.extension.count == x)
-  where
-    go : (b : Bool) → special (if b then Some (Refused Rattle.call_model.specs.declared.answer.Refusal.TheVariants.Replaced) else None) ≡ false
-    go true = refl
-    go false = refl
-replaced_plain t (Withdraw u) RuntimePoll = go (u == t)
-  where
-    go : (b : Bool) → special (if b then Some Withdrawn else None) ≡ false
-    go true = refl
-    go false = refl
-replaced_plain t (Withdraw u) (ExtensionPoll y) = go (u == t)
-  where
-    go : (b : Bool) → special (if b then Some Withdrawn else None) ≡ false
-    go true = refl
-    go false = refl
-replaced_plain t call r = refl
-
--- a poll gets none of these by the table
-pub poll_plain : (own now : ℕ) (s : Stand) (call : Call) (t : ℕ) (r : Role) → special (by_role own now s call t r) ≡ true → r ≡ Waiting
-poll_plain own now s call t NoRole q = absurd (true≢false (sym q))
-poll_plain own now s call t Waiting q = refl
-poll_plain own now s call t RuntimePoll q = absurd (true≢false (sym q ∙ or_plain (at_close now (closes s call) call RuntimePoll) (replaced t call RuntimePoll) (close_plain now (closes s call) call RuntimePoll) (replaced_plain t call RuntimePoll)))
-poll_plain own now s call t (ExtensionPoll x) q = absurd (true≢false (sym q ∙ or_plain (at_close now (closes s call) call (ExtensionPoll x)) (replaced t call (ExtensionPoll x)) (close_plain now (closes s call) call (ExtensionPoll x)) (replaced_plain t call (ExtensionPoll x))))
-
-abbrev pub second : Option Answer → Bool
-second (Some (Delivered p d)) = true
-second (Some (Told p d event)) = true
-second _ = false
-
-second_special : (a : Option Answer) → second a ≡ true → special a ≡ true
-second_special (Some (Delivered p d)) q = refl
-second_special (Some (Told p d event)) q = refl
-second_special None q = absurd (true≢false (sym q))
-second_special (Some a) q = absurd (true≢false (sym q))
-
-waiting_first : (own : ℕ) (s : Stand) (call : Call) → second (to_waiting own s call) ≡ false
-waiting_first own s call = waiting_values (λ a. second a ≡ false) own s refl refl refl refl refl refl refl call
-
--- no first answer is one of a Busy that begins
-pub first_first : (config : Config) (h : List Entry) (now : ℕ) (call : Call) (t : ℕ) → second (first_answer config h now call t) ≡ false
-unfolding first_answer
-first_first config h now call t = go (t == length h)
-  where
-    not_true : (b : Bool) → (b ≡ true → ⊥) → b ≡ false
-    not_true true f = absurd (f refl)
-    not_true false f = refl
-
-    by_waiting : (s : Stand) (r : Role) → r ≡ Waiting → second (by_role (length h) now s call t r) ≡ true → ⊥
-    by_waiting s r e q = true≢false (sym q ∙ ap (λ (r : Role). second (by_role (length h) now s call t r)) e ∙ waiting_first (length h) s call)
-
-    at_env : (e : ℕ) (b : Bool) → second (answer_at config h now e call t b) ≡ false
-    at_env e false = refl
-    at_env e true = not_true (second (by_role (length h) now (stand config h e) call t (role (stand config h e) t))) (λ q. by_waiting (stand config h e) (role (stand config h e) t) (poll_plain (length h) now (stand config h e) call t (role (stand config h e) t) (second_special (by_role (length h) now (stand config h e) call t (role (stand config h e) t)) q)) q)
-
-    other : (o : Option ℕ) → second (other_answer config h now call t o) ≡ false
-    other None = refl
-    other (Some e) = at_env e (names h e call)
-
-    go : (b : Bool) → second (if b then own_first config h call else other_answer config h now call t (home h t)) ≡ false
-    go true = not_true (second (own_first config h call)) (λ q. true≢false (sym (second_special (own_first config h call) q) ∙ own_first_plain config h call))
-    go false = other (home h t)
-
-abbrev pub gives : ℕ → Option Answer → Bool
-gives p None = false
-gives p (Some a) = delivers p a
-
-gives_second : (p : ℕ) (a : Option Answer) → gives p a ≡ true → second a ≡ true
-gives_second p (Some (Delivered q d)) k = refl
-gives_second p None k = absurd (true≢false (sym k))
-gives_second p (Some a) k = absurd (true≢false (sym k))
-
--- numbering the events keeps what is delivered
-delivers_event : (h : List Entry) (entry : Entry) (before : List (ℕ × Answer)) (o : Option ℕ) (a : Answer) (p : ℕ) → delivers p (event_at h entry before o a) ≡ delivers p a
-delivers_event h entry before None a p = refl
-delivers_event h entry before (Some e) (Told q d event) p = refl
-delivers_event h entry before (Some e) (Ending reason until event) p = refl
-delivers_event h entry before (Some e) a p = refl
-
-pub count_numbered : (h : List Entry) (entry : Entry) (before pairs : List (ℕ × Answer)) (p : ℕ) → count_by (λ a. delivers p a.1) (numbered h entry before pairs) ≡ count_by (λ a. delivers p a.1) pairs
-count_numbered h entry before [] p = refl
-count_numbered h entry before (a ∷ rest) p =
-    count_cons (λ (a : ℕ × Answer). delivers p a.1) (a.0, event_at h entry before (env_of (call_of (entry ∷ h) a.0)) a.1) (numbered h entry (a ∷ before) rest)
-    ∙ ap₂ (λ (b : Bool) (n : ℕ). cond b 1 0 + n) (delivers_event h entry before (env_of (call_of (entry ∷ h) a.0)) a.1 p) (count_numbered h entry (a ∷ before) rest p)
-    ∙ sym (count_cons (λ (a : ℕ × Answer). delivers p a.1) a rest)
-
-pub with_count : (t p : ℕ) (a : Option Answer) (rest : List (ℕ × Answer)) → count_by (λ b. delivers p b.1) (with_answer t a rest) ≡ cond (gives p a) 1 0 + count_by (λ b. delivers p b.1) rest
-with_count t p None rest = add (count_by (λ (b : ℕ × Answer). delivers p b.1) rest)
-  where
-    add : (n : ℕ) → n ≡ 0 + n
-    add n = omega arith
-with_count t p (Some a) rest = count_cons (λ (b : ℕ × Answer). delivers p b.1) (t, a) rest
-
--- where one ticket at most is given the invocation
-count_each : (t n p r : ℕ) (f : ℕ → Option Answer) → ((u : ℕ) → gives p (f u) ≡ true → u ≡ r) → count_by (λ b. delivers p b.1) (each_from t n f) ≤ cond (nat_le t r) 1 0
-count_each t zero p r f one = omega arith
-count_each t (suc n) p r f one = rw (with_count t p (f t) (each_from (suc t) n f)) (go (gives p (f t)) refl (count_each (suc t) n p r f one))
-  where
-    rest : ℕ
-    rest = count_by (λ b. delivers p b.1) (each_from (suc t) n f)
-
-    past : t ≡ r → nat_le (suc t) r ≡ false
-    past e = grind (arith, nat_tests, e)
-
-    at : t ≡ r → nat_le t r ≡ true
-    at e = grind (arith, nat_tests, e)
-
-    less : cond (nat_le (suc t) r) 1 0 ≤ cond (nat_le t r) 1 0
-    less = grind (arith, nat_tests)
-
-    go : (b : Bool) → gives p (f t) ≡ b → rest ≤ cond (nat_le (suc t) r) 1 0 → cond b 1 0 + rest ≤ cond (nat_le t r) 1 0
-    go true q k = let e : t ≡ r = one t q in rw (at e) (add (rw (past e) at k))
-      where
-        add : rest ≤ 0 → 1 + rest ≤ 1
-        add k = omega (arith, k)
-    go false q k = omega (arith, k, less)
-
--- where the invocation is given, it is given to some ticket
-given_each : (t n p : ℕ) (f : ℕ → Option Answer) → 1 ≤ count_by (λ b. delivers p b.1) (each_from t n f) → (u : ℕ) × ((u < t + n) × (gives p (f u) ≡ true))
-given_each t zero p f k = absurd (omega (arith, k))
-given_each t (suc n) p f k = go (gives p (f t)) refl (subst (λ (m : ℕ). 1 ≤ m) (with_count t p (f t) (each_from (suc t) n f)) k) (given_each (suc t) n p f)
-  where
-    rest : ℕ
-    rest = count_by (λ b. delivers p b.1) (each_from (suc t) n f)
-
-    go : (b : Bool) → gives p (f t) ≡ b → 1 ≤ cond b 1 0 + rest → (1 ≤ rest → (u : ℕ) × ((u < suc t + n) × (gives p (f u) ≡ true))) → (u : ℕ) × ((u < t + suc n) × (gives p (f u) ≡ true))
-    go true q k ih = (t, (omega arith, q))
-    go false q k ih = let x : (u : ℕ) × ((u < suc t + n) × (gives p (f u) ≡ true)) = ih (drop k) in (x.0, (omega (arith, x.1.0), x.1.1))
-      where
-        drop : 1 ≤ 0 + rest → 1 ≤ rest
-        drop k = omega (arith, k)
+use Rattle.call_model.proofs.FirstAnswers.{second, first_first}
+use Rattle.call_model.proofs.GivenCounts.{gives, gives_second, count_numbered, given_each, count_each}
 
 -- a ticket is given an invocation only by a second answer
 to_second : (config : Config) (h : List Entry) (now : ℕ) (call : Call) (p t : ℕ) → gives p (answer_to config h (first_entry config h now call) t) ≡ true → gives p (second_answer config h (first_entry config h now call) t) ≡ true
@@ -247,22 +54,10 @@ pub record IsBegun (config : Config) (h : List Entry) (entry : Entry) (p t : ℕ
 
 from_begun : (P Q : Phase) (b : ℕ × ℕ) → begun P Q ≡ Some b → (is_busy P ≡ false) × (is_busy_with Q b.0 ≡ true)
 from_begun (Busy q d) Q b e = absurd (some-none (sym e))
-from_begun (Starting d k) (Busy p m) b e = (refl, same p b cc)
-  where
-    same : (p : ℕ) (b : ℕ × ℕ) → p ≡ b.0 → (p == b.0) ≡ true
-    same p b q = grind (arith, nat_tests, q)
-from_begun Idle (Busy p m) b e = (refl, same p b cc)
-  where
-    same : (p : ℕ) (b : ℕ × ℕ) → p ≡ b.0 → (p == b.0) ≡ true
-    same p b q = grind (arith, nat_tests, q)
-from_begun (Closing reason until k) (Busy p m) b e = (refl, same p b cc)
-  where
-    same : (p : ℕ) (b : ℕ × ℕ) → p ≡ b.0 → (p == b.0) ≡ true
-    same p b q = grind (arith, nat_tests, q)
-from_begun Off (Busy p m) b e = (refl, same p b cc)
-  where
-    same : (p : ℕ) (b : ℕ × ℕ) → p ≡ b.0 → (p == b.0) ≡ true
-    same p b q = grind (arith, nat_tests, q)
+from_begun (Starting d k) (Busy p m) b e = (refl, eq-eqb p b.0 cc)
+from_begun Idle (Busy p m) b e = (refl, eq-eqb p b.0 cc)
+from_begun (Closing reason until k) (Busy p m) b e = (refl, eq-eqb p b.0 cc)
+from_begun Off (Busy p m) b e = (refl, eq-eqb p b.0 cc)
 from_begun P Q b e = absurd (some-none (sym e))
 
 poll_number : (s : Stand) (t : ℕ) → role s t ≡ RuntimePoll → s.runtime ≡ Some t

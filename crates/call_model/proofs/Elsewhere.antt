@@ -12,7 +12,7 @@ use Rattle.call_model.specs.Polls.{begun}
 use Rattle.call_model.specs.Answers.{answers, first_answer, second_answer, first_entry, home}
 use Rattle.call_model.proofs.Pairs.{eqb-other, is_some_none}
 use Rattle.call_model.proofs.Once.{answers_at}
-use Rattle.call_model.proofs.Basics.{or_right}
+use Rattle.std.proofs.lemmas.Bool.{or_parts}
 
 -- nothing begins where the phase stays
 pub begun_same : (phase : Phase) → begun phase phase ≡ None
@@ -40,7 +40,7 @@ elsewhere config h now call t e lt at c =
     still_same = ap (λ (l : Life). begun (phase config h e) l.phase) (life_elsewhere config h (first_entry config h now call) e c) ∙ begun_same (phase config h e)
 
     first : first_answer config h now call t ≡ None
-    first = rw (eqb-other t (length h) ne, at, or_right (is_number (first_entry config h now call).place e) (names h e call) c) refl
+    first = rw (eqb-other t (length h) ne, at, (or_parts (is_number (first_entry config h now call).place e) (names h e call) c).1) refl
 
     second : second_answer config h (first_entry config h now call) t ≡ None
     second = rw (eqb-other t (length h) ne, at, still_same) refl

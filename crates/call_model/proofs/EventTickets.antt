@@ -14,7 +14,7 @@ use Rattle.call_model.specs.Life.{stand, names, is_event}
 use Rattle.call_model.specs.Limits.{Verdict, AfterStop, Refuses, Admits, verdict}
 use Rattle.call_model.specs.Answers.{first_answer, own_first, other_answer, answer_at, verdict_answer, first_entry, home, answer_to, each_from, with_answer}
 use Rattle.call_model.specs.Next.{IsLegal, Follows}
-use Rattle.call_model.proofs.OwnStands.{call_past}
+use Rattle.call_model.proofs.TicketsWithin.{call_past}
 use Rattle.call_model.specs.Calls.{is_invoke}
 use Rattle.call_model.proofs.BoundWaits.{invoke_role, invoke_second}
 use Rattle.call_model.proofs.AnswerValues.{first_valued}

@@ -18,7 +18,7 @@ use Rattle.call_model.specs.Next.{IsLegal, Follows}
 use Rattle.call_model.specs.After.{Step, step_at, first_moves, poll_gets, give, give_each, waiting_call}
 use Rattle.call_model.proofs.Pairs.{eqb-other}
 use Rattle.call_model.proofs.Once.{no_role}
-use Rattle.call_model.proofs.OwnStands.{call_past}
+use Rattle.call_model.proofs.TicketsWithin.{call_past}
 use Rattle.call_model.specs.Calls.{is_invoke}
 use Rattle.call_model.proofs.AtHand.{held}
 use Rattle.call_model.proofs.BoundWaits.{generation_part, held_home}

@@ -27,6 +27,7 @@ use Rattle.call_model.proofs.Roles.{IsIn, role_member, role_runtime, map_in}
 use Rattle.call_model.proofs.Basics.{some-none, map_map}
 use Rattle.std.specs.List.{cons_option}
 use Rattle.call_model.specs.declared.answer.Answer.TheVariants.{Registered}
+use Rattle.std.proofs.Math.Bool.{or-false}
 
 abbrev pub gets : (ℕ → Option Answer) → Option ℕ → Option Answer
 gets A None = None
@@ -42,11 +43,7 @@ pub not_named_call : (h : List Entry) (entry : Entry) (e : ℕ) (config : Config
 not_named_call h entry e config w c q = go entry.call refl q
   where
     placed : is_number entry.place e ≡ true
-    placed = or_no (is_number entry.place e) (ap (λ (b : Bool). is_number entry.place e || b) (sym q) ∙ c)
-      where
-        or_no : (a : Bool) → (a || false) ≡ true → a ≡ true
-        or_no true k = refl
-        or_no false k = k
+    placed = sym (or-false (is_number entry.place e)) ∙ ap (λ (b : Bool). is_number entry.place e || b) (sym q) ∙ c
 
     no_place : place_for config h entry.call ≡ None → ⊥
     no_place k = true≢false (sym placed ∙ ap (λ (o : Option ℕ). is_number o e) (w.place ∙ k))

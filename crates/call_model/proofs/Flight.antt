@@ -14,7 +14,7 @@ use Rattle.call_model.specs.Limits.{charged, in_flight, place, place_for, lowest
 use Rattle.call_model.specs.Next.{IsLegal}
 use Rattle.call_model.proofs.OwnTickets.{placed_function, admits_place}
 use Rattle.call_model.proofs.Charges.{IsIn, entries_in, count_same, count_split, count_none, charged_count}
-use Rattle.call_model.proofs.Basics.{count_cons, number_some, some-none}
+use Rattle.call_model.proofs.Basics.{count_cons, number_some, some-none, and_false}
 
 find_between : (p : ℕ → Bool) (a n e : ℕ) → find p (count_from a n) ≡ Some e → (a ≤ e) × (e < a + n)
 find_between p a zero e q = absurd (some-none (sym q))
@@ -118,13 +118,9 @@ pub flight : (config : Config) (h : List Entry) (f : ℕ) → IsLegal config h �
 unfolding in_flight
 flight config h f l = count_same h (in_f config h f) (λ x. at_least 1 x.1.place && in_f config h f x) (λ x i. each x i x.1.place refl) (with_tickets h) (entries_in h) ∙ from_count config h f (length (owners config)) 1 l refl
   where
-    no_charge : (b : Bool) → (b && false) ≡ false
-    no_charge true = refl
-    no_charge false = refl
-
     some_le : (e : ℕ) → 1 ≤ e → nat_le 1 e ≡ true
     some_le e k = grind (arith, nat_tests, k)
 
     each : (x : ℕ × Entry) → IsIn h x → (o : Option ℕ) → x.1.place ≡ o → in_f config h f x ≡ (at_least 1 o && in_f config h f x)
-    each x i None r = rw r (no_charge (is_invoke_of f x.1.call))
+    each x i None r = rw r (and_false (is_invoke_of f x.1.call))
     each x i (Some e) r = sym (ap (λ (b : Bool). b && in_f config h f x) (some_le e ((placed_between config h x.0 e l (i.2 ∙ r)).0)))

@@ -1,7 +1,7 @@
 -- An entry that doesn't concern an environment leaves its stand.
 use Rattle.std.proofs.lemmas.List.Sums.{sum_by-cons}
 use Rattle.std.proofs.Common.{◌≡◌, ℕ, ◌+◌, ◌<◌, Bool, true, false, cond, ltb, List, [], ◌∷◌, length, Option, Some, None, sym, refl, ap, ◌∙◌, inl, inr, arith, is_some, is_none, ◌&&◌, ◌||◌, ◌==◌, true≢false, if◌then◌else◌, count_by}
-use Rattle.std.proofs.lemmas.Bool.{eqb-true, cases_lt}
+use Rattle.std.proofs.lemmas.Bool.{eqb-true, cases_lt, or_parts}
 use Rattle.std.proofs.lemmas.Bool.Decides.{nat_tests}
 use Rattle.call_model.specs.declared.answer.Answer.{Answer}
 use Rattle.call_model.specs.declared.call.Call.{Call}
@@ -21,7 +21,7 @@ use Rattle.call_model.proofs.Once.{pending_cons, answers_past}
 use Rattle.call_model.proofs.Scans.{generation_below, last_below}
 use Rattle.call_model.proofs.AtHand.{IsHeld, held}
 use Rattle.call_model.proofs.BoundWaits.{IsPart, generation_part}
-use Rattle.call_model.proofs.Basics.{eqb-self, number_some, map_same, or_right, some-none}
+use Rattle.call_model.proofs.Basics.{eqb-self, number_some, map_same, some-none, and_false}
 use Rattle.call_model.proofs.Elsewhere.{life_elsewhere, elsewhere}
 use Rattle.call_model.proofs.Visits.{visit, if_concerned, if_ended}
 
@@ -106,11 +106,8 @@ parked_elsewhere config h entry e actor l w c = go (last_next (life config h e).
 
     go : (o : Option ℕ) → last_next g actor ≡ o → if_pending (entry ∷ h) o ≡ if_pending h o
     go None q = refl
-    go (Some t) q = ap (λ (b : Bool). if b then Some t else None) (pending_cons entry h t (λ same. lt_irr (length h) (omega (arith, same, below))) ∙ both (pending h t))
+    go (Some t) q = ap (λ (b : Bool). if b then Some t else None) (pending_cons entry h t (λ same. omega (arith, same, below)) ∙ both (pending h t))
       where
-        lt_irr : (n : ℕ) → n < n → ⊥
-        lt_irr n k = omega arith
-
         below : t < length h
         below = last_below (length h) g actor (generation_below config h e) t q
 
@@ -206,10 +203,6 @@ env_home config h t d l q = rw (placed h l q, q) refl
 events_elsewhere : (config : Config) (h : List Entry) (entry : Entry) (e : ℕ) → IsLegal config h → Follows config h entry → concerns h e entry ≡ false → events_in (entry ∷ h) e entry.answers ≡ 0
 events_elsewhere config h entry e l w c = uncounted (λ a. is_event a.1 && is_number (env_of (call_of (entry ∷ h) a.0)) e) entry.answers each
   where
-    and_false : (b : Bool) → (b && false) ≡ false
-    and_false true = refl
-    and_false false = refl
-
     older : (t : ℕ) (b : Bool) → is_number (env_of (call_of h t)) e ≡ b → t < length h → is_some (answer_in entry.answers t) ≡ true → b ≡ false
     older t false q lt r = refl
     older t true q lt r = absurd (true≢false (sym r ∙ ap is_some (quiet_here config h entry e t w c lt (env_home config h t e l (number_some (env_of (call_of h t)) e q)))))
@@ -219,7 +212,7 @@ events_elsewhere config h entry e l w c = uncounted (λ a. is_event a.1 && is_nu
       | inl lt ↦ rw (eqb-other t (length h) (let less : t < length h = lt in omega (arith, less))) (older t (is_number (env_of (call_of h t)) e) refl lt r)
       | inr ge ↦ elim (cases_lt (length h) t) [
         | inl past ↦ absurd (true≢false (sym r ∙ ap is_some (ap (λ xs. answer_in xs t) (w.answers) ∙ answers_past config h entry.moment entry.call t past)))
-        | inr le ↦ let same : t ≡ length h = omega (arith, ge, le) in rw (same, eqb-self (length h)) (not_named h entry.call e (or_right (is_number entry.place e) (names h e entry.call) c))
+        | inr le ↦ let same : t ≡ length h = omega (arith, ge, le) in rw (same, eqb-self (length h)) (not_named h entry.call e ((or_parts (is_number entry.place e) (names h e entry.call) c).1))
       ]
     ]
 
@@ -230,7 +223,7 @@ registrations_elsewhere : (h : List Entry) (entry : Entry) (e : ℕ) → concern
 registrations_elsewhere h entry e c = sum_by-cons (λ (taken : ℕ × Entry). cond (is_number (env_of taken.1.call) e && is_registered (answer_in taken.1.answers taken.0)) 1 0) (length h, entry) (with_tickets h) ∙ rw no (omega arith)
   where
     no : is_number (env_of entry.call) e ≡ false
-    no = not_named h entry.call e (or_right (is_number entry.place e) (names h e entry.call) c)
+    no = not_named h entry.call e ((or_parts (is_number entry.place e) (names h e entry.call) c).1)
 
 -- An entry that doesn't concern an environment leaves its stand.
 pub stand_elsewhere : (config : Config) (h : List Entry) (entry : Entry) (e : ℕ) → IsLegal config h → Follows config h entry → concerns h e entry ≡ false → stand config (entry ∷ h) e ≡ stand config h e
@@ -246,7 +239,7 @@ stand_elsewhere config h entry e l w c = ap (seen config (entry ∷ h) e) (life_
 }) ∙ (λ i. record (seen config h e (life config h e)) { events = zero_left (events h e) i })
   where
     no_stop : is_stop entry.call ≡ false
-    no_stop = not_stop h entry.call e (or_right (is_number entry.place e) (names h e entry.call) c)
+    no_stop = not_stop h entry.call e ((or_parts (is_number entry.place e) (names h e entry.call) c).1)
 
     zero_left : (n : ℕ) → 0 + n ≡ n
     zero_left n = omega arith

@@ -11,6 +11,7 @@ pub mod Deadlines
 pub mod Visits
 pub mod Once
 pub mod AfterEntry
+pub mod TicketsWithin
 pub mod Scans
 pub mod PhaseStep
 pub mod Elsewhere
@@ -25,11 +26,20 @@ pub mod Ended
 -- The limits of admissions.
 pub mod AdmissionLimits
 pub mod NoLocalRefusal
--- Deliveries, parked Nexts and outcomes.
+-- Deliveries: what an entry answers by the table, what a Busy that begins delivers, and that this is once.
 pub mod FirstPhase
+pub mod FirstAnswers
+pub mod GivenCounts
 pub mod DeliveredOnce
+-- Parked Nexts: whose they are, where they stand, and that an Idle environment has one.
+pub mod NextsHome
+pub mod ParkedRoles
+pub mod OpenStays
 pub mod ParkedNexts
-pub mod Outcome
+pub mod IdleParked
+-- Outcomes come after their delivery.
+pub mod BusyDelivered
+pub mod OutcomeDelivered
 pub mod SafeLaws
 -- What is due, and the next history.
 pub mod DueList
@@ -56,6 +66,8 @@ pub mod StepLaws
 -- Isolation: what a function would see alone.
 pub mod OwnTickets
 pub mod TwinHistories
+pub mod OwnHistory
+pub mod OwnEvents
 pub mod OwnStands
 pub mod OwnVerdict
 pub mod OwnAnswers

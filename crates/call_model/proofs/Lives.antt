@@ -1,6 +1,5 @@
 -- A placed invocation that is pending lives in its place.
-use Rattle.std.proofs.Common.{◌≡◌, ℕ, Bool, true, false, eqb, List, [], ◌∷◌, length, Option, Some, None, sym, refl, ap, ◌∙◌, inl, inr, arith, ◌≢◌, ◌⊎◌, is_some, is_none, not, ◌&&◌, ◌||◌, ◌==◌, true≢false, if◌then◌else◌}
-use Rattle.std.proofs.lemmas.Bool.Decides.{nat_tests}
+use Rattle.std.proofs.Common.{◌≡◌, ℕ, Bool, true, false, List, [], ◌∷◌, length, Option, Some, None, sym, refl, ap, ◌∙◌, inl, inr, arith, ◌≢◌, ◌⊎◌, is_some, is_none, not, ◌&&◌, ◌||◌, ◌==◌, true≢false, if◌then◌else◌}
 use Rattle.call_model.specs.declared.answer.Answer.{Answer}
 use Rattle.call_model.specs.declared.answer.Reason.{Reason}
 use Rattle.call_model.specs.declared.answer.Phase.{Phase}
@@ -8,7 +7,7 @@ use Rattle.call_model.specs.declared.answer.Phase.TheVariants.{Starting, Idle, B
 use Rattle.call_model.specs.declared.call.Call.{Call}
 use Rattle.call_model.specs.declared.call.Call.TheVariants.{Invoke, RuntimeNext, Register, ExtNext, Stop}
 use Rattle.call_model.specs.declared.call.Entry.{Entry}
-use Rattle.std.proofs.lemmas.Bool.{eqb-true, eq-eqb}
+use Rattle.std.proofs.lemmas.Bool.{eqb-true, eq-eqb, or_right}
 use Rattle.call_model.proofs.OwnTickets.{find_passes, admits_place}
 use Rattle.arn_ids.specs.declared.config.Config.{Config}
 use Rattle.arn_ids.specs.Environments.{expected_at, function_of, environments}
@@ -28,9 +27,10 @@ use Rattle.call_model.proofs.BoundWaits.{held_home, invoke_role}
 use Rattle.call_model.proofs.Scans.{legal_silent}
 use Rattle.call_model.proofs.PhaseStep.{phase_step, cell_of, members_after, runtime_after, filter_none}
 use Rattle.call_model.specs.Generation.{Member, ready}
-use Rattle.call_model.proofs.Basics.{and_left, and_right, number_some, some-none}
+use Rattle.call_model.proofs.Basics.{and_left, and_right, number_some, some-none, eqb-self}
 use Rattle.call_model.proofs.Elsewhere.{life_elsewhere}
 use Rattle.call_model.proofs.Cells.{in_row, of_row, in_table, of_stop, first_stop}
+use Rattle.std.proofs.Math.Bool.{or-false}
 
 -- after a Stop nothing is admitted
 pub not_admitted : (config : Config) (h : List Entry) (call : Call) (e : ℕ) → stopped h ≡ true → place_for config h call ≡ Some e → ⊥
@@ -59,12 +59,8 @@ none_at_hand config (entry ∷ h) e p l s q = go (stopped h) refl (none_at_hand 
     names_all Stop a = refl
     names_all call a = absurd (true≢false (sym a))
 
-    or_last : (a b : Bool) → b ≡ true → (a || b) ≡ true
-    or_last true b k = refl
-    or_last false b k = k
-
     here : is_stop entry.call ≡ true → concerns h e entry ≡ true
-    here k = or_last (is_number entry.place e) (names h e entry.call) (names_all entry.call k)
+    here k = or_right (is_number entry.place e) (names h e entry.call) (names_all entry.call k)
 
     at_cell : is_stop entry.call ≡ true → at_hand (cell_of config e entry (length h) (stand config h e)) ≡ Some p
     at_cell k = from_after _ _ _ _ entry.moment (limit_of config e entry.moment) (cell_of config e entry (length h) (stand config h e)) p (sym (ap at_hand (phase_step config h entry e (here k) (fresh config h (length h) l.0 (omega arith)) (legal_silent config h entry l.1))) ∙ q)
@@ -73,16 +69,12 @@ none_at_hand config (entry ∷ h) e p l s q = go (stopped h) refl (none_at_hand 
     first_stop Stop a k r = stop_clears entry.moment (limit_of config e entry.moment) (length h) (stand config h e) p k r
     first_stop call a k r = true≢false (sym a)
 
-    is_it : (a : Bool) → (a || false) ≡ true → a ≡ true
-    is_it true k = refl
-    is_it false k = k
-
     go : (b : Bool) → stopped h ≡ b → (stopped h ≡ true → at_hand (phase config h e) ≡ Some p → ⊥) → ⊥
     go true k ih = elim (from_entry config h entry e p l.0 l.1 q) [
       | inl new ↦ not_admitted config h entry.call e k (sym (l.1.place) ∙ number_some entry.place e (placed_here h entry e new.1 new.2))
       | inr old ↦ ih k old
     ]
-    go false k ih = let a : is_stop entry.call ≡ true = is_it (is_stop entry.call) (rw k at s) in first_stop entry.call a k (at_cell a)
+    go false k ih = let a : is_stop entry.call ≡ true = sym (or-false (is_stop entry.call)) ∙ rw k at s in first_stop entry.call a k (at_cell a)
 
 to_settled : (limit : ℕ) (r : Bool) (P : Phase) (p : ℕ) → at_hand P ≡ Some p → at_hand (settled limit r true P) ≡ Some p
 to_settled limit true (Starting d None) p e = e
@@ -165,15 +157,12 @@ waiting_gets config h entry e p f k w at n given =
     ne : p ≢ length h
     ne = omega (arith, k.older)
 
-    same : (t : ℕ) → eqb t t ≡ true
-    same t = grind (arith, nat_tests)
-
     given_first : (a : Option Answer) → is_some a ≡ true → is_some (or_else a (second_answer config h (first_entry config h entry.moment entry.call) p)) ≡ true
     given_first (Some a) q = refl
     given_first None q = absurd (true≢false (sym q))
 
     is_waiting : waits_as (stand config h e) p ≡ true
-    is_waiting = rw (at, w, same p) refl
+    is_waiting = rw (at, w, eqb-self p) refl
 
     as_waiting : role (stand config h e) p ≡ Waiting
     as_waiting = invoke_role config h e p (k.invoke) ∙ ap (λ (b : Bool). if b then Waiting else NoRole) is_waiting

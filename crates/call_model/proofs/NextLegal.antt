@@ -1,5 +1,5 @@
 -- The next history of a legal one is legal.
-use Rattle.std.proofs.Common.{◌≡◌, ℕ, ◌+◌, ◌<◌, ◌≤◌, Bool, true, false, cond, eqb, List, [], ◌∷◌, ◌++◌, length, Option, Some, None, sym, refl, ap, ◌∙◌, subst, inl, inr, arith, ◌≢◌, not, ◌&&◌, ◌||◌, ◌==◌, map, filter, filter_map, true≢false, if◌then◌else◌, count_by, nat_le}
+use Rattle.std.proofs.Common.{◌≡◌, ℕ, ◌+◌, ◌<◌, ◌≤◌, Bool, true, false, cond, List, [], ◌∷◌, ◌++◌, length, Option, Some, None, sym, refl, ap, ◌∙◌, subst, inl, inr, arith, ◌≢◌, not, ◌&&◌, ◌||◌, ◌==◌, map, filter, filter_map, true≢false, if◌then◌else◌, count_by, nat_le}
 use Rattle.std.proofs.lemmas.Bool.{eq-eqb}
 use Rattle.std.proofs.lemmas.Bool.Decides.{eqb_tells, nat_tests}
 use Rattle.std.specs.List.{cons_option}
@@ -24,7 +24,7 @@ use Rattle.call_model.proofs.Pairs.{eqb-other}
 use Rattle.call_model.proofs.Once.{fresh}
 use Rattle.call_model.proofs.Scans.{legal_silent}
 use Rattle.call_model.proofs.PhaseStep.{phase_step}
-use Rattle.call_model.proofs.Basics.{count_cons}
+use Rattle.call_model.proofs.Basics.{count_cons, eqb-self}
 use Rattle.call_model.proofs.DueList.{come_once}
 use Rattle.call_model.proofs.Deadlines.{filter_deadline, count_deadline}
 use Rattle.call_model.proofs.Elsewhere.{life_elsewhere}
@@ -134,14 +134,11 @@ due_cell m e limit n s a over r w =
 due_after : (config : Config) (h : List Entry) (m e : ℕ) → IsLegal config h → Follows config h (record { moment = m; call = Expire e; answers = answers config h m (Expire e); place = None }) → due_at m e (deadline_of (phase config (entered config h m (Expire e)) e)) ≡ None
 unfolding seen
 due_after config h m e l w =
-    ap (λ (P : Phase). due_at m e (deadline_of P)) (phase_step config h entry e (same e) (fresh config h (length h) l (omega arith)) (legal_silent config h entry w))
+    ap (λ (P : Phase). due_at m e (deadline_of P)) (phase_step config h entry e (eqb-self e) (fresh config h (length h) l (omega arith)) (legal_silent config h entry w))
     ∙ due_cell m e (limit_of config e m) (length h) (stand config h e) _ _ _ _
   where
     entry : Entry
     entry = record { moment = m; call = Expire e; answers = answers config h m (Expire e); place = None }
-
-    same : (t : ℕ) → eqb t t ≡ true
-    same t = grind (arith, nat_tests)
 
 rest_due : (config : Config) (h : List Entry) (m e : ℕ) (rest : List ℕ) → IsLegal config h → Follows config h (record { moment = m; call = Expire e; answers = answers config h m (Expire e); place = None }) → due config h m ≡ e ∷ rest → due config (entered config h m (Expire e)) m ≡ rest
 unfolding due

@@ -1,5 +1,5 @@
 -- A reserved function never meets the local reason.
-use Rattle.std.proofs.Common.{◌≡◌, ℕ, zero, suc, ◌+◌, ◌-◌, ◌≤◌, Bool, true, false, cond, eqb, List, [], ◌∷◌, ◌++◌, length, Option, Some, None, sym, refl, ap, ap₂, ◌∙◌, subst, arith, is_some, ◌&&◌, ◌||◌, ◌==◌, map, true≢false, if◌then◌else◌, count_by, nat_le, nat_lt}
+use Rattle.std.proofs.Common.{◌≡◌, ℕ, zero, suc, ◌+◌, ◌-◌, ◌≤◌, Bool, true, false, cond, List, [], ◌∷◌, ◌++◌, length, Option, Some, None, sym, refl, ap, ap₂, ◌∙◌, subst, arith, is_some, ◌&&◌, ◌||◌, ◌==◌, map, true≢false, if◌then◌else◌, count_by, nat_le, nat_lt}
 use Rattle.std.proofs.lemmas.Bool.Decides.{nat_tests}
 use Rattle.std.proofs.lemmas.Bool.{eqb-true}
 use Rattle.std.specs.List.{find}
@@ -28,7 +28,7 @@ use Rattle.call_model.proofs.Once.{fresh}
 use Rattle.call_model.proofs.Scans.{legal_silent}
 use Rattle.call_model.proofs.PhaseStep.{phase_step, cell_of}
 use Rattle.call_model.proofs.Flight.{flight, serves}
-use Rattle.call_model.proofs.Basics.{count_cons, some-none}
+use Rattle.call_model.proofs.Basics.{count_cons, some-none, eqb-self}
 use Rattle.call_model.proofs.Elsewhere.{life_elsewhere}
 use Rattle.call_model.proofs.AnswerValues.{valued, plain}
 
@@ -115,10 +115,7 @@ reserved_plain (Some a) before = refl
 
 reserve_first : (config : Config) (h : List Entry) (now f : ℕ) (c : Option ℕ) → first_answer config h now (Reserve f c) (length h) ≡ Some (if stopped h then Stopped else reserve_answer config h f c)
 unfolding first_answer own_first
-reserve_first config h now f c = rw (same (length h)) refl
-  where
-    same : (t : ℕ) → eqb t t ≡ true
-    same t = grind (arith, nat_tests)
+reserve_first config h now f c = rw (eqb-self (length h)) refl
 
 -- what a Reserve is answered leaves a reservation within the environments
 fits_answer : (config : Config) (h : List Entry) (f : ℕ) (c before : Option ℕ) (n : ℕ) → (before ≡ Some n → n ≤ length (function_at config f).slots) → reserved_by (Some (if stopped h then Stopped else reserve_answer config h f c)) before ≡ Some n → n ≤ length (function_at config f).slots
@@ -168,11 +165,8 @@ count_append p (x ∷ xs) ys = rw (count_cons p x (xs ++ ys), count_cons p x xs)
 
 count_all : (k : ℕ) (fun : Function) (slots : List Slot) → count_by {X = ℕ × Function} (λ o. o.0 == k) (map (λ _. (k, fun)) slots) ≡ length slots
 count_all k fun [] = refl
-count_all k fun (slot ∷ slots) = count_cons (λ (o : ℕ × Function). o.0 == k) (k, fun) (map (λ _. (k, fun)) slots) ∙ ap₂ (λ (b : Bool) (m : ℕ). cond b 1 0 + m) (same k) (count_all k fun slots) ∙ add (length slots)
+count_all k fun (slot ∷ slots) = count_cons (λ (o : ℕ × Function). o.0 == k) (k, fun) (map (λ _. (k, fun)) slots) ∙ ap₂ (λ (b : Bool) (m : ℕ). cond b 1 0 + m) (eqb-self k) (count_all k fun slots) ∙ add (length slots)
   where
-    same : (t : ℕ) → eqb t t ≡ true
-    same t = grind (arith, nat_tests)
-
     add : (m : ℕ) → 1 + m ≡ suc m
     add m = omega arith
 

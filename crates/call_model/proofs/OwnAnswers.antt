@@ -1,7 +1,7 @@
 -- The answers that a call of the function gives are the same in the function's own history.
 use Rattle.std.proofs.Common.{◌≡◌, ℕ, zero, suc, ◌+◌, ◌<◌, Bool, true, false, List, [], ◌∷◌, length, Option, Some, None, sym, refl, ap, ◌∙◌, inl, inr, arith, ◌≢◌, ◌==◌, filter, true≢false, if◌then◌else◌}
 use Rattle.std.proofs.lemmas.Bool.Decides.{eqb_tells}
-use Rattle.std.proofs.lemmas.Bool.{eqb-true}
+use Rattle.std.proofs.lemmas.Bool.{eqb-true, or_parts}
 use Rattle.call_model.specs.declared.answer.Answer.{Answer}
 use Rattle.call_model.specs.declared.answer.Answer.TheVariants.{Done}
 use Rattle.call_model.specs.declared.call.Call.{Call}
@@ -18,10 +18,13 @@ use Rattle.call_model.specs.Polls.{by_role, delivered, begun}
 use Rattle.call_model.specs.Table.{own_answer}
 use Rattle.call_model.proofs.Pairs.{in_each, eqb-other}
 use Rattle.call_model.proofs.OwnTickets.{own_length, own_call, own_home}
-use Rattle.call_model.proofs.OwnStands.{each_within, IsWithin, IsFit, own_same, own_names, own_events_in, own_phase, own_stand, own_cons, own_events, fit_phase, fit_stand}
+use Rattle.call_model.proofs.TicketsWithin.{each_within, IsWithin, IsFit}
+use Rattle.call_model.proofs.OwnHistory.{own_same, own_names, own_cons}
+use Rattle.call_model.proofs.OwnEvents.{own_events_in, own_events}
+use Rattle.call_model.proofs.OwnStands.{own_phase, own_stand, fit_phase, fit_stand}
 use Rattle.call_model.specs.Next.{IsLegal}
 use Rattle.call_model.specs.Own.{own, own_entry, own_ticket, is_own}
-use Rattle.call_model.proofs.Basics.{eqb-self, or_right, some-none}
+use Rattle.call_model.proofs.Basics.{eqb-self, some-none}
 use Rattle.call_model.proofs.Elsewhere.{begun_same, life_elsewhere}
 
 -- the function's tickets are placed where they were
@@ -95,7 +98,7 @@ gets_none config h now call t lt far = rw (in_each 0 (suc (length h)) t (first_a
 
     at_first : (o : Option ℕ) → home h t ≡ o → other_answer config h now call t o ≡ None
     at_first None q = refl
-    at_first (Some e) q = ap (answer_at config h now e call t) (or_right (is_number (first_entry config h now call).place e) (names h e call) (far e q))
+    at_first (Some e) q = ap (answer_at config h now e call t) ((or_parts (is_number (first_entry config h now call).place e) (names h e call) (far e q)).1)
 
     first : first_answer config h now call t ≡ None
     first = rw (eqb-other t (length h) ne) (at_first (home h t) refl)

@@ -23,7 +23,8 @@ use Rattle.call_model.proofs.OwnTickets.{placed_function, own_length}
 use Rattle.std.proofs.Common.{filter_map, nat_le}
 use Rattle.std.specs.List.{cons_option}
 use Rattle.call_model.specs.Generation.{members}
-use Rattle.call_model.proofs.OwnStands.{own_phase, own_names}
+use Rattle.call_model.proofs.OwnStands.{own_phase}
+use Rattle.call_model.proofs.OwnHistory.{own_names}
 use Rattle.call_model.specs.Own.{own, own_entry, is_own, of_function}
 use Rattle.call_model.proofs.Pairs.{eqb-other}
 use Rattle.call_model.proofs.Basics.{number_some}

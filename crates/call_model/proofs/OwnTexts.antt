@@ -2,7 +2,7 @@
 use Rattle.std.proofs.Common.{◌≡◌, ℕ, suc, ◌+◌, ◌<◌, Bool, true, false, List, [], ◌∷◌, length, Option, Some, None, sym, refl, ap, ◌∙◌, subst, arith, not, ◌&&◌, ◌==◌, true≢false, if◌then◌else◌}
 use Rattle.std.proofs.lemmas.Bool.{eqb-true}
 use Rattle.call_model.specs.declared.answer.Answer.{Answer}
-use Rattle.call_model.specs.declared.answer.Answer.TheVariants.{Done, Accepted, Ending, TimedOut, InitTimedOut, Stopped, Output, Error, OutputTooLarge, Delivered, Told, Withdrawn}
+use Rattle.call_model.specs.declared.answer.Answer.TheVariants.{Ending, TimedOut, InitTimedOut, Stopped, OutputTooLarge, Told, Withdrawn}
 use Rattle.call_model.specs.declared.answer.Phase.{Phase}
 use Rattle.call_model.specs.declared.call.Call.{Call}
 use Rattle.call_model.specs.declared.call.Call.TheVariants.{Invoke, RuntimeNext, Response, ResponseTooLarge, Failure, InitFailure, Register, ExtNext, ExtInitFailure, ExtExitFailure, Tick, Withdraw, Spindown, Stop, Expire, Reserve}
@@ -10,7 +10,7 @@ use Rattle.call_model.specs.declared.call.Entry.{Entry}
 use Rattle.arn_ids.specs.declared.config.Config.{Config}
 use Rattle.arn_ids.specs.Environments.{function_of}
 use Rattle.call_model.specs.History.{answer_in, answer_of, call_of, place_of, env_of, requests, stopped, upto, or_else}
-use Rattle.call_model.specs.Generation.{TheRuntime, Member}
+use Rattle.call_model.specs.Generation.{Member}
 use Rattle.call_model.specs.Stand.{Stand, at_hand, role, Role, NoRole, Waiting, RuntimePoll, ExtensionPoll}
 use Rattle.call_model.specs.Table.{closes, own_answer, refused, to_waiting}
 use Rattle.call_model.specs.Life.{phase, stand, names}
@@ -24,7 +24,8 @@ use Rattle.call_model.specs.Isolation.{named, named_in, source_of, gist}
 use Rattle.call_model.proofs.Pairs.{in_each, eqb-other}
 use Rattle.call_model.proofs.Rising.{seen_by, numbered_keeps}
 use Rattle.call_model.proofs.OwnAnswers.{first_fit, first_of}
-use Rattle.call_model.proofs.OwnStands.{others_silent, same_fit, own_requests_upto}
+use Rattle.call_model.proofs.OwnHistory.{others_silent, own_requests_upto}
+use Rattle.call_model.proofs.OwnStands.{same_fit}
 use Rattle.call_model.specs.Next.{IsLegal}
 use Rattle.call_model.specs.Own.{own, own_ticket, is_own}
 use Rattle.call_model.proofs.Once.{fresh}

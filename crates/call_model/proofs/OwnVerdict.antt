@@ -17,7 +17,8 @@ use Rattle.std.specs.List.{find}
 use Rattle.std.proofs.Common.{nat_le}
 use Rattle.arn_ids.specs.Environments.{environments, function_at}
 use Rattle.call_model.proofs.OwnTickets.{placed_function, own_length, own_pending}
-use Rattle.call_model.proofs.OwnStands.{invoke_own, own_stopped, own_phase}
+use Rattle.call_model.proofs.OwnHistory.{invoke_own, own_stopped}
+use Rattle.call_model.proofs.OwnStands.{own_phase}
 use Rattle.call_model.specs.Next.{IsLegal}
 use Rattle.call_model.specs.Own.{own, own_entry, own_ticket, is_own}
 use Rattle.call_model.proofs.Pairs.{eqb-other}

@@ -6,6 +6,7 @@ use Rattle.call_model.specs.declared.answer.Answer.{Answer}
 use Rattle.call_model.specs.declared.call.Entry.{Entry}
 use Rattle.call_model.specs.History.{answer_in, env_of, call_of}
 use Rattle.call_model.specs.Answers.{with_answer, each_from, numbered, event_at}
+use Rattle.call_model.proofs.Basics.{some-none}
 
 -- below the first ticket there is no answer
 pub none_below : (t n u : ℕ) (f : ℕ → Option Answer) → u < t → answer_in (each_from t n f) u ≡ None
@@ -59,14 +60,11 @@ times_in pairs t = count_by (λ a. a.0 == t) pairs
 times_cons : (a : ℕ × Answer) (rest : List (ℕ × Answer)) (t : ℕ) → times_in (a ∷ rest) t ≡ cond (a.0 == t) 1 0 + times_in rest t
 times_cons a rest t = sum_by-cons (λ (b : ℕ × Answer). cond (b.0 == t) 1 0) a rest
 
-some_none : {b : Answer} → Some b ≡ None → ⊥
-some_none q = cc
-
 pub times_none : (pairs : List (ℕ × Answer)) (t : ℕ) → answer_in pairs t ≡ None → times_in pairs t ≡ 0
 times_none [] t e = refl
 times_none (a ∷ rest) t e =
     times_cons a rest t ∙ elim (eqb_tells a.0 t) [
-      | inl p ↦ absurd (some_none (rw p.0 at e))
+      | inl p ↦ absurd (some-none (rw p.0 at e))
       | inr p ↦ rw p.0 (omega (arith, times_none rest t (rw p.0 at e)))
     ]
 

@@ -12,6 +12,7 @@ use Rattle.call_model.proofs.AtHand.{held}
 use Rattle.call_model.proofs.Lives as L
 use Rattle.call_model.proofs.ParkedNexts.{standing}
 use Rattle.call_model.proofs.Basics.{eqb-self, and_right, number_some}
+use Rattle.std.proofs.lemmas.Option.{same_Some}
 
 -- an invocation lives in one place
 pub lives_there : (config : Config) (h : List Entry) (p e : ℕ) → IsLegal config h → place_of h p ≡ Some e → pending h p ≡ true → lives config h p e ≡ true
@@ -24,10 +25,7 @@ pub lives_only_there : (config : Config) (h : List Entry) (p e : ℕ) → IsLega
 lives_only_there config h p e l q = number_some (place_of h p) e ((held config h e p l (at_place config h p e q)).placed)
 
 pub lives_alone : (config : Config) (h : List Entry) (p q e : ℕ) → lives config h p e ≡ true → lives config h q e ≡ true → p ≡ q
-lives_alone config h p q e a b = inner p q (sym (at_place config h p e a) ∙ at_place config h q e b)
-  where
-    inner : (m n : ℕ) → Some m ≡ Some n → m ≡ n
-    inner m n r = cc
+lives_alone config h p q e a b = same_Some p q (sym (at_place config h p e a) ∙ at_place config h q e b)
 
 pub lives_nowhere : (config : Config) (h : List Entry) (p e : ℕ) → answered h p ≡ true → lives config h p e ≡ false
 lives_nowhere config h p e q = rw q (go (not (is_expiry (call_of h p))))

@@ -1,6 +1,5 @@
 -- What one entry changes of what a history says of an environment.
-use Rattle.std.proofs.Common.{◌≡◌, ℕ, suc, ◌<◌, Bool, true, false, eqb, List, [], ◌∷◌, ◌++◌, length, Option, Some, None, sym, refl, ap, ap₂, ◌∙◌, arith, is_some, is_none, not, ◌&&◌, ◌||◌, map, true≢false, if◌then◌else◌}
-use Rattle.std.proofs.lemmas.Bool.Decides.{nat_tests}
+use Rattle.std.proofs.Common.{◌≡◌, ℕ, suc, ◌<◌, Bool, true, false, List, [], ◌∷◌, ◌++◌, length, Option, Some, None, sym, refl, ap, ◌∙◌, arith, is_some, is_none, not, ◌&&◌, ◌||◌, map, true≢false, if◌then◌else◌}
 use Rattle.call_model.specs.declared.answer.Answer.{Answer}
 use Rattle.call_model.specs.declared.call.Call.{Call}
 use Rattle.call_model.specs.declared.call.Call.TheVariants.{RuntimeNext, ExtNext, Expire}
@@ -12,7 +11,7 @@ use Rattle.call_model.specs.Generation.{Generation, Extension, Actor, TheRuntime
 use Rattle.call_model.specs.Life.{life, lived, after, concerns, ends_here}
 use Rattle.call_model.specs.Next.{Follows}
 use Rattle.call_model.proofs.Once.{pending_cons, silent}
-use Rattle.call_model.proofs.Basics.{some-none}
+use Rattle.call_model.proofs.Basics.{some-none, eqb-self, map_map, map_same}
 use Rattle.call_model.proofs.Visits.{visit, if_concerned, if_ended}
 
 -- each entry of a generation is older than n
@@ -57,22 +56,16 @@ parked_other entry h g actor b silent_call = rw silent_call (go (last_next g act
   where
     go : (o : Option ℕ) → last_next g actor ≡ o → if_pending (entry ∷ h) o ≡ still entry (if_pending h o)
     go None q = refl
-    go (Some t) q = rw (pending_cons entry h t (λ same. lt_irr (length h) (omega (arith, same, last_below (length h) g actor b t q)))) (both (pending h t))
+    go (Some t) q = rw (pending_cons entry h t (λ same. omega (arith, same, last_below (length h) g actor b t q))) (both (pending h t))
       where
-        lt_irr : (n : ℕ) → n < n → ⊥
-        lt_irr n k = omega arith
-
         both : (p : Bool) → (if p && is_none (answer_in entry.answers t) then Some t else None) ≡ still entry (if p then Some t else None)
         both true = refl
         both false = refl
 
 -- an actor that asks has its Next of now, unless the entry answers it
 pub parked_asks : (entry : Entry) (h : List Entry) (g : Generation) (actor : Actor) → is_expiry entry.call ≡ false → answer_of h (length h) ≡ None → asks actor entry.call ≡ true → parked (entry ∷ h) ((length h, entry) ∷ g) actor ≡ still entry (Some (length h))
-parked_asks entry h g actor call_kind none asks_now = rw (asks_now, eqb_same (length h), call_kind, none) (go (answer_in entry.answers (length h)))
+parked_asks entry h g actor call_kind none asks_now = rw (asks_now, eqb-self (length h), call_kind, none) (go (answer_in entry.answers (length h)))
   where
-    eqb_same : (t : ℕ) → eqb t t ≡ true
-    eqb_same t = grind (arith, nat_tests)
-
     go : (a : Option Answer) → (if not (is_some (or_else a None)) then Some (length h) else None) ≡ (if is_none a then Some (length h) else None)
     go None = refl
     go (Some a) = refl
@@ -140,10 +133,6 @@ member_steps e1 e2 h g same b none quiet x = λ i. record {
     told_is true = refl
     told_is false = last_parked h e2 g (TheExtension x.count) quiet b
 
-map_map : {A B C : Type 0} (f : B → C) (g : A → B) (k : A → C) → ((x : A) → k x ≡ f (g x)) → (xs : List A) → map k xs ≡ map f (map g xs)
-map_map f g k e [] = refl
-map_map f g k e (x ∷ xs) = ap₂ ◌∷◌ (e x) (map_map f g k e xs)
-
 -- the newly registered extension, where there is one
 abbrev pub new_member : List Entry → Generation → Option Extension → List Member
 new_member h g None = []
@@ -156,7 +145,7 @@ unfolding members
 members_step e1 e2 h g same b none quiet = go (as_registered e2.call (answer_in e2.answers (length h)))
   where
     rest : map (member (e1 ∷ h) ((length h, e2) ∷ g)) (extensions g) ≡ map (member_step e1 e2 (length h)) (map (member h g) (extensions g))
-    rest = map_map (member_step e1 e2 (length h)) (member h g) (member (e1 ∷ h) ((length h, e2) ∷ g)) (member_steps e1 e2 h g same b none quiet) (extensions g)
+    rest = map_same (member (e1 ∷ h) ((length h, e2) ∷ g)) (λ x. member_step e1 e2 (length h) (member h g x)) (member_steps e1 e2 h g same b none quiet) (extensions g) ∙ map_map (member_step e1 e2 (length h)) (member h g) (extensions g)
 
     go : (o : Option Extension) → map (member (e1 ∷ h) ((length h, e2) ∷ g)) (cons_option o (extensions g)) ≡ new_member (e1 ∷ h) ((length h, e2) ∷ g) o ++ map (member_step e1 e2 (length h)) (map (member h g) (extensions g))
     go None = rest

@@ -1,7 +1,7 @@
 use Rattle.call_model.proofs.NextLegal.{legal_next}
 use Rattle.call_model.proofs.Once.{once, fresh}
 use Rattle.call_model.proofs.DeliveredOnce as D
-use Rattle.call_model.proofs.Outcome.{outcome_delivered}
+use Rattle.call_model.proofs.OutcomeDelivered.{outcome_delivered}
 use Rattle.call_model.proofs.ParkedNexts.{one_standing}
 use Rattle.call_model.proofs.SafeLaws.{lives_there, lives_only_there, stands_open}
 use Rattle.call_model.proofs.SafeLaws as H
