@@ -9,7 +9,7 @@ use Rattle.call_model.specs.History.{answer_of, is_stop}
 use Rattle.call_model.proofs.AfterEntry.{admitted_cons, answers_that_cons}
 use Rattle.call_model.specs.CallCounts.{request_count}
 use Rattle.account_book.specs.declared.ledger.Ledger.TheInside.{Inside}
-use Rattle.account_book.specs.declared.totals.Totals.{Totals}
+use Rattle.account_book.specs.declared.totals.Counters.{Counters}
 use Rattle.account_book.specs.Indexes.{noted}
 use Rattle.account_book.specs.Ledgers.{IsLedger, totals, answer_limit}
 use Rattle.account_book.proofs.Indexed.{answered_next}
@@ -42,7 +42,7 @@ ledger_kept l after entry count k a room is tickets few fresh = record {
   few = rw (a.entries, length-append l.entries.0 (entry ∷ [])) (omega (arith, k.few, room));
 }
   where
-    by_parts : (x y : Totals) → x.admitted ≡ y.admitted → x.throttled ≡ y.throttled → x.failed ≡ y.failed → x ≡ y
+    by_parts : (x y : Counters) → x.admitted ≡ y.admitted → x.throttled ≡ y.throttled → x.failed ≡ y.failed → x ≡ y
     by_parts x y p q r = λ i. record { admitted = p i; throttled = q i; failed = r i }
 
     one : (b : Bool) → cond b 1 0 ≤ 1
@@ -53,10 +53,10 @@ ledger_kept l after entry count k a room is tickets few fresh = record {
     plus m n = omega arith
 
     admitted_is : after.totals.admitted ≡ admitted (entry ∷ reverse l.entries.0)
-    admitted_is = a.admitted ∙ ap (λ (t : Totals). t.admitted + cond (is_some entry.place) 1 0) k.totals_are ∙ plus (admitted (reverse l.entries.0)) (cond (is_some entry.place) 1 0) ∙ sym (admitted_cons entry (reverse l.entries.0))
+    admitted_is = a.admitted ∙ ap (λ (t : Counters). t.admitted + cond (is_some entry.place) 1 0) k.totals_are ∙ plus (admitted (reverse l.entries.0)) (cond (is_some entry.place) 1 0) ∙ sym (admitted_cons entry (reverse l.entries.0))
 
     throttled_is : after.totals.throttled ≡ throttled (entry ∷ reverse l.entries.0)
-    throttled_is = a.throttled ∙ ap (λ (t : Totals). t.throttled + count_by (λ (b : ℕ × Answer). is_throttle b.1) entry.answers) k.totals_are ∙ plus (throttled (reverse l.entries.0)) _ ∙ sym (answers_that_cons is_throttle entry (reverse l.entries.0))
+    throttled_is = a.throttled ∙ ap (λ (t : Counters). t.throttled + count_by (λ (b : ℕ × Answer). is_throttle b.1) entry.answers) k.totals_are ∙ plus (throttled (reverse l.entries.0)) _ ∙ sym (answers_that_cons is_throttle entry (reverse l.entries.0))
 
     failed_is : after.totals.failed ≡ failed (entry ∷ reverse l.entries.0)
-    failed_is = a.failed ∙ ap (λ (t : Totals). t.failed + count_by (λ (b : ℕ × Answer). is_failure b.1) entry.answers) k.totals_are ∙ plus (failed (reverse l.entries.0)) _ ∙ sym (answers_that_cons is_failure entry (reverse l.entries.0))
+    failed_is = a.failed ∙ ap (λ (t : Counters). t.failed + count_by (λ (b : ℕ × Answer). is_failure b.1) entry.answers) k.totals_are ∙ plus (failed (reverse l.entries.0)) _ ∙ sym (answers_that_cons is_failure entry (reverse l.entries.0))

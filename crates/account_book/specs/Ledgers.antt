@@ -5,7 +5,7 @@ use Rattle.call_model.specs.Counts.{admitted, throttled, failed}
 use Rattle.call_model.specs.History.{stopped}
 use Rattle.call_model.specs.CallCounts.{call_counts}
 use Rattle.account_book.specs.declared.ledger.Ledger.TheInside.{Inside}
-use Rattle.account_book.specs.declared.totals.Totals.{Totals}
+use Rattle.account_book.specs.declared.totals.Counters.{Counters}
 use Rattle.account_book.specs.Indexes.{answers_by_ticket}
 use Rattle.account_book.specs.Shelf.{Shelf}
 
@@ -13,7 +13,7 @@ abbrev pub shelf : Inside → Shelf
 shelf l = record { history = reverse l.entries.0; room = l.entries.1 }
 
 -- what a history has admitted, throttled and failed
-abbrev pub totals : List Entry → Totals
+abbrev pub totals : List Entry → Counters
 totals h = record { admitted = admitted h; throttled = throttled h; failed = failed h }
 
 -- how many answers an entry has at most: 24 at each of 256 environments, and the call's own

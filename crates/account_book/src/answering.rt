@@ -13,7 +13,7 @@ ghost use Rattle.account_book.specs.Fleets.{flown};
 ghost use Rattle.account_book.specs.Reaches.{book_answer, homed};
 ghost use Rattle.account_book.specs.Taking.{IsKnown, AllKnown, sites as sites_in, request_counts};
 
-use crate::fleet::{Fleet, Visit};
+use crate::fleet::{Arrival, Fleet};
 use crate::reach::Reach;
 use crate::room::Roomy;
 use arn_ids::{Checked, EnvNo};
@@ -56,34 +56,34 @@ pub fn answer_call(
     config: &Checked,
     entries: &Blocks<Entry>,
     fleet: &mut Fleet,
-    visit: Visit<'_>,
+    arrival: Arrival<'_>,
     place: Option<EnvNo>,
     own: Option<Answer>,
     answers: &mut Roomy<(Ticket, Answer)>,
 )
-    requires moment { visit.moment < 2 ^ 53 }
+    requires moment { arrival.moment < 2 ^ 53 }
     requires short { length entries.now.0 < 2 ^ 32 }
-    requires ticket { visit.ticket ≡ length entries.now.0 }
+    requires ticket { arrival.ticket ≡ length entries.now.0 }
     requires legal { IsLegal config.now (reverse entries.now.0) }
     requires all_known { AllKnown config.now (reverse entries.now.0) }
-    requires follows { Follows config.now (reverse entries.now.0) (entry_of config.now (reverse entries.now.0) visit.moment visit.call.now) }
-    requires known { IsKnown config.now visit.call.now }
-    requires placed { place ≡ place_for config.now (reverse entries.now.0) visit.call.now }
-    requires own { own ≡ book_answer config.now (reverse entries.now.0) visit.call.now }
+    requires follows { Follows config.now (reverse entries.now.0) (entry_of config.now (reverse entries.now.0) arrival.moment arrival.call.now) }
+    requires known { IsKnown config.now arrival.call.now }
+    requires placed { place ≡ place_for config.now (reverse entries.now.0) arrival.call.now }
+    requires own { own ≡ book_answer config.now (reverse entries.now.0) arrival.call.now }
     requires sites { fleet.old.sites ≡ sites_in config.now (reverse entries.now.0) }
     requires pool { fleet.old.pool ≡ numbers config.now (reverse entries.now.0) }
-    requires counts { visit.requests.now ≡ request_counts config.now (entered config.now (reverse entries.now.0) visit.moment visit.call.now) }
-    requires room { most_answers fleet.old.widest (length (owners config.now)) visit.call.now ≤ answers.old.1 }
+    requires counts { arrival.requests.now ≡ request_counts config.now (entered config.now (reverse entries.now.0) arrival.moment arrival.call.now) }
+    requires room { most_answers fleet.old.widest (length (owners config.now)) arrival.call.now ≤ answers.old.1 }
     requires empty { answers.old.0 ≡ [] }
-    ensures sites { fleet.new.sites ≡ sites_in config.now (entered config.now (reverse entries.now.0) visit.entry.moment visit.entry.call.now) }
-    ensures pool { fleet.new.pool ≡ numbers config.now (entered config.now (reverse entries.now.0) visit.entry.moment visit.entry.call.now) }
-    ensures widest { registered_name visit.entry.call.now ≡ None → fleet.new.widest ≡ fleet.old.widest }
-    ensures answers { answers.new.0 ≡ answers_to config.now (reverse entries.now.0) visit.entry.moment visit.entry.call.now }
+    ensures sites { fleet.new.sites ≡ sites_in config.now (entered config.now (reverse entries.now.0) arrival.entry.moment arrival.entry.call.now) }
+    ensures pool { fleet.new.pool ≡ numbers config.now (entered config.now (reverse entries.now.0) arrival.entry.moment arrival.entry.call.now) }
+    ensures widest { registered_name arrival.entry.call.now ≡ None → fleet.new.widest ≡ fleet.old.widest }
+    ensures answers { answers.new.0 ≡ answers_to config.now (reverse entries.now.0) arrival.entry.moment arrival.entry.call.now }
 {
-    visit_environments(config, entries, fleet, visit, place, answers);
-    put_in_force(fleet, visit.call, own);
+    visit_environments(config, entries, fleet, arrival, place, answers);
+    put_in_force(fleet, arrival.call, own);
     if let Some(own) = own {
-        answers.push((visit.ticket, own));
+        answers.push((arrival.ticket, own));
     }
 }
 
@@ -92,34 +92,34 @@ fn visit_environments(
     config: &Checked,
     entries: &Blocks<Entry>,
     fleet: &mut Fleet,
-    visit: Visit<'_>,
+    arrival: Arrival<'_>,
     place: Option<EnvNo>,
     answers: &mut Roomy<(Ticket, Answer)>,
 )
-    requires moment { visit.moment < 2 ^ 53 }
+    requires moment { arrival.moment < 2 ^ 53 }
     requires short { length entries.now.0 < 2 ^ 32 }
-    requires ticket { visit.ticket ≡ length entries.now.0 }
+    requires ticket { arrival.ticket ≡ length entries.now.0 }
     requires legal { IsLegal config.now (reverse entries.now.0) }
     requires all_known { AllKnown config.now (reverse entries.now.0) }
-    requires follows { Follows config.now (reverse entries.now.0) (entry_of config.now (reverse entries.now.0) visit.moment visit.call.now) }
-    requires known { IsKnown config.now visit.call.now }
-    requires placed { place ≡ place_for config.now (reverse entries.now.0) visit.call.now }
+    requires follows { Follows config.now (reverse entries.now.0) (entry_of config.now (reverse entries.now.0) arrival.moment arrival.call.now) }
+    requires known { IsKnown config.now arrival.call.now }
+    requires placed { place ≡ place_for config.now (reverse entries.now.0) arrival.call.now }
     requires sites { fleet.old.sites ≡ sites_in config.now (reverse entries.now.0) }
     requires pool { fleet.old.pool ≡ numbers config.now (reverse entries.now.0) }
-    requires counts { visit.requests.now ≡ request_counts config.now (entered config.now (reverse entries.now.0) visit.moment visit.call.now) }
-    requires room { most_answers fleet.old.widest (length (owners config.now)) visit.call.now ≤ answers.old.1 }
+    requires counts { arrival.requests.now ≡ request_counts config.now (entered config.now (reverse entries.now.0) arrival.moment arrival.call.now) }
+    requires room { most_answers fleet.old.widest (length (owners config.now)) arrival.call.now ≤ answers.old.1 }
     requires empty { answers.old.0 ≡ [] }
-    ensures sites { fleet.new.sites ≡ sites_in config.now (entered config.now (reverse entries.now.0) visit.entry.moment visit.entry.call.now) }
+    ensures sites { fleet.new.sites ≡ sites_in config.now (entered config.now (reverse entries.now.0) arrival.entry.moment arrival.entry.call.now) }
     ensures pool { fleet.new.pool ≡ flown fleet.new.sites fleet.old.pool }
-    ensures widest { registered_name visit.entry.call.now ≡ None → fleet.new.widest ≡ fleet.old.widest }
-    ensures answers { answers.new.0 ≡ homed (reverse entries.now.0) (entry_of config.now (reverse entries.now.0) visit.entry.moment visit.entry.call.now) }
+    ensures widest { registered_name arrival.entry.call.now ≡ None → fleet.new.widest ≡ fleet.old.widest }
+    ensures answers { answers.new.0 ≡ homed (reverse entries.now.0) (entry_of config.now (reverse entries.now.0) arrival.entry.moment arrival.entry.call.now) }
     ensures room { 0 < answers.new.1 }
 {
     fleet.facts();
-    match Reach::of(entries, place, visit.call) {
+    match Reach::of(entries, place, arrival.call) {
         Reach::Nowhere => {}
-        Reach::At(env) => fleet.take_at(env, visit, answers),
-        Reach::Everywhere => fleet.take_all(visit, answers),
+        Reach::At(env) => fleet.take_at(env, arrival, answers),
+        Reach::Everywhere => fleet.take_all(arrival, answers),
     }
 }
 

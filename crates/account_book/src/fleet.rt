@@ -52,7 +52,7 @@ impl Model for Fleet {
 
 /// A call on its way to the environments that it concerns.
 #[derive(Clone, Copy)]
-pub struct Visit<'a> {
+pub struct Arrival<'a> {
     /// The call's ticket.
     pub ticket: Ticket,
     /// The moment in milliseconds, below 2^53.
@@ -203,48 +203,53 @@ impl Fleet {
 
     /// Lets every environment take a call that brings no invocation and no extension, one after the
     /// other, and puts their answers in their places among the others.
-    pub fn take_all(&mut self, visit: Visit<'_>, answers: &mut Roomy<(Ticket, Answer)>)
-        requires moment { visit.moment < 2 ^ 53 }
-        requires counted { length visit.requests.now ≡ length self.old.pool.functions }
+    pub fn take_all(&mut self, arrival: Arrival<'_>, answers: &mut Roomy<(Ticket, Answer)>)
+        requires moment { arrival.moment < 2 ^ 53 }
+        requires counted { length arrival.requests.now ≡ length self.old.pool.functions }
         requires few { All IsFew self.old.sites }
-        requires unnamed { registered_name visit.call.now ≡ None }
+        requires unnamed { registered_name arrival.call.now ≡ None }
         requires room { 24 * length self.old.sites ≤ answers.old.1 }
-        requires brings_none { is_invoke visit.call.now ≡ false }
-        ensures sites { self.new.sites ≡ map (moved visit.entry.ticket visit.entry.moment visit.entry.requests.now visit.entry.call.now) self.old.sites }
+        requires brings_none { is_invoke arrival.call.now ≡ false }
+        ensures sites { self.new.sites ≡ map (moved arrival.entry.ticket arrival.entry.moment arrival.entry.requests.now arrival.entry.call.now) self.old.sites }
         ensures pool { self.new.pool ≡ flown self.new.sites self.old.pool }
         ensures widest { self.new.widest ≡ self.old.widest }
-        ensures answers { answers.new.0 ≡ merged (moves_at visit.entry.ticket visit.entry.moment visit.entry.requests.now visit.entry.call.now) self.old.sites answers.old.0 }
+        ensures answers { answers.new.0 ≡ merged (moves_at arrival.entry.ticket arrival.entry.moment arrival.entry.requests.now arrival.entry.call.now) self.old.sites answers.old.0 }
         ensures room { answers.old.1 ≤ answers.new.1 + 24 * length self.old.sites }
     {
         for index in 0..self.sites.as_slice().len() {
-            self.take_at(index as u32 + 1, visit, answers);
+            self.take_at(index as u32 + 1, arrival, answers);
         }
     }
 
     /// Lets one environment take a call, and puts its answers in their places among the others.
-    pub fn take_at(&mut self, env: EnvNo, visit: Visit<'_>, answers: &mut Roomy<(Ticket, Answer)>)
+    pub fn take_at(
+        &mut self,
+        env: EnvNo,
+        arrival: Arrival<'_>,
+        answers: &mut Roomy<(Ticket, Answer)>,
+    )
         requires from_one { 1 ≤ env }
         requires there { env ≤ length self.old.sites }
-        requires moment { visit.moment < 2 ^ 53 }
-        requires short { IsShort (registered_name visit.call.now) }
-        requires counted { length visit.requests.now ≡ length self.old.pool.functions }
+        requires moment { arrival.moment < 2 ^ 53 }
+        requires short { IsShort (registered_name arrival.call.now) }
+        requires counted { length arrival.requests.now ≡ length self.old.pool.functions }
         requires few { IsFew (site_at self.old.sites env) }
-        requires room { length (moves_at visit.ticket visit.moment visit.requests.now visit.call.now (site_at self.old.sites env)) ≤ answers.old.1 }
-        requires admitted { is_invoke visit.call.now ≡ true → throttle self.old.pool (site_at self.old.sites env).function ≡ None }
-        ensures sites { self.new.sites ≡ slice_set self.old.sites (env - 1) (moved visit.entry.ticket visit.entry.moment visit.entry.requests.now visit.entry.call.now (site_at self.old.sites env)) }
+        requires room { length (moves_at arrival.ticket arrival.moment arrival.requests.now arrival.call.now (site_at self.old.sites env)) ≤ answers.old.1 }
+        requires admitted { is_invoke arrival.call.now ≡ true → throttle self.old.pool (site_at self.old.sites env).function ≡ None }
+        ensures sites { self.new.sites ≡ slice_set self.old.sites (env - 1) (moved arrival.entry.ticket arrival.entry.moment arrival.entry.requests.now arrival.entry.call.now (site_at self.old.sites env)) }
         ensures pool { self.new.pool ≡ flown self.new.sites self.old.pool }
-        ensures widest { registered_name visit.entry.call.now ≡ None → self.new.widest ≡ self.old.widest }
-        ensures answers { answers.new.0 ≡ put_all (moves_at visit.entry.ticket visit.entry.moment visit.entry.requests.now visit.entry.call.now (site_at self.old.sites env)) answers.old.0 }
-        ensures room { answers.new.1 + length (moves_at visit.entry.ticket visit.entry.moment visit.entry.requests.now visit.entry.call.now (site_at self.old.sites env)) ≡ answers.old.1 }
+        ensures widest { registered_name arrival.entry.call.now ≡ None → self.new.widest ≡ self.old.widest }
+        ensures answers { answers.new.0 ≡ put_all (moves_at arrival.entry.ticket arrival.entry.moment arrival.entry.requests.now arrival.entry.call.now (site_at self.old.sites env)) answers.old.0 }
+        ensures room { answers.new.1 + length (moves_at arrival.entry.ticket arrival.entry.moment arrival.entry.requests.now arrival.entry.call.now (site_at self.old.sites env)) ≡ answers.old.1 }
     {
         let site = &mut self.sites[env as usize - 1];
         let step = Step {
-            ticket: visit.ticket,
-            now: visit.moment,
-            count: visit.requests[site.function as usize - 1],
+            ticket: arrival.ticket,
+            now: arrival.moment,
+            count: arrival.requests[site.function as usize - 1],
         };
         let was = site.environment.is_taken();
-        site.take(step, visit.call, answers);
+        site.take(step, arrival.call, answers);
         let is = site.environment.is_taken();
         self.due.set(env, site.environment.deadline());
         self.places.note(env, Class::of(site.environment.phase()));

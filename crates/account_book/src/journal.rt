@@ -22,12 +22,12 @@ ghost use Rattle.account_book.specs.Reaches.{book_answer};
 ghost use Rattle.account_book.specs.Taking.{IsKnown, AllKnown};
 
 use crate::answering::{answer_call, count_call};
-use crate::fleet::{Fleet, Visit};
+use crate::fleet::{Arrival, Fleet};
 use crate::ledger::Ledger;
 use crate::opening::open_counts;
 use crate::room::Roomy;
 use arn_ids::{Checked, EnvNo, FnNo};
-use call_model::{Answer, Call, Entry, Refusal, Stats, Ticket};
+use call_model::{Answer, Call, Entry, Rejection, Stats, Ticket};
 use entry_blocks::Blocks;
 use std::alloc::{AllocError, Global};
 use std::marker::Model;
@@ -301,7 +301,7 @@ impl Journal {
             return Answer::Stopped;
         }
         if !self.fleet.may_reserve(function, count) {
-            return Answer::Refused(Refusal::BadReservation);
+            return Answer::Refused(Rejection::BadReservation);
         }
         match count {
             None => Answer::Unreserved,
@@ -327,7 +327,7 @@ impl Journal {
         let mut answers = answers;
         let entries = self.ledger.entries();
         let count = count_call(&self.config, entries, &mut self.requests, moment, &call);
-        let visit = Visit {
+        let arrival = Arrival {
             ticket: entries.len() as u64,
             moment,
             requests: &self.requests,
@@ -337,7 +337,7 @@ impl Journal {
             &self.config,
             entries,
             &mut self.fleet,
-            visit,
+            arrival,
             verdict.place,
             verdict.own,
             &mut answers,

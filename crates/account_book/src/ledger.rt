@@ -7,7 +7,7 @@ ghost use Rattle.call_model.specs.CallCounts.{call_counts, request_count};
 ghost use Rattle.account_book.specs.Indexes.{noted};
 ghost use Rattle.account_book.specs.Ledgers.{answer_limit, totals};
 
-use crate::totals::Totals;
+use crate::totals::Counters;
 use arn_ids::EnvNo;
 use call_model::{Answer, Answers, Call, Entry, Ticket};
 use entry_blocks::Blocks;
@@ -22,7 +22,7 @@ pub struct Ledger {
     counts: Blocks<u64>,
     /// For each ticket what it was answered.
     given: Blocks<Option<Answer>>,
-    totals: Totals,
+    totals: Counters,
     /// Whether a Stop stands among the entries.
     stopped: bool,
 }
@@ -82,7 +82,7 @@ impl Ledger {
             entries: Blocks::open(alloc),
             counts: Blocks::open(alloc),
             given: Blocks::open(alloc),
-            totals: Totals::new(),
+            totals: Counters::new(),
             stopped: false,
         }
     }
@@ -165,7 +165,7 @@ impl Ledger {
     }
 
     /// What was admitted, throttled and failed.
-    pub fn totals(&self) -> Totals
+    pub fn totals(&self) -> Counters
         ensures { result ≡ totals self.now.history }
     {
         self.totals

@@ -8,7 +8,7 @@ use call_model::{Answer, Ticket};
 
 /// How many invocations were admitted, throttled and failed.
 #[derive(Clone, Copy, Debug)]
-pub struct Totals {
+pub struct Counters {
     /// The Invokes that were placed in an environment.
     pub admitted: u64,
     /// The Invokes that were answered with 429.
@@ -37,12 +37,12 @@ fn is_failure(answer: &Answer) -> bool
     )
 }
 
-impl Totals {
+impl Counters {
     /// Nothing yet.
-    pub fn new() -> Totals
+    pub fn new() -> Counters
         ensures { result ≡ record { admitted = 0; throttled = 0; failed = 0 } }
     {
-        Totals {
+        Counters {
             admitted: 0,
             throttled: 0,
             failed: 0,

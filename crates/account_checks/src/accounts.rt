@@ -9,7 +9,7 @@ use crate::places::{Opened, open_account, open_desk};
 use crate::running::{end_case, one_part, turns_of};
 use crate::seats::{Seats, crowd};
 use account_book::OpenFault;
-use account_lock::Setup;
+use account_lock::Identity;
 use case_tables::{Case, CaseFault};
 use std::alloc::Global;
 use std::marker::Brand;
@@ -27,7 +27,7 @@ enum Way {
 /// Runs the parts of a case in their order, and then the settlement.
 fn run_case<
     R: Wait + Threads + Copy + Send + Sync + Drop + 'static,
-    S: Setup + Send + Sync + Drop,
+    S: Identity + Send + Sync + Drop,
     K: Keep + Send + Sync,
 >(alloc: Global, case: &Case, seats: Seats<R, S, K>, given: &mut String) -> Result<(), CaseFault> {
     let mut seats = seats;
@@ -45,7 +45,7 @@ fn run_case<
 /// Runs a case that was opened.
 fn play_opened<
     R: Wait + Threads + Copy + Send + Sync + Drop + 'static,
-    S: Setup + Send + Sync + Drop,
+    S: Identity + Send + Sync + Drop,
     K: Keep + Send + Sync,
 >(
     alloc: Global,
@@ -67,7 +67,7 @@ fn play_opened<
 /// Opens what a case says, and runs it.
 fn play<
     R: Wait + Threads + Copy + Send + Sync + Drop + 'static,
-    S: Setup + Send + Sync + Drop,
+    S: Identity + Send + Sync + Drop,
     K: Keep + Send + Sync,
 >(
     rt: R,

@@ -6,7 +6,7 @@ use crate::lines::malformed;
 use crate::places::{Place, Taken};
 use crate::seats::part_of;
 use crate::stand::Turns;
-use account_lock::Setup;
+use account_lock::Identity;
 use call_model::Ticket;
 use case_tables::CaseFault;
 use std::alloc::{AllocError, Global};
@@ -51,7 +51,7 @@ fn line_with(alloc: Global, line: &str, words: Words) -> Result<String, AllocErr
 }
 
 /// Makes the call of a line; its ticket.
-fn one_call<R: Wait, S: Setup, K: Keep>(
+fn one_call<R: Wait, S: Identity, K: Keep>(
     place: &Place<R, S>,
     tally: &mut Tally<K, S>,
     front: &mut Front<S>,
@@ -67,7 +67,7 @@ fn one_call<R: Wait, S: Setup, K: Keep>(
 }
 
 /// Makes the calls of all lines once; the ticket of the last Next.
-fn one_turn<R: Wait, S: Setup, K: Keep>(
+fn one_turn<R: Wait, S: Identity, K: Keep>(
     place: &Place<R, S>,
     tally: &mut Tally<K, S>,
     front: &mut Front<S>,
@@ -89,7 +89,7 @@ fn one_turn<R: Wait, S: Setup, K: Keep>(
 }
 
 /// The calls of a thread; its tally.
-fn work<R: Wait, S: Setup, K: Keep>(
+fn work<R: Wait, S: Identity, K: Keep>(
     place: &Place<R, S>,
     bells: &Bells,
     turns: Turns<'_>,
@@ -126,7 +126,7 @@ fn jobs_of<K: Keep, L: Ledgers>(
 }
 
 /// Makes the calls of four threads at once. Their tallies are put behind the others.
-pub fn crowd_of<R: Wait + Threads + Sync, S: Setup + Send + Sync, K: Keep + Send + Sync>(
+pub fn crowd_of<R: Wait + Threads + Sync, S: Identity + Send + Sync, K: Keep + Send + Sync>(
     place: &Place<R, S>,
     tallies: &mut Vec<Tally<K, S>>,
     bells: &Bells,

@@ -5,7 +5,7 @@ ghost use Rattle.std.specs.Prelude.{◌≡◌, ◌^◌};
 use crate::bells::Numbered;
 use crate::opening::Opening;
 use account_book::{Book, Life, OpenFault, Refusal};
-use account_lock::{Account, Desk, Look, Refused, Setup};
+use account_lock::{Account, Desk, Identity, Look, Refused};
 use arn_ids::{Checked, FnNo};
 use call_model::{Stats, Ticket};
 use lambda_wire::Reply;
@@ -56,7 +56,7 @@ pub enum Said {
 
 /// An account, and its configuration, by which the lines of its calls are read.
 #[derive(Drop)]
-pub struct Place<R, S: Setup> {
+pub struct Place<R, S: Identity> {
     pub rt: R,
     pub alloc: Global,
     pub config: Checked,
@@ -73,7 +73,7 @@ fn untaken(refused: &Refused<Numbered>) -> Result<Taken, AllocError> {
     }
 }
 
-impl<R: Wait, S: Setup> Place<R, S> {
+impl<R: Wait, S: Identity> Place<R, S> {
     /// Submits the call of a line by a tally, with a bell, which comes back where it is refused. The
     /// token is then that of the call, where one is taken.
     fn submit_once<K: Keep>(
@@ -150,13 +150,13 @@ impl<R: Wait, S: Setup> Place<R, S> {
 
 /// An account and the tally that has all parts.
 #[derive(Drop)]
-pub struct Opened<R, S: Setup, K: Keep> {
+pub struct Opened<R, S: Identity, K: Keep> {
     pub place: Place<R, S>,
     pub root: Tally<K, S>,
 }
 
 /// Opens an account.
-pub fn open_account<R: Drop, S: Setup, K: Keep>(
+pub fn open_account<R: Drop, S: Identity, K: Keep>(
     rt: R,
     alloc: Global,
     opening: Opening,
@@ -188,7 +188,7 @@ pub fn open_account<R: Drop, S: Setup, K: Keep>(
 }
 
 /// Opens a desk, and puts it behind a lock.
-pub fn open_desk<R: Drop, S: Setup, K: Keep>(
+pub fn open_desk<R: Drop, S: Identity, K: Keep>(
     rt: R,
     alloc: Global,
     opening: Opening,

@@ -5,7 +5,7 @@ use crate::crowds::crowd_of;
 use crate::forging::{Forgery, Kept};
 use crate::places::{Opened, Place, Question, Said, Taken};
 use crate::stand::{Ending, Seat, SeatFault, Stand, Turns};
-use account_lock::{Account, SettleFault, Settled, Setup};
+use account_lock::{Account, Identity, SettleFault, Settled};
 use call_model::Stats;
 use case_tables::CaseFault;
 use std::alloc::AllocError;
@@ -16,7 +16,7 @@ use usage_ledger::{Front, JoinFault, Keep, Ledgers, Tally};
 /// An account with its tallies, with the one that is held back, and with the token by which the account
 /// is asked: each call that is taken gives a new one.
 #[derive(Drop)]
-pub struct Seats<R, S: Setup, K: Keep> {
+pub struct Seats<R, S: Identity, K: Keep> {
     place: Place<R, S>,
     front: Front<S>,
     tallies: Vec<Tally<K, S>>,
@@ -89,7 +89,7 @@ fn counted(settled: Result<Settled, SettleFault>) -> Result<(Stats, u64), Settle
 }
 
 /// Settles an account, or its desk.
-fn settle_account<S: Setup, K: Keep>(
+fn settle_account<S: Identity, K: Keep>(
     account: Account<S, Numbered>,
     settles_desk: bool,
     tallies: Vec<Tally<K, S>>,
@@ -101,7 +101,7 @@ fn settle_account<S: Setup, K: Keep>(
     }
 }
 
-impl<R: Wait + Drop, S: Setup + Drop, K: Keep> Seats<R, S, K> {
+impl<R: Wait + Drop, S: Identity + Drop, K: Keep> Seats<R, S, K> {
     /// An account with its first tally.
     pub fn new(opened: Opened<R, S, K>, settles_desk: bool) -> Result<Seats<R, S, K>, AllocError> {
         let Opened { place, root } = opened;
@@ -118,7 +118,7 @@ impl<R: Wait + Drop, S: Setup + Drop, K: Keep> Seats<R, S, K> {
 }
 
 /// Makes the calls of four threads at once, each by a tally of its own.
-pub fn crowd<R: Wait + Threads + Sync, S: Setup + Send + Sync, K: Keep + Send + Sync>(
+pub fn crowd<R: Wait + Threads + Sync, S: Identity + Send + Sync, K: Keep + Send + Sync>(
     seats: &mut Seats<R, S, K>,
     bells: &Bells,
     turns: Turns<'_>,
@@ -126,7 +126,7 @@ pub fn crowd<R: Wait + Threads + Sync, S: Setup + Send + Sync, K: Keep + Send + 
     crowd_of(&seats.place, &mut seats.tallies, bells, turns)
 }
 
-impl<R: Wait + Drop, S: Setup + Drop, K: Keep> Stand for Seats<R, S, K> {
+impl<R: Wait + Drop, S: Identity + Drop, K: Keep> Stand for Seats<R, S, K> {
     fn make_seat(&mut self, seat: usize) -> Result<(), SeatFault> {
         for _ in self.tallies.len()..seat.saturating_add(1) {
             let tally = part_of(self.tallies.first_mut())?;

@@ -39,7 +39,7 @@ use usage_ledger::{Blanks, Front, Keep, Ledgers, Line, Pen, Start, Tally, root};
 
 /// Stands for the ledgers, the history, the configuration and the salt of an account in its type, so
 /// that callers know them without the lock.
-pub trait Setup: Ledgers {
+pub trait Identity: Ledgers {
     ghost use Rattle.std.specs.Prelude.{ℕ};
     ghost use Rattle.arn_ids.specs.declared.config.Config.{Config};
 
@@ -52,7 +52,7 @@ pub trait Setup: Ledgers {
 
 /// A caller that names `Brand` picks configuration and salt in its proof; these stand where none are
 /// picked.
-impl Setup for Brand {
+impl Identity for Brand {
     ghost use Rattle.call_model.specs.Sample.{one};
 
     ghost config = { one };
@@ -63,12 +63,12 @@ impl Setup for Brand {
 /// What lies under the lock: a desk whose configuration and salt are those that its type names, and the
 /// pen of the history, which is the desk's. Contracts see the history.
 #[derive(Drop)]
-struct Locked<S: Setup, B> {
+struct Locked<S: Identity, B> {
     desk: Desk<B, S>,
     pen: Pen<S>,
 }
 
-impl<S: Setup, B> Model for Locked<S, B> {
+impl<S: Identity, B> Model for Locked<S, B> {
     ghost use Rattle.std.specs.Prelude.{◌≡◌, List};
     ghost use Rattle.call_model.specs.declared.call.Entry.{Entry};
 
@@ -82,7 +82,7 @@ impl<S: Setup, B> Model for Locked<S, B> {
 /// One account, which threads share: its desk, of which one thread at a time makes a step or reads. What
 /// they see is of one history: each has seen a beginning of it.
 #[derive(Drop)]
-pub struct Account<S: Setup, B> {
+pub struct Account<S: Identity, B> {
     locked: Mutex<Locked<S, B>>,
     line: Line<S>,
 }
@@ -105,7 +105,7 @@ fn ring_out<B: Bell>(step: Step<B>) -> Ticket
     ticket
 }
 
-impl<S: Setup, B: Bell> Locked<S, B> {
+impl<S: Identity, B: Bell> Locked<S, B> {
     /// One step of the desk, which the pen writes; and a token that has seen it.
     #[tactic(auto, using(crate::proofs::Stepping::one_call_within))]
     fn apply<K: Keep>(
@@ -242,7 +242,7 @@ impl<S: Setup, B: Bell> Locked<S, B> {
     }
 }
 
-impl<S: Setup, B: Bell> Account<S, B> {
+impl<S: Identity, B: Bell> Account<S, B> {
     /// A new account, of at most so many entries: from the environments and one to 2^32. Its
     /// history is empty, and the tally has all parts of its four ledgers. Each blank becomes the
     /// ledger that `S` names, and the history the one that it names.

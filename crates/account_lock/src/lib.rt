@@ -17,7 +17,7 @@ mod room;
 mod serving;
 mod settle;
 
-pub use account::{Account, Setup};
+pub use account::{Account, Identity};
 pub use bells::Bell;
 pub use desk::{Desk, Look, Refused, Step};
 pub use fault::SettleFault;

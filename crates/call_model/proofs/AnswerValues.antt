@@ -1,6 +1,6 @@
 -- What an entry answers, up to the numbers of its events: the first answers and the second.
 use Rattle.std.proofs.Common.{◌≡◌, ℕ, suc, ◌+◌, ◌≤◌, Bool, true, false, List, [], ◌∷◌, length, Option, Some, None, sym, refl, ap, ◌∙◌, subst, arith, is_none, not, ◌&&◌, ◌||◌, ◌==◌, filter, if◌then◌else◌, nat_lt, ◌-◌}
-use Rattle.call_model.specs.declared.answer.Refusal.TheVariants.{BadReservation}
+use Rattle.call_model.specs.declared.answer.Rejection.TheVariants.{BadReservation}
 use Rattle.call_model.specs.declared.answer.Answer.{Answer}
 use Rattle.call_model.specs.declared.answer.Answer.TheVariants.{Delivered, Told, Ending, Stopped, Withdrawn, Refused, Reserved}
 use Rattle.call_model.specs.declared.answer.Reason.{Reason}

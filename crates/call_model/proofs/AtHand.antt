@@ -12,7 +12,7 @@ use Rattle.call_model.specs.History.{call_of, place_of}
 use Rattle.call_model.specs.Calls.{is_invoke}
 use Rattle.call_model.specs.Stand.{Stand, at_hand, bound_of, is_number, is_known}
 use Rattle.call_model.specs.Table.{reborn, settled, kept, closes, or_closing, placed, clock_started, unbound, is_registered, own_answer}
-use Rattle.call_model.specs.Life.{Life, life, phase, stand, seen, concerns, names, limit_of}
+use Rattle.call_model.specs.Life.{Lifecycle, life, phase, stand, seen, concerns, names, limit_of}
 use Rattle.call_model.specs.Next.{IsLegal, Follows}
 use Rattle.call_model.proofs.Pairs.{eqb-other}
 use Rattle.call_model.proofs.Once.{fresh}
@@ -120,7 +120,7 @@ from_entry config h entry e p l f q = go (concerns h e entry) refl
     at_cell w = from_kept entry.moment (limit_of config e entry.moment) (length h) (stand config h e) entry.call p (from_closing entry.moment (closes (stand config h e) entry.call) (kept entry.moment (limit_of config e entry.moment) (length h) (stand config h e) entry.call) p w).1
 
     go : (c : Bool) → concerns h e entry ≡ c → ((length h ≡ p) × (is_invoke entry.call ≡ true) × (concerns h e entry ≡ true)) ⊎ (at_hand (phase config h e) ≡ Some p)
-    go false w = inr (ap (λ (x : Life). at_hand x.phase) (sym (life_elsewhere config h entry e w)) ∙ q)
+    go false w = inr (ap (λ (x : Lifecycle). at_hand x.phase) (sym (life_elsewhere config h entry e w)) ∙ q)
     go true w = elim (at_cell (from_after _ _ _ _ entry.moment (limit_of config e entry.moment) cell p (sym (ap at_hand (phase_step config h entry e w (fresh config h (length h) l (omega arith)) (legal_silent config h entry f))) ∙ q))) [ inl x ↦ inl (x.0, x.1, w) | inr x ↦ inr x ]
 
 -- The invocation at hand is one that was placed there.

@@ -13,7 +13,7 @@ use Rattle.call_model.specs.Generation.{Generation, Actor, TheRuntime, TheExtens
 use Rattle.call_model.specs.Stand.{Stand, bound_of, is_number, is_known, role, NoRole, Waiting, waits_as}
 use Rattle.call_model.specs.Table.{reborn, settled, kept, closes, or_closing, placed, clock_started, unbound, is_registered, own_answer, to_waiting, Cell, row, nothing, stops, tells_stopped}
 use Rattle.call_model.specs.Polls.{delivered, begun, by_role}
-use Rattle.call_model.specs.Life.{Life, life, lived, after, phase, stand, seen, concerns, names, limit_of, ends_here}
+use Rattle.call_model.specs.Life.{Lifecycle, life, lived, after, phase, stand, seen, concerns, names, limit_of, ends_here}
 use Rattle.call_model.specs.Limits.{place_for, Verdict, AfterStop, Refuses, Admits, admitted_to, verdict}
 use Rattle.call_model.specs.Answers.{verdict_answer, own_first, first_answer, second_answer, second_at, first_entry, home, answer_at}
 use Rattle.call_model.specs.Next.{IsLegal, Follows}
@@ -264,7 +264,7 @@ bound_waits config (entry ∷ h) e p l q = go (concerns h e entry) refl (bound_w
 
     go : (c : Bool) → concerns h e entry ≡ c → (bound_of (phase config h e) ≡ Some p → pending h p ≡ true) → pending (entry ∷ h) p ≡ true
     go false w ih =
-        let b : bound_of (phase config h e) ≡ Some p = ap (λ (x : Life). bound_of x.phase) (sym (life_elsewhere config h entry e w)) ∙ q in
+        let b : bound_of (phase config h e) ≡ Some p = ap (λ (x : Lifecycle). bound_of x.phase) (sym (life_elsewhere config h entry e w)) ∙ q in
         older_waits b (ih b) (λ n. absurd (true≢false (sym n ∙ (or_parts (is_number entry.place e) (names h e entry.call) w).1)))
     go true w ih =
         let split : (closes s entry.call ≡ None) × (bound_of (kept entry.moment (limit_of config e entry.moment) (length h) s entry.call) ≡ Some p) =

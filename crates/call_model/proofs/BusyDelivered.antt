@@ -12,7 +12,7 @@ use Rattle.call_model.specs.History.{answer_in, pending, call_of, or_else}
 use Rattle.call_model.specs.Generation.{TheRuntime, asks, Generation, parked, last_next}
 use Rattle.call_model.specs.Stand.{is_busy, is_idle, RuntimePoll, Stand, is_number, role, Role, at_hand}
 use Rattle.call_model.specs.Polls.{delivered, begun}
-use Rattle.call_model.specs.Life.{life, phase, concerns, first_part, stand, seen, names, Life, limit_of}
+use Rattle.call_model.specs.Life.{life, phase, concerns, first_part, stand, seen, names, Lifecycle, limit_of}
 use Rattle.call_model.specs.Limits.{is_busy_with}
 use Rattle.call_model.specs.Answers.{first_answer, home, other_answer, answers, first_answers, first_entry, answer_to, second_answer, second_at, each_from}
 use Rattle.call_model.specs.Laws.{delivers, deliveries}
@@ -187,5 +187,5 @@ busy_delivered config (entry ∷ h) e p l q = go (concerns h e entry) refl (busy
     by_busy c false k ih = newly (begins_delivers config h entry e p l c k q)
 
     go : (c : Bool) → concerns h e entry ≡ c → (is_busy_with (phase config h e) p ≡ true → 1 ≤ deliveries h p) → 1 ≤ here + deliveries h p
-    go false c ih = older (ih (ap (λ (x : Life). is_busy_with x.phase p) (sym (life_elsewhere config h entry e c)) ∙ q))
+    go false c ih = older (ih (ap (λ (x : Lifecycle). is_busy_with x.phase p) (sym (life_elsewhere config h entry e c)) ∙ q))
     go true c ih = by_busy c (is_busy (phase config h e)) refl ih

@@ -3,8 +3,8 @@ use Rattle.std.proofs.Common.{◌≡◌, ap, ℕ, suc, Bool, true, false, Option
 use Rattle.std.specs.List.{list_any, find}
 use Rattle.call_model.specs.declared.answer.Answer.{Answer}
 use Rattle.call_model.specs.declared.answer.Answer.TheVariants.{Ending, Registered, Accepted, Output, Error, TimedOut, InitTimedOut, OutputTooLarge, Stopped, Refused}
-use Rattle.call_model.specs.declared.answer.Refusal.{Refusal}
-use Rattle.call_model.specs.declared.answer.Refusal.TheVariants.{State, BadId, Unknown, TooLarge, Container, NameInUse, TooMany, NotIdle}
+use Rattle.call_model.specs.declared.answer.Rejection.{Rejection}
+use Rattle.call_model.specs.declared.answer.Rejection.TheVariants.{State, BadId, Unknown, TooLarge, Container, NameInUse, TooMany, NotIdle}
 use Rattle.call_model.specs.declared.answer.Reason.{Reason}
 use Rattle.call_model.specs.declared.answer.Phase.{Phase}
 use Rattle.call_model.specs.declared.answer.Phase.TheVariants.{Starting, Idle, Busy, Closing, Off}
@@ -48,7 +48,7 @@ of_ext_row Q s x a b c d e qa qb qc qd qe apart off =
 pub record AreCells (Q : Phase → Cell → Type 0) (s : Stand) : Type 0 where
   pub waits : (P : Phase) → Q P nothing
   pub accepts : (P : Phase) → Q P accepted
-  pub refuses : (kind : Refusal) (P : Phase) → Q P (only (refused kind))
+  pub refuses : (kind : Rejection) (P : Phase) → Q P (only (refused kind))
   pub registers : (P : Phase) → Q P (only (Some (Registered (suc s.registrations))))
   pub tells : (reason : Reason) (until : ℕ) (P : Phase) → Q P (only (Some (Ending reason until 0)))
   pub output : (p d : ℕ) → Q (Busy p d) output
@@ -126,7 +126,7 @@ pub first_stop : (s : Stand) → s.stopped ≡ false → table s Stop ≡ row s 
 first_stop s q = ap (λ (b : Bool). if b then nothing else row s stops stops stops stops tells_stopped tells_stopped) q
 
 -- The answers that a call itself can get by the table.
-pub own_values : (Q : Option Answer → Type 0) (s : Stand) → Q None → Q (Some Accepted) → ((kind : Refusal) → Q (refused kind)) → Q (Some (Registered (suc s.registrations))) → ((reason : Reason) (until : ℕ) → Q (Some (Ending reason until 0)))
+pub own_values : (Q : Option Answer → Type 0) (s : Stand) → Q None → Q (Some Accepted) → ((kind : Rejection) → Q (refused kind)) → Q (Some (Registered (suc s.registrations))) → ((reason : Reason) (until : ℕ) → Q (Some (Ending reason until 0)))
     → (call : Call) → Q (own_answer s call)
 unfolding own_answer
 own_values Q s none accepts refuses registers tells call =

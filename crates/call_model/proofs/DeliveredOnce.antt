@@ -14,7 +14,7 @@ use Rattle.call_model.specs.Generation.{Member}
 use Rattle.call_model.specs.Stand.{is_busy, Stand, is_number, role, Waiting, RuntimePoll, member_role, waits_as, Role, NoRole, ExtensionPoll, bound_of}
 use Rattle.call_model.specs.Table.{closes, kept}
 use Rattle.call_model.specs.Polls.{begun, delivered}
-use Rattle.call_model.specs.Life.{stand, phase, Life, seen, concerns, limit_of}
+use Rattle.call_model.specs.Life.{stand, phase, Lifecycle, seen, concerns, limit_of}
 use Rattle.call_model.specs.Limits.{is_busy_with, or_zero}
 use Rattle.call_model.specs.Answers.{answer_to, first_answers, first_entry, second_answer, home, second_at, answers, each_from}
 use Rattle.std.proofs.lemmas.Bool.{cases_lt, eq-eqb, eqb-true}
@@ -145,7 +145,7 @@ bound_before config h entry e p l q = go (concerns h e entry) refl
     s = stand config h e
 
     go : (c : Bool) → concerns h e entry ≡ c → (length h ≡ p) ⊎ (bound_of (phase config h e) ≡ Some p)
-    go false w = inr (ap (λ (x : Life). bound_of x.phase) (sym (life_elsewhere config h entry e w)) ∙ q)
+    go false w = inr (ap (λ (x : Lifecycle). bound_of x.phase) (sym (life_elsewhere config h entry e w)) ∙ q)
     go true w = elim (W.from_kept entry.moment (limit_of config e entry.moment) (length h) s entry.call p
         (W.from_closing entry.moment (closes s entry.call) (kept entry.moment (limit_of config e entry.moment) (length h) s entry.call) p
         (W.from_after _ _ _ _ entry.moment (limit_of config e entry.moment) (cell_of config e entry (length h) s) p (sym (ap bound_of (phase_step config h entry e w (fresh config h (length h) l.0 (omega arith)) (legal_silent config h entry l.1))) ∙ q))).1) [

@@ -6,7 +6,7 @@ use Rattle.call_model.specs.declared.call.Call.{Call}
 use Rattle.call_model.specs.declared.call.Entry.{Entry}
 use Rattle.arn_ids.specs.declared.config.Config.{Config}
 use Rattle.call_model.specs.History.{answer_in}
-use Rattle.call_model.specs.Life.{Life, life, phase, lived, concerns, names}
+use Rattle.call_model.specs.Life.{Lifecycle, life, phase, lived, concerns, names}
 use Rattle.call_model.specs.Stand.{is_number}
 use Rattle.call_model.specs.Polls.{begun}
 use Rattle.call_model.specs.Answers.{answers, first_answer, second_answer, first_entry, home}
@@ -37,7 +37,7 @@ elsewhere config h now call t e lt at c =
     ne = omega arith
 
     still_same : begun (phase config h e) (phase config (first_entry config h now call ∷ h) e) ≡ None
-    still_same = ap (λ (l : Life). begun (phase config h e) l.phase) (life_elsewhere config h (first_entry config h now call) e c) ∙ begun_same (phase config h e)
+    still_same = ap (λ (l : Lifecycle). begun (phase config h e) l.phase) (life_elsewhere config h (first_entry config h now call) e c) ∙ begun_same (phase config h e)
 
     first : first_answer config h now call t ≡ None
     first = rw (eqb-other t (length h) ne, at, (or_parts (is_number (first_entry config h now call).place e) (names h e call) c).1) refl

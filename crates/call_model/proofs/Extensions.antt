@@ -5,7 +5,7 @@ use Rattle.std.specs.List.{list_any, cons_option}
 use Rattle.std.proofs.lemmas.Bool.{eqb-true}
 use Rattle.call_model.specs.declared.answer.Answer.{Answer}
 use Rattle.call_model.specs.declared.answer.Answer.TheVariants.{Registered, Refused}
-use Rattle.call_model.specs.declared.answer.Refusal.TheVariants.{Container, Unknown}
+use Rattle.call_model.specs.declared.answer.Rejection.TheVariants.{Container, Unknown}
 use Rattle.call_model.specs.declared.call.Call.{Call}
 use Rattle.call_model.specs.declared.call.Call.TheVariants.{Invoke, RuntimeNext, Response, ResponseTooLarge, Failure, InitFailure, Register, ExtNext, ExtInitFailure, ExtExitFailure, Tick, Withdraw, Spindown, Stop, Expire, Reserve}
 use Rattle.call_model.specs.declared.call.Entry.{Entry}
@@ -20,7 +20,7 @@ use Rattle.call_model.specs.Next.{IsLegal, Follows}
 use Rattle.call_model.proofs.Frame.{env_place, parked_elsewhere}
 use Rattle.call_model.proofs.AnswerValues.{plain, stripped, valued, ending_plain, accepted_plain}
 use Rattle.call_model.proofs.Basics.{eqb-self, some-none}
-use Rattle.call_model.specs.declared.answer.Refusal.{Refusal}
+use Rattle.call_model.specs.declared.answer.Rejection.{Rejection}
 use Rattle.call_model.proofs.Pairs.{eqb-other}
 use Rattle.call_model.proofs.Once.{fresh}
 use Rattle.call_model.proofs.Scans.{still, member_step, member_steps, generation_below, legal_silent}
@@ -144,27 +144,27 @@ unfolding seen members
 unknown config h e n l lt = none_known h (life config h e).generation n (suc (registrations h e)) (extensions (life config h e).generation) (counts_fall config h e l) (omega (arith, lt))
 
 -- an unknown extension is refused
-unknown_row : (s : Stand) (n : ℕ) (a b c d e : Cell) → is_known s n ≡ false → (k : Refusal) × ((ext_row s n a b c d e).own ≡ Some (Refused k))
-unknown_row s n a b c d e u = rw u (of_row (λ (cell : Cell). (k : Refusal) × (cell.own ≡ Some (Refused k))) s _ _ _ _ _ _ (Unknown, refl) (Unknown, refl) (Unknown, refl) (Unknown, refl) (Unknown, refl) (Container, refl))
+unknown_row : (s : Stand) (n : ℕ) (a b c d e : Cell) → is_known s n ≡ false → (k : Rejection) × ((ext_row s n a b c d e).own ≡ Some (Refused k))
+unknown_row s n a b c d e u = rw u (of_row (λ (cell : Cell). (k : Rejection) × (cell.own ≡ Some (Refused k))) s _ _ _ _ _ _ (Unknown, refl) (Unknown, refl) (Unknown, refl) (Unknown, refl) (Unknown, refl) (Container, refl))
 
-unknown_next : (s : Stand) (e n : ℕ) → is_known s n ≡ false → (k : Refusal) × (own_answer s (ExtNext e n) ≡ Some (Refused k))
+unknown_next : (s : Stand) (e n : ℕ) → is_known s n ≡ false → (k : Rejection) × (own_answer s (ExtNext e n) ≡ Some (Refused k))
 unfolding own_answer
 unknown_next s e n u = unknown_row s n _ _ _ _ _ u
 
-unknown_report : (s : Stand) (call : Call) (n : ℕ) → is_known s n ≡ false → reports_exit n call ≡ true → (k : Refusal) × (own_answer s call ≡ Some (Refused k))
+unknown_report : (s : Stand) (call : Call) (n : ℕ) → is_known s n ≡ false → reports_exit n call ≡ true → (k : Rejection) × (own_answer s call ≡ Some (Refused k))
 unfolding own_answer
 unknown_report s (ExtInitFailure e y body) n u q = unknown_row s y _ _ _ _ _ (ap (is_known s) (eqb-true y n q) ∙ u)
 unknown_report s (ExtExitFailure e y body) n u q = unknown_row s y _ _ _ _ _ (ap (is_known s) (eqb-true y n q) ∙ u)
 unknown_report s call n u q = absurd (true≢false (sym q))
 
-refused_some : (o : Option Answer) (k : Refusal) → plain o ≡ Some (Refused k) → is_none o ≡ false
+refused_some : (o : Option Answer) (k : Rejection) → plain o ≡ Some (Refused k) → is_none o ≡ false
 refused_some None k q = absurd (cc)
 refused_some (Some a) k q = refl
 
-refused_ending : (o : Option Answer) (k : Refusal) → plain o ≡ Some (Refused k) → is_ending o ≡ false
+refused_ending : (o : Option Answer) (k : Rejection) → plain o ≡ Some (Refused k) → is_ending o ≡ false
 refused_ending o k q = sym (ending_plain o) ∙ ap is_ending q
 
-refused_accepted : (o : Option Answer) (k : Refusal) → plain o ≡ Some (Refused k) → is_accepted o ≡ false
+refused_accepted : (o : Option Answer) (k : Rejection) → plain o ≡ Some (Refused k) → is_accepted o ≡ false
 refused_accepted o k q = sym (accepted_plain o) ∙ ap is_accepted q
 
 -- an extension that isn't registered after an entry
@@ -174,14 +174,14 @@ blank_step config h entry e x l w c lt = λ i. record { extension = x; next = ne
     no : (d : ℕ) → d ≡ e → is_known (stand config h d) x.count ≡ false
     no d same = unknown config h d x.count l (subst (λ m. registrations h m < x.count) (sym same) lt)
 
-    asking : (call : Call) → entry.call ≡ call → asks (TheExtension x.count) call ≡ true → (k : Refusal) × (plain (answer_in entry.answers (length h)) ≡ Some (Refused k))
+    asking : (call : Call) → entry.call ≡ call → asks (TheExtension x.count) call ≡ true → (k : Rejection) × (plain (answer_in entry.answers (length h)) ≡ Some (Refused k))
     asking (ExtNext d y) p q =
         let same : y ≡ x.count = eqb-true y x.count q in
         let u = unknown_next (stand config h d) d y (subst (λ m. is_known (stand config h d) m ≡ false) (sym same) (no d (named_here config h entry e d w (ap env_of p) c))) in
         (u.0, own_given config h entry d (Refused u.0) w (ap env_of p) (ap (own_answer (stand config h d)) p ∙ u.1))
     asking call p q = absurd (true≢false (sym q))
 
-    reporting : (call : Call) → entry.call ≡ call → reports_exit x.count call ≡ true → (k : Refusal) × (plain (answer_in entry.answers (length h)) ≡ Some (Refused k))
+    reporting : (call : Call) → entry.call ≡ call → reports_exit x.count call ≡ true → (k : Rejection) × (plain (answer_in entry.answers (length h)) ≡ Some (Refused k))
     reporting (ExtInitFailure d y body) p q =
         let u = unknown_report (stand config h d) (ExtInitFailure d y body) x.count (no d (named_here config h entry e d w (ap env_of p) c)) q in
         (u.0, own_given config h entry d (Refused u.0) w (ap env_of p) (ap (own_answer (stand config h d)) p ∙ u.1))

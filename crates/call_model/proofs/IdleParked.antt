@@ -15,7 +15,7 @@ use Rattle.call_model.specs.Generation.{TheRuntime, parked, Generation, members,
 use Rattle.call_model.specs.Stand.{is_idle, is_busy, Stand, is_known, at_hand, bound_of, role, is_number}
 use Rattle.call_model.specs.Table.{clock_started, unbound, placed, is_registered, own_answer, kept, or_closing, reborn, settled, closes, after_cell}
 use Rattle.call_model.specs.Polls.{begun, delivered}
-use Rattle.call_model.specs.Life.{life, phase, first_part, Life, stand, seen, concerns, limit_of, lived, after, request_at, ends_here, names}
+use Rattle.call_model.specs.Life.{life, phase, first_part, Lifecycle, stand, seen, concerns, limit_of, lived, after, request_at, ends_here, names}
 use Rattle.call_model.specs.Answers.{answers, first_answer, first_entry, home, second_answer, second_at}
 use Rattle.call_model.specs.Next.{Follows, IsLegal}
 use Rattle.call_model.proofs.Pairs.{is_some_none, times_in}
@@ -86,7 +86,7 @@ settled_ready limit false w (Busy p d) q = inr refl
 settled_ready limit false w (Closing reason until b) q = absurd (true≢false (sym q))
 settled_ready limit false w Off q = absurd (true≢false (sym q))
 
-abbrev IsEither : Life → Type 0
+abbrev IsEither : Lifecycle → Type 0
 IsEither x = (is_busy x.phase || is_idle x.phase) ≡ true
 
 -- so is the phase only where the runtime's Next is parked, or where an Invoke finds it Idle, or where it was Busy
@@ -132,7 +132,7 @@ reborn_idle true now b = refl
 reborn_idle false now None = refl
 reborn_idle false now (Some p) = refl
 
-abbrev IsIdleNow : Life → Type 0
+abbrev IsIdleNow : Lifecycle → Type 0
 IsIdleNow x = is_idle x.phase ≡ true
 
 -- an environment that an entry leaves Idle has the runtime's Next parked
@@ -221,7 +221,7 @@ idle_parked config (entry ∷ h) e l q = go (concerns h e entry) refl (idle_park
         let k : (last_next (life config h e).generation TheRuntime ≡ Some (x.0)) × (pending h (x.0) ≡ true) = is_parked h (life config h e).generation TheRuntime (x.0) (x.1) in
         let lt : x.0 < length h = last_below (length h) (life config h e).generation TheRuntime (generation_below config h e) (x.0) k.0 in
         let none : answer_in entry.answers (x.0) ≡ None = ap (λ (xs : List (ℕ × Answer)). answer_in xs (x.0)) (l.1.answers) ∙ elsewhere config h entry.moment entry.call (x.0) e lt (next_home config h e TheRuntime (x.0) l.0 k.0) (ap (λ (o : Option ℕ). is_number o e || names h e entry.call) (sym (l.1.place)) ∙ c) in
-        (x.0, parked_is (entry ∷ h) (life config (entry ∷ h) e).generation TheRuntime (x.0) (ap (λ (y : Life). last_next y.generation TheRuntime) (life_elsewhere config h entry e c) ∙ k.0) (pending_cons entry h (x.0) (omega (arith, lt)) ∙ rw (k.1, none) refl))
+        (x.0, parked_is (entry ∷ h) (life config (entry ∷ h) e).generation TheRuntime (x.0) (ap (λ (y : Lifecycle). last_next y.generation TheRuntime) (life_elsewhere config h entry e c) ∙ k.0) (pending_cons entry h (x.0) (omega (arith, lt)) ∙ rw (k.1, none) refl))
 
     comes : concerns h e entry ≡ true → (t : ℕ) × (parked (entry ∷ h) (life config (entry ∷ h) e).generation TheRuntime ≡ Some t)
     comes c = made (idle_going config h entry e c q)
@@ -244,5 +244,5 @@ idle_parked config (entry ∷ h) e l q = go (concerns h e entry) refl (idle_park
                 (x.0, parked_is (entry ∷ h) (life config (entry ∷ h) e).generation TheRuntime (x.0) (ap (λ (g : Generation). last_next g TheRuntime) (y.0) ∙ k.0) (pending_from entry h (x.0) entry.answers k.1 none))
 
     go : (b : Bool) → concerns h e entry ≡ b → (is_idle (phase config h e) ≡ true → (t : ℕ) × (parked h (life config h e).generation TheRuntime ≡ Some t)) → (t : ℕ) × (parked (entry ∷ h) (life config (entry ∷ h) e).generation TheRuntime ≡ Some t)
-    go false c ih = stays c (ih (ap (λ (x : Life). is_idle x.phase) (sym (life_elsewhere config h entry e c)) ∙ q))
+    go false c ih = stays c (ih (ap (λ (x : Lifecycle). is_idle x.phase) (sym (life_elsewhere config h entry e c)) ∙ q))
     go true c ih = comes c

@@ -15,7 +15,7 @@ use Rattle.call_model.specs.History.{answer_in, answer_of, pending, call_of, pla
 use Rattle.call_model.specs.Stand.{Stand, at_hand, bound_of, is_number, is_known, is_idle, is_closing, role, Waiting, NoRole, waits_as}
 use Rattle.call_model.specs.Table.{reborn, settled, kept, closes, or_closing, placed, clock_started, unbound, is_registered, own_answer, to_waiting, Cell}
 use Rattle.call_model.specs.Polls.{by_role}
-use Rattle.call_model.specs.Life.{Life, life, phase, stand, seen, concerns, names, ends, limit_of, first_part, is_second}
+use Rattle.call_model.specs.Life.{Lifecycle, life, phase, stand, seen, concerns, names, ends, limit_of, first_part, is_second}
 use Rattle.call_model.specs.Limits.{lowest, is_free_starting, is_free_closing, place_for, place, verdict}
 use Rattle.call_model.specs.Answers.{first_answer, second_answer, first_entry}
 use Rattle.call_model.specs.Next.{IsLegal, Follows}
@@ -312,7 +312,7 @@ lives config (entry ∷ h) e p l at w = go (p == length h) refl (lives config h 
             by_call call r = refl
 
         by_concern : (c : Bool) → concerns h e entry ≡ c → at_hand (phase config (entry ∷ h) e) ≡ Some p
-        by_concern false c = ap (λ (x : Life). at_hand x.phase) (life_elsewhere config h entry e c) ∙ hand
+        by_concern false c = ap (λ (x : Lifecycle). at_hand x.phase) (life_elsewhere config h entry e c) ∙ hand
         by_concern true c =
             let n : names h e entry.call ≡ true = named c in
             stays_at_hand config h entry e p l.0 l.1 c (over_false (is_stop entry.call) (no_stop n (is_stop entry.call) refl) not_over) (first_pending entry h p w)

@@ -16,7 +16,7 @@ use Rattle.call_model.specs.History.{is_expiry}
 use Rattle.call_model.specs.Stand.{Stand, bound_of, is_starting, is_busy, is_closing}
 use Rattle.call_model.specs.Table.{reborn, settled, closes, kept, or_closing, Cell}
 use Rattle.call_model.specs.Laws.{is_due}
-use Rattle.call_model.specs.Life.{Life, phase, stand, seen, limit_of}
+use Rattle.call_model.specs.Life.{Lifecycle, phase, stand, seen, limit_of}
 use Rattle.call_model.specs.Answers.{answers}
 use Rattle.std.proofs.lemmas.List.{append_assoc}
 use Rattle.call_model.specs.Next.{entry_of, expiries, expiries_at, added, moment_at, due, due_at, deadline_of, by_deadline, entered, next, last_moment, IsLegal, Follows, IsTimely, IsFirst}
@@ -151,7 +151,7 @@ rest_due config h m e rest l w q =
     old = filter_map (λ d. due_at m d (deadline_of (phase config h d))) (environments config)
 
     others : (d : ℕ) → d ≢ e → deadline_of (phase config (entered config h m (Expire e)) d) ≡ deadline_of (phase config h d)
-    others d ne = ap (λ (x : Life). deadline_of x.phase) (life_elsewhere config h (record { moment = m; call = Expire e; answers = answers config h m (Expire e); place = None }) d (eqb-other e d (λ same. ne (sym same))))
+    others d ne = ap (λ (x : Lifecycle). deadline_of x.phase) (life_elsewhere config h (record { moment = m; call = Expire e; answers = answers config h m (Expire e); place = None }) d (eqb-other e d (λ same. ne (sym same))))
 
     once : (b : Bool) → cond b 1 0 ≤ 1
     once true = omega arith

@@ -5,7 +5,7 @@ use Rattle.std.proofs.lemmas.Bool.{eqb-true}
 use Rattle.std.specs.List.{find}
 use Rattle.call_model.specs.declared.answer.Answer.{Answer}
 use Rattle.call_model.specs.declared.answer.Answer.TheVariants.{Told, Ending, Stopped, Refused, Reserved}
-use Rattle.call_model.specs.declared.answer.Refusal.TheVariants.{BadReservation}
+use Rattle.call_model.specs.declared.answer.Rejection.TheVariants.{BadReservation}
 use Rattle.call_model.specs.declared.answer.Reason.{Reason}
 use Rattle.call_model.specs.declared.answer.Phase.{Phase}
 use Rattle.call_model.specs.declared.answer.Phase.TheVariants.{Starting, Idle, Busy, Closing, Off}
@@ -20,7 +20,7 @@ use Rattle.arn_ids.specs.Environments.{no_function, at, numbered as item_numbere
 use Rattle.call_model.specs.History.{answer_in, stopped, is_stop, or_else}
 use Rattle.call_model.specs.Stand.{Stand, at_hand, bound_of, is_idle, is_known}
 use Rattle.call_model.specs.Table.{reborn, settled, kept, closes, or_closing, placed, clock_started, unbound, is_registered, own_answer}
-use Rattle.call_model.specs.Life.{Life, life, phase, stand, seen, concerns, limit_of}
+use Rattle.call_model.specs.Life.{Lifecycle, life, phase, stand, seen, concerns, limit_of}
 use Rattle.call_model.specs.Limits.{in_flight, place, lowest, is_free_starting, is_free_closing, verdict, AfterStop, Refuses, Admits, by_limits, where_placed, reservation, reserves, reserved_by, or_zero, reserved_in_all}
 use Rattle.call_model.specs.Answers.{answers, first_answer, second_answer, first_entry, own_first, reserve_answer}
 use Rattle.call_model.specs.Next.{IsLegal}
@@ -100,7 +100,7 @@ not_off config (entry ∷ h) e l s = go (concerns h e entry) refl (not_off confi
     last false b q = q
 
     go : (c : Bool) → concerns h e entry ≡ c → (stopped h ≡ false → is_off (phase config h e) ≡ false) → is_off (phase config (entry ∷ h) e) ≡ false
-    go false w ih = ap (λ (x : Life). is_off x.phase) (life_elsewhere config h entry e w) ∙ ih (last (is_stop entry.call) (stopped h) s)
+    go false w ih = ap (λ (x : Lifecycle). is_off x.phase) (life_elsewhere config h entry e w) ∙ ih (last (is_stop entry.call) (stopped h) s)
     go true w ih =
         ap is_off (phase_step config h entry e w (fresh config h (length h) l.0 (omega arith)) (legal_silent config h entry l.1))
         ∙ on_after _ _ _ _ entry.moment (limit_of config e entry.moment) (cell_of config e entry (length h) (stand config h e)) s

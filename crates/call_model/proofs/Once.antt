@@ -8,7 +8,7 @@ use Rattle.arn_ids.specs.declared.config.Config.{Config}
 use Rattle.arn_ids.specs.Environments.{function_of}
 use Rattle.std.specs.List.{find}
 use Rattle.call_model.specs.History.{answer_in, answer_of, or_else, pending, call_of, is_expiry, requests, upto}
-use Rattle.call_model.specs.Life.{life, Life, names, phase, seen, request_at}
+use Rattle.call_model.specs.Life.{life, Lifecycle, names, phase, seen, request_at}
 use Rattle.call_model.specs.Stand.{role, NoRole, is_number, at_hand}
 use Rattle.call_model.specs.Polls.{delivered, begun}
 use Rattle.call_model.specs.Generation.{Generation, Extension, Actor, TheRuntime, TheExtension, parked, if_pending, last_next, extensions, member, members}
@@ -52,7 +52,7 @@ no_member h g t e [] = refl
 no_member h g t e (x ∷ xs) = rw (no_parked h g (TheExtension x.count) t e) (no_member h g t e xs)
 
 -- a ticket that isn't pending stands for nothing
-pub no_role : (config : Config) (h : List Entry) (d : ℕ) (life : Life) (t : ℕ) → pending h t ≡ false → role (seen config h d life) t ≡ NoRole
+pub no_role : (config : Config) (h : List Entry) (d : ℕ) (life : Lifecycle) (t : ℕ) → pending h t ≡ false → role (seen config h d life) t ≡ NoRole
 unfolding role seen members
 no_role config h d life t e =
     rw (no_wait config h d (at_hand life.phase) t e, no_parked h life.generation TheRuntime t e, no_member h life.generation t e (extensions life.generation)) refl

@@ -8,7 +8,7 @@ use Rattle.arn_ids.specs.declared.config.Config.{Config}
 use Rattle.call_model.specs.Generation.{Generation}
 use Rattle.call_model.specs.Stand.{Stand, is_known, is_closing}
 use Rattle.call_model.specs.Table.{clock_started, placed, unbound, own_answer, is_registered, kept, settled, after_cell, closes, or_closing}
-use Rattle.call_model.specs.Life.{Life, life, stand, seen, concerns, limit_of, lived, after, phase}
+use Rattle.call_model.specs.Life.{Lifecycle, life, stand, seen, concerns, limit_of, lived, after, phase}
 use Rattle.call_model.specs.declared.answer.Reason.{Reason}
 use Rattle.call_model.specs.declared.answer.Phase.TheVariants.{Starting, Idle, Closing, Busy, Off}
 use Rattle.call_model.specs.Laws.{is_open}
@@ -62,7 +62,7 @@ open_stays (Busy q d) e = refl
 open_stays (Closing reason until b) e = sym e
 open_stays Off e = refl
 
-abbrev IsGoing : Generation → Life → Type 0
+abbrev IsGoing : Generation → Lifecycle → Type 0
 IsGoing g x = (is_open x.phase ≡ true) × (x.generation ≡ g)
 
 -- where nothing closes, an open environment stays so, and its generation goes on

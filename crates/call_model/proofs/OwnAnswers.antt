@@ -11,7 +11,7 @@ use Rattle.arn_ids.specs.declared.config.Config.{Config}
 use Rattle.arn_ids.specs.Environments.{function_of}
 use Rattle.call_model.specs.History.{call_of, place_of, env_of, or_else}
 use Rattle.call_model.specs.Stand.{is_number, role}
-use Rattle.call_model.specs.Life.{Life, phase, stand, concerns, names, events_in}
+use Rattle.call_model.specs.Life.{Lifecycle, phase, stand, concerns, names, events_in}
 use Rattle.call_model.specs.Answers.{answers, with_answer, each_from, numbered, first_entry, answer_to, home, first_answer, first_answers, second_answer, second_at, own_first, other_answer, answer_at, verdict_answer, event_at, with_event}
 use Rattle.call_model.specs.Limits.{place_for, verdict, admitted_to}
 use Rattle.call_model.specs.Polls.{by_role, delivered, begun}
@@ -105,7 +105,7 @@ gets_none config h now call t lt far = rw (in_each 0 (suc (length h)) t (first_a
 
     at_second : (o : Option ℕ) → home h t ≡ o → second_at config h (first_entry config h now call) t o ≡ None
     at_second None q = refl
-    at_second (Some e) q = ap (λ (b : Option (ℕ × ℕ)). delivered b (role (stand config (first_entry config h now call ∷ h) e) t)) (ap (λ (l : Life). begun (phase config h e) l.phase) (life_elsewhere config h (first_entry config h now call) e (far e q)) ∙ begun_same (phase config h e))
+    at_second (Some e) q = ap (λ (b : Option (ℕ × ℕ)). delivered b (role (stand config (first_entry config h now call ∷ h) e) t)) (ap (λ (l : Lifecycle). begun (phase config h e) l.phase) (life_elsewhere config h (first_entry config h now call) e (far e q)) ∙ begun_same (phase config h e))
 
     second : second_answer config h (first_entry config h now call) t ≡ None
     second = rw (eqb-other t (length h) ne) (at_second (home h t) refl)

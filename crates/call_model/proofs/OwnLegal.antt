@@ -11,7 +11,7 @@ use Rattle.arn_ids.specs.Environments.{function_of}
 use Rattle.call_model.specs.History.{call_of, poll_env, is_stop, stopped}
 use Rattle.call_model.specs.Table.{settled, kept, closes, or_closing, nothing, tells_stopped}
 use Rattle.call_model.specs.Stand.{is_number}
-use Rattle.call_model.specs.Life.{Life, life, phase, seen, lived, after, phase_by_table, concerns, names}
+use Rattle.call_model.specs.Life.{Lifecycle, life, phase, seen, lived, after, phase_by_table, concerns, names}
 use Rattle.call_model.specs.Limits.{place_for}
 use Rattle.arn_ids.specs.Environments.{environments, function_at}
 use Rattle.call_model.specs.declared.answer.Phase.TheVariants.{Starting, Off}
@@ -32,7 +32,7 @@ use Rattle.call_model.proofs.Deadlines.{filter_deadline}
 use Rattle.call_model.proofs.Visits.{visit, visit_from, if_concerned}
 
 -- an environment of others, in the function's own history: untouched, or off after a Stop
-abbrev IsQuiet : List Entry → Life → Type 0
+abbrev IsQuiet : List Entry → Lifecycle → Type 0
 IsQuiet o l = ((l ≡ record { phase = Starting None None; generation = [] }) × (stopped o ≡ false)) ⊎ (l.phase ≡ Off)
 
 -- of the function's calls only a Stop concerns it
@@ -78,7 +78,7 @@ settled_off limit true false = refl
 settled_off limit false true = refl
 settled_off limit false false = refl
 
-stop_off : (config : Config) (o : List Entry) (e now : ℕ) (given : List (ℕ × Answer)) (pl : Option ℕ) (l : Life) → l.phase ≡ Off → (after (visit_from config o e (stop_entry now given pl) l)).phase ≡ Off
+stop_off : (config : Config) (o : List Entry) (e now : ℕ) (given : List (ℕ × Answer)) (pl : Option ℕ) (l : Lifecycle) → l.phase ≡ Off → (after (visit_from config o e (stop_entry now given pl) l)).phase ≡ Off
 unfolding after seen closes kept
 stop_off config o e now given pl l q = rw cell (settled_off _ _ _)
   where
@@ -102,7 +102,7 @@ quiet_step config o x e c ih = go x.call refl
 
     kept_quiet : (b : Bool) → is_stop x.call ≡ b → IsQuiet (x ∷ o) (if_concerned b (visit config o e x))
     kept_quiet true q = inr (elim ih [
-      | inl new ↦ ap (λ z. (after (visit config o e z)).phase) (sym (stops (is_stopping x.call q))) ∙ ap (λ (l : Life). (after (visit_from config o e (stop_entry x.moment x.answers x.place) l)).phase) (new.0) ∙ first_stop config o e x.moment x.answers x.place (new.1)
+      | inl new ↦ ap (λ z. (after (visit config o e z)).phase) (sym (stops (is_stopping x.call q))) ∙ ap (λ (l : Lifecycle). (after (visit_from config o e (stop_entry x.moment x.answers x.place) l)).phase) (new.0) ∙ first_stop config o e x.moment x.answers x.place (new.1)
       | inr off ↦ ap (λ z. (after (visit config o e z)).phase) (sym (stops (is_stopping x.call q))) ∙ stop_off config o e x.moment x.answers x.place (life config o e) off
     ])
     kept_quiet false q = stays ih
@@ -126,7 +126,7 @@ quiet config (entry ∷ h) f e l far = go (is_own config h f entry.call) refl (q
 -- no environment of others has a deadline there
 pub no_deadline : (config : Config) (h : List Entry) (f e : ℕ) → IsLegal config h → (function_of config e == f) ≡ false → deadline_of (phase config (own config h f) e) ≡ None
 no_deadline config h f e l far = elim (quiet config h f e l far) [
-  | inl new ↦ ap (λ (m : Life). deadline_of m.phase) (new.0)
+  | inl new ↦ ap (λ (m : Lifecycle). deadline_of m.phase) (new.0)
   | inr off ↦ ap deadline_of off
 ]
 

@@ -5,7 +5,7 @@ use Rattle.arn_ids.specs.declared.config.Config.{Config}
 use Rattle.arn_ids.specs.Environments.{function_of}
 use Rattle.call_model.specs.History.{stopped, requests, upto}
 use Rattle.call_model.specs.Stand.{at_hand, is_number}
-use Rattle.call_model.specs.Life.{Life, phase, seen, request_at, registrations, events, Visit, history_with, limit, phase_by_table, ends_here, after, life, first_part, stand, lived, concerns, limit_of}
+use Rattle.call_model.specs.Life.{Lifecycle, phase, seen, request_at, registrations, events, Visit, history_with, limit, phase_by_table, ends_here, after, life, first_part, stand, lived, concerns, limit_of}
 use Rattle.call_model.specs.Answers.{answers}
 use Rattle.call_model.specs.Next.{IsLegal}
 use Rattle.call_model.specs.Own.{own, own_entry, is_own, own_ticket}
@@ -23,7 +23,7 @@ use Rattle.call_model.proofs.OwnHistory.{Agrees, agrees_older, agrees_now, twin_
 use Rattle.call_model.proofs.OwnEvents.{own_registrations, own_events, events_step}
 
 -- what the two histories say of an environment of the function
-pub seen_same : (config : Config) (f e : ℕ) (P : ℕ → Bool) (o h : List Entry) (l m : Life) → function_of config e ≡ f → IsTwin P o h → IsSameLife P l m → IsMine P m.phase
+pub seen_same : (config : Config) (f e : ℕ) (P : ℕ → Bool) (o h : List Entry) (l m : Lifecycle) → function_of config e ≡ f → IsTwin P o h → IsSameLife P l m → IsMine P m.phase
     → ((p : ℕ) → requests (upto o p) f ≡ requests (upto h p) f) → registrations o e ≡ registrations h e → events o e ≡ events h e → seen config o e l ≡ seen config h e m
 unfolding seen
 seen_same config f e P o h l m at w a mine asked registered told = λ i. record {
@@ -46,7 +46,7 @@ seen_same config f e P o h l m at w a mine asked registered told = λ i. record 
     request : request_at config o e (at_hand l.phase) ≡ request_at config h e (at_hand m.phase)
     request = ap (λ (x : Phase). request_at config o e (at_hand x)) (a.0) ∙ go (at_hand m.phase) mine
 
-after_mine : (config : Config) (P : ℕ → Bool) (h : List Entry) (e : ℕ) (y : Entry) (m : Life) → IsMine P (phase_by_table (visit_from config h e y m)) → IsMine P (after (visit_from config h e y m)).phase
+after_mine : (config : Config) (P : ℕ → Bool) (h : List Entry) (e : ℕ) (y : Entry) (m : Lifecycle) → IsMine P (phase_by_table (visit_from config h e y m)) → IsMine P (after (visit_from config h e y m)).phase
 unfolding after
 after_mine config P h e y m mine p q = mine p (go (ends_here v) q)
   where
@@ -94,8 +94,8 @@ same_step config h entry f e P l fit w agrees stands ih =
 same_other : (config : Config) (h : List Entry) (entry : Entry) (f e : ℕ) (P : ℕ → Bool) → IsLegal config (entry ∷ h) → function_of config e ≡ f → is_own config h f entry.call ≡ false
     → IsSame config P (own config h f) h e → IsSame config P (own_entry false config h f entry ∷ own config h f) (entry ∷ h) e
 same_other config h entry f e P l at w ih =
-    subst (λ (m : Life). IsSameLife P (life config (own_entry false config h f entry ∷ own config h f) e) m × IsMine P m.phase) (sym (life_elsewhere config h entry e (foreign config h entry f l.1 w e at)))
-    (subst (λ (m : Life). IsSameLife P m (life config h e) × IsMine P (phase config h e)) (sym (life_elsewhere config (own config h f) (own_entry false config h f entry) e refl)) ih)
+    subst (λ (m : Lifecycle). IsSameLife P (life config (own_entry false config h f entry ∷ own config h f) e) m × IsMine P m.phase) (sym (life_elsewhere config h entry e (foreign config h entry f l.1 w e at)))
+    (subst (λ (m : Lifecycle). IsSameLife P m (life config h e) × IsMine P (phase config h e)) (sym (life_elsewhere config (own config h f) (own_entry false config h f entry) e refl)) ih)
 
 stand_of_same : (config : Config) (h : List Entry) (f e : ℕ) (P : ℕ → Bool) → IsLegal config h → function_of config e ≡ f → Agrees config h f P → IsSame config P (own config h f) h e → stand config (own config h f) e ≡ stand config h e
 stand_of_same config h f e P l at a same =

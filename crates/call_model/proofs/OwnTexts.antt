@@ -17,7 +17,7 @@ use Rattle.call_model.specs.Life.{phase, stand, names}
 use Rattle.call_model.specs.Answers.{answers, each_from, answer_to, home, first_answer, first_answers, second_answer, second_at, own_first, other_answer, answer_at, verdict_answer, reserve_answer, with_event}
 use Rattle.call_model.specs.Limits.{verdict, Verdict, Admits, AfterStop, Refuses}
 use Rattle.call_model.specs.declared.answer.Phase.TheVariants.{Busy}
-use Rattle.call_model.specs.declared.answer.Refusal.TheVariants.{Container, Replaced}
+use Rattle.call_model.specs.declared.answer.Rejection.TheVariants.{Container, Replaced}
 use Rattle.call_model.specs.declared.answer.Reason.{Reason}
 use Rattle.call_model.specs.Polls.{by_role, delivered, begun, at_close, replaced}
 use Rattle.call_model.specs.Isolation.{named, named_in, source_of, gist}
@@ -56,7 +56,7 @@ mute_reserve : (config : Config) (h : List Entry) (f : ℕ) (count : Option ℕ)
 mute_reserve config h f None = refl
 mute_reserve config h f (Some count) = go _
   where
-    go : (b : Bool) → named (if b then Rattle.call_model.specs.declared.answer.Answer.TheVariants.Refused Rattle.call_model.specs.declared.answer.Refusal.TheVariants.BadReservation else Rattle.call_model.specs.declared.answer.Answer.TheVariants.Reserved count) ≡ None
+    go : (b : Bool) → named (if b then Rattle.call_model.specs.declared.answer.Answer.TheVariants.Refused Rattle.call_model.specs.declared.answer.Rejection.TheVariants.BadReservation else Rattle.call_model.specs.declared.answer.Answer.TheVariants.Reserved count) ≡ None
     go true = refl
     go false = refl
 

@@ -11,7 +11,7 @@ use Rattle.call_model.specs.History.{answer_in, or_else, pending, call_of}
 use Rattle.call_model.specs.Generation.{Actor, TheExtension, last_next, Generation, Extension, extensions, as_registered, member, has_count, Member, hears_end, TheRuntime, asks, reports_exit, members}
 use Rattle.call_model.specs.Stand.{Stand, is_known, RuntimePoll, ExtensionPoll, is_number, role}
 use Rattle.call_model.specs.Table.{own_answer, Cell, next_in_closing, row, told_once, container, unknown, parks as parks_cell, closes}
-use Rattle.call_model.specs.Life.{life, phase, stand, concerns, names, seen, Life}
+use Rattle.call_model.specs.Life.{life, phase, stand, concerns, names, seen, Lifecycle}
 use Rattle.call_model.specs.Limits.{place_for}
 use Rattle.call_model.specs.Answers.{first_answer, first_entry, second_answer, home, own_first}
 use Rattle.call_model.specs.Next.{Follows, IsLegal}
@@ -20,7 +20,7 @@ use Rattle.call_model.proofs.Basics.{some-none, eqb-self, and_left}
 use Rattle.call_model.proofs.Roles.{role_runtime}
 use Rattle.call_model.specs.declared.answer.Answer.{Answer}
 use Rattle.call_model.specs.declared.answer.Answer.TheVariants.{Ending, Refused}
-use Rattle.call_model.specs.declared.answer.Refusal.TheVariants.{Container}
+use Rattle.call_model.specs.declared.answer.Rejection.TheVariants.{Container}
 use Rattle.call_model.specs.declared.answer.Reason.{Reason}
 use Rattle.call_model.specs.declared.answer.Phase.TheVariants.{Closing}
 use Rattle.call_model.specs.Polls.{at_close, replaced, by_role}
@@ -118,7 +118,7 @@ extension_left own now s call t y q =
     differ : (a b : ℕ) → (a == b) ≡ false → (b == a) ≡ false
     differ a b k = eqb-other b a (λ e. true≢false (sym (eq-eqb a b (sym e)) ∙ k))
 
-    same_count : (x : ℕ) (b : Bool) → (y.extension.count == x) ≡ b → (if b then Some (Refused Rattle.call_model.specs.declared.answer.Refusal.TheVariants.Replaced) else None) ≡ None → (x == y.extension.count) ≡ false
+    same_count : (x : ℕ) (b : Bool) → (y.extension.count == x) ≡ b → (if b then Some (Refused Rattle.call_model.specs.declared.answer.Rejection.TheVariants.Replaced) else None) ≡ None → (x == y.extension.count) ≡ false
     same_count x true k r = absurd (some-none r)
     same_count x false k r = differ y.extension.count x k
 
@@ -241,9 +241,9 @@ standing config (entry ∷ h) e t actor l q w = go (t == length h) refl (standin
         by_concern false c =
             let same : life config (entry ∷ h) e ≡ life config h e = life_elsewhere config h entry e c in
             record {
-              opened = ap (λ (x : Life). is_open x.phase) same ∙ s.opened;
-              last = ap (λ (x : Life). last_next x.generation actor) same ∙ s.last;
-              known = λ x r. ap (λ (y : Life). is_member y.generation x) same ∙ s.known x r;
+              opened = ap (λ (x : Lifecycle). is_open x.phase) same ∙ s.opened;
+              last = ap (λ (x : Lifecycle). last_next x.generation actor) same ∙ s.last;
+              known = λ x r. ap (λ (y : Lifecycle). is_member y.generation x) same ∙ s.known x r;
             }
         by_concern true c =
             let k : (closes (stand config h e) entry.call ≡ None) × (asks actor entry.call ≡ false) = stands_still config h entry e t actor l.0 l.1 s was below (first_none config h entry t l.1 (omega (arith, below)) none) c in

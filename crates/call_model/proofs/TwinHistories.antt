@@ -9,7 +9,7 @@ use Rattle.call_model.specs.declared.answer.Phase.{Phase}
 use Rattle.arn_ids.specs.Environments.{expected_at, function_of}
 use Rattle.call_model.specs.Stand.{at_hand, bound_of}
 use Rattle.call_model.specs.Table.{reborn, settled, after_cell}
-use Rattle.call_model.specs.Life.{Life, Visit, after, ends, ends_here, seen, request_at, first_part, limit_of, history_with, generation_with, members_with, phase_by_table, waits}
+use Rattle.call_model.specs.Life.{Lifecycle, Visit, after, ends, ends_here, seen, request_at, first_part, limit_of, history_with, generation_with, members_with, phase_by_table, waits}
 use Rattle.call_model.proofs.Basics.{map_same, some-none}
 use Rattle.call_model.proofs.Visits.{visit_from, if_ended}
 
@@ -118,11 +118,11 @@ waits_alike config P o h e (Some p) w mine = go (pending o p) (pending h p) (w.p
     go true false q = absurd (true≢false q)
     go false true q = absurd (true≢false (sym q))
 
-abbrev pub IsSameLife : (ℕ → Bool) → Life → Life → Type 0
+abbrev pub IsSameLife : (ℕ → Bool) → Lifecycle → Lifecycle → Type 0
 IsSameLife P l m = (l.phase ≡ m.phase) × AreAlike P l.generation m.generation
 
 -- what an entry makes of an environment that it concerns
-pub after_alike : (config : Config) (P : ℕ → Bool) (o h : List Entry) (e : ℕ) (x y : Entry) (l m : Life) → x.call ≡ y.call → x.moment ≡ y.moment → seen config o e l ≡ seen config h e m → IsTwin P o h → IsTwin P (first_part x ∷ o) (first_part y ∷ h)
+pub after_alike : (config : Config) (P : ℕ → Bool) (o h : List Entry) (e : ℕ) (x y : Entry) (l m : Lifecycle) → x.call ≡ y.call → x.moment ≡ y.moment → seen config o e l ≡ seen config h e m → IsTwin P o h → IsTwin P (first_part x ∷ o) (first_part y ∷ h)
     → AreAlike P ((length o, x) ∷ l.generation) ((length h, y) ∷ m.generation) → l.phase ≡ m.phase
     → IsMine P (phase_by_table (visit_from config h e y m))
     → IsSameLife P (after (visit_from config o e x l)) (after (visit_from config h e y m))

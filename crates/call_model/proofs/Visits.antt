@@ -2,10 +2,10 @@
 use Rattle.std.proofs.Common.{ℕ, Bool, List, if◌then◌else◌}
 use Rattle.call_model.specs.declared.call.Entry.{Entry}
 use Rattle.arn_ids.specs.declared.config.Config.{Config}
-use Rattle.call_model.specs.Life.{Life, Visit, life, after, new_generation, settled_life}
+use Rattle.call_model.specs.Life.{Lifecycle, Visit, life, after, new_generation, settled_life}
 
 -- the visit that finds a life
-abbrev pub visit_from : Config → List Entry → ℕ → Entry → Life → Visit
+abbrev pub visit_from : Config → List Entry → ℕ → Entry → Lifecycle → Visit
 visit_from config h e entry found = record { config = config; environment = e; history = h; found = found; entry = entry }
 
 -- the visit of the entry that comes after a history
@@ -13,9 +13,9 @@ abbrev pub visit : Config → List Entry → ℕ → Entry → Visit
 visit config h e entry = visit_from config h e entry (life config h e)
 
 -- the life after it, by whether the entry concerns the environment
-abbrev pub if_concerned : Bool → Visit → Life
+abbrev pub if_concerned : Bool → Visit → Lifecycle
 if_concerned b v = if b then after v else v.found
 
 -- the life after one that concerns it, by whether a Closing ends
-abbrev pub if_ended : Bool → Visit → Life
+abbrev pub if_ended : Bool → Visit → Lifecycle
 if_ended b v = if b then new_generation v else settled_life v

@@ -5,7 +5,7 @@ use Rattle.call_model.specs.declared.call.Call.TheVariants.{Invoke, Tick, Withdr
 use Rattle.call_model.specs.declared.call.Entry.{Entry}
 use Rattle.call_model.specs.declared.answer.Answer.{Answer}
 use Rattle.call_model.specs.declared.answer.Answer.TheVariants.{Told, Ending, Accepted, Done, Throttled, Stopped, Refused, Reserved, Unreserved}
-use Rattle.call_model.specs.declared.answer.Refusal.TheVariants.{BadReservation}
+use Rattle.call_model.specs.declared.answer.Rejection.TheVariants.{BadReservation}
 use Rattle.arn_ids.specs.declared.config.Config.{Config}
 use Rattle.arn_ids.specs.Environments.{function_at}
 use Rattle.call_model.specs.History.{answer_in, stopped, env_of, call_of, place_of, or_else}

@@ -15,7 +15,7 @@ use Rattle.call_model.specs.Stand.{Stand, at_hand, bound_of, is_number, is_closi
 use Rattle.call_model.specs.Table.{is_registered, reborn, settled, after_cell}
 
 -- an environment's phase, and the entries that concerned it in its present generation
-pub record Life : Type 0 where
+pub record Lifecycle : Type 0 where
   pub phase : Phase
   pub generation : Generation
 
@@ -57,7 +57,7 @@ events [] e = 0
 events (entry ∷ h) e = events_in (entry ∷ h) e entry.answers + events h e
 
 -- What the history says of an environment whose phase and generation are these.
-unfoldable pub seen : Config → List Entry → ℕ → Life → Stand
+unfoldable pub seen : Config → List Entry → ℕ → Lifecycle → Stand
 seen config h e life = record {
   phase = life.phase;
   runtime = parked h life.generation TheRuntime;
@@ -91,7 +91,7 @@ pub record Visit : Type 0 where
   pub config : Config
   pub environment : ℕ
   pub history : List Entry
-  pub found : Life
+  pub found : Lifecycle
   pub entry : Entry
 
 -- the history with the entry, of which the first answers count
@@ -128,26 +128,26 @@ abbrev pub waits : Visit → Bool
 waits v = is_some (request_at v.config (history_with v) v.environment (at_hand (phase_by_table v)))
 
 -- the life of a new generation
-abbrev pub new_generation : Visit → Life
+abbrev pub new_generation : Visit → Lifecycle
 new_generation v = record {
   phase = reborn (stopped (history_with v)) v.entry.moment (bound_of (phase_by_table v));
   generation = [];
 }
 
 -- the life of the present one, its phase settled by who is ready
-abbrev pub settled_life : Visit → Life
+abbrev pub settled_life : Visit → Lifecycle
 settled_life v = record { phase = settled (limit v) (is_ready v) (waits v) (phase_by_table v); generation = generation_with v }
 
 -- A new generation begins where a Closing ends in the visit; else the phase is settled by who is ready.
-unfoldable pub after : Visit → Life
+unfoldable pub after : Visit → Lifecycle
 after v = if ends_here v then new_generation v else settled_life v
 
 -- An entry that doesn't concern the environment leaves its life as it is.
-unfoldable pub lived : Visit → Life
+unfoldable pub lived : Visit → Lifecycle
 lived v = if concerns v.history v.environment v.entry then after v else v.found
 
 -- The life of an environment after a history: it begins in Starting, with no deadline, and each entry goes on from there.
-unfoldable pub life : Config → List Entry → ℕ → Life
+unfoldable pub life : Config → List Entry → ℕ → Lifecycle
 life config [] e = record { phase = Starting None None; generation = [] }
 life config (entry ∷ h) e = lived (record { config = config; environment = e; history = h; found = life config h e; entry = entry })
 

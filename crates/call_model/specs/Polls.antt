@@ -4,7 +4,7 @@ use Rattle.call_model.specs.declared.call.Call.{Call}
 use Rattle.call_model.specs.declared.call.Call.TheVariants.{RuntimeNext, ExtNext, Withdraw}
 use Rattle.call_model.specs.declared.answer.Answer.{Answer}
 use Rattle.call_model.specs.declared.answer.Answer.TheVariants.{Delivered, Told, Ending, Withdrawn}
-use Rattle.call_model.specs.declared.answer.Refusal.TheVariants.{Replaced, Container}
+use Rattle.call_model.specs.declared.answer.Rejection.TheVariants.{Replaced, Container}
 use Rattle.call_model.specs.declared.answer.Reason.{Reason}
 use Rattle.call_model.specs.declared.answer.Phase.{Phase}
 use Rattle.call_model.specs.declared.answer.Phase.TheVariants.{Busy}

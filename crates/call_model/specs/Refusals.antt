@@ -3,7 +3,7 @@
 use Rattle.std.specs.Prelude.{◌≡◌, true, false, [], ◌∷◌, Some, None, refl}
 use Rattle.call_model.specs.declared.call.Call.TheVariants.{RuntimeNext, ResponseTooLarge, Failure, InitFailure, ExtNext, ExtInitFailure, ExtExitFailure, Tick, Withdraw, Spindown, Stop, Reserve}
 use Rattle.call_model.specs.declared.answer.Answer.TheVariants.{Delivered, Told, Ending, Registered, Accepted, Done, Output, Error, TimedOut, InitTimedOut, Throttled, Stopped, Withdrawn, Refused, Unreserved}
-use Rattle.call_model.specs.declared.answer.Refusal.TheVariants.{State, Replaced, BadId, Unknown, Container, NameInUse, NotIdle, BadReservation}
+use Rattle.call_model.specs.declared.answer.Rejection.TheVariants.{State, Replaced, BadId, Unknown, Container, NameInUse, NotIdle, BadReservation}
 use Rattle.call_model.specs.declared.answer.Throttle.TheVariants.{Function as ByFunction, Environments as ByEnvironments}
 use Rattle.call_model.specs.declared.answer.Reason.TheVariants.{Timeout, Failure as Failed, Spindown as SpunDown}
 use Rattle.call_model.specs.declared.answer.Phase.TheVariants.{Closing}

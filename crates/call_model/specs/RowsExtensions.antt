@@ -3,7 +3,7 @@ use Rattle.std.specs.Prelude.{◌≡◌, ℕ, true, false, [], ◌∷◌, None, 
 use Rattle.call_model.specs.declared.call.Call.{Call}
 use Rattle.call_model.specs.declared.call.Call.TheVariants.{RuntimeNext, InitFailure, ExtNext, ExtExitFailure}
 use Rattle.call_model.specs.declared.answer.Answer.TheVariants.{Delivered, Told, Ending, Registered, Accepted, Output, Error, Throttled, Refused}
-use Rattle.call_model.specs.declared.answer.Refusal.TheVariants.{State, Unknown, Container, NameInUse, TooMany}
+use Rattle.call_model.specs.declared.answer.Rejection.TheVariants.{State, Unknown, Container, NameInUse, TooMany}
 use Rattle.call_model.specs.declared.answer.Throttle.TheVariants.{Function as ByFunction}
 use Rattle.call_model.specs.declared.answer.Reason.TheVariants.{Failure as Failed}
 use Rattle.arn_ids.specs.declared.config.Config.{Config}

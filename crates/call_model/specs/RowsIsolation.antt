@@ -4,7 +4,7 @@ use Rattle.call_model.specs.declared.call.Call.{Call}
 use Rattle.call_model.specs.declared.call.Call.TheVariants.{RuntimeNext, Tick, Stop, Reserve}
 use Rattle.call_model.specs.declared.answer.Answer.{Answer}
 use Rattle.call_model.specs.declared.answer.Answer.TheVariants.{Delivered, TimedOut, Output, Accepted, Done, Refused}
-use Rattle.call_model.specs.declared.answer.Refusal.TheVariants.{Container}
+use Rattle.call_model.specs.declared.answer.Rejection.TheVariants.{Container}
 use Rattle.call_model.specs.declared.answer.Throttle.TheVariants.{Function as ByFunction, Account as ByAccount}
 use Rattle.arn_ids.specs.declared.config.Config.{Config}
 use Rattle.arn_ids.specs.declared.config.Function.{Function}

@@ -6,8 +6,8 @@ use Rattle.call_model.specs.declared.call.Call.{Call}
 use Rattle.call_model.specs.declared.call.Call.TheVariants.{Invoke, RuntimeNext, Response, ResponseTooLarge, Failure, InitFailure, Register, ExtNext, ExtInitFailure, ExtExitFailure, Spindown, Stop, Expire}
 use Rattle.call_model.specs.declared.answer.Answer.{Answer}
 use Rattle.call_model.specs.declared.answer.Answer.TheVariants.{Ending, Registered, Accepted, Output, Error, TimedOut, InitTimedOut, OutputTooLarge, Stopped, Refused}
-use Rattle.call_model.specs.declared.answer.Refusal.{Refusal}
-use Rattle.call_model.specs.declared.answer.Refusal.TheVariants.{State, BadId, Unknown, TooLarge, Container, NameInUse, TooMany, NotIdle}
+use Rattle.call_model.specs.declared.answer.Rejection.{Rejection}
+use Rattle.call_model.specs.declared.answer.Rejection.TheVariants.{State, BadId, Unknown, TooLarge, Container, NameInUse, TooMany, NotIdle}
 use Rattle.call_model.specs.declared.answer.Reason.{Reason}
 use Rattle.call_model.specs.declared.answer.Reason.TheVariants.{Timeout, Failure as Failed, Spindown as SpunDown}
 use Rattle.call_model.specs.declared.answer.Phase.{Phase}
@@ -38,7 +38,7 @@ abbrev pub row : {A : Type 0} → Stand → A → A → A → A → A → A → 
 row s starting idle unanswered answered closing off = by_phase starting idle unanswered answered closing off s s.phase
 
 -- the refusal of a call
-abbrev pub refused : Refusal → Option Answer
+abbrev pub refused : Rejection → Option Answer
 refused kind = Some (Refused kind)
 
 -- a cell that only answers the call itself, or lets it wait

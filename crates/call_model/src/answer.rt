@@ -57,7 +57,7 @@ impl Throttle {
 
 /// Why a call is refused.
 #[derive(Clone, Copy, Debug, PartialEq, Eq)]
-pub enum Refusal {
+pub enum Rejection {
     /// The environment's phase does not allow the call.
     State,
     /// A newer Next of the same runtime or extension took this one's place.
@@ -143,7 +143,7 @@ pub enum Answer {
     /// The Next was taken back: its connection ended.
     Withdrawn,
     /// The call is refused.
-    Refused(Refusal),
+    Refused(Rejection),
     /// The function's reservation is set (PutFunctionConcurrency).
     Reserved {
         /// How many concurrent invocations are reserved.

@@ -9,7 +9,7 @@ mod parts;
 mod past;
 mod stats;
 
-pub use answer::{Answer, Phase, Reason, Refusal, Throttle};
+pub use answer::{Answer, Phase, Reason, Rejection, Throttle};
 pub use call::{Answers, Call, Entry, Ticket};
 pub use head::{Head, Kind};
 pub use past::Past;

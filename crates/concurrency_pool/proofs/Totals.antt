@@ -11,12 +11,12 @@ use Rattle.concurrency_pool.specs.declared.pool.Usage.{Usage}
 use Rattle.concurrency_pool.specs.Numbers.{Numbers}
 use Rattle.concurrency_pool.specs.Usages.{usage_of, reserved_by, unreserved_by, charged_by, no_usage}
 use Rattle.concurrency_pool.specs.Pools.{opened, usage_at, reserved_in_all, taken_with}
-use Rattle.concurrency_pool.specs.Totals.{Totals}
+use Rattle.concurrency_pool.specs.Totals.{AreTotals}
 use Rattle.concurrency_pool.proofs.Numbered.{usage_is_at, sum_map, sum_nothing}
 use Rattle.concurrency_pool.proofs.Leaves.{opened_leaves, within_sum}
 
 -- the pool of a configuration without a fault has nothing in flight
-pub opened_totals : (config : Config) (reserved : ℕ) → first_fault config ≡ None → reserved ≡ reserved_in_all (opened config) → Totals (opened config) reserved 0 0
+pub opened_totals : (config : Config) (reserved : ℕ) → first_fault config ≡ None → reserved ≡ reserved_in_all (opened config) → AreTotals (opened config) reserved 0 0
 opened_totals config reserved sound all = record {
   few = rw length-map (functions_64 config sound);
   limited = (limit_between config sound).1;
@@ -45,13 +45,13 @@ few_fit r pool less few counted =
     omega (arith, sum, few)
 
 -- a function's parts are within the totals
-pub parts_within : {pool : Numbers} {reserved unreserved in_flight : ℕ} (f : ℕ) → 1 ≤ f → f ≤ length pool.functions → Totals pool reserved unreserved in_flight
+pub parts_within : {pool : Numbers} {reserved unreserved in_flight : ℕ} (f : ℕ) → 1 ≤ f → f ≤ length pool.functions → AreTotals pool reserved unreserved in_flight
     → (reserved_by (usage_at pool f) ≤ reserved) × (unreserved_by (usage_at pool f) ≤ unreserved) × (charged_by (usage_at pool f) ≤ in_flight)
 parts_within {pool} f from_one there totals =
     (rw totals.all_reserved (within_sum reserved_by pool f from_one there), rw totals.all_unreserved (within_sum unreserved_by pool f from_one there), rw totals.all_in_flight (within_sum charged_by pool f from_one there))
 
 -- so no total is near 64 bits
-pub unreserved_fit : {pool : Numbers} {reserved unreserved in_flight : ℕ} → Totals pool reserved unreserved in_flight → unreserved ≤ 64 * 2 ^ 32
+pub unreserved_fit : {pool : Numbers} {reserved unreserved in_flight : ℕ} → AreTotals pool reserved unreserved in_flight → unreserved ≤ 64 * 2 ^ 32
 unreserved_fit {pool} totals = rw totals.all_unreserved (few_fit unreserved_by pool less totals.few totals.counted)
   where
     part : (b : Bool) (n : ℕ) → (if b then n else 0) ≤ n
@@ -61,7 +61,7 @@ unreserved_fit {pool} totals = rw totals.all_unreserved (few_fit unreserved_by p
     less : (usage : Usage) → unreserved_by usage ≤ charged_by usage
     less usage = part (is_none usage.reserved) usage.in_flight
 
-pub in_flight_fit : {pool : Numbers} {reserved unreserved in_flight : ℕ} → Totals pool reserved unreserved in_flight → in_flight ≤ 64 * 2 ^ 32
+pub in_flight_fit : {pool : Numbers} {reserved unreserved in_flight : ℕ} → AreTotals pool reserved unreserved in_flight → in_flight ≤ 64 * 2 ^ 32
 in_flight_fit {pool} totals = rw totals.all_in_flight (few_fit charged_by pool (λ usage. omega arith) totals.few totals.counted)
 
 -- with another usage of a function, totals that change by its parts are the sums again
@@ -71,8 +71,8 @@ pub totals_with : (pool : Numbers) (f : ℕ) (usage : Usage) (reserved unreserve
     → reserved' + reserved_by (usage_at pool f) ≡ reserved + reserved_by usage
     → unreserved' + unreserved_by (usage_at pool f) ≡ unreserved + unreserved_by usage
     → in_flight' + charged_by (usage_at pool f) ≡ in_flight + charged_by usage
-    → Totals pool reserved unreserved in_flight
-    → Totals (record pool { functions = set pool.functions (f - 1) usage }) reserved' unreserved' in_flight'
+    → AreTotals pool reserved unreserved in_flight
+    → AreTotals (record pool { functions = set pool.functions (f - 1) usage }) reserved' unreserved' in_flight'
 totals_with pool f usage reserved unreserved in_flight reserved' unreserved' in_flight' from_one there leaves small by_reserved by_unreserved by_charged totals =
     let sum = sum_with reserved_by pool f usage from_one there in
     let part = within_sum reserved_by pool f from_one there in

@@ -4,7 +4,7 @@ use Rattle.arn_ids.specs.declared.config.Config.{Config}
 use Rattle.arn_ids.specs.Environments.{function_at, function_numbers}
 use Rattle.call_model.specs.declared.answer.Answer.{Answer}
 use Rattle.call_model.specs.declared.answer.Answer.TheVariants.{Refused, Reserved, Unreserved}
-use Rattle.call_model.specs.declared.answer.Refusal.TheVariants.{BadReservation}
+use Rattle.call_model.specs.declared.answer.Rejection.TheVariants.{BadReservation}
 use Rattle.call_model.specs.declared.answer.Throttle.{Throttle}
 use Rattle.call_model.specs.declared.call.Entry.{Entry}
 use Rattle.call_model.specs.Limits.{in_flight, reservation, Verdict, Refuses, where_placed}

@@ -6,7 +6,7 @@ use Rattle.concurrency_pool.specs.Pools.{reserved_in_all, unreserved_in_flight, 
 
 -- There are few functions, their reservations leave the least remainder, and each total is the sum. Each count has 32 bits, so
 -- that no total overflows.
-pub record Totals (pool : Numbers) (reserved unreserved in_flight : ℕ) : Type 0 where
+pub record AreTotals (pool : Numbers) (reserved unreserved in_flight : ℕ) : Type 0 where
   pub few : length pool.functions ≤ 64
   pub limited : pool.account_limit ≤ 1000000
   pub leaves : pool.least_remainder + reserved_in_all pool ≤ pool.account_limit

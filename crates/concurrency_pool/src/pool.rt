@@ -47,11 +47,11 @@ impl Model for Pool {
 
     ghost Value = { Numbers };
 
-    ghost use Rattle.concurrency_pool.specs.Totals.{Totals};
+    ghost use Rattle.concurrency_pool.specs.Totals.{AreTotals};
 
     ghost view = { λ pool. record { account_limit = pool.account_limit; least_remainder = pool.least_remainder; functions = pool.functions.items } };
 
-    ghost invariant = { λ pool. Totals (record { account_limit = pool.account_limit; least_remainder = pool.least_remainder; functions = pool.functions.items }) pool.reserved pool.unreserved pool.in_flight };
+    ghost invariant = { λ pool. AreTotals (record { account_limit = pool.account_limit; least_remainder = pool.least_remainder; functions = pool.functions.items }) pool.reserved pool.unreserved pool.in_flight };
 }
 
 impl Usage {

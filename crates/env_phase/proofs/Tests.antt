@@ -6,7 +6,7 @@ use Rattle.call_model.specs.declared.answer.Phase.{Phase}
 use Rattle.call_model.specs.declared.answer.Phase.TheVariants.{Starting, Idle, Busy, Closing, Off}
 use Rattle.call_model.specs.declared.answer.Reason.{Reason}
 use Rattle.call_model.specs.declared.answer.Reason.TheVariants.{Timeout, Failure as Failed, Spindown as SpunDown}
-use Rattle.call_model.specs.declared.answer.Refusal.TheVariants.{State, BadId, Unknown, TooLarge, Container, NotIdle}
+use Rattle.call_model.specs.declared.answer.Rejection.TheVariants.{State, BadId, Unknown, TooLarge, Container, NotIdle}
 use Rattle.call_model.specs.declared.call.Call.{Call}
 use Rattle.call_model.specs.declared.call.Call.TheVariants.{Invoke, RuntimeNext, Response, ResponseTooLarge, Failure, InitFailure, Register, ExtNext, ExtInitFailure, ExtExitFailure, Tick, Withdraw, Spindown, Stop, Expire, Reserve}
 use Rattle.call_model.specs.Stand.{Stand, is_known, is_number, is_starting, is_idle, is_busy}

@@ -3,7 +3,7 @@ use Rattle.std.proofs.Common.{◌≡◌, ℕ, suc, Bool, true, false, List, [], 
 use Rattle.std.specs.List.{list_any}
 use Rattle.std.proofs.lemmas.List.{length-map}
 use Rattle.call_model.specs.declared.answer.Answer.TheVariants.{Registered, Refused}
-use Rattle.call_model.specs.declared.answer.Refusal.TheVariants.{NameInUse as InUse, TooMany as Full}
+use Rattle.call_model.specs.declared.answer.Rejection.TheVariants.{NameInUse as InUse, TooMany as Full}
 use Rattle.call_model.specs.declared.answer.Phase.{Phase}
 use Rattle.call_model.specs.declared.answer.Phase.TheVariants.{Starting, Idle, Busy, Closing, Off}
 use Rattle.call_model.specs.declared.call.Call.{Call}

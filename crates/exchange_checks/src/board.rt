@@ -1,7 +1,7 @@
 //! A service that is no account, and does as a case says.
 
 use account_book::Refusal;
-use account_lock::{Account, Bell, Declined, Look, Refused, Setup};
+use account_lock::{Account, Bell, Declined, Identity, Look, Refused};
 use arn_ids::FnNo;
 use call_model::{Answer, Call, Stats, Ticket};
 use lambda_wire::{Reply, fault_reply};
@@ -29,7 +29,7 @@ pub enum Mood {
 /// Notes how many calls came, and the moment of the last one. Its fronts are those of an account that
 /// takes none.
 #[derive(Drop)]
-pub struct Board<S: Setup> {
+pub struct Board<S: Identity> {
     alloc: Global,
     mood: Mood,
     offered: AtomicU64,
@@ -38,7 +38,7 @@ pub struct Board<S: Setup> {
     account: Account<S, OneShotBell>,
 }
 
-impl<S: Setup> Board<S> {
+impl<S: Identity> Board<S> {
     /// To which no call came.
     pub fn new(alloc: Global, mood: Mood, account: Account<S, OneShotBell>) -> Board<S> {
         Board {
@@ -79,7 +79,7 @@ impl<S: Setup> Board<S> {
     }
 }
 
-impl<S: Setup> Service<KeepNone, S> for Board<S> {
+impl<S: Identity> Service<KeepNone, S> for Board<S> {
     ghost serves = { λ _. S.config };
 
     ghost submits = { λ _ _ _ _ _ _ _. Unit {0} };

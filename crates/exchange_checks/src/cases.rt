@@ -6,10 +6,10 @@ use crate::board::{Board, Mood};
 use crate::lines::{malformed, number_of};
 use crate::scene;
 use account_book::OpenFault;
-use account_lock::{Account, Setup};
+use account_lock::{Account, Identity};
 use arn_ids::Checked;
 use case_tables::{Case, CaseFault, Part};
-use lambda_wire::{Setup as Given, WireFault, read_config};
+use lambda_wire::{Setup, WireFault, read_config};
 use long_poll::OneShotBell;
 use std::alloc::{AllocGlobal, Global};
 use std::marker::Brand;
@@ -24,7 +24,7 @@ const ONE: &str =
     r#"{"account":"123456789012","region":"us-east-2","functions":[{"name":"f","ports":[9001]}]}"#;
 
 /// What a case configures.
-fn setup_of(alloc: Global, case: &Case) -> Result<Given, CaseFault> {
+fn setup_of(alloc: Global, case: &Case) -> Result<Setup, CaseFault> {
     let text = case.part("open").map_or(ONE, |part| part.text());
     match read_config(alloc, text.as_bytes()) {
         Ok(given) => Ok(given),
@@ -49,7 +49,7 @@ fn mood_in(part: &Part) -> Result<Mood, CaseFault> {
 /// Runs a case with a new account, over it or over a board.
 fn play<
     R: Wait + Threads + Clock + RandomSource + AllocGlobal + Copy + Send + Sync + Drop,
-    S: Setup + Drop + Send + Sync,
+    S: Identity + Drop + Send + Sync,
 >(
     rt: R,
     alloc: Global,

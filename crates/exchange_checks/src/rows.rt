@@ -4,7 +4,7 @@ ghost use Rattle.std.specs.Prelude.{◌≡◌, true, IfOk, IfSome};
 ghost use Rattle.call_model.specs.Within.{IsEnv, IsFunction, is_body};
 ghost use Rattle.decisions.specs.Decisions.{IsAllowed};
 
-use account_lock::Setup;
+use account_lock::Identity;
 use arn_ids::LONGEST_BODY;
 use bytes::Bytes;
 use call_model::{Call, Ticket};
@@ -30,7 +30,7 @@ impl Clock for At {
 
 /// Decides for a configuration that has an environment and a function.
 #[derive(Drop)]
-pub struct Rows<S: Setup> {
+pub struct Rows<S: Identity> {
     of: PhantomData<S>,
     ghost environment: { IsEnv S.config 1 },
     ghost function: { IsFunction S.config 1 },
@@ -63,7 +63,7 @@ fn length_of(alloc: Global, body: &Bytes) -> Result<Reply, AllocError> {
     )
 }
 
-impl<S: Setup> Rows<S> {
+impl<S: Identity> Rows<S> {
     /// Decides for the configuration that the type names.
     pub fn new() -> Rows<S>
         requires environment { IsEnv S.config 1 }
@@ -112,7 +112,7 @@ impl<S: Setup> Rows<S> {
     }
 }
 
-impl<S: Setup> Decide for Rows<S> {
+impl<S: Identity> Decide for Rows<S> {
     ghost decides = { λ _ _ _ _. Unit {0} };
 
     ghost decides_for = { λ _. S.config };

@@ -7,7 +7,7 @@ ghost use Rattle.long_poll.specs.Stages.{CanGoOn};
 
 use crate::lines::{Ask, Pieces, ask_in, lines_in, malformed, number_of};
 use crate::rows::{At, Rows};
-use account_lock::Setup;
+use account_lock::Identity;
 use call_model::Ticket;
 use case_tables::{Case, CaseFault, Part};
 use futures::executor::block_on;
@@ -32,7 +32,7 @@ const TRIES: u32 = 2;
 /// A service, who decides for it, a tally, and for how many milliseconds a connection holds a premature
 /// call back.
 #[derive(Drop)]
-struct Scene<R, X: Service<KeepNone, S>, S: Setup> {
+struct Scene<R, X: Service<KeepNone, S>, S: Identity> {
     rt: R,
     alloc: Global,
     service: Arc<X>,
@@ -87,7 +87,7 @@ fn push_reply(alloc: Global, given: &mut String, reply: &Reply) -> Result<(), Al
 impl<
     R: Wait + Clock + RandomSource + AllocGlobal + Copy + Drop,
     X: Service<KeepNone, S>,
-    S: Setup + Drop,
+    S: Identity + Drop,
 > Scene<R, X, S> {
     /// A new connection, whose clock stands at a moment, with the note of its open Next.
     fn connection(
@@ -232,7 +232,7 @@ impl<
 fn poll_across<
     R: Wait + Threads + Clock + RandomSource + AllocGlobal + Copy + Send + Sync + Drop,
     X: Service<KeepNone, S> + Send + Sync,
-    S: Setup + Drop + Send + Sync,
+    S: Identity + Drop + Send + Sync,
 >(scene: &Scene<R, X, S>, part: &Part, given: &mut String) -> Result<(), CaseFault> {
     let (ticket, heard, front) = scene.park()?;
     let (told, asked) = thread::join(
@@ -249,7 +249,7 @@ fn poll_across<
 pub fn play<
     R: Wait + Threads + Clock + RandomSource + AllocGlobal + Copy + Send + Sync + Drop,
     X: Service<KeepNone, S> + Send + Sync,
-    S: Setup + Drop + Send + Sync,
+    S: Identity + Drop + Send + Sync,
 >(
     rt: R,
     alloc: Global,

@@ -12,7 +12,7 @@ use crate::name::Name;
 use crate::turn::CLOSING_LIMIT;
 use crate::{Moves, Turn};
 use arn_ids::Text;
-use call_model::{Answer, Call, Reason, Refusal, Ticket};
+use call_model::{Answer, Call, Reason, Rejection, Ticket};
 use std::marker::Model;
 
 /// An extension as it stands.
@@ -155,7 +155,7 @@ impl Member {
                 event: 0,
             }
         } else {
-            Answer::Refused(Refusal::Container)
+            Answer::Refused(Rejection::Container)
         }
     }
 
@@ -167,7 +167,7 @@ impl Member {
         match call {
             Call::ExtNext { ext, .. } => {
                 if self.count == *ext {
-                    Some(Answer::Refused(Refusal::Replaced))
+                    Some(Answer::Refused(Rejection::Replaced))
                 } else {
                     None
                 }

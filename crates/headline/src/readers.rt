@@ -10,7 +10,7 @@ ghost use Rattle.headline.specs.Headline.{Headline};
 
 use crate::laws;
 use account_book::Book;
-use account_lock::{Account, Bell, Desk, SettleFault, Settled, Setup};
+use account_lock::{Account, Bell, Desk, Identity, SettleFault, Settled};
 use call_model::Stats;
 use usage_ledger::{Keep, Ledgers, Tally};
 
@@ -40,7 +40,7 @@ pub fn of_desk<B: Bell, L: Ledgers>(desk: &Desk<B, L>) -> Stats
 /// The first `SettleFault` that holds, in the order in which they are declared; account and tallies
 /// are then gone. Where no tally was missing, they have counted what a history counts of which the
 /// fault speaks.
-pub fn settle<S: Setup, B: Bell, K: Keep>(
+pub fn settle<S: Identity, B: Bell, K: Keep>(
     account: Account<S, B>,
     tallies: Vec<Tally<K, S>>,
 ) -> Result<Settled, SettleFault>

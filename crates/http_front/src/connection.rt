@@ -3,7 +3,7 @@
 use crate::door::Door;
 use crate::front::Front;
 use crate::ticker::moment;
-use account_lock::{Account, Setup};
+use account_lock::{Account, Identity};
 use call_model::Call;
 use http_connection::{Machine, Park, Pulse, Signals, serve_connection};
 use long_poll::{Clock, Connection, OneShotBell, OpenPoll};
@@ -28,7 +28,7 @@ impl Park for OpenNext {
 /// A connection that is to be served: its socket and its port, the account and the clock, the tally
 /// in which its calls count, the signals that end it, and where it tells how it stands.
 #[derive(Drop)]
-pub(crate) struct Visit<R, S: Setup, N, K: Keep> {
+pub(crate) struct Accepted<R, S: Identity, N, K: Keep> {
     pub(crate) rt: R,
     pub(crate) socket: TcpStream,
     pub(crate) door: Door<S>,
@@ -41,7 +41,7 @@ pub(crate) struct Visit<R, S: Setup, N, K: Keep> {
     pub(crate) patience: u32,
 }
 
-impl<R: Machine, S: Setup + Drop, N: Clock + Drop, K: Keep> Visit<R, S, N, K> {
+impl<R: Machine, S: Identity + Drop, N: Clock + Drop, K: Keep> Accepted<R, S, N, K> {
     /// Serves the connection, and then withdraws its open Next (Runtime API, Next invocation), whose
     /// ticket `open` has. Where the Withdraw is refused the Next stays pending.
     pub(crate) fn run(self) -> Result<(), AllocError> {
@@ -61,7 +61,7 @@ impl<R: Machine, S: Setup + Drop, N: Clock + Drop, K: Keep> Visit<R, S, N, K> {
 
     /// Serves the connection.
     fn serve(self, open: Arc<OpenPoll>) -> io::Result<()> {
-        let Visit {
+        let Accepted {
             rt,
             socket,
             door,

@@ -5,7 +5,7 @@ ghost use Rattle.std.specs.Arc.{arc_value};
 ghost use Rattle.http_routes.specs.Decisions.{IsPortOf};
 
 use crate::{Port, Side};
-use account_lock::Setup;
+use account_lock::Identity;
 use arn_ids::Checked;
 use std::alloc::{AllocError, Global};
 use std::marker::{Model, PhantomData};
@@ -14,14 +14,14 @@ use std::sync::Arc;
 /// Whose port it is, in the configuration that the account's type names, and the salt of the
 /// identifiers. (A `Side` has routes, which don't cross threads; so each connection opens its own.)
 #[derive(Drop)]
-pub(crate) struct Door<S: Setup> {
+pub(crate) struct Door<S: Identity> {
     port: Port,
     config: Arc<Checked>,
     salt: u64,
     of: PhantomData<S>,
 }
 
-impl<S: Setup> Model for Door<S> {
+impl<S: Identity> Model for Door<S> {
     ghost use Rattle.std.specs.Prelude.{◌≡◌};
     ghost use Rattle.std.specs.Arc.{arc_value};
     ghost use Rattle.http_routes.specs.Decisions.{Served, IsPortOf};
@@ -33,7 +33,7 @@ impl<S: Setup> Model for Door<S> {
     ghost invariant = { λ d. (arc_value d.config ≡ S.config) × IsPortOf (arc_value d.config) d.port };
 }
 
-impl<S: Setup> Door<S> {
+impl<S: Identity> Door<S> {
     /// A port of this configuration.
     pub(crate) fn new(port: Port, config: Arc<Checked>, salt: u64) -> Door<S>
         requires configured { arc_value config ≡ S.config }

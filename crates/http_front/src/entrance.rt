@@ -9,7 +9,7 @@ ghost use Rattle.http_front.specs.Ports.{ports_of, environment_ports, doors_of};
 use crate::door::Door;
 use crate::host_fault::at_socket;
 use crate::{HostFault, Port};
-use account_lock::Setup;
+use account_lock::Identity;
 use arn_ids::{Checked, Slot};
 use mio::net::TcpListener;
 use mio::{Events, Interest, Poll, Token};
@@ -22,14 +22,14 @@ const MOST_EVENTS: usize = 256;
 
 /// A port that is listened on, and who decides its requests.
 #[derive(Drop)]
-pub(crate) struct Gate<S: Setup> {
+pub(crate) struct Gate<S: Identity> {
     pub(crate) listener: TcpListener,
     pub(crate) door: Door<S>,
 }
 
 /// The ports of a host: the account's, and one of each environment. The token of each is its place.
 #[derive(Drop)]
-pub(crate) struct Entrance<S: Setup> {
+pub(crate) struct Entrance<S: Identity> {
     pub(crate) poll: Poll,
     pub(crate) events: Events,
     pub(crate) gates: Vec<Gate<S>>,
@@ -56,7 +56,7 @@ fn ports_in_order(alloc: Global, config: &Checked) -> Result<Vec<u16>, AllocErro
     Ok(ports)
 }
 
-impl<S: Setup> Entrance<S> {
+impl<S: Identity> Entrance<S> {
     /// Listens at a port, for those whose requests the port decides.
     fn listen(
         &mut self,

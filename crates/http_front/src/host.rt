@@ -10,7 +10,7 @@ use crate::reception::Reception;
 use crate::slots::Slots;
 use crate::ticker::tick_on;
 use crate::{HostFault, Plan};
-use account_lock::{Account, Setup};
+use account_lock::{Account, Identity};
 use http_connection::Machine;
 use long_poll::{Clock, OneShotBell};
 use mio::Poll;
@@ -28,7 +28,7 @@ use usage_ledger::{Blanks, Keep, Tally};
 /// salt, the ledgers and the history of the account, `N` is the clock, in Unix milliseconds, and `K` what
 /// each tally keeps.
 #[derive(Drop)]
-pub struct Host<R, S: Setup, N, K: Keep> {
+pub struct Host<R, S: Identity, N, K: Keep> {
     rt: R,
     account: Arc<Account<S, OneShotBell>>,
     clock: Arc<N>,
@@ -41,7 +41,7 @@ pub struct Host<R, S: Setup, N, K: Keep> {
 
 /// What a host leaves: its account, and all the tallies in which its calls count.
 #[derive(Drop)]
-pub struct Hosted<S: Setup, K: Keep> {
+pub struct Hosted<S: Identity, K: Keep> {
     /// The account.
     pub account: Account<S, OneShotBell>,
     /// The tallies: that of the root, that of the ticker, and those of the connections.
@@ -50,7 +50,7 @@ pub struct Hosted<S: Setup, K: Keep> {
 
 impl<
     R: Machine,
-    S: Setup + Drop + Send + Sync + 'static,
+    S: Identity + Drop + Send + Sync + 'static,
     N: Clock + Drop + Send + Sync + 'static,
     K: Keep + Send + 'static,
 > Host<R, S, N, K> {
@@ -148,7 +148,7 @@ impl<
 /// Starts the ticker. Where no thread can be made its tally is lost.
 fn start_ticker<
     R: Machine,
-    S: Setup + Drop + Send + Sync + 'static,
+    S: Identity + Drop + Send + Sync + 'static,
     N: Clock + Drop + Send + Sync + 'static,
     K: Keep + Send + 'static,
 >(

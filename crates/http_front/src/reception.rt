@@ -3,12 +3,12 @@
 ghost use Rattle.std.specs.Prelude.{◌≡◌, IfErr};
 ghost use Rattle.http_front.specs.declared.host_fault.HostFault.TheVariants.{StillShared};
 
-use crate::connection::Visit;
+use crate::connection::Accepted;
 use crate::door::Door;
 use crate::entrance::{Entrance, Gate};
 use crate::slots::{Ended, Running, Slots};
 use crate::{HostFault, Hosted};
-use account_lock::{Account, Setup};
+use account_lock::{Account, Identity};
 use futures::channel::oneshot;
 use http_connection::{Machine, Pulse, Signals};
 use long_poll::{Clock, OneShotBell};
@@ -54,10 +54,10 @@ fn is_of_newcomer(kind: io::ErrorKind) -> bool {
 /// Starts the thread of a connection, which says its last at the end.
 fn start_thread<
     R: Machine,
-    S: Setup + Drop + Send + Sync + 'static,
+    S: Identity + Drop + Send + Sync + 'static,
     N: Clock + Drop + Send + Sync + 'static,
     K: Keep + Send + 'static,
->(visit: Visit<R, S, N, K>, ended: Arc<Ended>, at: usize) -> io::Result<JoinHandle<()>> {
+>(visit: Accepted<R, S, N, K>, ended: Arc<Ended>, at: usize) -> io::Result<JoinHandle<()>> {
     let rt = visit.rt;
     thread::Builder::new()
         .stack_size(STACK)
@@ -70,7 +70,7 @@ fn start_thread<
 /// Takes connections in, each on a thread of its own, and sees them out: the account and the clock,
 /// the tally from which those of the connections are split, and the places of the connections.
 #[derive(Drop)]
-pub(crate) struct Reception<R, S: Setup, N, K: Keep> {
+pub(crate) struct Reception<R, S: Identity, N, K: Keep> {
     pub(crate) rt: R,
     pub(crate) account: Arc<Account<S, OneShotBell>>,
     pub(crate) clock: Arc<N>,
@@ -86,7 +86,7 @@ pub(crate) struct Reception<R, S: Setup, N, K: Keep> {
 
 impl<
     R: Machine,
-    S: Setup + Drop + Send + Sync + 'static,
+    S: Identity + Drop + Send + Sync + 'static,
     N: Clock + Drop + Send + Sync + 'static,
     K: Keep + Send + 'static,
 > Reception<R, S, N, K> {
@@ -114,7 +114,7 @@ impl<
         let (soft, soft_end) = oneshot::channel(alloc)?;
         let (hard, hard_end) = oneshot::channel(alloc)?;
         let pulse = Arc::new(alloc, Pulse::new()).map_err(AllocError::from)?;
-        let visit = Visit {
+        let visit = Accepted {
             rt: self.rt,
             socket,
             door: door.share()?,

@@ -3,7 +3,7 @@
 ghost use Rattle.std.specs.Prelude.{◌<◌, ◌^◌};
 
 use account_book::{Life, Refusal};
-use account_lock::{Account, Setup};
+use account_lock::{Account, Identity};
 use arn_ids::GREATEST_MOMENT;
 use call_model::Call;
 use long_poll::{Clock, OneShotBell};
@@ -26,7 +26,7 @@ pub(crate) fn moment<N: Clock>(clock: &N) -> u64
 }
 
 /// Submits a `Tick` where something is due. Gives whether that was refused for a full journal.
-fn tick<S: Setup, N: Clock, K: Keep>(
+fn tick<S: Identity, N: Clock, K: Keep>(
     rt: &impl Wait,
     account: &Account<S, OneShotBell>,
     clock: &N,
@@ -45,7 +45,7 @@ fn tick<S: Setup, N: Clock, K: Keep>(
 /// Ticks until the service has come to its end, and then says so, or until it is told that it has.
 /// After a Stop the end is there once every environment is off, or where a full journal lets no
 /// more time pass. Gives the tally back.
-pub(crate) fn tick_on<R: Wait + time::Clock, S: Setup, N: Clock, K: Keep>(
+pub(crate) fn tick_on<R: Wait + time::Clock, S: Identity, N: Clock, K: Keep>(
     rt: &R,
     account: &Account<S, OneShotBell>,
     clock: &N,

@@ -6,7 +6,7 @@ ghost use Rattle.lambda_local.specs.Ending.{AreSettled};
 
 use crate::clock::UnixClock;
 use crate::serve_fault::ServeFault;
-use account_lock::{Settled, Setup};
+use account_lock::{Identity, Settled};
 use call_model::Stats;
 use http_front::{Host, Hosted, Machine, Plan};
 use lambda_wire::read_config;
@@ -41,7 +41,7 @@ where
 ///
 /// # Errors
 /// `Settlement` where it is not, else `OutOfMemory`.
-fn settled<S: Setup>(hosted: Hosted<S, KeepNone>) -> Result<Stats, ServeFault>
+fn settled<S: Identity>(hosted: Hosted<S, KeepNone>) -> Result<Stats, ServeFault>
     ensures { IfOk result (AreSettled S.config hosted.tallies.items) }
 {
     let Hosted { account, tallies } = hosted;
@@ -52,7 +52,7 @@ fn settled<S: Setup>(hosted: Hosted<S, KeepNone>) -> Result<Stats, ServeFault>
 /// Serves a plan until it is stopped, settles, and gives the account's counts: those that the tallies
 /// of all its threads add up to. `S` names the configuration, the salt, the ledgers and the history of
 /// the account.
-fn serve_plan<R: Machine + Log, S: Setup + Drop + Send + Sync + 'static>(
+fn serve_plan<R: Machine + Log, S: Identity + Drop + Send + Sync + 'static>(
     rt: R,
     plan: Plan,
     patience: u32,

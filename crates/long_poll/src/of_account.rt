@@ -12,7 +12,7 @@ ghost use Rattle.account_lock.specs.Shown.{IsTextOf, Sees, Shown};
 ghost use Rattle.long_poll.specs.Submits.{Submits};
 
 use crate::{OneShotBell, Service};
-use account_lock::{Account, Declined, Look, Refused, Setup};
+use account_lock::{Account, Declined, Identity, Look, Refused};
 use arn_ids::FnNo;
 use call_model::{Call, Stats, Ticket};
 use lambda_wire::Reply;
@@ -23,7 +23,7 @@ use usage_ledger::{Front, Keep, Tally};
 // A submit gives a front that has seen the history which the call made. What is read with it is of a
 // history that goes on where that one ends; what is read without a front is of some history that calls led
 // to.
-impl<S: Setup + Drop, K: Keep> Service<K, S> for Account<S, OneShotBell> {
+impl<S: Identity + Drop, K: Keep> Service<K, S> for Account<S, OneShotBell> {
     ghost serves = { λ _. S.config };
 
     ghost submits = { λ _ before now call bell result after. Submits S.config K.notes K.makes before now call bell result after };

@@ -1,14 +1,14 @@
 //! Answers, as lines have them.
 
 use crate::lines::{LineFault, say};
-use call_model::{Answer, Reason, Refusal, Ticket};
+use call_model::{Answer, Reason, Rejection, Ticket};
 use std::alloc::Global;
 
 /// The answers that a table can name. An event has no number yet.
 const ANSWERS: [(&str, Answer); 7] = [
     ("accepted", Answer::Accepted),
-    ("state", Answer::Refused(Refusal::State)),
-    ("container", Answer::Refused(Refusal::Container)),
+    ("state", Answer::Refused(Rejection::State)),
+    ("container", Answer::Refused(Rejection::Container)),
     (
         "told",
         Answer::Told {

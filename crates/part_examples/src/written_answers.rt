@@ -1,7 +1,7 @@
 //! Answers by their words.
 
 use crate::lines::{LineFault, Words, short};
-use call_model::{Answer, Reason, Refusal, Throttle};
+use call_model::{Answer, Reason, Rejection, Throttle};
 
 /// The answers that are one word.
 const PLAIN: [(&str, Answer); 21] = [
@@ -19,16 +19,19 @@ const PLAIN: [(&str, Answer); 21] = [
     ("stopped", Answer::Stopped),
     ("withdrawn", Answer::Withdrawn),
     ("unreserved", Answer::Unreserved),
-    ("state", Answer::Refused(Refusal::State)),
-    ("replaced", Answer::Refused(Refusal::Replaced)),
-    ("bad-id", Answer::Refused(Refusal::BadId)),
-    ("unknown", Answer::Refused(Refusal::Unknown)),
-    ("too-large", Answer::Refused(Refusal::TooLarge)),
-    ("container", Answer::Refused(Refusal::Container)),
-    ("name-in-use", Answer::Refused(Refusal::NameInUse)),
-    ("too-many", Answer::Refused(Refusal::TooMany)),
-    ("not-idle", Answer::Refused(Refusal::NotIdle)),
-    ("bad-reservation", Answer::Refused(Refusal::BadReservation)),
+    ("state", Answer::Refused(Rejection::State)),
+    ("replaced", Answer::Refused(Rejection::Replaced)),
+    ("bad-id", Answer::Refused(Rejection::BadId)),
+    ("unknown", Answer::Refused(Rejection::Unknown)),
+    ("too-large", Answer::Refused(Rejection::TooLarge)),
+    ("container", Answer::Refused(Rejection::Container)),
+    ("name-in-use", Answer::Refused(Rejection::NameInUse)),
+    ("too-many", Answer::Refused(Rejection::TooMany)),
+    ("not-idle", Answer::Refused(Rejection::NotIdle)),
+    (
+        "bad-reservation",
+        Answer::Refused(Rejection::BadReservation),
+    ),
 ];
 
 fn plain(word: &str) -> Result<Answer, LineFault> {

@@ -21,8 +21,8 @@ use Rattle.arn_ids.specs.declared.config.Function.{Function}
 use Rattle.std.proofs.lemmas.Bool.{ltb-true, ltb-false}
 use Rattle.arn_ids.proofs.Bounds.{name_is, account_is, region_is}
 use Rattle.call_model.specs.declared.call.Call.{Call}
-use Rattle.call_model.specs.declared.answer.Refusal.{Refusal}
-use Rattle.call_model.specs.declared.answer.Refusal.TheVariants.{State, Replaced, BadId, Unknown, TooLarge, Container, NameInUse, TooMany, NotIdle, BadReservation}
+use Rattle.call_model.specs.declared.answer.Rejection.{Rejection}
+use Rattle.call_model.specs.declared.answer.Rejection.TheVariants.{State, Replaced, BadId, Unknown, TooLarge, Container, NameInUse, TooMany, NotIdle, BadReservation}
 use Rattle.replies.specs.Words.{function_number, invoked_function, is_qualified, arn_text, no_trace}
 use Rattle.replies.specs.Refusals.{refusal_words}
 use Rattle.replies.proofs.NoFunction.{beyond}
@@ -109,7 +109,7 @@ arn_fits config call sound =
     spelled_fits config.home.region config.home.account (invoked_function config call).name (qualifier_text (is_qualified call))
     (region_fits config sound) (account_fits config sound) (name_fits config (function_number call) sound) (qualifier_fits (is_qualified call))
 
-kind_passes : (refusal : Refusal) → list_all is_value_byte (refusal_words refusal).1 ≡ true
+kind_passes : (refusal : Rejection) → list_all is_value_byte (refusal_words refusal).1 ≡ true
 kind_passes State = refl
 kind_passes Replaced = refl
 kind_passes BadId = refl
@@ -121,5 +121,5 @@ kind_passes TooMany = refl
 kind_passes NotIdle = refl
 kind_passes BadReservation = refl
 
-pub kind_fits : (refusal : Refusal) → IsFieldValue (refusal_words refusal).1
+pub kind_fits : (refusal : Rejection) → IsFieldValue (refusal_words refusal).1
 kind_fits refusal = AllPass-from_test is_value_byte (refusal_words refusal).1 (kind_passes refusal)

@@ -4,11 +4,11 @@ use Rattle.std.specs.Prelude.{ℕ, List, codes}
 use Rattle.lambda_wire.specs.Replies.{fault_reply, invoke_fault_reply}
 use Rattle.lambda_wire.specs.declared.body_writer.InvokeFault.TheVariants.{User}
 use Rattle.lambda_wire.specs.declared.reply.Reply.{Reply}
-use Rattle.call_model.specs.declared.answer.Refusal.{Refusal}
-use Rattle.call_model.specs.declared.answer.Refusal.TheVariants.{State, Replaced, BadId, Unknown, TooLarge, Container, NameInUse, TooMany, NotIdle, BadReservation}
+use Rattle.call_model.specs.declared.answer.Rejection.{Rejection}
+use Rattle.call_model.specs.declared.answer.Rejection.TheVariants.{State, Replaced, BadId, Unknown, TooLarge, Container, NameInUse, TooMany, NotIdle, BadReservation}
 
 -- The status, the type and the message of a refusal.
-abbrev pub refusal_words : Refusal → ℕ × List ℕ × List ℕ
+abbrev pub refusal_words : Rejection → ℕ × List ℕ × List ℕ
 refusal_words State = (403, codes "InvalidStateTransition", codes "Not allowed in the current phase")
 refusal_words Replaced = (403, codes "InvalidStateTransition", codes "A newer poll replaced this one")
 refusal_words BadId = (400, codes "InvalidRequestID", codes "Not the open invocation")
@@ -29,7 +29,7 @@ abbrev pub reservation_refusal : ℕ × List ℕ × List ℕ → Reply
 reservation_refusal words = invoke_fault_reply words.0 words.1 User words.2
 
 -- The reply to a refused call.
-unfoldable pub refused : Refusal → Reply
+unfoldable pub refused : Rejection → Reply
 refused BadReservation = reservation_refusal (refusal_words BadReservation)
 refused refusal = plain_refusal (refusal_words refusal)
 

@@ -3,51 +3,51 @@
 ghost use Rattle.std.specs.Prelude.{◌≡◌, IfOk};
 ghost use Rattle.replies.specs.Refusals as spec;
 
-use call_model::Refusal;
+use call_model::Rejection;
 use lambda_wire::{InvokeFault, Reply, fault_reply, invoke_fault_reply};
 use std::alloc::{AllocError, Global};
 
 /// The status, the type and the message of a refusal.
-fn refusal_words(refusal: Refusal) -> (u16, &'static str, &'static str)
+fn refusal_words(refusal: Rejection) -> (u16, &'static str, &'static str)
     ensures status { result.0 ≡ (spec.refusal_words refusal).0 }
     ensures kind { result.1.now ≡ (spec.refusal_words refusal).1 }
     ensures message { result.2.now ≡ (spec.refusal_words refusal).2 }
 {
     match refusal {
-        Refusal::State => (
+        Rejection::State => (
             403,
             "InvalidStateTransition",
             "Not allowed in the current phase",
         ),
-        Refusal::Replaced => (
+        Rejection::Replaced => (
             403,
             "InvalidStateTransition",
             "A newer poll replaced this one",
         ),
-        Refusal::BadId => (400, "InvalidRequestID", "Not the open invocation"),
-        Refusal::Unknown => (
+        Rejection::BadId => (400, "InvalidRequestID", "Not the open invocation"),
+        Rejection::Unknown => (
             403,
             "Extension.UnknownIdentifier",
             "Extension is not registered here",
         ),
-        Refusal::TooLarge => (
+        Rejection::TooLarge => (
             413,
             "RequestEntityTooLarge",
             "Payload exceeds 6291456 bytes",
         ),
-        Refusal::Container => (500, "ContainerError", "Environment is shutting down"),
-        Refusal::NameInUse => (
+        Rejection::Container => (500, "ContainerError", "Environment is shutting down"),
+        Rejection::NameInUse => (
             403,
             "Extension.AlreadyRegistered",
             "Extension name is in use",
         ),
-        Refusal::TooMany => (
+        Rejection::TooMany => (
             403,
             "Extension.TooManyExtensions",
             "Ten extensions are registered",
         ),
-        Refusal::NotIdle => (409, "NotIdle", "Environment is not idle"),
-        Refusal::BadReservation => (
+        Rejection::NotIdle => (409, "NotIdle", "Environment is not idle"),
+        Rejection::BadReservation => (
             400,
             "InvalidParameterValueException",
             "Reservation is out of range",
@@ -57,12 +57,12 @@ fn refusal_words(refusal: Refusal) -> (u16, &'static str, &'static str)
 
 /// The reply to a refused call.
 #[tactic(auto, unfolding(crate::specs::Refusals::refused))]
-pub(crate) fn refused(alloc: Global, refusal: Refusal) -> Result<Reply, AllocError>
+pub(crate) fn refused(alloc: Global, refusal: Rejection) -> Result<Reply, AllocError>
     ensures { IfOk result (λ r. r ≡ spec.refused refusal) }
 {
     let (status, kind, message) = refusal_words(refusal);
     match refusal {
-        Refusal::BadReservation => {
+        Rejection::BadReservation => {
             invoke_fault_reply(alloc, status, kind, InvokeFault::User, message)
         }
         _ => fault_reply(alloc, status, message, kind),

@@ -18,8 +18,8 @@ use Rattle.call_model.specs.declared.answer.Reason.{Reason}
 use Rattle.call_model.specs.declared.answer.Reason.TheVariants.{Timeout, Failure as Failed, Spindown as SpunDown}
 use Rattle.call_model.specs.declared.answer.Throttle.{Throttle}
 use Rattle.call_model.specs.declared.answer.Throttle.TheVariants.{Function, Account, Environments}
-use Rattle.call_model.specs.declared.answer.Refusal.{Refusal}
-use Rattle.call_model.specs.declared.answer.Refusal.TheVariants.{State, Replaced, BadId, Unknown, TooLarge, Container, NameInUse, TooMany, NotIdle, BadReservation}
+use Rattle.call_model.specs.declared.answer.Rejection.{Rejection}
+use Rattle.call_model.specs.declared.answer.Rejection.TheVariants.{State, Replaced, BadId, Unknown, TooLarge, Container, NameInUse, TooMany, NotIdle, BadReservation}
 use Rattle.call_model.specs.History.{call_of}
 use Rattle.call_model.specs.Within.{is_body, is_trace, IsTrace, IsWithin}
 use Rattle.script.specs.TextFields.{text_field}
@@ -181,7 +181,7 @@ throttle_fits Function = fits_word 64 (codes "ReservedFunctionConcurrentInvocati
 throttle_fits Account = fits_word 64 (codes "ConcurrentInvocationLimitExceeded") refl
 throttle_fits Environments = fits_word 64 (codes "LocalEnvironmentLimitExceeded") refl
 
-refusal_fits : (refusal : Refusal) → Fits 16 (refusal_word refusal)
+refusal_fits : (refusal : Rejection) → Fits 16 (refusal_word refusal)
 refusal_fits State = fits_word 16 (codes "State") refl
 refusal_fits Replaced = fits_word 16 (codes "Replaced") refl
 refusal_fits BadId = fits_word 16 (codes "BadId") refl

@@ -8,8 +8,8 @@ use Rattle.arn_ids.specs.declared.config.Config.{Config}
 use Rattle.call_model.specs.declared.call.Entry.{Entry}
 use Rattle.call_model.specs.declared.answer.Answer.{Answer}
 use Rattle.call_model.specs.declared.answer.Answer.TheVariants.{Delivered, Told, Ending, Registered, Accepted, Done, Output, Error, TimedOut, InitTimedOut, OutputTooLarge, Throttled, Stopped, Withdrawn, Refused, Reserved, Unreserved}
-use Rattle.call_model.specs.declared.answer.Refusal.{Refusal}
-use Rattle.call_model.specs.declared.answer.Refusal.TheVariants.{State, Replaced, BadId, Unknown, TooLarge, Container, NameInUse, TooMany, NotIdle, BadReservation}
+use Rattle.call_model.specs.declared.answer.Rejection.{Rejection}
+use Rattle.call_model.specs.declared.answer.Rejection.TheVariants.{State, Replaced, BadId, Unknown, TooLarge, Container, NameInUse, TooMany, NotIdle, BadReservation}
 use Rattle.call_model.specs.History.{call_of, env_of, upto}
 use Rattle.call_model.specs.Calls.{invoked, body_of}
 use Rattle.call_model.specs.Words.{reason_word, throttle_word}
@@ -30,7 +30,7 @@ abbrev pub body_word : List Entry → ℕ → List ℕ
 body_word h t = text_field (body_of (call_of h t))
 
 -- why a call is refused
-abbrev pub refusal_word : Refusal → List ℕ
+abbrev pub refusal_word : Rejection → List ℕ
 refusal_word State = codes "State"
 refusal_word Replaced = codes "Replaced"
 refusal_word BadId = codes "BadId"

@@ -12,24 +12,24 @@ use crate::call_writer::push_call;
 use crate::past_words::{body_word, env_word, request_word};
 use crate::words::{Word, end_line, push_spaced, push_word, push_words};
 use arn_ids::{Checked, IdKind};
-use call_model::{Answer, Entry, Past, Refusal, Ticket};
+use call_model::{Answer, Entry, Past, Rejection, Ticket};
 use entry_blocks::Blocks;
 use std::alloc::AllocError;
 
-fn refusal_text(refusal: Refusal) -> &'static str
+fn refusal_text(refusal: Rejection) -> &'static str
     ensures { result.now ≡ refusal_word refusal }
 {
     match refusal {
-        Refusal::State => "State",
-        Refusal::Replaced => "Replaced",
-        Refusal::BadId => "BadId",
-        Refusal::Unknown => "Unknown",
-        Refusal::TooLarge => "TooLarge",
-        Refusal::Container => "Container",
-        Refusal::NameInUse => "NameInUse",
-        Refusal::TooMany => "TooMany",
-        Refusal::NotIdle => "NotIdle",
-        Refusal::BadReservation => "BadReservation",
+        Rejection::State => "State",
+        Rejection::Replaced => "Replaced",
+        Rejection::BadId => "BadId",
+        Rejection::Unknown => "Unknown",
+        Rejection::TooLarge => "TooLarge",
+        Rejection::Container => "Container",
+        Rejection::NameInUse => "NameInUse",
+        Rejection::TooMany => "TooMany",
+        Rejection::NotIdle => "NotIdle",
+        Rejection::BadReservation => "BadReservation",
     }
 }
 

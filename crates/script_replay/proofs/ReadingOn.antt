@@ -6,14 +6,14 @@ use Rattle.std.specs.Io.KnownBytes.{Keeps, Consumes, IsAtEnd}
 use Rattle.std.specs.Str.Lines.{lines}
 use Rattle.account_book.specs.Run.{AtStart}
 use Rattle.script_replay.specs.Replays.{IsOpen, Played, Ended, StoppedAt, Replays, Stops}
-use Rattle.script_replay.specs.Steps.{Stand, AreWhole, Going, StoppedIn, last_lines}
+use Rattle.script_replay.specs.Steps.{Position, AreWhole, Going, StoppedIn, last_lines}
 use Rattle.script_replay.specs.declared.fault.ReplayFault.{ReplayFault}
 use Rattle.script_replay.specs.declared.fault.ReplayFault.TheVariants as faults
 use Rattle.script_replay.proofs.LineEnds.{one_line, more_lines}
 use Rattle.script_replay.proofs.Composing.{played_more, stopped_after, ended_after}
 
 -- what was read of the input, all but the rest, is the lines that were taken and what is pending
-pub record Reading (input rest : List ℕ) (now : Stand) (old new : Option (List ℕ)) : Type 0 where
+pub record Reading (input rest : List ℕ) (now : Position) (old new : Option (List ℕ)) : Type 0 where
   pub whole : List ℕ
   pub taken : List (List ℕ)
   pub split : input ≡ whole ++ (now.pending ++ rest)
@@ -22,26 +22,26 @@ pub record Reading (input rest : List ℕ) (now : Stand) (old new : Option (List
   pub counted : now.line ≡ length taken
   pub free : IsOpen now.pending
 
-lines_read : (input rest : List ℕ) (now : Stand) (old new : Option (List ℕ)) (r : Reading input rest now old new) → lines input ≡ r.taken ++ lines (now.pending ++ rest)
+lines_read : (input rest : List ℕ) (now : Position) (old new : Option (List ℕ)) (r : Reading input rest now old new) → lines input ≡ r.taken ++ lines (now.pending ++ rest)
 lines_read input rest now old new r = ap lines r.split ∙ r.cut.cut (now.pending ++ rest)
 
-abbrev pub ReadSoFar : Option (List ℕ) → Option (List ℕ) → Stand → Option (List ℕ) → Option (List ℕ) → Type 0
+abbrev pub ReadSoFar : Option (List ℕ) → Option (List ℕ) → Position → Option (List ℕ) → Option (List ℕ) → Type 0
 ReadSoFar None left now old new = IsOpen now.pending
 ReadSoFar (Some input) None now old new = ⊥
 ReadSoFar (Some input) (Some rest) now old new = Reading input rest now old new
 
-pub read_kept : (first left after : Option (List ℕ)) (now : Stand) (old new : Option (List ℕ)) → ReadSoFar first left now old new → Keeps left after → ReadSoFar first after now old new
+pub read_kept : (first left after : Option (List ℕ)) (now : Position) (old new : Option (List ℕ)) → ReadSoFar first left now old new → Keeps left after → ReadSoFar first after now old new
 read_kept None left after now old new r kept = r
 read_kept (Some input) None after now old new r kept = absurd r
 read_kept (Some input) (Some rest) None now old new r kept = absurd kept
 read_kept (Some input) (Some rest) (Some more) now old new r kept = rw kept r
 
-piece_split : (s now : Stand) (piece rest more : List ℕ) (old new : Option (List ℕ)) → rest ≡ piece ++ more → (going : Going s now piece [] old new) → s.pending ++ rest ≡ going.whole ++ (now.pending ++ more)
+piece_split : (s now : Position) (piece rest more : List ℕ) (old new : Option (List ℕ)) → rest ≡ piece ++ more → (going : Going s now piece [] old new) → s.pending ++ rest ≡ going.whole ++ (now.pending ++ more)
 piece_split s now piece rest more old new taken going =
     ap (λ (l : List ℕ). s.pending ++ l) taken ∙ sym (append_assoc s.pending piece more) ∙ ap (λ (l : List ℕ). l ++ more) going.split
     ∙ ap (λ (l : List ℕ). (going.whole ++ l) ++ more) (append-nil now.pending) ∙ append_assoc going.whole now.pending more
 
-pub read_piece : (first left after : Option (List ℕ)) (piece : List ℕ) (s now : Stand) (old mid new : Option (List ℕ)) → ReadSoFar first left s old mid → Consumes left after piece → Going s now piece [] mid new
+pub read_piece : (first left after : Option (List ℕ)) (piece : List ℕ) (s now : Position) (old mid new : Option (List ℕ)) → ReadSoFar first left s old mid → Consumes left after piece → Going s now piece [] mid new
     → ReadSoFar first after now old new
 read_piece None left after piece s now old mid new r taken going = going.free
 read_piece (Some input) None after piece s now old mid new r taken going = absurd r
@@ -65,7 +65,7 @@ stops_so input left old new faults.Read stopped = absurd stopped
 stops_so input left old new faults.Write stopped = stopped
 stops_so input left old new faults.OutOfMemory stopped = stopped
 
-pub read_stopped : (first left after : Option (List ℕ)) (piece : List ℕ) (s : Stand) (old mid new : Option (List ℕ)) (e : ReplayFault) → ReadSoFar first left s old mid → Consumes left after piece → StoppedIn s piece mid new e
+pub read_stopped : (first left after : Option (List ℕ)) (piece : List ℕ) (s : Position) (old mid new : Option (List ℕ)) (e : ReplayFault) → ReadSoFar first left s old mid → Consumes left after piece → StoppedIn s piece mid new e
     → IfSome first (λ input. Stops input after old new e)
 read_stopped None left after piece s old mid new e r taken stopped = tt
 read_stopped (Some input) None after piece s old mid new e r taken stopped = absurd r
@@ -74,7 +74,7 @@ read_stopped (Some input) (Some rest) (Some more) piece s old mid new e r taken 
     stops_so input (Some more) old new e
     (stopped_after 1 (s.line + 1) AtStart s.progress r.taken (lines (s.pending ++ (piece ++ more))) _ old mid new e r.done (omega (arith, r.counted)) (lines_read input rest s old mid r ∙ rw taken refl) (stopped more))
 
-pub read_failed : (first left : Option (List ℕ)) (s : Stand) (old new : Option (List ℕ)) → ReadSoFar first left s old new → IfSome first (λ input. Stops input left old new faults.Read)
+pub read_failed : (first left : Option (List ℕ)) (s : Position) (old new : Option (List ℕ)) → ReadSoFar first left s old new → IfSome first (λ input. Stops input left old new faults.Read)
 read_failed None left s old new r = tt
 read_failed (Some input) None s old new r = absurd r
 read_failed (Some input) (Some rest) s old new r =
@@ -98,19 +98,19 @@ last_cut : (pending : List ℕ) → IsOpen pending → lines pending ≡ last_li
 last_cut [] free = refl
 last_cut (b ∷ bs) free = let full : (length (b ∷ bs) == 0) ≡ false = grind (arith, nat_tests) in one_line (b ∷ bs) free ∙ rw full refl
 
-script_ends : (input rest : List ℕ) (s : Stand) (old new : Option (List ℕ)) (r : Reading input rest s old new) → rest ≡ [] → lines input ≡ r.taken ++ last_lines s.pending
+script_ends : (input rest : List ℕ) (s : Position) (old new : Option (List ℕ)) (r : Reading input rest s old new) → rest ≡ [] → lines input ≡ r.taken ++ last_lines s.pending
 script_ends input rest s old new r end =
     lines_read input rest s old new r ∙ ap (λ (l : List ℕ). r.taken ++ lines (s.pending ++ l)) end ∙ ap (λ (l : List ℕ). r.taken ++ lines l) (append-nil s.pending)
     ∙ ap (λ (l : List (List ℕ)). r.taken ++ l) (last_cut s.pending r.free)
 
-pub read_last : (first left : Option (List ℕ)) (s : Stand) (old mid new : Option (List ℕ)) → ReadSoFar first left s old mid → IsAtEnd left
+pub read_last : (first left : Option (List ℕ)) (s : Position) (old mid new : Option (List ℕ)) → ReadSoFar first left s old mid → IsAtEnd left
     → Ended (s.line + 1) s.progress (last_lines s.pending) None mid new → IfSome first (λ input. Replays input old new)
 read_last None left s old mid new r end last = tt
 read_last (Some input) None s old mid new r end last = absurd r
 read_last (Some input) (Some rest) s old mid new r end last =
     ended_after 1 (s.line + 1) AtStart s.progress r.taken (last_lines s.pending) _ old mid new None r.done (omega (arith, r.counted)) (script_ends input rest s old mid r end) last
 
-pub last_stopped : (first left : Option (List ℕ)) (s : Stand) (old mid new : Option (List ℕ)) (e : ReplayFault) → ReadSoFar first left s old mid → IsAtEnd left
+pub last_stopped : (first left : Option (List ℕ)) (s : Position) (old mid new : Option (List ℕ)) (e : ReplayFault) → ReadSoFar first left s old mid → IsAtEnd left
     → StoppedAt (s.line + 1) s.progress (last_lines s.pending) mid new e → IfSome first (λ input. Stops input left old new e)
 last_stopped None left s old mid new e r end stopped = tt
 last_stopped (Some input) None s old mid new e r end stopped = absurd r
@@ -118,7 +118,7 @@ last_stopped (Some input) (Some rest) s old mid new e r end stopped =
     stops_so input (Some rest) old new e
     (stopped_after 1 (s.line + 1) AtStart s.progress r.taken (last_lines s.pending) _ old mid new e r.done (omega (arith, r.counted)) (script_ends input rest s old mid r end) stopped)
 
-pub read_nothing : (first left after : Option (List ℕ)) (buf : List ℕ) (n : ℕ) (now : Stand) (old new : Option (List ℕ)) → ReadSoFar first left now old new → Consumes left after (take n buf) → n ≡ 0 → ReadSoFar first after now old new
+pub read_nothing : (first left after : Option (List ℕ)) (buf : List ℕ) (n : ℕ) (now : Position) (old new : Option (List ℕ)) → ReadSoFar first left now old new → Consumes left after (take n buf) → n ≡ 0 → ReadSoFar first after now old new
 read_nothing None left after buf n now old new r taken zero = r
 read_nothing (Some input) None after buf n now old new r taken zero = absurd r
 read_nothing (Some input) (Some rest) None buf n now old new r taken zero = absurd taken

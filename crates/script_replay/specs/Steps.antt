@@ -18,7 +18,7 @@ pub record Took {A : Type 0} (taken : Result (A × List ℕ) ScriptFault) (next 
   pub grown : new ≡ old ++ text
 
 -- where a replay stands between two bytes: its progress, the lines so far, and what was read of the next line
-pub record Stand : Type 0 where
+pub record Position : Type 0 where
   pub progress : Progress
   pub line : ℕ
   pub pending : List ℕ
@@ -29,7 +29,7 @@ pub record AreWhole (whole : List ℕ) (taken : List (List ℕ)) : Type 0 where
   pub cut : (more : List ℕ) → lines (whole ++ more) ≡ taken ++ lines more
 
 -- Of a piece all but the rest was taken, and then more may come.
-pub record Going (first now : Stand) (piece rest : List ℕ) (old new : Option (List ℕ)) : Type 0 where
+pub record Going (first now : Position) (piece rest : List ℕ) (old new : Option (List ℕ)) : Type 0 where
   pub whole : List ℕ
   pub taken : List (List ℕ)
   pub split : first.pending ++ piece ≡ whole ++ (now.pending ++ rest)
@@ -40,7 +40,7 @@ pub record Going (first now : Stand) (piece rest : List ℕ) (old new : Option (
   pub free : IsOpen now.pending
 
 -- what holds at a fault within a piece, whatever comes after it
-abbrev pub StoppedIn : Stand → List ℕ → Option (List ℕ) → Option (List ℕ) → ReplayFault → Type 0
+abbrev pub StoppedIn : Position → List ℕ → Option (List ℕ) → Option (List ℕ) → ReplayFault → Type 0
 StoppedIn first piece old new e = (more : List ℕ) → StoppedAt (first.line + 1) first.progress (lines (first.pending ++ (piece ++ more))) old new e
 
 -- the last line, which no line feed ends, if there is one

@@ -1,6 +1,6 @@
 -- A replay as contracts see it.
 use Rattle.account_book.specs.Run as run
-use Rattle.script_replay.specs.Steps.{Stand}
+use Rattle.script_replay.specs.Steps.{Position}
 use Rattle.script_replay.specs.declared.line.Progress.{Progress}
 use Rattle.script_replay.specs.declared.line.Progress.TheVariants.{AtStart, AfterForm, Taking}
 use Rattle.script_replay.specs.declared.player.Player.{Player}
@@ -12,5 +12,5 @@ seen AfterForm = run.AfterForm
 seen (Taking reserves book) = run.Taking reserves book
 
 -- where it stands between two bytes
-abbrev pub stand : Player → Stand
+abbrev pub stand : Player → Position
 stand p = record { progress = seen p.progress; line = p.line; pending = p.pending.items }

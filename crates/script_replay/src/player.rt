@@ -4,7 +4,7 @@ ghost use Rattle.std.specs.Prelude.{◌≡◌, ◌+◌, ◌<◌, ◌≤◌, ◌^
 ghost use Rattle.std.specs.Io.KnownBytes.{IsAtEnd};
 ghost use Rattle.std.specs.Str.Lines.{lines, strip_carriage_return};
 ghost use Rattle.script_replay.specs.Replays.{IsOpen, Played, Ended, StoppedAt, Replays, Stops};
-ghost use Rattle.script_replay.specs.Steps.{Stand, EndsLine, Going, StoppedIn, last_lines};
+ghost use Rattle.script_replay.specs.Steps.{Position, EndsLine, Going, StoppedIn, last_lines};
 ghost use Rattle.script_replay.specs.Views.{seen, stand};
 
 use crate::fault::ReplayFault;

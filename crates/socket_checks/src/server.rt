@@ -2,7 +2,7 @@
 
 ghost use Rattle.std.specs.Prelude.{◌≡◌, ◌^◌};
 
-use account_lock::{SettleFault, Setup};
+use account_lock::{Identity, SettleFault};
 use call_model::Stats;
 use http_front::{Host, HostFault, Hosted, Machine, Plan};
 use lambda_wire::read_config;
@@ -81,7 +81,7 @@ fn count<K: Keep, L: Ledgers>(tallies: &[Tally<K, L>]) -> (u64, u64) {
 }
 
 /// Opens a host, runs it to its end, and settles its account.
-fn run<R: Machine, S: Setup + Drop + Send + Sync + 'static>(
+fn run<R: Machine, S: Identity + Drop + Send + Sync + 'static>(
     rt: R,
     plan: Plan,
     order: &Order,

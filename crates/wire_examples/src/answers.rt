@@ -1,6 +1,6 @@
 //! Answers by their words.
 
-use call_model::{Answer, Reason, Refusal, Throttle};
+use call_model::{Answer, Reason, Rejection, Throttle};
 use case_tables::{CaseFault, Part};
 
 fn number_in(text: &str) -> Option<u64> {
@@ -25,18 +25,18 @@ fn throttle_in(word: &str) -> Option<Throttle> {
     }
 }
 
-fn refusal_in(word: &str) -> Option<Refusal> {
+fn refusal_in(word: &str) -> Option<Rejection> {
     match word {
-        "State" => Some(Refusal::State),
-        "Replaced" => Some(Refusal::Replaced),
-        "BadId" => Some(Refusal::BadId),
-        "Unknown" => Some(Refusal::Unknown),
-        "TooLarge" => Some(Refusal::TooLarge),
-        "Container" => Some(Refusal::Container),
-        "NameInUse" => Some(Refusal::NameInUse),
-        "TooMany" => Some(Refusal::TooMany),
-        "NotIdle" => Some(Refusal::NotIdle),
-        "BadReservation" => Some(Refusal::BadReservation),
+        "State" => Some(Rejection::State),
+        "Replaced" => Some(Rejection::Replaced),
+        "BadId" => Some(Rejection::BadId),
+        "Unknown" => Some(Rejection::Unknown),
+        "TooLarge" => Some(Rejection::TooLarge),
+        "Container" => Some(Rejection::Container),
+        "NameInUse" => Some(Rejection::NameInUse),
+        "TooMany" => Some(Rejection::TooMany),
+        "NotIdle" => Some(Rejection::NotIdle),
+        "BadReservation" => Some(Rejection::BadReservation),
         _ => None,
     }
 }

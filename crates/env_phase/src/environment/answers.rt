@@ -9,7 +9,7 @@ ghost use Rattle.env_phase.specs.Rows.{ext_answers, named_answer, report_answers
 
 use super::Environment;
 use arn_ids::Text;
-use call_model::{Answer, Call, Phase, Refusal};
+use call_model::{Answer, Call, Phase, Rejection};
 use extension_set::RegisterFault;
 
 /// A Next that parks.
@@ -17,13 +17,13 @@ const PARKS: Option<Answer> = None;
 
 const ACCEPTED: Option<Answer> = Some(Answer::Accepted);
 
-const STATE: Option<Answer> = Some(Answer::Refused(Refusal::State));
+const STATE: Option<Answer> = Some(Answer::Refused(Rejection::State));
 
-const CONTAINER: Option<Answer> = Some(Answer::Refused(Refusal::Container));
+const CONTAINER: Option<Answer> = Some(Answer::Refused(Rejection::Container));
 
-const NOT_IDLE: Option<Answer> = Some(Answer::Refused(Refusal::NotIdle));
+const NOT_IDLE: Option<Answer> = Some(Answer::Refused(Rejection::NotIdle));
 
-const UNKNOWN: Option<Answer> = Some(Answer::Refused(Refusal::Unknown));
+const UNKNOWN: Option<Answer> = Some(Answer::Refused(Rejection::Unknown));
 
 /// Whether the answer is that to an extension which is registered.
 pub(super) fn is_registered(own: Option<Answer>) -> bool
@@ -46,7 +46,7 @@ impl Environment {
                 self.report_row(*id, Answer::Accepted)
             }
             Call::ResponseTooLarge { id, .. } => {
-                self.report_row(*id, Answer::Refused(Refusal::TooLarge))
+                self.report_row(*id, Answer::Refused(Rejection::TooLarge))
             }
             Call::InitFailure { .. } => self.row(ACCEPTED, STATE, STATE, STATE, STATE, CONTAINER),
             Call::Register { name, .. } => {
@@ -137,7 +137,7 @@ impl Environment {
         if self.request == Some(id) {
             Some(answer)
         } else {
-            Some(Answer::Refused(Refusal::BadId))
+            Some(Answer::Refused(Rejection::BadId))
         }
     }
 
@@ -150,8 +150,8 @@ impl Environment {
             Ok(()) => Answer::Registered {
                 count: self.registrations + 1,
             },
-            Err(RegisterFault::NameInUse) => Answer::Refused(Refusal::NameInUse),
-            Err(RegisterFault::TooMany) => Answer::Refused(Refusal::TooMany),
+            Err(RegisterFault::NameInUse) => Answer::Refused(Rejection::NameInUse),
+            Err(RegisterFault::TooMany) => Answer::Refused(Rejection::TooMany),
         })
     }
 

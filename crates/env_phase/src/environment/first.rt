@@ -13,7 +13,7 @@ use super::Environment;
 use super::answers::is_registered;
 use crate::Step;
 use crate::phases::at_hand;
-use call_model::{Answer, Call, Phase, Refusal, Ticket};
+use call_model::{Answer, Call, Phase, Rejection, Ticket};
 use extension_set::{Moves, Turn};
 
 /// What the runtime's parked Next gets where its newer Next replaces it, or a Withdraw names it.
@@ -21,7 +21,7 @@ fn replaced(ticket: Ticket, call: &Call) -> Option<Answer>
     ensures { result ≡ replaced ticket call.now RuntimePoll }
 {
     match call {
-        Call::RuntimeNext { .. } => Some(Answer::Refused(Refusal::Replaced)),
+        Call::RuntimeNext { .. } => Some(Answer::Refused(Rejection::Replaced)),
         Call::Withdraw { ticket: named } => {
             if *named == ticket {
                 Some(Answer::Withdrawn)
@@ -108,7 +108,7 @@ impl Environment {
     {
         match (self.runtime, turn.closes) {
             (None, _) => None,
-            (Some(_), Some(_)) => Some(Answer::Refused(Refusal::Container)),
+            (Some(_), Some(_)) => Some(Answer::Refused(Rejection::Container)),
             (Some(ticket), None) => replaced(ticket, call),
         }
     }

@@ -62,60 +62,60 @@ room_then config h now call place all pool requests e widest k r narrow =
     (rw (site_is_at all e no_site f.0 f.2) (All-get_or (λ (s : Site). length s.environment.stand.members ≤ widest) all (e - 1) no_site (omega (arith, f.0, f.2)) narrow))
 
 pub take_at-requires-clause-from_one : goal.take_at-requires-clause-from_one
-take_at-requires-clause-from_one c = (found c.args.config.now (reverse c.args.entries.now.0) c.args.visit.moment c.args.visit.call.now c.args.place c.args.fleet.now.sites c.args.fleet.now.pool c.args.visit.requests.now c.in-At.env (record { legal = c.requires.legal; all_known = c.requires.all_known; follows = c.requires.follows; known = c.requires.known; placed = c.requires.placed; is = c.requires.sites; pool_is = c.requires.pool; counts = c.requires.counts }) (sym c.of.ensures ∙ c.in-At.is)).0
+take_at-requires-clause-from_one c = (found c.args.config.now (reverse c.args.entries.now.0) c.args.arrival.moment c.args.arrival.call.now c.args.place c.args.fleet.now.sites c.args.fleet.now.pool c.args.arrival.requests.now c.in-At.env (record { legal = c.requires.legal; all_known = c.requires.all_known; follows = c.requires.follows; known = c.requires.known; placed = c.requires.placed; is = c.requires.sites; pool_is = c.requires.pool; counts = c.requires.counts }) (sym c.of.ensures ∙ c.in-At.is)).0
 
 pub take_at-requires-clause-there : goal.take_at-requires-clause-there
-take_at-requires-clause-there c = (found c.args.config.now (reverse c.args.entries.now.0) c.args.visit.moment c.args.visit.call.now c.args.place c.args.fleet.now.sites c.args.fleet.now.pool c.args.visit.requests.now c.in-At.env (record { legal = c.requires.legal; all_known = c.requires.all_known; follows = c.requires.follows; known = c.requires.known; placed = c.requires.placed; is = c.requires.sites; pool_is = c.requires.pool; counts = c.requires.counts }) (sym c.of.ensures ∙ c.in-At.is)).2
+take_at-requires-clause-there c = (found c.args.config.now (reverse c.args.entries.now.0) c.args.arrival.moment c.args.arrival.call.now c.args.place c.args.fleet.now.sites c.args.fleet.now.pool c.args.arrival.requests.now c.in-At.env (record { legal = c.requires.legal; all_known = c.requires.all_known; follows = c.requires.follows; known = c.requires.known; placed = c.requires.placed; is = c.requires.sites; pool_is = c.requires.pool; counts = c.requires.counts }) (sym c.of.ensures ∙ c.in-At.is)).2
 
 pub take_at-requires-clause-short : goal.take_at-requires-clause-short
-take_at-requires-clause-short c = known_short c.args.config.now c.args.visit.call.now c.requires.known
+take_at-requires-clause-short c = known_short c.args.config.now c.args.arrival.call.now c.requires.known
 
 pub take_at-requires-clause-few : goal.take_at-requires-clause-few
-take_at-requires-clause-few c = rw ((found c.args.config.now (reverse c.args.entries.now.0) c.args.visit.moment c.args.visit.call.now c.args.place c.args.fleet.now.sites c.args.fleet.now.pool c.args.visit.requests.now c.in-At.env (record { legal = c.requires.legal; all_known = c.requires.all_known; follows = c.requires.follows; known = c.requires.known; placed = c.requires.placed; is = c.requires.sites; pool_is = c.requires.pool; counts = c.requires.counts }) (sym c.of.ensures ∙ c.in-At.is)).3) (few_site c.args.config.now (reverse c.args.entries.now.0) c.in-At.env c.requires.legal (rw (length-reverse c.args.entries.now.0) c.requires.short))
+take_at-requires-clause-few c = rw ((found c.args.config.now (reverse c.args.entries.now.0) c.args.arrival.moment c.args.arrival.call.now c.args.place c.args.fleet.now.sites c.args.fleet.now.pool c.args.arrival.requests.now c.in-At.env (record { legal = c.requires.legal; all_known = c.requires.all_known; follows = c.requires.follows; known = c.requires.known; placed = c.requires.placed; is = c.requires.sites; pool_is = c.requires.pool; counts = c.requires.counts }) (sym c.of.ensures ∙ c.in-At.is)).3) (few_site c.args.config.now (reverse c.args.entries.now.0) c.in-At.env c.requires.legal (rw (length-reverse c.args.entries.now.0) c.requires.short))
 
 pub take_at-requires-clause-room : goal.take_at-requires-clause-room
-take_at-requires-clause-room c = rw (c.requires.ticket ∙ sym (length-reverse c.args.entries.now.0)) (omega (arith, room_then c.args.config.now (reverse c.args.entries.now.0) c.args.visit.moment c.args.visit.call.now c.args.place c.args.fleet.now.sites c.args.fleet.now.pool c.args.visit.requests.now c.in-At.env c.args.fleet.now.widest (record { legal = c.requires.legal; all_known = c.requires.all_known; follows = c.requires.follows; known = c.requires.known; placed = c.requires.placed; is = c.requires.sites; pool_is = c.requires.pool; counts = c.requires.counts }) (sym c.of.ensures ∙ c.in-At.is) c.facts.ensures.narrow, c.requires.room))
+take_at-requires-clause-room c = rw (c.requires.ticket ∙ sym (length-reverse c.args.entries.now.0)) (omega (arith, room_then c.args.config.now (reverse c.args.entries.now.0) c.args.arrival.moment c.args.arrival.call.now c.args.place c.args.fleet.now.sites c.args.fleet.now.pool c.args.arrival.requests.now c.in-At.env c.args.fleet.now.widest (record { legal = c.requires.legal; all_known = c.requires.all_known; follows = c.requires.follows; known = c.requires.known; placed = c.requires.placed; is = c.requires.sites; pool_is = c.requires.pool; counts = c.requires.counts }) (sym c.of.ensures ∙ c.in-At.is) c.facts.ensures.narrow, c.requires.room))
 
 pub take_at-requires-clause-admitted : goal.take_at-requires-clause-admitted
 take_at-requires-clause-admitted c = λ invoke.
-    ap₂ throttle c.requires.pool (ap (λ (s : Site). s.function) ((found c.args.config.now (reverse c.args.entries.now.0) c.args.visit.moment c.args.visit.call.now c.args.place c.args.fleet.now.sites c.args.fleet.now.pool c.args.visit.requests.now c.in-At.env (record { legal = c.requires.legal; all_known = c.requires.all_known; follows = c.requires.follows; known = c.requires.known; placed = c.requires.placed; is = c.requires.sites; pool_is = c.requires.pool; counts = c.requires.counts }) (sym c.of.ensures ∙ c.in-At.is)).3)) ∙ admitted_there c.args.config.now (reverse c.args.entries.now.0) c.args.visit.call.now c.args.place c.in-At.env c.requires.known c.requires.placed (sym c.of.ensures ∙ c.in-At.is) invoke
+    ap₂ throttle c.requires.pool (ap (λ (s : Site). s.function) ((found c.args.config.now (reverse c.args.entries.now.0) c.args.arrival.moment c.args.arrival.call.now c.args.place c.args.fleet.now.sites c.args.fleet.now.pool c.args.arrival.requests.now c.in-At.env (record { legal = c.requires.legal; all_known = c.requires.all_known; follows = c.requires.follows; known = c.requires.known; placed = c.requires.placed; is = c.requires.sites; pool_is = c.requires.pool; counts = c.requires.counts }) (sym c.of.ensures ∙ c.in-At.is)).3)) ∙ admitted_there c.args.config.now (reverse c.args.entries.now.0) c.args.arrival.call.now c.args.place c.in-At.env c.requires.known c.requires.placed (sym c.of.ensures ∙ c.in-At.is) invoke
 
 pub take_all-requires-clause-few : goal.take_all-requires-clause-few
 take_all-requires-clause-few c = rw c.requires.sites (few_sites c.args.config.now (reverse c.args.entries.now.0) c.requires.legal (rw (length-reverse c.args.entries.now.0) c.requires.short))
 
 pub take_all-requires-clause-room : goal.take_all-requires-clause-room
 take_all-requires-clause-room c =
-    let room = rw (all_stop (reverse c.args.entries.now.0) c.args.place c.args.visit.call.now (sym c.of.ensures ∙ c.in-Everywhere.is)) at c.requires.room in
+    let room = rw (all_stop (reverse c.args.entries.now.0) c.args.place c.args.arrival.call.now (sym c.of.ensures ∙ c.in-Everywhere.is)) at c.requires.room in
     rw (c.requires.sites, sites_length c.args.config.now (reverse c.args.entries.now.0)) (omega (arith, room))
 
 pub returns-in-Nowhere-clause-sites : goal.returns-in-Nowhere-clause-sites
-returns-in-Nowhere-clause-sites c = c.requires.sites ∙ sym (sites_nowhere c.args.config.now (reverse c.args.entries.now.0) (entry_of c.args.config.now (reverse c.args.entries.now.0) c.args.visit.moment c.args.visit.call.now) c.requires.legal c.requires.follows (ap (λ (p : Option ℕ). reach (reverse c.args.entries.now.0) p c.args.visit.call.now) (sym c.requires.placed) ∙ sym c.of.ensures ∙ c.in-Nowhere.is))
+returns-in-Nowhere-clause-sites c = c.requires.sites ∙ sym (sites_nowhere c.args.config.now (reverse c.args.entries.now.0) (entry_of c.args.config.now (reverse c.args.entries.now.0) c.args.arrival.moment c.args.arrival.call.now) c.requires.legal c.requires.follows (ap (λ (p : Option ℕ). reach (reverse c.args.entries.now.0) p c.args.arrival.call.now) (sym c.requires.placed) ∙ sym c.of.ensures ∙ c.in-Nowhere.is))
 
 pub returns-in-Nowhere-clause-pool : goal.returns-in-Nowhere-clause-pool
 returns-in-Nowhere-clause-pool c = rw (c.requires.sites, c.requires.pool) (numbers_flown c.args.config.now (reverse c.args.entries.now.0) c.requires.legal)
 
 pub returns-in-Nowhere-clause-answers : goal.returns-in-Nowhere-clause-answers
-returns-in-Nowhere-clause-answers c = c.requires.empty ∙ sym (homed_nowhere c.args.config.now (reverse c.args.entries.now.0) (entry_of c.args.config.now (reverse c.args.entries.now.0) c.args.visit.moment c.args.visit.call.now) c.requires.follows (ap (λ (p : Option ℕ). reach (reverse c.args.entries.now.0) p c.args.visit.call.now) (sym c.requires.placed) ∙ sym c.of.ensures ∙ c.in-Nowhere.is))
+returns-in-Nowhere-clause-answers c = c.requires.empty ∙ sym (homed_nowhere c.args.config.now (reverse c.args.entries.now.0) (entry_of c.args.config.now (reverse c.args.entries.now.0) c.args.arrival.moment c.args.arrival.call.now) c.requires.follows (ap (λ (p : Option ℕ). reach (reverse c.args.entries.now.0) p c.args.arrival.call.now) (sym c.requires.placed) ∙ sym c.of.ensures ∙ c.in-Nowhere.is))
 
 pub returns-in-At-clause-sites : goal.returns-in-At-clause-sites
-returns-in-At-clause-sites c = sites_then c.args.config.now (reverse c.args.entries.now.0) c.args.visit.moment c.args.visit.call.now c.args.place c.args.fleet.now.sites c.args.fleet.now.pool c.args.visit.requests.now c.in-At.env c.take_at.new.self.sites (record { legal = c.requires.legal; all_known = c.requires.all_known; follows = c.requires.follows; known = c.requires.known; placed = c.requires.placed; is = c.requires.sites; pool_is = c.requires.pool; counts = c.requires.counts }) (sym c.of.ensures ∙ c.in-At.is) (rw (sym (c.requires.ticket ∙ sym (length-reverse c.args.entries.now.0))) c.take_at.ensures.sites)
+returns-in-At-clause-sites c = sites_then c.args.config.now (reverse c.args.entries.now.0) c.args.arrival.moment c.args.arrival.call.now c.args.place c.args.fleet.now.sites c.args.fleet.now.pool c.args.arrival.requests.now c.in-At.env c.take_at.new.self.sites (record { legal = c.requires.legal; all_known = c.requires.all_known; follows = c.requires.follows; known = c.requires.known; placed = c.requires.placed; is = c.requires.sites; pool_is = c.requires.pool; counts = c.requires.counts }) (sym c.of.ensures ∙ c.in-At.is) (rw (sym (c.requires.ticket ∙ sym (length-reverse c.args.entries.now.0))) c.take_at.ensures.sites)
 
 pub returns-in-At-clause-answers : goal.returns-in-At-clause-answers
-returns-in-At-clause-answers c = rw ((c.requires.ticket ∙ sym (length-reverse c.args.entries.now.0)), c.requires.empty) at c.take_at.ensures.answers ∙ answers_then c.args.config.now (reverse c.args.entries.now.0) c.args.visit.moment c.args.visit.call.now c.args.place c.args.fleet.now.sites c.args.fleet.now.pool c.args.visit.requests.now c.in-At.env (record { legal = c.requires.legal; all_known = c.requires.all_known; follows = c.requires.follows; known = c.requires.known; placed = c.requires.placed; is = c.requires.sites; pool_is = c.requires.pool; counts = c.requires.counts }) (sym c.of.ensures ∙ c.in-At.is)
+returns-in-At-clause-answers c = rw ((c.requires.ticket ∙ sym (length-reverse c.args.entries.now.0)), c.requires.empty) at c.take_at.ensures.answers ∙ answers_then c.args.config.now (reverse c.args.entries.now.0) c.args.arrival.moment c.args.arrival.call.now c.args.place c.args.fleet.now.sites c.args.fleet.now.pool c.args.arrival.requests.now c.in-At.env (record { legal = c.requires.legal; all_known = c.requires.all_known; follows = c.requires.follows; known = c.requires.known; placed = c.requires.placed; is = c.requires.sites; pool_is = c.requires.pool; counts = c.requires.counts }) (sym c.of.ensures ∙ c.in-At.is)
 
 pub returns-in-At-clause-room : goal.returns-in-At-clause-room
 returns-in-At-clause-room c =
     let room = rw (c.requires.ticket ∙ sym (length-reverse c.args.entries.now.0)) at c.take_at.ensures.room in
-    omega (arith, room_then c.args.config.now (reverse c.args.entries.now.0) c.args.visit.moment c.args.visit.call.now c.args.place c.args.fleet.now.sites c.args.fleet.now.pool c.args.visit.requests.now c.in-At.env c.args.fleet.now.widest (record { legal = c.requires.legal; all_known = c.requires.all_known; follows = c.requires.follows; known = c.requires.known; placed = c.requires.placed; is = c.requires.sites; pool_is = c.requires.pool; counts = c.requires.counts }) (sym c.of.ensures ∙ c.in-At.is) c.facts.ensures.narrow, c.requires.room, room)
+    omega (arith, room_then c.args.config.now (reverse c.args.entries.now.0) c.args.arrival.moment c.args.arrival.call.now c.args.place c.args.fleet.now.sites c.args.fleet.now.pool c.args.arrival.requests.now c.in-At.env c.args.fleet.now.widest (record { legal = c.requires.legal; all_known = c.requires.all_known; follows = c.requires.follows; known = c.requires.known; placed = c.requires.placed; is = c.requires.sites; pool_is = c.requires.pool; counts = c.requires.counts }) (sym c.of.ensures ∙ c.in-At.is) c.facts.ensures.narrow, c.requires.room, room)
 
 pub returns-in-Everywhere-clause-sites : goal.returns-in-Everywhere-clause-sites
-returns-in-Everywhere-clause-sites c = rw ((c.requires.ticket ∙ sym (length-reverse c.args.entries.now.0)), c.requires.sites, c.requires.counts) at c.take_all.ensures.sites ∙ sym (sites_everywhere c.args.config.now (reverse c.args.entries.now.0) (entry_of c.args.config.now (reverse c.args.entries.now.0) c.args.visit.moment c.args.visit.call.now) c.requires.legal c.requires.follows (ap (λ (p : Option ℕ). reach (reverse c.args.entries.now.0) p c.args.visit.call.now) (sym c.requires.placed) ∙ sym c.of.ensures ∙ c.in-Everywhere.is))
+returns-in-Everywhere-clause-sites c = rw ((c.requires.ticket ∙ sym (length-reverse c.args.entries.now.0)), c.requires.sites, c.requires.counts) at c.take_all.ensures.sites ∙ sym (sites_everywhere c.args.config.now (reverse c.args.entries.now.0) (entry_of c.args.config.now (reverse c.args.entries.now.0) c.args.arrival.moment c.args.arrival.call.now) c.requires.legal c.requires.follows (ap (λ (p : Option ℕ). reach (reverse c.args.entries.now.0) p c.args.arrival.call.now) (sym c.requires.placed) ∙ sym c.of.ensures ∙ c.in-Everywhere.is))
 
 pub returns-in-Everywhere-clause-answers : goal.returns-in-Everywhere-clause-answers
-returns-in-Everywhere-clause-answers c = rw ((c.requires.ticket ∙ sym (length-reverse c.args.entries.now.0)), c.requires.sites, c.requires.counts, c.requires.empty) at c.take_all.ensures.answers ∙ sym (homed_everywhere c.args.config.now (reverse c.args.entries.now.0) (entry_of c.args.config.now (reverse c.args.entries.now.0) c.args.visit.moment c.args.visit.call.now) c.requires.legal c.requires.follows c.requires.all_known c.requires.known (ap (λ (p : Option ℕ). reach (reverse c.args.entries.now.0) p c.args.visit.call.now) (sym c.requires.placed) ∙ sym c.of.ensures ∙ c.in-Everywhere.is))
+returns-in-Everywhere-clause-answers c = rw ((c.requires.ticket ∙ sym (length-reverse c.args.entries.now.0)), c.requires.sites, c.requires.counts, c.requires.empty) at c.take_all.ensures.answers ∙ sym (homed_everywhere c.args.config.now (reverse c.args.entries.now.0) (entry_of c.args.config.now (reverse c.args.entries.now.0) c.args.arrival.moment c.args.arrival.call.now) c.requires.legal c.requires.follows c.requires.all_known c.requires.known (ap (λ (p : Option ℕ). reach (reverse c.args.entries.now.0) p c.args.arrival.call.now) (sym c.requires.placed) ∙ sym c.of.ensures ∙ c.in-Everywhere.is))
 
 pub returns-in-Everywhere-clause-room : goal.returns-in-Everywhere-clause-room
 returns-in-Everywhere-clause-room c =
-    let room = rw (all_stop (reverse c.args.entries.now.0) c.args.place c.args.visit.call.now (sym c.of.ensures ∙ c.in-Everywhere.is)) at c.requires.room in
+    let room = rw (all_stop (reverse c.args.entries.now.0) c.args.place c.args.arrival.call.now (sym c.of.ensures ∙ c.in-Everywhere.is)) at c.requires.room in
     let many : length c.args.fleet.now.sites ≡ length (owners c.args.config.now) = ap length c.requires.sites ∙ sites_length c.args.config.now (reverse c.args.entries.now.0) in
     omega (arith, room, many, c.take_all.ensures.room)

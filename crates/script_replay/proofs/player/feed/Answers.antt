@@ -1,6 +1,6 @@
 use Rattle.std.proofs.Common.{ap}
 use Rattle.std.proofs.lemmas.Result.{err_from_is_err_and, on_ok_weaker, IfErr-weaker}
-use Rattle.script_replay.specs.Steps.{Stand}
+use Rattle.script_replay.specs.Steps.{Position}
 use Rattle.script_replay.proofs.Feeding.{going_start, going_line, going_rest, stopped_line, stopped_here, stopped_keeping}
 use Rattle.script_replay.proofs.player.feed.Goals as goal
 
@@ -16,18 +16,18 @@ pub returns-in_err-play_line-clause-stopped : goal.returns-in_err-play_line-clau
 returns-in_err-play_line-clause-stopped g c =
     let p = err_from_is_err_and c.from_residual-in_err-play_line.result c.from_residual-in_err-play_line.ensures.1 in
     let kept = c.in_ok-keep.ensures.kept in
-    let progress = ap (λ (s : Stand). s.progress) kept in
-    let line = ap (λ (s : Stand). s.line) kept in
-    let pending = ap (λ (s : Stand). s.pending) kept in
+    let progress = ap (λ (s : Position). s.progress) kept in
+    let line = ap (λ (s : Position). s.line) kept in
+    let pending = ap (λ (s : Position). s.pending) kept in
     let stopped = rw (progress, line, c.drop_return.ensures, pending) at c.in_err-play_line.ensures.stopped in
     rw (p.1, p.2) (stopped_line _ _ _ _ c.in-Some.line.now c.in-Some.others.now _ _ _ _ c.loop-line.invariant c.in-Some.ensures stopped)
 
 pub loop-line-preserved : goal.loop-line-preserved
 loop-line-preserved g c =
     let kept = c.in_ok-keep.ensures.kept in
-    let progress = ap (λ (s : Stand). s.progress) kept in
-    let line = ap (λ (s : Stand). s.line) kept in
-    let pending = ap (λ (s : Stand). s.pending) kept in
+    let progress = ap (λ (s : Position). s.progress) kept in
+    let line = ap (λ (s : Position). s.line) kept in
+    let pending = ap (λ (s : Position). s.pending) kept in
     let played = rw (progress, line, c.drop_return.ensures, pending) at c.in_ok-play_line.ensures.played in
     let next = c.in_ok-play_line.ensures.next in
     let counted = rw line at next.0 in

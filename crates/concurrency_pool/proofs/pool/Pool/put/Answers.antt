@@ -1,7 +1,7 @@
 use Rattle.std.proofs.Common.{◌-◌, ◌≤◌, ◌^◌, sym, arith, set, subst}
 use Rattle.concurrency_pool.specs.Numbers.{Numbers}
 use Rattle.concurrency_pool.specs.Usages.{charged_by}
-use Rattle.concurrency_pool.specs.Totals.{Totals}
+use Rattle.concurrency_pool.specs.Totals.{AreTotals}
 use Rattle.concurrency_pool.proofs.Totals.{unreserved_fit, in_flight_fit, parts_within, totals_with}
 use Rattle.concurrency_pool.proofs.pool.Pool.put.Goals as goal
 
@@ -37,4 +37,4 @@ invariant_of-self c =
     let unreserved = rw (c.taken_of_remainder.ensures, c.taken_of_remainder-2.ensures, c.usage-last.ensures.value) at c.moved-self-inside-2.ensures in
     let in_flight = rw c.usage-last.ensures.value at c.moved-self-inside-3.ensures in
     let next = totals_with now f usage _ _ _ _ _ _ c.requires.from_one c.requires.there c.requires.leaves small reserved unreserved in_flight totals in
-    subst (λ (pool : Numbers). Totals (record pool { functions = set pool.functions (f - 1) usage }) c.moved-self-inside.result c.moved-self-inside-2.result c.moved-self-inside-3.result) (sym c.self.view_is) next
+    subst (λ (pool : Numbers). AreTotals (record pool { functions = set pool.functions (f - 1) usage }) c.moved-self-inside.result c.moved-self-inside-2.result c.moved-self-inside-3.result) (sym c.self.view_is) next

@@ -1,6 +1,6 @@
 use Rattle.std.proofs.Common.{◌≡◌, ◌+◌, ◌≤◌, take, count_by}
 use Rattle.call_model.specs.Counts.{is_throttle, is_failure}
-use Rattle.account_book.proofs.totals.Totals.count.Given as goal
+use Rattle.account_book.proofs.totals.Counters.count.Given as goal
 
 abbrev pub invariant-loop-ticket : goal.invariant-loop-ticket
 invariant-loop-ticket l =
