@@ -2,7 +2,6 @@
 
 ghost use Rattle.std.specs.Prelude.{◌≡◌, [], ◌<◌};
 
-use crate::front::Front;
 use crate::pen::Pen;
 use crate::view::{Shares, View};
 use atomic_table::{Seat, Table};
