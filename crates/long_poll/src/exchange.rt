@@ -135,12 +135,10 @@ where
                 ticket,
                 heard,
                 front,
-            } => match heard.poll(cx) {
+            } => match self.connection.poll_render(heard, front, *ticket, cx) {
                 Poll::Pending => Poll::Pending,
-                Poll::Ready(()) => match self.connection.render(front, *ticket) {
-                    Ok(reply) => Poll::Ready(Ok(Outcome::Reply(reply))),
-                    Err(fault) => Poll::Ready(Err(fault)),
-                },
+                Poll::Ready(Ok(reply)) => Poll::Ready(Ok(Outcome::Reply(reply))),
+                Poll::Ready(Err(fault)) => Poll::Ready(Err(fault)),
             },
         }
     }
