@@ -1,6 +1,6 @@
 //! The law of lines: a function with no work in it, whose contract is proved.
 
-ghost use Rattle.std.specs.Prelude.{◌≡◌, ◌≤◌, ℕ, true, Some, None, All};
+ghost use Rattle.std.specs.Prelude.{◌≡◌, ◌<◌, ◌≤◌, ℕ, true, Some, None, All};
 ghost use Rattle.arn_ids.specs.Faults.{first_fault};
 ghost use Rattle.arn_ids.specs.declared.config.Config.{Config};
 ghost use Rattle.call_model.specs.declared.call.Call.{Call};
