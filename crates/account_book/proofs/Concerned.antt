@@ -5,9 +5,9 @@ use Rattle.arn_ids.specs.declared.config.Config.{Config}
 use Rattle.arn_ids.specs.Environments.{environments, count_from, owners, function_of, numbered}
 use Rattle.arn_ids.proofs.Bounds.{owner_is_function}
 use Rattle.call_model.proofs.Basics.{eqb-self, map_map}
-use Rattle.call_model.proofs.Frame.{stand_elsewhere}
-use Rattle.call_model.proofs.Stands.{all_same, one_changes}
-use Rattle.call_model.proofs.StepLaws.{stand_is}
+use Rattle.environment_step.proofs.Frame.{stand_elsewhere}
+use Rattle.environment_step.proofs.Stands.{all_same, one_changes}
+use Rattle.environment_step.proofs.StepLaws.{stand_is}
 use Rattle.call_model.specs.declared.call.Call.{Call}
 use Rattle.call_model.specs.declared.call.Call.TheVariants.{Invoke, RuntimeNext, Response, ResponseTooLarge, Failure, InitFailure, Register, ExtNext, ExtInitFailure, ExtExitFailure, Tick, Withdraw, Spindown, Stop, Expire, Reserve}
 use Rattle.call_model.specs.declared.call.Entry.{Entry}

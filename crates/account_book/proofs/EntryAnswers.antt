@@ -15,11 +15,11 @@ use Rattle.call_model.specs.Limits.{place_for, Verdict, verdict, AfterStop, Refu
 use Rattle.call_model.specs.Next.{Follows}
 use Rattle.call_model.proofs.AnswerValues.{plain, valued}
 use Rattle.call_model.proofs.Basics.{eqb-self, some-none, none-some}
-use Rattle.call_model.proofs.Frame.{quiet_here}
+use Rattle.environment_step.proofs.Frame.{quiet_here}
 use Rattle.call_model.proofs.Once.{answers_at}
 use Rattle.call_model.proofs.Pairs.{eqb-other, is_some_none}
-use Rattle.call_model.proofs.Puts.{filter_rising, filter_answer}
-use Rattle.call_model.proofs.Rising.{IsRising, each_rising, numbered_rising, rising_same}
+use Rattle.environment_step.proofs.Puts.{filter_rising, filter_answer}
+use Rattle.environment_step.proofs.Rising.{IsRising, each_rising, numbered_rising, rising_same}
 use Rattle.env_phase.proofs.Homes.{home_new, home_old, past}
 use Rattle.account_book.specs.Reaches.{reach, reaches, book_answer, unless_named, with_own}
 use Rattle.account_book.proofs.Concerned.{concerns_reach}

@@ -12,7 +12,7 @@ use Rattle.call_model.specs.declared.call.Entry.{Entry}
 use Rattle.call_model.specs.History.{answer_in}
 use Rattle.call_model.specs.Life.{stand}
 use Rattle.call_model.specs.Next.{IsLegal, Follows}
-use Rattle.call_model.proofs.Rising.{some_at}
+use Rattle.environment_step.proofs.Rising.{some_at}
 use Rattle.env_phase.proofs.Extent.{little}
 use Rattle.env_phase.proofs.Homes.{past}
 use Rattle.env_phase.proofs.Room.{moves_few}

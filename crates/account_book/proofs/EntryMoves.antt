@@ -15,9 +15,9 @@ use Rattle.call_model.specs.Next.{IsLegal, Follows}
 use Rattle.call_model.specs.Stand.{is_number}
 use Rattle.call_model.proofs.Basics.{eqb-self, none-some}
 use Rattle.call_model.proofs.Flight.{placed_between}
-use Rattle.call_model.proofs.Puts.{filter_answer}
-use Rattle.call_model.proofs.Rising.{IsRising, rising_same}
-use Rattle.call_model.proofs.StepLaws.{moves_are}
+use Rattle.environment_step.proofs.Puts.{filter_answer}
+use Rattle.environment_step.proofs.Rising.{IsRising, rising_same}
+use Rattle.environment_step.proofs.StepLaws.{moves_are}
 use Rattle.env_phase.proofs.Homes.{home_new, home_old}
 use Rattle.call_model.specs.Within.{IsEnv}
 use Rattle.account_book.specs.declared.reach.Reach.{Reach}

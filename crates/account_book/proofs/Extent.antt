@@ -5,7 +5,7 @@ use Rattle.arn_ids.specs.declared.config.Config.{Config}
 use Rattle.arn_ids.specs.Environments.{environments}
 use Rattle.call_model.specs.declared.answer.Answer.{Answer}
 use Rattle.call_model.specs.declared.call.Entry.{Entry}
-use Rattle.call_model.specs.After.{put}
+use Rattle.environment_step.specs.After.{put}
 use Rattle.call_model.specs.Next.{IsLegal}
 use Rattle.env_phase.proofs.Extent.{little}
 use Rattle.extension_set.proofs.Lengths.{put_length}

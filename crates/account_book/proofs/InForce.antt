@@ -14,7 +14,7 @@ use Rattle.call_model.specs.Limits.{reservation, reserves, reserved_by, in_fligh
 use Rattle.call_model.specs.Next.{IsLegal, Follows}
 use Rattle.call_model.proofs.Basics.{eqb-self}
 use Rattle.call_model.proofs.Pairs.{eqb-other}
-use Rattle.call_model.proofs.Stands.{one_changes}
+use Rattle.environment_step.proofs.Stands.{one_changes}
 use Rattle.concurrency_pool.specs.declared.pool.Usage.{Usage}
 use Rattle.concurrency_pool.specs.Meets.{numbers, usage, by_reserve}
 use Rattle.concurrency_pool.specs.Numbers.{Numbers}

@@ -7,7 +7,7 @@ use Rattle.call_model.specs.declared.call.Entry.{Entry}
 use Rattle.call_model.specs.History.{answer_in, answer_of, or_else}
 use Rattle.call_model.proofs.Basics.{eqb-self}
 use Rattle.call_model.proofs.Pairs.{eqb-other}
-use Rattle.call_model.proofs.Stands.{one_changes}
+use Rattle.environment_step.proofs.Stands.{one_changes}
 use Rattle.account_book.specs.Indexes.{answers_by_ticket, noted}
 use Rattle.account_book.proofs.BeforeCalls.{count_more}
 use Rattle.account_book.proofs.FleetMeets.{count_length}

@@ -4,10 +4,10 @@ use Rattle.std.proofs.lemmas.Bool.{cases_lt}
 use Rattle.std.proofs.lemmas.Bool.Decides.{eqb_tells}
 use Rattle.call_model.specs.declared.answer.Answer.{Answer}
 use Rattle.call_model.specs.History.{answer_in, or_else}
-use Rattle.call_model.specs.After.{put}
+use Rattle.environment_step.specs.After.{put}
 use Rattle.call_model.proofs.Basics.{some-none}
-use Rattle.call_model.proofs.Puts.{put_rising, put_answer}
-use Rattle.call_model.proofs.Rising.{IsRising, rising_none, some_at, skip_at}
+use Rattle.environment_step.proofs.Puts.{put_rising, put_answer}
+use Rattle.environment_step.proofs.Rising.{IsRising, rising_none, some_at, skip_at}
 use Rattle.account_book.specs.Fleets.{put_all}
 
 -- no ticket has an answer in both

@@ -1,7 +1,7 @@
 -- An environment that a call newly gives an invocation was given one by an Invoke.
 use Rattle.std.proofs.Common.{◌≡◌, ℕ, ◌+◌, Bool, true, false, Option, Some, None, is_some, sym, refl, ap, ◌∙◌, ◌⊎◌, inl, inr, true≢false, if◌then◌else◌}
 use Rattle.call_model.specs.declared.call.Call.{Call}
-use Rattle.call_model.specs.After.{Fixed, Step, stand_after, limit_at, closing_ends, expires_now, first_stand, cell_at, finished, turned, restarted, settled_stand}
+use Rattle.environment_step.specs.After.{Fixed, Step, stand_after, limit_at, closing_ends, expires_now, first_stand, cell_at, finished, turned, restarted, settled_stand}
 use Rattle.call_model.specs.Generation.{ready}
 use Rattle.call_model.specs.Laws.{is_taken}
 use Rattle.call_model.specs.Stand.{Stand, at_hand}

@@ -7,7 +7,7 @@ use Rattle.arn_ids.specs.declared.config.Config.{Config}
 use Rattle.arn_ids.specs.Environments.{function_numbers, count_from}
 use Rattle.call_model.proofs.AfterEntry.{requests_cons}
 use Rattle.call_model.proofs.Basics.{eqb-self}
-use Rattle.call_model.proofs.Stands.{one_changes}
+use Rattle.environment_step.proofs.Stands.{one_changes}
 use Rattle.call_model.specs.declared.call.Call.TheVariants.{Invoke}
 use Rattle.call_model.specs.declared.call.Entry.{Entry}
 use Rattle.call_model.specs.History.{is_invoke_of, requests}

@@ -12,12 +12,12 @@ use Rattle.call_model.specs.declared.call.Entry.{Entry}
 use Rattle.call_model.specs.History.{call_of, env_of, or_else, is_stop, stopped, poll_env}
 use Rattle.call_model.specs.Limits.{Verdict, AfterStop, Refuses, Admits, admitted_to, verdict, place_for, by_limits, reservation}
 use Rattle.call_model.specs.Limits as limits
-use Rattle.call_model.specs.After.{fixed_of}
+use Rattle.environment_step.specs.After.{fixed_of}
 use Rattle.call_model.specs.Answers.{home}
 use Rattle.call_model.specs.Life.{stand}
 use Rattle.call_model.specs.Next.{IsLegal, Follows}
 use Rattle.call_model.specs.Stand.{is_number}
-use Rattle.call_model.proofs.Rising.{IsRising}
+use Rattle.environment_step.proofs.Rising.{IsRising}
 use Rattle.call_model.specs.Calls.{is_invoke}
 use Rattle.call_model.proofs.Basics.{none-some, eqb-self}
 use Rattle.call_model.proofs.Flight.{place_for_between}

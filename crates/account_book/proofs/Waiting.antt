@@ -4,14 +4,14 @@ use Rattle.std.proofs.Common.{◌≡◌, ◌≢◌, ℕ, suc, ◌+◌, ◌<◌, 
 use Rattle.std.proofs.lemmas.Bool.Decides.{eqb_tells}
 use Rattle.call_model.specs.declared.answer.Answer.{Answer}
 use Rattle.call_model.specs.declared.call.Call.{Call}
-use Rattle.call_model.specs.After.{Fixed, Step, put, give, give_each, waiting_call, first_moves, first_stand, runtime_first, members_first, fresh_members, member_first, member_gets, actor_gets, poll_gets, left, turned_moves, served_moves, closing_ends, settled_phase, numbered_from, finished_moves, moves_of, expires_now}
+use Rattle.environment_step.specs.After.{Fixed, Step, put, give, give_each, waiting_call, first_moves, first_stand, runtime_first, members_first, fresh_members, member_first, member_gets, actor_gets, poll_gets, left, turned_moves, served_moves, closing_ends, settled_phase, numbered_from, finished_moves, moves_of, expires_now}
 use Rattle.call_model.specs.Generation.{Extension, Member, TheRuntime, TheExtension, asks, as_registered}
 use Rattle.call_model.specs.Polls.{begun, delivered}
 use Rattle.call_model.specs.Stand.{Stand, RuntimePoll, ExtensionPoll}
 use Rattle.call_model.specs.Table.{own_answer, to_waiting}
 use Rattle.call_model.proofs.Basics.{eqb-self, some-none}
 use Rattle.call_model.proofs.Pairs.{eqb-other}
-use Rattle.call_model.proofs.Rising.{IsRising}
+use Rattle.environment_step.proofs.Rising.{IsRising}
 
 -- whether a ticket is one of these
 abbrev pub has : ℕ → List ℕ → Bool

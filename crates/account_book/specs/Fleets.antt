@@ -3,7 +3,7 @@ use Rattle.std.specs.Prelude.{◌≡◌, ℕ, suc, ◌<◌, ◌≤◌, ◌^◌, 
 use Rattle.arn_ids.specs.Environments.{numbered}
 use Rattle.call_model.specs.declared.answer.Answer.{Answer}
 use Rattle.call_model.specs.declared.call.Call.{Call}
-use Rattle.call_model.specs.After.{Step, put}
+use Rattle.environment_step.specs.After.{Step, put}
 use Rattle.call_model.specs.Laws.{is_taken, has_come}
 use Rattle.call_model.specs.Next.{deadline_of}
 use Rattle.concurrency_pool.specs.Numbers.{Numbers}

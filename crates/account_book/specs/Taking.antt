@@ -7,7 +7,7 @@ use Rattle.call_model.specs.declared.call.Call.TheVariants.{Expire}
 use Rattle.call_model.specs.declared.call.Entry.{Entry}
 use Rattle.call_model.specs.History.{requests}
 use Rattle.call_model.specs.Life.{stand}
-use Rattle.call_model.specs.After.{fixed_of}
+use Rattle.environment_step.specs.After.{fixed_of}
 use Rattle.call_model.specs.Within.{IsEnv, IsWithin}
 use Rattle.account_book.specs.declared.site.Site.{Site}
 

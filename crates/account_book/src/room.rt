@@ -1,7 +1,7 @@
 //! A list with room made beforehand.
 
 ghost use Rattle.std.specs.Prelude.{◌≡◌, ◌+◌, ◌-◌, ◌<◌, ◌≤◌, ◌++◌, ◌∷◌, [], List, ℕ, length, IfOk};
-ghost use Rattle.call_model.specs.After.{put};
+ghost use Rattle.environment_step.specs.After.{put};
 
 use call_model::{Answer, Ticket};
 use std::alloc::{AllocError, Global};

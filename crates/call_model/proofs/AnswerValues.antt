@@ -1,26 +1,32 @@
--- What an entry answers, up to the numbers of its events: the first answers and the second.
-use Rattle.std.proofs.Common.{◌≡◌, ℕ, suc, ◌+◌, ◌≤◌, Bool, true, false, List, [], ◌∷◌, length, Option, Some, None, sym, refl, ap, ◌∙◌, subst, arith, is_none, not, ◌&&◌, ◌||◌, ◌==◌, filter, if◌then◌else◌, nat_lt, ◌-◌}
-use Rattle.call_model.specs.declared.answer.Rejection.TheVariants.{BadReservation}
+-- What an entry answers, up to the numbers of its events.
+use Rattle.std.proofs.Common.{◌≡◌, ℕ, suc, ◌≤◌, List, [], ◌∷◌, length, Option, Some, None, refl, ap, ◌∙◌, arith, inl, inr}
 use Rattle.call_model.specs.declared.answer.Answer.{Answer}
-use Rattle.call_model.specs.declared.answer.Answer.TheVariants.{Delivered, Told, Ending, Stopped, Withdrawn, Refused, Reserved}
-use Rattle.call_model.specs.declared.answer.Reason.{Reason}
+use Rattle.call_model.specs.declared.answer.Answer.TheVariants.{Told, Ending}
 use Rattle.call_model.specs.declared.call.Call.{Call}
-use Rattle.call_model.specs.declared.call.Call.TheVariants.{Invoke, RuntimeNext, Response, ResponseTooLarge, Failure, InitFailure, Register, ExtNext, ExtInitFailure, ExtExitFailure, Tick, Withdraw, Spindown, Stop, Expire, Reserve}
 use Rattle.call_model.specs.declared.call.Entry.{Entry}
 use Rattle.arn_ids.specs.declared.config.Config.{Config}
-use Rattle.arn_ids.specs.Environments.{function_at}
-use Rattle.call_model.specs.History.{answer_in, stopped, or_else}
-use Rattle.call_model.specs.Generation.{is_ending, is_accepted, as_registered, hears_end, reports_exit}
-use Rattle.call_model.specs.Stand.{Stand, Role, NoRole, Waiting, RuntimePoll, ExtensionPoll, role}
-use Rattle.call_model.specs.Table.{own_answer, refused, to_waiting, closes}
-use Rattle.call_model.specs.Polls.{by_role, at_close, replaced, delivered, begun}
-use Rattle.call_model.specs.Life.{is_second, first_part, stand, names, phase}
-use Rattle.call_model.specs.Limits.{Verdict, AfterStop, Refuses, Admits, verdict, reservation, reserved_in_all, or_zero}
-use Rattle.call_model.specs.Answers.{answers, first_answer, second_answer, first_entry, first_answers, answer_to, each_from, with_event, own_first, verdict_answer, reserve_answer, other_answer, answer_at, home, second_at}
-use Rattle.call_model.specs.Next.{Follows}
+use Rattle.call_model.specs.History.{answer_in, call_of, env_of, or_else}
+use Rattle.call_model.specs.Answers.{answers, first_answer, second_answer, first_entry, first_answers, answer_to, each_from, with_event, numbered, event_at}
+use Rattle.std.proofs.lemmas.Bool.Decides.{eqb_tells}
 use Rattle.call_model.proofs.Pairs.{in_each}
-use Rattle.call_model.proofs.Rising.{IsRising, each_rising, numbered_rising, rising_filter, passed, seen_by, numbered_keeps}
-use Rattle.call_model.proofs.Cells.{own_values, waiting_values}
+
+abbrev pub seen_by : {B : Type 0} → (Answer → B) → B → Option Answer → B
+seen_by q none None = none
+seen_by q none (Some a) = q a
+
+-- numbering keeps what doesn't depend on the event's number
+pub numbered_keeps : {B : Type 0} (q : Answer → B) → ((n : ℕ) (a : Answer) → q (with_event n a) ≡ q a) → (none : B) (h : List Entry) (entry : Entry) (before pairs : List (ℕ × Answer)) (t : ℕ)
+    → seen_by q none (answer_in (numbered h entry before pairs) t) ≡ seen_by q none (answer_in pairs t)
+numbered_keeps q keeps none h entry before [] t = refl
+numbered_keeps q keeps none h entry before (a ∷ rest) t =
+    elim (eqb_tells a.0 t) [
+      | inl p ↦ rw p.0 (one (env_of (call_of (entry ∷ h) a.0)))
+      | inr p ↦ rw p.0 (numbered_keeps q keeps none h entry (a ∷ before) rest t)
+    ]
+  where
+    one : (o : Option ℕ) → q (event_at h entry before o a.1) ≡ q a.1
+    one None = refl
+    one (Some e) = keeps _ a.1
 
 -- an answer without the number of its event
 abbrev pub stripped : Answer → Option Answer
@@ -44,240 +50,3 @@ valued config h now call t le =
   where
     entry : Entry
     entry = first_entry config h now call
-
-pub first_valued : (config : Config) (h : List Entry) (now : ℕ) (call : Call) (t : ℕ) → t ≤ length h → answer_in (first_entry config h now call).answers t ≡ first_answer config h now call t
-unfolding first_answers
-first_valued config h now call t le = in_each 0 (suc (length h)) t (first_answer config h now call) (omega arith) (omega (arith, le))
-
--- what is no second answer
-abbrev pub early : Answer → Bool
-early a = not (is_second a)
-
-abbrev pub is_early : Option Answer → Bool
-is_early None = true
-is_early (Some a) = early a
-
-early_if : (b : Bool) (x y : Option Answer) → is_early x ≡ true → is_early y ≡ true → is_early (if b then x else y) ≡ true
-early_if true x y e f = e
-early_if false x y e f = f
-
-early_if_answer : (b : Bool) (x y : Answer) → early x ≡ true → early y ≡ true → early (if b then x else y) ≡ true
-early_if_answer true x y e f = e
-early_if_answer false x y e f = f
-
-pub own_early : (s : Stand) (call : Call) → is_early (own_answer s call) ≡ true
-own_early s call = own_values (λ a. is_early a ≡ true) s refl refl (λ kind. refl) refl (λ reason until. refl) call
-
-early_if_some : (b : Bool) (a : Answer) → early a ≡ true → is_early (if b then Some a else None) ≡ true
-early_if_some true a e = e
-early_if_some false a e = refl
-
-early_close : (now : ℕ) (c : Option Reason) (call : Call) (r : Role) → is_early (at_close now c call r) ≡ true
-early_close now (Some reason) call RuntimePoll = refl
-early_close now (Some reason) call (ExtensionPoll x) = early_if (hears_end x && not (reports_exit x.extension.count call)) (Some (Ending reason (now + 2000) 0)) (refused _) refl refl
-early_close now (Some reason) call NoRole = refl
-early_close now (Some reason) call Waiting = refl
-early_close now None call r = refl
-
-early_replaced : (t : ℕ) (call : Call) (r : Role) → is_early (replaced t call r) ≡ true
-early_replaced t (RuntimeNext e) RuntimePoll = refl
-early_replaced t (ExtNext e x) (ExtensionPoll y) = early_if_some (y.extension.count == x) (Refused _) refl
-early_replaced t (Withdraw u) RuntimePoll = early_if_some (u == t) Withdrawn refl
-early_replaced t (Withdraw u) (ExtensionPoll y) = early_if_some (u == t) Withdrawn refl
-early_replaced t call r = refl
-
-early_or : (a b : Option Answer) → is_early a ≡ true → is_early b ≡ true → is_early (or_else a b) ≡ true
-early_or None b e f = f
-early_or (Some a) b e f = e
-
-early_waiting : (own : ℕ) (s : Stand) (call : Call) → is_early (to_waiting own s call) ≡ true
-early_waiting own s call = waiting_values (λ a. is_early a ≡ true) own s refl refl refl refl refl refl refl call
-
-role_early : (own now : ℕ) (s : Stand) (call : Call) (t : ℕ) (r : Role) → is_early (by_role own now s call t r) ≡ true
-role_early own now s call t NoRole = refl
-role_early own now s call t Waiting = early_waiting own s call
-role_early own now s call t RuntimePoll = early_or (at_close now (closes s call) call RuntimePoll) (replaced t call RuntimePoll) (early_close now (closes s call) call RuntimePoll) (early_replaced t call RuntimePoll)
-role_early own now s call t (ExtensionPoll x) = early_or (at_close now (closes s call) call (ExtensionPoll x)) (replaced t call (ExtensionPoll x)) (early_close now (closes s call) call (ExtensionPoll x)) (early_replaced t call (ExtensionPoll x))
-
-early_verdict : (v : Verdict) → is_early (verdict_answer v) ≡ true
-early_verdict AfterStop = refl
-early_verdict (Refuses reason) = refl
-early_verdict (Admits e) = refl
-
-early_reserve : (config : Config) (h : List Entry) (f : ℕ) (count : Option ℕ) → early (reserve_answer config h f count) ≡ true
-early_reserve config h f None = refl
-early_reserve config h f (Some count) = early_if_answer (nat_lt (length (function_at config f).slots) count || nat_lt config.account_limit (((reserved_in_all config h - or_zero (reservation config h f)) + count) + config.least_remainder)) (Refused BadReservation) (Reserved count) refl refl
-
-first_own : (config : Config) (h : List Entry) (call : Call) → is_early (own_first config h call) ≡ true
-unfolding own_first
-first_own config h (Invoke f qualified trace body) = early_verdict (verdict config h f)
-first_own config h Tick = refl
-first_own config h (Withdraw t) = refl
-first_own config h Stop = refl
-first_own config h (Reserve f count) = early_if_answer (stopped h) Stopped (reserve_answer config h f count) refl (early_reserve config h f count)
-first_own config h (RuntimeNext e) = own_early (stand config h e) (RuntimeNext e)
-first_own config h (Response e id body) = own_early (stand config h e) (Response e id body)
-first_own config h (ResponseTooLarge e id) = own_early (stand config h e) (ResponseTooLarge e id)
-first_own config h (Failure e id body) = own_early (stand config h e) (Failure e id body)
-first_own config h (InitFailure e body) = own_early (stand config h e) (InitFailure e body)
-first_own config h (Register e name invoke shutdown account) = own_early (stand config h e) (Register e name invoke shutdown account)
-first_own config h (ExtNext e x) = own_early (stand config h e) (ExtNext e x)
-first_own config h (ExtInitFailure e x body) = own_early (stand config h e) (ExtInitFailure e x body)
-first_own config h (ExtExitFailure e x body) = own_early (stand config h e) (ExtExitFailure e x body)
-first_own config h (Spindown e) = own_early (stand config h e) (Spindown e)
-first_own config h (Expire e) = own_early (stand config h e) (Expire e)
-
--- No first answer is a Delivered or a Told.
-pub first_early : (config : Config) (h : List Entry) (now : ℕ) (call : Call) (t : ℕ) → is_early (first_answer config h now call t) ≡ true
-unfolding first_answer
-first_early config h now call t = early_if (t == length h) (own_first config h call) (other_answer config h now call t (home h t)) (first_own config h call) (other (home h t))
-  where
-    named : (e : ℕ) (b : Bool) → is_early (answer_at config h now e call t b) ≡ true
-    named e false = refl
-    named e true = role_early (length h) now (stand config h e) call t (role (stand config h e) t)
-
-    other : (o : Option ℕ) → is_early (other_answer config h now call t o) ≡ true
-    other None = refl
-    other (Some e) = named e (names h e call)
-
-abbrev pub is_late : Option Answer → Bool
-is_late None = true
-is_late (Some a) = is_second a
-
-late_delivered : (b : Option (ℕ × ℕ)) (r : Role) → is_late (delivered b r) ≡ true
-late_delivered None r = refl
-late_delivered (Some b) RuntimePoll = refl
-late_delivered (Some b) (ExtensionPoll x) = go x.extension.invoke
-  where
-    go : (c : Bool) → is_late (if c then Some (Told b.0 b.1 0) else None) ≡ true
-    go true = refl
-    go false = refl
-late_delivered (Some b) NoRole = refl
-late_delivered (Some b) Waiting = refl
-
--- Each second answer is one.
-pub second_late : (config : Config) (h : List Entry) (entry : Entry) (t : ℕ) → is_late (second_answer config h entry t) ≡ true
-unfolding second_answer
-second_late config h entry t = go (home (entry ∷ h) t)
-  where
-    go : (o : Option ℕ) → is_late (second_at config h entry t o) ≡ true
-    go None = refl
-    go (Some e) = late_delivered (begun (phase config h e) (phase config (entry ∷ h) e)) (role (stand config (entry ∷ h) e) t)
-
--- An answer that is early, as the first answers have it.
-pub kept : (o a b : Option Answer) → plain o ≡ plain (or_else a b) → is_early a ≡ true → is_late b ≡ true → plain (passed early o) ≡ plain a
-kept o a b q e l = from (passed early o) (passed early (or_else a b)) (plain_passed o ∙ ap (passed early) q ∙ sym (plain_passed (or_else a b))) ∙ ap plain (only a b e l)
-  where
-    from : (x y : Option Answer) → plain x ≡ plain y → plain x ≡ plain y
-    from x y k = k
-
-    strip_early : (c : Answer) → early (with_event 0 c) ≡ early c
-    strip_early (Told p d event) = refl
-    strip_early (Ending reason until event) = refl
-    strip_early c = refl
-
-    plain_if : (c : Bool) (x : Answer) → plain (if c then Some x else None) ≡ (if c then Some (with_event 0 x) else None)
-    plain_if true x = refl
-    plain_if false x = refl
-
-    plain_passed : (x : Option Answer) → plain (passed early x) ≡ passed early (plain x)
-    plain_passed None = refl
-    plain_passed (Some c) = plain_if (early c) c ∙ ap (λ (d : Bool). if d then Some (with_event 0 c) else None) (sym (strip_early c))
-
-    only : (x y : Option Answer) → is_early x ≡ true → is_late y ≡ true → passed early (or_else x y) ≡ x
-    only (Some c) y e l = ap (λ (d : Bool). if d then Some c else None) e
-    only None None e l = refl
-    only None (Some d) e l = ap (λ (b : Bool). if not b then Some d else None) l
-
--- The first answers of the entry are those of the table.
-pub entry_first : (config : Config) (h : List Entry) (entry : Entry) (t : ℕ) → Follows config h entry → t ≤ length h → plain (answer_in (first_part entry).answers t) ≡ plain (first_answer config h entry.moment entry.call t)
-unfolding answers
-entry_first config h entry t w le =
-    ap plain (rising_filter early 0 t entry.answers (subst (IsRising 0) (sym (w.answers)) (numbered_rising h first [] (each_from 0 (suc (length h)) (answer_to config h first)) 0 (each_rising 0 (suc (length h)) (answer_to config h first)))))
-    ∙ kept (answer_in entry.answers t) (first_answer config h entry.moment entry.call t) (second_answer config h first t) (ap (λ xs. plain (answer_in xs t)) (w.answers) ∙ valued config h entry.moment entry.call t le) (first_early config h entry.moment entry.call t) (second_late config h first t)
-  where
-    first : Entry
-    first = first_entry config h entry.moment entry.call
-
--- an entry whose first answers are those of A
-pub record IsFirst (n : ℕ) (A : ℕ → Option Answer) (entry : Entry) : Type 0 where
-  pub first : (t : ℕ) → t ≤ n → plain (answer_in (first_part entry).answers t) ≡ plain (A t)
-  pub part : (t : ℕ) → answer_in (first_part entry).answers t ≡ passed early (answer_in entry.answers t)
-
-pub entry_is_first : (config : Config) (h : List Entry) (entry : Entry) → Follows config h entry → IsFirst (length h) (first_answer config h entry.moment entry.call) entry
-unfolding answers
-entry_is_first config h entry w = record {
-  first = λ t le. entry_first config h entry t w le;
-  part = λ t. rising_filter early 0 t entry.answers (subst (IsRising 0) (sym (w.answers)) (numbered_rising h first [] (each_from 0 (suc (length h)) (answer_to config h first)) 0 (each_rising 0 (suc (length h)) (answer_to config h first))));
-}
-  where
-    first : Entry
-    first = first_entry config h entry.moment entry.call
-
-pub first_is_first : (config : Config) (h : List Entry) (now : ℕ) (call : Call) → IsFirst (length h) (first_answer config h now call) (first_entry config h now call)
-unfolding first_answers
-first_is_first config h now call = record {
-  first = λ t le. ap plain (filtered t ∙ ap (passed early) (first_valued config h now call t le) ∙ whole (first_answer config h now call t) (first_early config h now call t));
-  part = filtered;
-}
-  where
-    filtered : (t : ℕ) → answer_in (filter (λ a. early a.1) (first_entry config h now call).answers) t ≡ passed early (answer_in (first_entry config h now call).answers t)
-    filtered t = rising_filter early 0 t (first_entry config h now call).answers (each_rising 0 (suc (length h)) (first_answer config h now call))
-
-    whole : (o : Option Answer) → is_early o ≡ true → passed early o ≡ o
-    whole None e = refl
-    whole (Some a) e = ap (λ (b : Bool). if b then Some a else None) e
-
--- what a test of an answer needs not know
-pub plain_none : (a b : Option Answer) → plain a ≡ plain b → is_none a ≡ is_none b
-plain_none None None e = refl
-plain_none None (Some b) e = absurd (cc)
-plain_none (Some a) None e = absurd (cc)
-plain_none (Some a) (Some b) e = refl
-
-pub ending_plain : (a : Option Answer) → is_ending (plain a) ≡ is_ending a
-ending_plain None = refl
-ending_plain (Some (Ending reason until event)) = refl
-ending_plain (Some (Told p d event)) = refl
-ending_plain (Some a) = refl
-
-pub accepted_plain : (a : Option Answer) → is_accepted (plain a) ≡ is_accepted a
-accepted_plain None = refl
-accepted_plain (Some (Ending reason until event)) = refl
-accepted_plain (Some (Told p d event)) = refl
-accepted_plain (Some a) = refl
-
-ending_passed : (a : Option Answer) → is_ending (passed early a) ≡ is_ending a
-ending_passed None = refl
-ending_passed (Some (Told p d event)) = refl
-ending_passed (Some (Delivered p d)) = refl
-ending_passed (Some a) = refl
-
-accepted_passed : (a : Option Answer) → is_accepted (passed early a) ≡ is_accepted a
-accepted_passed None = refl
-accepted_passed (Some (Told p d event)) = refl
-accepted_passed (Some (Delivered p d)) = refl
-accepted_passed (Some a) = refl
-
-pub first_ending : (n : ℕ) (A : ℕ → Option Answer) (entry : Entry) (t : ℕ) → IsFirst n A entry → t ≤ n → is_ending (answer_in entry.answers t) ≡ is_ending (A t)
-first_ending n A entry t k le = sym (ending_passed (answer_in entry.answers t)) ∙ ap is_ending (sym (k.part t)) ∙ sym (ending_plain (answer_in (first_part entry).answers t)) ∙ ap is_ending (k.first t le) ∙ ending_plain (A t)
-
-pub first_accepted : (n : ℕ) (A : ℕ → Option Answer) (entry : Entry) (t : ℕ) → IsFirst n A entry → t ≤ n → is_accepted (answer_in entry.answers t) ≡ is_accepted (A t)
-first_accepted n A entry t k le = sym (accepted_passed (answer_in entry.answers t)) ∙ ap is_accepted (sym (k.part t)) ∙ sym (accepted_plain (answer_in (first_part entry).answers t)) ∙ ap is_accepted (k.first t le) ∙ accepted_plain (A t)
-
-registered_plain : (call : Call) (a : Option Answer) → as_registered call (plain a) ≡ as_registered call a
-registered_plain (Register e name invoke shutdown account) None = refl
-registered_plain (Register e name invoke shutdown account) (Some (Told p d event)) = refl
-registered_plain (Register e name invoke shutdown account) (Some (Ending reason until event)) = refl
-registered_plain (Register e name invoke shutdown account) (Some a) = refl
-registered_plain call a = refl
-
-registered_passed : (call : Call) (a : Option Answer) → as_registered call (passed early a) ≡ as_registered call a
-registered_passed (Register e name invoke shutdown account) None = refl
-registered_passed (Register e name invoke shutdown account) (Some (Told p d event)) = refl
-registered_passed (Register e name invoke shutdown account) (Some (Delivered p d)) = refl
-registered_passed (Register e name invoke shutdown account) (Some a) = refl
-registered_passed call a = refl
-
-pub first_registered : (n : ℕ) (A : ℕ → Option Answer) (entry : Entry) (t : ℕ) (call : Call) → IsFirst n A entry → t ≤ n → as_registered call (answer_in entry.answers t) ≡ as_registered call (A t)
-first_registered n A entry t call k le = sym (registered_passed call (answer_in entry.answers t)) ∙ ap (as_registered call) (sym (k.part t)) ∙ sym (registered_plain call (answer_in (first_part entry).answers t)) ∙ ap (as_registered call) (k.first t le) ∙ registered_plain call (A t)

@@ -1,5 +1,6 @@
 -- What a function has in flight is how many of its environments are Busy or bound.
-use Rattle.std.proofs.Common.{◌≡◌, ℕ, zero, suc, ◌+◌, ◌<◌, ◌≤◌, Bool, true, false, cond, List, [], ◌∷◌, length, Option, Some, None, sym, refl, ap, ap₂, ◌∙◌, arith, is_some, ◌&&◌, ◌==◌, if◌then◌else◌, count_by, nat_le}
+use Rattle.std.proofs.Common.{◌≡◌, ℕ, zero, suc, ◌+◌, ◌<◌, ◌≤◌, Bool, true, false, cond, List, [], ◌∷◌, length, Option, Some, None, sym, refl, ap, ap₂, ◌∙◌, arith, is_some, ◌&&◌, ◌==◌, if◌then◌else◌, count_by, nat_le, true≢false}
+use Rattle.std.proofs.lemmas.Bool.{eqb-true}
 use Rattle.std.proofs.lemmas.Bool.Decides.{nat_tests}
 use Rattle.std.specs.List.{find}
 use Rattle.call_model.specs.declared.call.Call.{Call}
@@ -10,11 +11,13 @@ use Rattle.arn_ids.specs.Environments.{function_of, environments, owners, count_
 use Rattle.call_model.specs.History.{with_tickets, is_invoke_of, call_of, place_of, or_else}
 use Rattle.call_model.specs.Stand.{at_hand, is_number, is_idle}
 use Rattle.call_model.specs.Life.{phase}
-use Rattle.call_model.specs.Limits.{charged, in_flight, place, place_for, lowest, is_free_starting, is_free_closing}
-use Rattle.call_model.specs.Next.{IsLegal}
+use Rattle.call_model.specs.Calls.{is_invoke}
+use Rattle.call_model.specs.Limits.{charged, in_flight, place, place_for, lowest, is_free_starting, is_free_closing, verdict, Verdict, AfterStop, Refuses, Admits, admitted_to}
+use Rattle.call_model.specs.Answers.{first_answer, own_first, verdict_answer}
+use Rattle.call_model.specs.Next.{IsLegal, Follows}
 use Rattle.call_model.proofs.OwnTickets.{placed_function, admits_place}
 use Rattle.call_model.proofs.Charges.{IsIn, entries_in, count_same, count_split, count_none, charged_count}
-use Rattle.call_model.proofs.Basics.{count_cons, number_some, some-none, and_false}
+use Rattle.call_model.proofs.Basics.{count_cons, number_some, some-none, and_false, eqb-self}
 
 find_between : (p : ℕ → Bool) (a n e : ℕ) → find p (count_from a n) ≡ Some e → (a ≤ e) × (e < a + n)
 find_between p a zero e q = absurd (some-none (sym q))
@@ -58,6 +61,29 @@ placed_between config (entry ∷ h) t e l q = go (t == length h) (placed_between
     go : (b : Bool) → (place_of h t ≡ Some e → (1 ≤ e) × (e < 1 + length (owners config))) → (if b then entry.place else place_of h t) ≡ Some e → (1 ≤ e) × (e < 1 + length (owners config))
     go true ih r = place_for_between config h entry.call e (sym (l.1.place) ∙ r)
     go false ih r = ih r
+
+-- what is placed is an Invoke
+pub placed_invoke : (config : Config) (h : List Entry) (call : Call) (d : ℕ) → place_for config h call ≡ Some d → is_invoke call ≡ true
+placed_invoke config h (Invoke f qualified trace body) d q = refl
+placed_invoke config h call d q = absurd (some-none (sym q))
+
+admitted : (v : Verdict) (e : ℕ) → admitted_to v ≡ Some e → verdict_answer v ≡ None
+admitted (Admits d) e q = refl
+admitted AfterStop e q = absurd (some-none (sym q))
+admitted (Refuses r) e q = absurd (some-none (sym q))
+
+-- a placed Invoke isn't answered at once
+pub placed_silent : (config : Config) (h : List Entry) (entry : Entry) (e : ℕ) → Follows config h entry → is_invoke entry.call ≡ true → is_number entry.place e ≡ true → first_answer config h entry.moment entry.call (length h) ≡ None
+unfolding first_answer own_first
+placed_silent config h entry e w i c = rw (eqb-self (length h)) (go entry.call i (sym (w.place)))
+  where
+    some : (o : Option ℕ) → is_number o e ≡ true → o ≡ Some e
+    some None q = absurd (true≢false (sym q))
+    some (Some d) q = ap (λ (n : ℕ). Some n) (eqb-true d e q)
+
+    go : (call : Call) → is_invoke call ≡ true → place_for config h call ≡ entry.place → own_first config h call ≡ None
+    go (Invoke f qualified trace body) j q = admitted (verdict config h f) e (q ∙ some entry.place c)
+    go call j q = absurd (true≢false (sym j))
 
 abbrev at_least : ℕ → Option ℕ → Bool
 at_least a None = false

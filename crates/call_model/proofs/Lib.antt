@@ -2,10 +2,8 @@
 pub mod Basics
 -- The table of phases by its cells.
 pub mod Cells
--- Lists of answers: by ticket, in rising order, with one put in its place; lists by deadline.
+-- Lists of answers by ticket; lists by deadline.
 pub mod Pairs
-pub mod Rising
-pub mod Puts
 pub mod Deadlines
 -- One entry: who is answered, what is pending after it, which phase comes, what it leaves alone, which values it gives.
 pub mod Visits
@@ -22,7 +20,7 @@ pub mod BoundWaits
 pub mod Lives
 pub mod Charges
 pub mod Flight
-pub mod Ended
+pub mod FlightStep
 -- The limits of admissions.
 pub mod AdmissionLimits
 pub mod NoLocalRefusal
@@ -33,6 +31,7 @@ pub mod GivenCounts
 pub mod DeliveredOnce
 -- Parked Nexts: whose they are, where they stand, and that an Idle environment has one.
 pub mod NextsHome
+pub mod Roles
 pub mod ParkedRoles
 pub mod OpenStays
 pub mod ParkedNexts
@@ -45,24 +44,6 @@ pub mod SafeLaws
 pub mod DueList
 pub mod NextLegal
 pub mod Added
--- The step of an environment: its stand after an entry is a function of the one before.
-pub mod Frame
-pub mod Stands
-pub mod Extensions
-pub mod Roles
-pub mod FirstStage
-pub mod PhaseAfter
-pub mod PendingAfter
-pub mod SecondStage
--- The answers that an entry gives at an environment, from its stand.
-pub mod EventNumbers
-pub mod HeldTickets
-pub mod FirstMoves
-pub mod SecondMoves
-pub mod UnnumberedMoves
-pub mod NumberedMoves
-pub mod EventTickets
-pub mod StepLaws
 -- Isolation: what a function would see alone.
 pub mod OwnTickets
 pub mod TwinHistories

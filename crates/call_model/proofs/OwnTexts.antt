@@ -22,7 +22,7 @@ use Rattle.call_model.specs.declared.answer.Reason.{Reason}
 use Rattle.call_model.specs.Polls.{by_role, delivered, begun, at_close, replaced}
 use Rattle.call_model.specs.Isolation.{named, named_in, source_of, gist}
 use Rattle.call_model.proofs.Pairs.{in_each, eqb-other}
-use Rattle.call_model.proofs.Rising.{seen_by, numbered_keeps}
+use Rattle.call_model.proofs.AnswerValues.{seen_by, numbered_keeps}
 use Rattle.call_model.proofs.OwnAnswers.{first_fit, first_of}
 use Rattle.call_model.proofs.OwnHistory.{others_silent, own_requests_upto}
 use Rattle.call_model.proofs.OwnStands.{same_fit}

@@ -1,5 +1,5 @@
 -- Words of the laws over legal histories.
-use Rattle.std.specs.Prelude.{◌≡◌, ◌≤◌, ℕ, Bool, true, false, ◌&&◌, ◌||◌, ◌+◌, ◌==◌, nat_le, nat_lt, nat_eq, List, [], ◌∷◌, Option, Some, None, option_map, count_by, filter_map, is_some, length}
+use Rattle.std.specs.Prelude.{◌≡◌, ◌≤◌, ℕ, Bool, true, false, ◌&&◌, ◌||◌, if◌then◌else◌, ◌+◌, ◌==◌, nat_le, nat_lt, nat_eq, List, [], ◌∷◌, Option, Some, None, option_map, count_by, filter_map, is_some, length}
 use Rattle.std.specs.List.{list_any, list_all}
 use Rattle.call_model.specs.declared.call.Call.{Call}
 use Rattle.call_model.specs.declared.call.Call.TheVariants.{Reserve, RuntimeNext, ExtNext}
@@ -25,6 +25,15 @@ charged_in config h e = count_by (λ taken. is_number taken.1.place e && charged
 -- whether a phase is Busy or has an invocation bound
 abbrev pub is_taken : Phase → Bool
 is_taken phase = is_some (at_hand phase)
+
+-- what was at hand and isn't any more
+abbrev pub no_longer : Option ℕ → Option ℕ → Option ℕ
+no_longer None after = None
+no_longer (Some p) after = if is_number after p then None else Some p
+
+-- The invocation whose charge a call ends: it was at hand before, and isn't after.
+abbrev pub ended_by : Phase → Phase → Option ℕ
+ended_by before after = no_longer (at_hand before) (at_hand after)
 
 -- whether an entry admits an Invoke of a function
 abbrev pub admits : ℕ → Entry → Bool

@@ -26,9 +26,6 @@ pub mod Words
 -- Which calls are within the limits of the service, and the count in each request identifier.
 pub mod Within
 pub mod CallCounts
--- The step of one environment as a function of its stand: the form in which the code goes. Nobody need believe it, since
--- the law `step` ties it to the words above.
-pub mod After
 -- Examples, proved by computation: worked histories, each cell of the table, each refusal.
 pub mod Sample
 pub mod RowsInvoke

@@ -14,10 +14,9 @@ ghost use Rattle.call_model.specs.Stand.{is_number};
 ghost use Rattle.call_model.specs.Answers.{home};
 ghost use Rattle.call_model.specs.Life.{phase, stand, concerns};
 ghost use Rattle.call_model.specs.Own.{own, own_ticket};
-ghost use Rattle.call_model.specs.After.{ended_by, stand_after, moves_of, fixed_of, step_at, count_at};
 ghost use Rattle.call_model.specs.Isolation.{IsUnnamed, IsLegalSave, named, gist};
 ghost use Rattle.call_model.specs.Limits.{is_charged, verdict, Verdict, Refuses, reservation, remainder, in_flight, unreserved_in_flight};
-ghost use Rattle.call_model.specs.Laws.{lives, times, deliveries, is_outcome, poll_of, is_open, admits, re_reserved, charged_in, is_taken, IsWithinEnvironments, is_due, deadlines_of, are_in_order};
+ghost use Rattle.call_model.specs.Laws.{lives, times, deliveries, is_outcome, poll_of, is_open, admits, re_reserved, charged_in, is_taken, IsWithinEnvironments, is_due, deadlines_of, are_in_order, ended_by};
 ghost use Rattle.call_model.specs.Next.{IsLegal, next, due, last_moment, expiries_at};
 
 /// Where invocations live, how often they are answered and delivered, and where polls stand.
@@ -86,18 +85,6 @@ pub fn isolated()
     ensures names { (config : Config) (h : List Entry) (f t p : ℕ) (a : Answer) → IsLegal config h → own_ticket config h f t ≡ true → answer_of h t ≡ Some a → named a ≡ Some p → own_ticket config h f p ≡ true }
     // and each of its environments stands as in the whole history.
     ensures stands { (config : Config) (h : List Entry) (f e : ℕ) → IsLegal config h → function_of config e ≡ f → stand config (own config h f) e ≡ stand config h e }
-{}
-
-/// The step of one environment: what an entry makes of its stand, a function of that stand and the call.
-pub fn step()
-    // An entry that doesn't concern an environment leaves its stand as it is.
-    ensures frame { (config : Config) (h : List Entry) (entry : Entry) (e : ℕ) → IsLegal config (entry ∷ h) → concerns h e entry ≡ false → stand config (entry ∷ h) e ≡ stand config h e }
-    // One that does makes of it what stand_after says,
-    ensures stands { (config : Config) (h : List Entry) (entry : Entry) (e : ℕ) → IsLegal config (entry ∷ h) → concerns h e entry ≡ true → stand config (entry ∷ h) e ≡ stand_after (fixed_of config e) (step_at h entry (count_at config h entry e)) (stand config h e) entry.call }
-    // and gives the environment's tickets the answers that moves_of lists.
-    ensures moves { (config : Config) (h : List Entry) (entry : Entry) (e : ℕ) → IsLegal config (entry ∷ h) → concerns h e entry ≡ true → filter (λ a. is_number (home (entry ∷ h) a.0) e) entry.answers ≡ moves_of (fixed_of config e) (step_at h entry (count_at config h entry e)) (stand config h e) entry.call }
-    // An invocation placed there was charged before the entry and isn't after just where ended_by names it.
-    ensures ended { (config : Config) (h : List Entry) (entry : Entry) (e p : ℕ) → IsLegal config (entry ∷ h) → (is_number (place_of h p) e && (is_charged config h p && not (is_charged config (entry ∷ h) p))) ≡ is_number (ended_by (phase config h e) (phase config (entry ∷ h) e)) p }
 {}
 
 /// The count that stands at the ticket of an Invoke is how many Invokes of its function the history

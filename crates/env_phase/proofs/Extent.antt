@@ -9,15 +9,15 @@ use Rattle.call_model.specs.declared.answer.Answer.{Answer}
 use Rattle.call_model.specs.declared.call.Call.{Call}
 use Rattle.call_model.specs.declared.call.Call.TheVariants.{Register}
 use Rattle.call_model.specs.declared.call.Entry.{Entry}
-use Rattle.call_model.specs.After.{Fixed, Step, stand_after, turned, closing_ends, expires_now, first_stand, members_first, fresh_members, finished, restarted, settled_stand, settled_phase, member_second, fixed_of, step_at, count_at, member_first}
+use Rattle.environment_step.specs.After.{Fixed, Step, stand_after, turned, closing_ends, expires_now, first_stand, members_first, fresh_members, finished, restarted, settled_stand, settled_phase, member_second, fixed_of, step_at, count_at, member_first}
 use Rattle.call_model.specs.Generation.{Extension, as_registered, Member, members}
 use Rattle.call_model.specs.Life.{stand, concerns, seen, life}
 use Rattle.call_model.specs.Next.{IsLegal}
 use Rattle.call_model.specs.Polls.{begun}
 use Rattle.call_model.specs.Stand.{Stand}
 use Rattle.call_model.specs.Table.{own_answer}
-use Rattle.call_model.proofs.Frame.{stand_elsewhere}
-use Rattle.call_model.proofs.StepLaws.{stand_is}
+use Rattle.environment_step.proofs.Frame.{stand_elsewhere}
+use Rattle.environment_step.proofs.StepLaws.{stand_is}
 use Rattle.extension_set.specs.declared.register_fault.RegisterFault.{RegisterFault}
 use Rattle.extension_set.specs.declared.register_fault.RegisterFault.TheVariants.{NameInUse, TooMany}
 use Rattle.extension_set.specs.Registering.{admits}

@@ -6,7 +6,8 @@ use Rattle.arn_ids.specs.Environments.{function_at, function_of, owners}
 use Rattle.arn_ids.proofs.Bounds.{owner_is_function}
 use Rattle.call_model.specs.declared.answer.Answer.{Answer}
 use Rattle.call_model.specs.declared.call.Entry.{Entry}
-use Rattle.call_model.specs.After.{Known, count_at, ended_by, fixed_of, step_at}
+use Rattle.environment_step.specs.After.{Known, count_at, fixed_of, step_at}
+use Rattle.call_model.specs.Laws.{ended_by}
 use Rattle.call_model.specs.Answers.{home}
 use Rattle.call_model.specs.Generation.{members}
 use Rattle.call_model.specs.History.{answer_in, env_of, or_else, place_of}
@@ -15,10 +16,10 @@ use Rattle.call_model.specs.Limits.{is_charged}
 use Rattle.call_model.specs.Next.{IsLegal}
 use Rattle.call_model.specs.Stand.{is_number}
 use Rattle.call_model.proofs.Basics.{eqb-self, number_some, some-none}
-use Rattle.call_model.proofs.Ended as E
-use Rattle.call_model.proofs.Frame.{not_named, quiet_here}
-use Rattle.call_model.proofs.Puts.{filter_answer}
-use Rattle.call_model.proofs.StepLaws.{moves_are, stand_is}
+use Rattle.environment_step.proofs.Ended as E
+use Rattle.environment_step.proofs.Frame.{not_named, quiet_here}
+use Rattle.environment_step.proofs.Puts.{filter_answer}
+use Rattle.environment_step.proofs.StepLaws.{moves_are, stand_is}
 use Rattle.env_phase.specs.Taking.{given, opened, taken}
 use Rattle.env_phase.proofs.Extent.{little}
 use Rattle.env_phase.proofs.Homes.{home_new, home_old, past}

@@ -8,7 +8,7 @@ use Rattle.call_model.specs.Generation.{Member, Extension, as_registered}
 use Rattle.call_model.specs.Polls.{begun, delivered}
 use Rattle.call_model.specs.Stand.{Stand, RuntimePoll, ExtensionPoll}
 use Rattle.call_model.specs.Table.{own_answer, to_waiting, is_registered}
-use Rattle.call_model.specs.After.{Step, Fixed, give, give_each, poll_gets, waiting_call, fresh_members, member_first, first_stand, first_moves, restarted, settled_stand, turned, turned_moves, served_moves, settled_phase, closing_ends, expires_now, finished, finished_moves, stand_after, moves_of}
+use Rattle.environment_step.specs.After.{Step, Fixed, give, give_each, poll_gets, waiting_call, fresh_members, member_first, first_stand, first_moves, restarted, settled_stand, turned, turned_moves, served_moves, settled_phase, closing_ends, expires_now, finished, finished_moves, stand_after, moves_of}
 use Rattle.extension_set.proofs.Lengths.{give_length, each_length, numbered_length, events_few}
 
 -- the first stage: at most an answer to each extension, to the runtime, to the waiting call and to the call itself

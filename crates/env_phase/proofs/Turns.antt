@@ -5,8 +5,7 @@ use Rattle.call_model.specs.declared.answer.Phase.{Phase}
 use Rattle.call_model.specs.declared.call.Call.{Call}
 use Rattle.call_model.specs.Generation.{Member, TheRuntime}
 use Rattle.call_model.specs.Stand.{Stand, RuntimePoll, ExtensionPoll, at_hand}
-use Rattle.call_model.specs.After.{Fixed, Known, Step, cell_at, first_moves, first_stand, give, give_each, member_first, over_now, request_of, runtime_first}
-use Rattle.call_model.specs.After.{poll_gets as polls_get}
+use Rattle.environment_step.specs.After.{Fixed, Known, Step, cell_at, first_moves, first_stand, give, give_each, member_first, over_now, request_of, runtime_first, poll_gets as polls_get}
 use Rattle.call_model.specs.Table.{to_waiting}
 use Rattle.extension_set.specs.declared.turn.Turn.{Turn}
 use Rattle.extension_set.specs.Turns.{poll_gets, member_after, next_after}

@@ -11,7 +11,7 @@ use Rattle.call_model.specs.declared.call.Call.TheVariants.{Register}
 use Rattle.call_model.specs.Generation.{Member, as_registered}
 use Rattle.call_model.specs.Stand.{Stand}
 use Rattle.call_model.specs.Table.{own_answer, by_phase, registers, state, container}
-use Rattle.call_model.specs.After.{Step}
+use Rattle.environment_step.specs.After.{Step}
 use Rattle.extension_set.specs.declared.register_fault.RegisterFault.TheVariants.{NameInUse, TooMany}
 use Rattle.extension_set.specs.declared.turn.Turn.{Turn}
 use Rattle.extension_set.specs.Registering.{admits}

@@ -5,7 +5,7 @@ use Rattle.call_model.specs.declared.call.Call.{Call}
 use Rattle.call_model.specs.Generation.{Member, Extension, TheRuntime, as_registered}
 use Rattle.call_model.specs.Stand.{Stand, RuntimePoll, ExtensionPoll}
 use Rattle.call_model.specs.Table.{own_answer, closes, is_registered}
-use Rattle.call_model.specs.After.{Step, fresh_members, give, give_each, waiting_call}
+use Rattle.environment_step.specs.After.{Step, fresh_members, give, give_each, waiting_call}
 use Rattle.extension_set.specs.declared.turn.Turn.{Turn}
 use Rattle.extension_set.specs.Registering.{admits}
 use Rattle.extension_set.specs.Turns.{poll_gets, next_after, member_after}

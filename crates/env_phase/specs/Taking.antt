@@ -7,7 +7,7 @@ use Rattle.call_model.specs.declared.answer.Phase.TheVariants.{Starting, Off}
 use Rattle.call_model.specs.declared.call.Call.{Call}
 use Rattle.call_model.specs.declared.call.Call.TheVariants.{Register}
 use Rattle.call_model.specs.Stand.{Stand, is_busy}
-use Rattle.call_model.specs.After.{Known, Step, stand_after, moves_of}
+use Rattle.environment_step.specs.After.{Known, Step, stand_after, moves_of}
 use Rattle.env_phase.specs.declared.step.Step.{Step as TheStep}
 
 -- the stand before any call

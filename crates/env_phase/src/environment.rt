@@ -9,7 +9,7 @@ ghost use Rattle.std.specs.Prelude.{◌≡◌, ◌+◌, ◌*◌, ◌<◌, ◌≤
 ghost use Rattle.call_model.specs.Laws.{is_taken};
 ghost use Rattle.call_model.specs.Next.{deadline_of};
 ghost use Rattle.call_model.specs.Stand.{bound_of};
-ghost use Rattle.call_model.specs.After.{expires_now};
+ghost use Rattle.environment_step.specs.After.{expires_now};
 ghost use Rattle.env_phase.specs.Taking.{opened, is_off, has_answered, registered_name, IsShort, step_of, taken, given};
 
 use crate::Step;
@@ -44,7 +44,7 @@ pub struct Environment {
 
 impl Model for Environment {
     ghost use Rattle.std.specs.Prelude.{◌<◌, ◌≤◌, ◌^◌, length};
-    ghost use Rattle.call_model.specs.After.{Known};
+    ghost use Rattle.environment_step.specs.After.{Known};
 
     ghost Value = { Known };
 
@@ -110,7 +110,7 @@ impl Environment {
     }
 
     /// The table's cell for the call, and then what comes after each entry.
-    #[tactic(auto, unfolding(call_model::specs::After::stand_after, call_model::specs::After::moves_of))]
+    #[tactic(auto, unfolding(environment_step::specs::After::stand_after, environment_step::specs::After::moves_of))]
     fn take_in_stages(&mut self, step: Step, call: &Call, moves: &mut Moves)
         requires moment { step.now < 2 ^ 53 }
         requires empty { moves.old ≡ [] }

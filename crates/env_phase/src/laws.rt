@@ -4,7 +4,8 @@ ghost use Rattle.std.specs.Prelude.{◌≡◌, ◌+◌, ◌*◌, ◌≤◌, ℕ,
 ghost use Rattle.arn_ids.specs.declared.config.Config.{Config};
 ghost use Rattle.arn_ids.specs.Environments.{owners, function_of, function_at};
 ghost use Rattle.call_model.specs.declared.call.Entry.{Entry};
-ghost use Rattle.call_model.specs.After.{Known, fixed_of, step_at, count_at, ended_by};
+ghost use Rattle.environment_step.specs.After.{Known, fixed_of, step_at, count_at};
+ghost use Rattle.call_model.specs.Laws.{ended_by};
 ghost use Rattle.call_model.specs.Answers.{home};
 ghost use Rattle.call_model.specs.History.{place_of};
 ghost use Rattle.call_model.specs.Life.{stand, concerns};
@@ -14,7 +15,7 @@ ghost use Rattle.call_model.specs.Stand.{is_number};
 ghost use Rattle.env_phase.specs.Taking.{opened, taken, given};
 
 /// An environment meets its stand: opened, and taking each call that concerns it, it is at every moment what a legal
-/// history says of it. (An entry that doesn't concern it leaves its stand: `call_model::laws::step`.)
+/// history says of it. (An entry that doesn't concern it leaves its stand: `environment_step::laws::step`.)
 pub fn meets()
     // An environment that is opened is what the empty history says of it.
     ensures opens { (config : Config) (e : ℕ) → 1 ≤ e → e ≤ length (owners config) → opened (function_at config (function_of config e)) ≡ record { fixed = fixed_of config e; stand = stand config [] e } }

@@ -4,7 +4,7 @@ use Rattle.std.proofs.Math.Seq.{take-suc, take-suc-set}
 use Rattle.std.proofs.lemmas.List.{drop-set-lt, length-set, map-append, reverse-append, take_all}
 use Rattle.call_model.specs.declared.answer.Answer.{Answer}
 use Rattle.call_model.specs.Generation.{Member}
-use Rattle.call_model.specs.After.{give, give_each}
+use Rattle.environment_step.specs.After.{give, give_each}
 use Rattle.extension_set.proofs.Lists.{same_rest}
 use Rattle.extension_set.proofs.Lengths.{give_length}
 

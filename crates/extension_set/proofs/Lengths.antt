@@ -3,7 +3,7 @@ use Rattle.std.proofs.Common.{◌≡◌, ℕ, suc, ◌+◌, ◌≤◌, length, L
 use Rattle.call_model.specs.declared.answer.Answer.{Answer}
 use Rattle.call_model.specs.Generation.{Member}
 use Rattle.call_model.specs.Life.{is_event}
-use Rattle.call_model.specs.After.{put, give, give_each, numbered_from, events_of}
+use Rattle.environment_step.specs.After.{put, give, give_each, numbered_from, events_of}
 
 pub put_length : (a : ℕ × Answer) (moves : List (ℕ × Answer)) → length (put a moves) ≡ suc (length moves)
 put_length a [] = refl

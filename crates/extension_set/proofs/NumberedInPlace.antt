@@ -5,7 +5,7 @@ use Rattle.std.proofs.lemmas.List.{drop-set-lt, length-set}
 use Rattle.call_model.specs.Answers.{with_event}
 use Rattle.call_model.specs.Life.{is_event}
 use Rattle.call_model.specs.declared.answer.Answer.{Answer}
-use Rattle.call_model.specs.After.{numbered_from, events_of}
+use Rattle.environment_step.specs.After.{numbered_from, events_of}
 use Rattle.extension_set.proofs.Lists.{drop_take_one, same_rest}
 
 -- what is numbered so far, with the numbers of the rest from the last one on, is the numbering of all

@@ -5,7 +5,7 @@ use Rattle.std.proofs.lemmas.Bool.Decides.{nat_tests}
 use Rattle.std.proofs.Math.Seq.{take-suc, take-suc-set}
 use Rattle.std.proofs.lemmas.List.{drop-set-lt, length-set}
 use Rattle.call_model.specs.declared.answer.Answer.{Answer}
-use Rattle.call_model.specs.After.{put}
+use Rattle.environment_step.specs.After.{put}
 use Rattle.extension_set.proofs.Lists.{drop_take_one, same_rest}
 
 -- what is laid down so far, with the carried pair put among the rest, is the pair put among all

@@ -6,7 +6,7 @@ use Rattle.call_model.specs.History.{or_else}
 use Rattle.call_model.specs.Generation.{Member, Actor, TheExtension, asks, is_ending, is_accepted, reports_exit}
 use Rattle.call_model.specs.Stand.{Role, ExtensionPoll}
 use Rattle.call_model.specs.Polls.{at_close, replaced}
-use Rattle.call_model.specs.After.{left, asked_now}
+use Rattle.environment_step.specs.After.{left, asked_now}
 use Rattle.extension_set.specs.declared.turn.Turn.{Turn}
 
 -- what an actor's parked Next gets, where there is one

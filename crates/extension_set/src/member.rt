@@ -4,7 +4,7 @@ ghost use Rattle.std.specs.Prelude.{◌≡◌, ◌<◌, ◌^◌, ◌&&◌, ◌||
 ghost use Rattle.call_model.specs.Generation.{TheExtension, asks, has_count, hears_end, is_ending, reports_exit};
 ghost use Rattle.call_model.specs.Polls.{at_close, delivered, replaced};
 ghost use Rattle.call_model.specs.Stand.{ExtensionPoll};
-ghost use Rattle.call_model.specs.After.{give, left, member_second};
+ghost use Rattle.environment_step.specs.After.{give, left, member_second};
 ghost use Rattle.extension_set.specs.Registering.{owes_end, registered};
 ghost use Rattle.extension_set.specs.Turns.{poll_gets, member_after};
 

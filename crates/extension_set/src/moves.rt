@@ -1,7 +1,7 @@
 //! The answers that an entry gives to the tickets of one environment.
 
 ghost use Rattle.std.specs.Prelude.{◌≡◌, ◌+◌, ◌<◌, ◌≤◌, ◌^◌, length, [], if◌then◌else◌};
-ghost use Rattle.call_model.specs.After.{give, put, numbered_from, events_of};
+ghost use Rattle.environment_step.specs.After.{give, put, numbered_from, events_of};
 ghost use Rattle.call_model.specs.Answers.{with_event};
 ghost use Rattle.call_model.specs.Life.{is_event};
 

@@ -5,7 +5,7 @@ ghost use Rattle.std.specs.List.{list_any, find};
 ghost use Rattle.call_model.specs.Generation.{has_count, awaited, missing};
 ghost use Rattle.call_model.specs.Polls.{delivered};
 ghost use Rattle.call_model.specs.Stand.{ExtensionPoll};
-ghost use Rattle.call_model.specs.After.{give_each, member_second};
+ghost use Rattle.environment_step.specs.After.{give_each, member_second};
 ghost use Rattle.extension_set.specs.Names.{lacks};
 ghost use Rattle.extension_set.specs.Registering.{admits, owes_end, registered};
 ghost use Rattle.extension_set.specs.Turns.{member_after, poll_gets};

@@ -14,7 +14,7 @@ use Rattle.call_model.specs.Limits.{place_for, reservation, verdict, Refuses}
 use Rattle.call_model.specs.Next.{Follows, IsLegal}
 use Rattle.call_model.specs.Stand.{is_number}
 use Rattle.call_model.proofs.AdmissionLimits.{within_reservation, within_remainder}
-use Rattle.call_model.proofs.Frame.{stand_elsewhere}
+use Rattle.environment_step.proofs.Frame.{stand_elsewhere}
 use Rattle.call_model.proofs.NoLocalRefusal.{never_crowded}
 use Rattle.headline.specs.Headline.{Headline, IsWithinLimits}
 use Rattle.headline.proofs.Fates.{one_fate}

@@ -27,7 +27,7 @@ struct Driven {
 
 impl Model for Driven {
     ghost use Rattle.std.specs.Prelude.{◌≤◌, ◌*◌};
-    ghost use Rattle.call_model.specs.After.{Known};
+    ghost use Rattle.environment_step.specs.After.{Known};
 
     ghost Value = { Known };
 

@@ -5,7 +5,7 @@ ghost use Rattle.call_model.specs.declared.answer.Answer.TheVariants.{Delivered}
 ghost use Rattle.call_model.specs.Generation.{ready};
 ghost use Rattle.call_model.specs.Polls.{begun, delivered};
 ghost use Rattle.call_model.specs.Stand.{RuntimePoll};
-ghost use Rattle.call_model.specs.After.{with_events, finished, finished_moves, turned, turned_moves, closing_ends, restarted, settled_stand, settled_phase, served_moves, left, member_second, give};
+ghost use Rattle.environment_step.specs.After.{with_events, finished, finished_moves, turned, turned_moves, closing_ends, restarted, settled_stand, settled_phase, served_moves, left, member_second, give};
 
 use super::Environment;
 use crate::phases::{at_hand, begin_again, begun, bound_of, is_closing, settle};
@@ -91,7 +91,7 @@ impl Environment {
     }
 
     /// What comes after each entry, but for the numbers of the events.
-    #[tactic(auto, unfolding(call_model::specs::After::turned, call_model::specs::After::turned_moves))]
+    #[tactic(auto, unfolding(environment_step::specs::After::turned, environment_step::specs::After::turned_moves))]
     fn turn(&mut self, now: u64, expires: bool, before: Phase, moves: &mut Moves)
         requires moment { now < 2 ^ 53 }
         requires room { length self.old.stand.members + length moves.old < 31 }
@@ -107,7 +107,7 @@ impl Environment {
 
     /// Ends an entry: what comes after each, and the numbers of its events. before is the phase
     /// before the entry, expires whether that let a Closing expire.
-    #[tactic(auto, unfolding(call_model::specs::After::finished, call_model::specs::After::finished_moves))]
+    #[tactic(auto, unfolding(environment_step::specs::After::finished, environment_step::specs::After::finished_moves))]
     pub(super) fn finish(&mut self, now: u64, expires: bool, before: Phase, moves: &mut Moves)
         requires moment { now < 2 ^ 53 }
         requires few { self.old.stand.events < 2 ^ 53 }

@@ -3,7 +3,7 @@
 ghost use Rattle.std.specs.Prelude.{◌≡◌, ◌<◌, ◌^◌, []};
 ghost use Rattle.call_model.specs.Generation.{TheRuntime, as_registered};
 ghost use Rattle.call_model.specs.Stand.{at_hand, RuntimePoll};
-ghost use Rattle.call_model.specs.After.{first_stand, first_moves, over_now};
+ghost use Rattle.environment_step.specs.After.{first_stand, first_moves, over_now};
 ghost use Rattle.call_model.specs.Polls.{replaced};
 ghost use Rattle.extension_set.specs.Turns.{next_after, poll_gets};
 ghost use Rattle.env_phase.specs.First.{polled, answers, joined, request_kept, IsWelcome};

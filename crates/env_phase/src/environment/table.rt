@@ -4,7 +4,7 @@
 ghost use Rattle.std.specs.Prelude.{◌≡◌, ◌<◌, ◌^◌, ◌&&◌};
 ghost use Rattle.call_model.specs.Stand.{is_busy, is_known, is_number};
 ghost use Rattle.call_model.specs.Table.{closes, kept, own_answer, to_waiting};
-ghost use Rattle.call_model.specs.After.{cell_at, limit_at, waiting_call};
+ghost use Rattle.environment_step.specs.After.{cell_at, limit_at, waiting_call};
 ghost use Rattle.env_phase.specs.First.{turn_of};
 ghost use Rattle.env_phase.specs.Taking.{step_of};
 

@@ -1,7 +1,7 @@
 use Rattle.std.proofs.Common.{ap}
 use Rattle.arn_ids.specs.Environments.{function_of}
 use Rattle.arn_ids.proofs.Bounds.{owner_is_function, timeout_between}
-use Rattle.call_model.specs.After.{Known}
+use Rattle.environment_step.specs.After.{Known}
 use Rattle.env_phase.proofs.Meets.{opens}
 use Rattle.account_book.proofs.opening.open_site.Goals as goal
 

@@ -1,7 +1,7 @@
 use Rattle.call_model.proofs.AdmissionLimits.{within_reservation, within_remainder, ever_within_reservation, ever_within_remainder}
 use Rattle.call_model.proofs.Charges.{charged_count}
 use Rattle.call_model.proofs.Flight as F
-use Rattle.call_model.proofs.Ended.{flight_step}
+use Rattle.call_model.proofs.FlightStep.{flight_step}
 use Rattle.call_model.proofs.NoLocalRefusal.{never_crowded}
 use Rattle.call_model.proofs.laws.counted.Goals as goal
 

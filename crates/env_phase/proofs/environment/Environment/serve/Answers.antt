@@ -1,5 +1,5 @@
 use Rattle.std.proofs.Common.{sym}
-use Rattle.call_model.proofs.SecondMoves.{none_all}
+use Rattle.environment_step.proofs.SecondMoves.{none_all}
 use Rattle.env_phase.proofs.environment.Environment.serve.Goals as goal
 
 pub returns-in-None-clause-given : goal.returns-in-None-clause-given

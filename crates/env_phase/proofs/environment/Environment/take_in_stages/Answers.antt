@@ -1,5 +1,5 @@
 use Rattle.std.proofs.Common.{sym, length, ◌≤◌, arith}
-use Rattle.call_model.specs.After.{first_stand}
+use Rattle.environment_step.specs.After.{first_stand}
 use Rattle.env_phase.specs.Taking.{step_of}
 use Rattle.env_phase.proofs.Room.{first_room}
 use Rattle.env_phase.proofs.environment.Environment.take_in_stages.Goals as goal

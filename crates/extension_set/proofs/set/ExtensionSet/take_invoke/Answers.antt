@@ -1,5 +1,5 @@
 use Rattle.std.proofs.Common.{◌≡◌, arith, length, refl, ap, add-one, ◌∙◌, Some, reverse, map, get_or}
-use Rattle.call_model.specs.After.{member_second}
+use Rattle.environment_step.specs.After.{member_second}
 use Rattle.std.proofs.lemmas.List.{with_items_is}
 use Rattle.extension_set.proofs.EachExtension.{each_more, each_whole}
 use Rattle.extension_set.proofs.set.ExtensionSet.take_invoke.Goals as goal

@@ -1,7 +1,7 @@
 use Rattle.std.proofs.Common.{Some}
 use Rattle.call_model.specs.Polls.{delivered}
 use Rattle.call_model.specs.Stand.{ExtensionPoll}
-use Rattle.call_model.specs.After.{member_second}
+use Rattle.environment_step.specs.After.{member_second}
 use Rattle.extension_set.proofs.EachExtension.{IsEach}
 use Rattle.extension_set.proofs.set.ExtensionSet.take_invoke.Given as goal
 

@@ -17,8 +17,9 @@ use Rattle.call_model.specs.Table.{is_registered, own_answer, Cell, ext_row}
 use Rattle.call_model.specs.Life.{life, lived, after, stand, seen, concerns, names, registrations, ends_here}
 use Rattle.call_model.specs.Answers.{first_answer, second_answer, first_entry, own_first, own_at}
 use Rattle.call_model.specs.Next.{IsLegal, Follows}
-use Rattle.call_model.proofs.Frame.{env_place, parked_elsewhere}
-use Rattle.call_model.proofs.AnswerValues.{plain, stripped, valued, ending_plain, accepted_plain}
+use Rattle.environment_step.proofs.Frame.{env_place, parked_elsewhere}
+use Rattle.call_model.proofs.AnswerValues.{plain, stripped, valued}
+use Rattle.environment_step.proofs.FirstValues.{ending_plain, accepted_plain}
 use Rattle.call_model.proofs.Basics.{eqb-self, some-none}
 use Rattle.call_model.specs.declared.answer.Rejection.{Rejection}
 use Rattle.call_model.proofs.Pairs.{eqb-other}

@@ -8,7 +8,7 @@ use Rattle.call_model.specs.History.{env_of, call_of}
 use Rattle.call_model.specs.Stand.{is_number}
 use Rattle.call_model.specs.Life.{is_event, events, events_in}
 use Rattle.call_model.specs.Answers.{numbered, event_at, with_event}
-use Rattle.call_model.specs.After.{numbered_from, events_of}
+use Rattle.environment_step.specs.After.{numbered_from, events_of}
 use Rattle.call_model.proofs.Basics.{and_false, number_some}
 
 -- what is no event has no number

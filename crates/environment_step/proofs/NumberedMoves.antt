@@ -8,14 +8,14 @@ use Rattle.call_model.specs.History.{answer_in, call_of, env_of, or_else}
 use Rattle.call_model.specs.Life.{phase, stand, seen, concerns, events, events_in}
 use Rattle.call_model.specs.Answers.{answers, answer_to, first_answer, second_answer, first_entry, each_from}
 use Rattle.call_model.specs.Next.{IsLegal, Follows}
-use Rattle.call_model.specs.After.{turned_moves, first_stand, first_moves, fixed_of, step_at, count_at, expires_now, moves_of, finished_moves, stand_after, finished, numbered_from, events_of}
+use Rattle.environment_step.specs.After.{turned_moves, first_stand, first_moves, fixed_of, step_at, count_at, expires_now, moves_of, finished_moves, stand_after, finished, numbered_from, events_of}
 use Rattle.call_model.proofs.Pairs.{in_each, past_each}
-use Rattle.call_model.proofs.AnswerValues.{first_valued}
-use Rattle.call_model.proofs.Rising.{rising_same, each_rising}
-use Rattle.call_model.proofs.Puts.{filter_rising, filter_answer}
-use Rattle.call_model.proofs.EventNumbers.{AreAt, numbered_own, counted_own}
-use Rattle.call_model.proofs.FirstMoves.{IsMoved, is_here}
-use Rattle.call_model.proofs.UnnumberedMoves.{turned_moved}
+use Rattle.environment_step.proofs.FirstValues.{first_valued}
+use Rattle.environment_step.proofs.Rising.{rising_same, each_rising}
+use Rattle.environment_step.proofs.Puts.{filter_rising, filter_answer}
+use Rattle.environment_step.proofs.EventNumbers.{AreAt, numbered_own, counted_own}
+use Rattle.environment_step.proofs.FirstMoves.{IsMoved, is_here}
+use Rattle.environment_step.proofs.UnnumberedMoves.{turned_moved}
 
 -- the entry's answers before their events have numbers
 abbrev pub unnumbered : Config → List Entry → Entry → List (ℕ × Answer)

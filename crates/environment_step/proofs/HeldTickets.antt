@@ -7,13 +7,14 @@ use Rattle.call_model.specs.declared.call.Entry.{Entry}
 use Rattle.call_model.specs.History.{answer_in, call_of}
 use Rattle.call_model.specs.Generation.{Generation, Extension, Member, TheRuntime, TheExtension, parked, extensions, member, members}
 use Rattle.call_model.specs.Stand.{Stand, Role, NoRole, Waiting, RuntimePoll, ExtensionPoll, is_number, role, member_role, waits_as, at_hand}
-use Rattle.call_model.specs.After.{give, give_each, waiting_call}
+use Rattle.environment_step.specs.After.{give, give_each, waiting_call}
 use Rattle.call_model.specs.Calls.{is_invoke}
 use Rattle.call_model.proofs.BoundWaits.{IsPart, invoke_asks}
-use Rattle.call_model.proofs.Extensions.{IsUnder}
-use Rattle.call_model.proofs.Roles.{IsIn, under_in, other_number, not_both, one_asker, parked_asks_for}
-use Rattle.call_model.proofs.Rising.{IsRising}
-use Rattle.call_model.proofs.Puts.{given_at, IsFresh, give_rising, give_answer}
+use Rattle.environment_step.proofs.Extensions.{IsUnder}
+use Rattle.environment_step.proofs.MemberRoles.{IsIn, under_in}
+use Rattle.call_model.proofs.Roles.{other_number, not_both, one_asker, parked_asks_for}
+use Rattle.environment_step.proofs.Rising.{IsRising}
+use Rattle.environment_step.proofs.Puts.{given_at, IsFresh, give_rising, give_answer}
 use Rattle.call_model.proofs.Basics.{eqb-self, number_some, some-none}
 
 abbrev pub holder : List Member → ℕ → Option Member

@@ -4,9 +4,9 @@ use Rattle.std.proofs.Common.{◌≡◌, ℕ, suc, ◌<◌, ◌≤◌, Bool, tru
 use Rattle.std.proofs.lemmas.Bool.Decides.{eqb_tells, nat_tests}
 use Rattle.call_model.specs.declared.answer.Answer.{Answer}
 use Rattle.call_model.specs.History.{answer_in}
-use Rattle.call_model.specs.After.{put, give}
+use Rattle.environment_step.specs.After.{put, give}
 use Rattle.call_model.proofs.Pairs.{eqb-other}
-use Rattle.call_model.proofs.Rising.{IsRising, weaker, rising_none, some_at, skip_at}
+use Rattle.environment_step.proofs.Rising.{IsRising, weaker, rising_none, some_at, skip_at}
 use Rattle.call_model.proofs.Basics.{none-some}
 
 -- a ticket that has no answer is none of the list's

@@ -13,17 +13,18 @@ use Rattle.call_model.specs.Polls.{by_role}
 use Rattle.call_model.specs.Life.{stand, concerns, names, first_part, life, seen}
 use Rattle.call_model.specs.Answers.{first_answer, home, answer_at, first_entry}
 use Rattle.call_model.specs.Next.{Follows, IsLegal}
-use Rattle.call_model.specs.After.{left, poll_gets, actor_gets, step_at, member_first, runtime_first, member_gets, members_first, fresh_members}
+use Rattle.environment_step.specs.After.{left, poll_gets, actor_gets, step_at, member_first, runtime_first, member_gets, members_first, fresh_members}
 use Rattle.call_model.proofs.Pairs.{eqb-other}
 use Rattle.call_model.proofs.Scans.{still, asked, member_steps, parked_step, IsSilent, generation_below, last_below, member_step}
 use Rattle.call_model.specs.Limits.{place_for}
 use Rattle.call_model.specs.Calls.{is_invoke}
-use Rattle.call_model.proofs.Extensions.{own_value, named_here, registered_count, blank, unregistered}
-use Rattle.call_model.proofs.AnswerValues.{IsFirst, plain_none, first_ending, first_accepted, first_valued, first_registered}
+use Rattle.environment_step.proofs.Extensions.{own_value, named_here, registered_count, blank, unregistered}
+use Rattle.environment_step.proofs.FirstValues.{IsFirst, plain_none, first_ending, first_accepted, first_valued, first_registered}
 use Rattle.call_model.proofs.Once.{fresh, silent_first}
 use Rattle.call_model.proofs.BoundWaits.{generation_part}
-use Rattle.call_model.proofs.Frame.{poll_home, generation_here, last_here}
-use Rattle.call_model.proofs.Roles.{IsIn, role_member, role_runtime, map_in}
+use Rattle.environment_step.proofs.Frame.{poll_home, generation_here, last_here}
+use Rattle.environment_step.proofs.MemberRoles.{IsIn, role_member, map_in}
+use Rattle.call_model.proofs.Roles.{role_runtime}
 use Rattle.call_model.proofs.Basics.{some-none, map_map}
 use Rattle.std.specs.List.{cons_option}
 use Rattle.call_model.specs.declared.answer.Answer.TheVariants.{Registered}

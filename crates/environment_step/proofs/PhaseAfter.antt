@@ -15,37 +15,20 @@ use Rattle.call_model.specs.Stand.{Stand, is_closing, is_number, at_hand, bound_
 use Rattle.call_model.specs.Table.{reborn, settled, to_waiting, closes, kept}
 use Rattle.call_model.specs.Polls.{by_role}
 use Rattle.call_model.specs.Life.{life, lived, after, phase, stand, seen, concerns, names, limit_of, first_part, request_at, ends_here}
-use Rattle.call_model.specs.Limits.{place_for, verdict, Verdict, AfterStop, Refuses, Admits, admitted_to}
-use Rattle.call_model.specs.Answers.{first_answer, own_first, answer_at, home, verdict_answer, first_entry}
+use Rattle.call_model.specs.Limits.{place_for}
+use Rattle.call_model.specs.Answers.{first_answer, answer_at, home, first_entry}
 use Rattle.call_model.specs.Next.{IsLegal, Follows}
-use Rattle.call_model.specs.After.{Step, step_at, fixed_of, count_at, first_stand, turned, expires_now, request_of, cell_at, closing_ends, members_first, runtime_first, restarted, settled_stand, stand_after, finished}
+use Rattle.environment_step.specs.After.{Step, step_at, fixed_of, count_at, first_stand, turned, expires_now, request_of, cell_at, closing_ends, members_first, runtime_first, restarted, settled_stand, stand_after, finished}
 use Rattle.call_model.proofs.Pairs.{eqb-other}
 use Rattle.call_model.proofs.Once.{fresh, pending_cons}
+use Rattle.call_model.proofs.Flight.{placed_silent}
 use Rattle.call_model.specs.Calls.{is_invoke}
 use Rattle.call_model.proofs.AtHand.{IsHeld, held, placed_here, from_kept, from_closing}
 use Rattle.call_model.proofs.Scans.{IsSilent, legal_silent}
-use Rattle.call_model.proofs.AnswerValues.{IsFirst, plain_none, entry_is_first, first_is_first}
-use Rattle.call_model.proofs.FirstStage.{not_named_call, runtime_stage, first_silent, members_stage}
-use Rattle.call_model.proofs.Basics.{eqb-self, some-none}
+use Rattle.environment_step.proofs.FirstValues.{IsFirst, plain_none, entry_is_first, first_is_first}
+use Rattle.environment_step.proofs.FirstStage.{not_named_call, runtime_stage, first_silent, members_stage}
+use Rattle.call_model.proofs.Basics.{eqb-self}
 use Rattle.call_model.proofs.Visits.{visit, if_concerned, if_ended}
-
-admitted : (v : Verdict) (e : ℕ) → admitted_to v ≡ Some e → verdict_answer v ≡ None
-admitted (Admits d) e q = refl
-admitted AfterStop e q = absurd (some-none (sym q))
-admitted (Refuses r) e q = absurd (some-none (sym q))
-
--- a placed Invoke isn't answered at once
-pub placed_silent : (config : Config) (h : List Entry) (entry : Entry) (e : ℕ) → Follows config h entry → is_invoke entry.call ≡ true → is_number entry.place e ≡ true → first_answer config h entry.moment entry.call (length h) ≡ None
-unfolding first_answer own_first
-placed_silent config h entry e w i c = rw (eqb-self (length h)) (go entry.call i (sym (w.place)))
-  where
-    some : (o : Option ℕ) → is_number o e ≡ true → o ≡ Some e
-    some None q = absurd (true≢false (sym q))
-    some (Some d) q = ap (λ (n : ℕ). Some n) (eqb-true d e q)
-
-    go : (call : Call) → is_invoke call ≡ true → place_for config h call ≡ entry.place → own_first config h call ≡ None
-    go (Invoke f qualified trace body) j q = admitted (verdict config h f) e (q ∙ some entry.place c)
-    go call j q = absurd (true≢false (sym j))
 
 no_expiry : (call : Call) → is_invoke call ≡ true → is_expiry call ≡ false
 no_expiry (Invoke f qualified trace body) i = refl

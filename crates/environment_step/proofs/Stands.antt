@@ -6,7 +6,7 @@ use Rattle.arn_ids.specs.Environments.{count_from, owners, environments}
 use Rattle.call_model.specs.Life.{stand, concerns}
 use Rattle.call_model.specs.Stand.{Stand}
 use Rattle.call_model.specs.Next.{IsLegal, Follows}
-use Rattle.call_model.proofs.Frame.{stand_elsewhere}
+use Rattle.environment_step.proofs.Frame.{stand_elsewhere}
 
 pub all_same : {A : Type 0} (f g : ℕ → A) (first n : ℕ) → ((d : ℕ) → first ≤ d → f d ≡ g d) → map f (count_from first n) ≡ map g (count_from first n)
 all_same f g first zero e = refl

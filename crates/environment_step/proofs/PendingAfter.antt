@@ -14,15 +14,16 @@ use Rattle.call_model.specs.Table.{is_registered, own_answer, closes, kept}
 use Rattle.call_model.specs.Life.{first_part, request_at, concerns, phase, stand, seen, limit_of, registrations}
 use Rattle.call_model.specs.Answers.{first_answer, second_answer, first_entry}
 use Rattle.call_model.specs.Next.{IsLegal, Follows}
-use Rattle.call_model.specs.After.{step_at, fixed_of, count_at, request_of, if_held, cell_at}
+use Rattle.environment_step.specs.After.{step_at, fixed_of, count_at, request_of, if_held, cell_at}
 use Rattle.call_model.proofs.Pairs.{eqb-other}
-use Rattle.call_model.proofs.Rising.{passed}
+use Rattle.environment_step.proofs.Rising.{passed}
 use Rattle.call_model.specs.Calls.{is_invoke}
 use Rattle.call_model.proofs.AtHand.{IsHeld, held, from_kept, from_closing}
 use Rattle.call_model.proofs.BoundWaits.{invoke_second}
-use Rattle.call_model.proofs.Extensions.{own_value, named_here, registrations_more}
-use Rattle.call_model.proofs.AnswerValues.{IsFirst, plain, plain_none, valued, entry_is_first, first_valued, early}
-use Rattle.call_model.proofs.PhaseAfter.{request_stage}
+use Rattle.environment_step.proofs.Extensions.{own_value, named_here, registrations_more}
+use Rattle.environment_step.proofs.FirstValues.{IsFirst, plain_none, entry_is_first, first_valued, early}
+use Rattle.call_model.proofs.AnswerValues.{plain, valued}
+use Rattle.environment_step.proofs.PhaseAfter.{request_stage}
 use Rattle.call_model.proofs.Basics.{eqb-self, some-none}
 use Rattle.call_model.proofs.Cells.{stop_own}
 

@@ -4,11 +4,11 @@ use Rattle.call_model.specs.declared.call.Entry.{Entry}
 use Rattle.arn_ids.specs.declared.config.Config.{Config}
 use Rattle.call_model.specs.Life.{stand, concerns, seen}
 use Rattle.call_model.specs.Next.{IsLegal, Follows}
-use Rattle.call_model.specs.After.{fixed_of, step_at, count_at, moves_of, stand_after, with_events}
-use Rattle.call_model.proofs.FirstMoves.{is_here}
-use Rattle.call_model.proofs.NumberedMoves.{moves_meet, events_meet}
-use Rattle.call_model.proofs.EventTickets.{are_named}
-use Rattle.call_model.proofs.SecondStage.{stand_meets}
+use Rattle.environment_step.specs.After.{fixed_of, step_at, count_at, moves_of, stand_after, with_events}
+use Rattle.environment_step.proofs.FirstMoves.{is_here}
+use Rattle.environment_step.proofs.NumberedMoves.{moves_meet, events_meet}
+use Rattle.environment_step.proofs.EventTickets.{are_named}
+use Rattle.environment_step.proofs.SecondStage.{stand_meets}
 
 -- The entry's answers to the environment's tickets.
 pub moves_are : (config : Config) (h : List Entry) (entry : Entry) (e : ℕ) → IsLegal config h → Follows config h entry → concerns h e entry ≡ true

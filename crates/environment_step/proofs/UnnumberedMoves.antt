@@ -1,5 +1,5 @@
 -- The moves before their events have numbers are the answers to the environment's tickets.
-use Rattle.std.proofs.Common.{◌≡◌, ℕ, suc, ◌<◌, ◌≤◌, Bool, true, false, List, ◌∷◌, length, Option, Some, None, sym, refl, ap, ◌∙◌, subst, arith, is_some, not, ◌&&◌, true≢false, if◌then◌else◌, [], map, ◌==◌}
+use Rattle.std.proofs.Common.{◌≡◌, ℕ, suc, ◌<◌, ◌≤◌, Bool, true, false, List, [], ◌∷◌, length, Option, Some, None, sym, refl, ap, ◌∙◌, subst, arith, is_some, not, ◌&&◌, true≢false, if◌then◌else◌, map, ◌==◌}
 use Rattle.std.specs.List.{cons_option}
 use Rattle.call_model.specs.declared.answer.Answer.{Answer}
 use Rattle.call_model.specs.declared.call.Entry.{Entry}
@@ -12,22 +12,22 @@ use Rattle.call_model.specs.Life.{life, phase, stand, concerns, registrations, s
 use Rattle.call_model.specs.Limits.{place_for}
 use Rattle.call_model.specs.Answers.{first_answer, first_entry, second_answer, second_at, home}
 use Rattle.call_model.specs.Next.{IsLegal, Follows}
-use Rattle.call_model.specs.After.{turned, first_stand, fixed_of, step_at, count_at, expires_now, give, give_each, served_moves, turned_moves, first_moves}
+use Rattle.environment_step.specs.After.{turned, first_stand, fixed_of, step_at, count_at, expires_now, give, give_each, served_moves, turned_moves, first_moves}
 use Rattle.call_model.proofs.Scans.{IsBelow, generation_below, last_below}
 use Rattle.call_model.proofs.AtHand.{held}
 use Rattle.call_model.proofs.BoundWaits.{IsPart, generation_part}
-use Rattle.call_model.proofs.Frame.{AreHere, generation_here, last_here, poll_home}
-use Rattle.call_model.proofs.Extensions.{IsUnder, counts_fall}
-use Rattle.call_model.proofs.AnswerValues.{first_valued, entry_is_first, first_is_first, first_registered}
-use Rattle.call_model.proofs.FirstStage.{first_silent, parked_last, runtime_stage, members_stage}
-use Rattle.call_model.proofs.PhaseAfter.{phase_stage, phase_first}
-use Rattle.call_model.proofs.HeldTickets.{IsOrderly, orderly, holder, none_holds, fresh_all, given_role}
-use Rattle.call_model.proofs.FirstMoves.{IsMoved, is_here, first_moved}
-use Rattle.call_model.proofs.SecondMoves.{generation_stays, none_all, turned_served, first_whole, poll_role, IsServed, served_by, role_poll}
-use Rattle.call_model.proofs.SecondStage.{concerns_first, with_first}
+use Rattle.environment_step.proofs.Frame.{AreHere, generation_here, last_here, poll_home}
+use Rattle.environment_step.proofs.Extensions.{IsUnder, counts_fall}
+use Rattle.environment_step.proofs.FirstValues.{first_valued, entry_is_first, first_is_first, first_registered}
+use Rattle.environment_step.proofs.FirstStage.{first_silent, parked_last, runtime_stage, members_stage}
+use Rattle.environment_step.proofs.PhaseAfter.{phase_stage, phase_first}
+use Rattle.environment_step.proofs.HeldTickets.{IsOrderly, orderly, holder, none_holds, fresh_all, given_role}
+use Rattle.environment_step.proofs.FirstMoves.{IsMoved, is_here, first_moved}
+use Rattle.environment_step.proofs.SecondMoves.{generation_stays, none_all, turned_served, first_whole, poll_role, IsServed, served_by, role_poll}
+use Rattle.environment_step.proofs.SecondStage.{concerns_first, with_first}
 use Rattle.call_model.proofs.Basics.{some-none, eqb-self, number_some}
 use Rattle.call_model.proofs.Roles.{other_number}
-use Rattle.call_model.proofs.Puts.{IsFresh, give_answer}
+use Rattle.environment_step.proofs.Puts.{IsFresh, give_answer}
 
 -- the history with the entry's first answers, as the entry's
 abbrev pub early_history : Config → List Entry → Entry → List Entry

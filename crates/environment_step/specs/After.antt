@@ -8,7 +8,7 @@ use Rattle.arn_ids.specs.declared.config.Config.{Config}
 use Rattle.arn_ids.specs.Environments.{timeout_of, expected_at, function_of}
 use Rattle.call_model.specs.History.{is_stop, requests, is_expiry}
 use Rattle.call_model.specs.Generation.{Member, Extension, Actor, TheRuntime, TheExtension, asks, as_registered, is_ending, is_accepted, reports_exit, ready, awaited}
-use Rattle.call_model.specs.Stand.{is_number, Stand, Role, RuntimePoll, ExtensionPoll, at_hand, bound_of, is_closing}
+use Rattle.call_model.specs.Stand.{Stand, Role, RuntimePoll, ExtensionPoll, at_hand, bound_of, is_closing}
 use Rattle.call_model.specs.Table.{own_answer, to_waiting, after_cell, reborn, settled, is_registered}
 use Rattle.call_model.specs.Polls.{by_role, begun, delivered}
 use Rattle.call_model.specs.Life.{is_event}
@@ -217,15 +217,6 @@ moves_of fixed step s call =
 unfoldable pub stand_after : Fixed → Step → Stand → Call → Stand
 stand_after fixed step s call =
     finished fixed step.now (expires_now s call) s.phase (first_stand fixed step s call) (first_moves step s call)
-
--- what was at hand and isn't any more
-abbrev pub no_longer : Option ℕ → Option ℕ → Option ℕ
-no_longer None after = None
-no_longer (Some p) after = if is_number after p then None else Some p
-
--- The invocation whose charge a call ends: it was at hand before, and isn't after.
-abbrev pub ended_by : Phase → Phase → Option ℕ
-ended_by before after = no_longer (at_hand before) (at_hand after)
 
 -- an environment as its owner sees it
 pub record Known : Type 0 where

@@ -4,8 +4,8 @@ use Rattle.std.proofs.Common.{le_refl, ◌≡◌, ℕ, zero, suc, ◌<◌, ◌�
 use Rattle.std.proofs.lemmas.Bool.Decides.{eqb_tells}
 use Rattle.call_model.specs.declared.answer.Answer.{Answer}
 use Rattle.call_model.specs.declared.call.Entry.{Entry}
-use Rattle.call_model.specs.History.{answer_in, env_of, call_of}
-use Rattle.call_model.specs.Answers.{with_answer, each_from, numbered, event_at, with_event}
+use Rattle.call_model.specs.History.{answer_in}
+use Rattle.call_model.specs.Answers.{with_answer, each_from, numbered}
 use Rattle.call_model.proofs.Pairs.{eqb-other}
 use Rattle.call_model.proofs.Basics.{eqb-self, none-some}
 
@@ -83,21 +83,3 @@ rising_same t (a ∷ xs) (b ∷ ys) r s e =
       | inl p ↦ rising_none (suc a.0) u xs r.1 (omega (arith, p.1)) ∙ sym (rising_none (suc b.0) u ys s.1 (omega (arith, p.1, q)))
       | inr p ↦ sym (skip_at a xs u p.1) ∙ e u ∙ skip_at b ys u (λ w. p.1 (q ∙ w))
     ]
-
-abbrev pub seen_by : {B : Type 0} → (Answer → B) → B → Option Answer → B
-seen_by q none None = none
-seen_by q none (Some a) = q a
-
--- numbering keeps what doesn't depend on the event's number
-pub numbered_keeps : {B : Type 0} (q : Answer → B) → ((n : ℕ) (a : Answer) → q (with_event n a) ≡ q a) → (none : B) (h : List Entry) (entry : Entry) (before pairs : List (ℕ × Answer)) (t : ℕ)
-    → seen_by q none (answer_in (numbered h entry before pairs) t) ≡ seen_by q none (answer_in pairs t)
-numbered_keeps q keeps none h entry before [] t = refl
-numbered_keeps q keeps none h entry before (a ∷ rest) t =
-    elim (eqb_tells a.0 t) [
-      | inl p ↦ rw p.0 (one (env_of (call_of (entry ∷ h) a.0)))
-      | inr p ↦ rw p.0 (numbered_keeps q keeps none h entry (a ∷ before) rest t)
-    ]
-  where
-    one : (o : Option ℕ) → q (event_at h entry before o a.1) ≡ q a.1
-    one None = refl
-    one (Some e) = keeps _ a.1

@@ -14,18 +14,18 @@ use Rattle.call_model.specs.Life.{life, lived, after, phase, stand, seen, concer
 use Rattle.call_model.specs.Limits.{place_for}
 use Rattle.call_model.specs.Answers.{first_answer, second_answer, second_at, first_entry, home}
 use Rattle.call_model.specs.Next.{IsLegal, Follows}
-use Rattle.call_model.specs.After.{fixed_of, step_at, count_at, first_stand, expires_now, closing_ends, cell_at, left, Step, stand_after, finished, turned, restarted, settled_stand, settled_phase, member_second, if_held, runtime_first, members_first, with_events}
+use Rattle.environment_step.specs.After.{fixed_of, step_at, count_at, first_stand, expires_now, closing_ends, cell_at, left, Step, stand_after, finished, turned, restarted, settled_stand, settled_phase, member_second, if_held, runtime_first, members_first, with_events}
 use Rattle.call_model.proofs.Scans.{IsSilent, legal_silent, last_below, generation_below}
-use Rattle.call_model.proofs.Frame.{AreHere, poll_home, generation_here, last_here}
+use Rattle.environment_step.proofs.Frame.{AreHere, poll_home, generation_here, last_here}
 use Rattle.call_model.specs.Calls.{is_invoke}
 use Rattle.call_model.proofs.AtHand.{held, from_after}
 use Rattle.call_model.proofs.BoundWaits.{IsPart, generation_part}
-use Rattle.call_model.proofs.Extensions.{IsUnder, counts_fall}
-use Rattle.call_model.proofs.AnswerValues.{IsFirst, entry_is_first, first_is_first, first_registered}
-use Rattle.call_model.proofs.Roles.{IsIn, member_poll, runtime_poll, map_in}
-use Rattle.call_model.proofs.FirstStage.{asked_below, first_silent, members_stage, runtime_stage}
-use Rattle.call_model.proofs.PhaseAfter.{phase_first, phase_meets}
-use Rattle.call_model.proofs.PendingAfter.{pending_second, pending_first, request_final, registrations_final}
+use Rattle.environment_step.proofs.Extensions.{IsUnder, counts_fall}
+use Rattle.environment_step.proofs.FirstValues.{IsFirst, entry_is_first, first_is_first, first_registered}
+use Rattle.environment_step.proofs.MemberRoles.{IsIn, member_poll, runtime_poll, map_in}
+use Rattle.environment_step.proofs.FirstStage.{asked_below, first_silent, members_stage, runtime_stage}
+use Rattle.environment_step.proofs.PhaseAfter.{phase_first, phase_meets}
+use Rattle.environment_step.proofs.PendingAfter.{pending_second, pending_first, request_final, registrations_final}
 use Rattle.call_model.proofs.Basics.{map_map}
 use Rattle.call_model.proofs.Visits.{visit, if_concerned, if_ended}
 

@@ -3,7 +3,6 @@ use Rattle.std.proofs.lemmas.Bool.{cases_lt}
 use Rattle.std.proofs.Common.{◌≡◌, ℕ, ◌<◌, ◌≤◌, Bool, true, false, eqb, List, [], ◌∷◌, length, Option, Some, None, sym, refl, ap, ◌∙◌, inl, inr, arith, ◌≢◌, is_some, ◌&&◌, true≢false, if◌then◌else◌}
 use Rattle.call_model.specs.declared.answer.Answer.{Answer}
 use Rattle.call_model.specs.declared.call.Call.{Call}
-use Rattle.call_model.specs.declared.call.Call.TheVariants.{Invoke}
 use Rattle.call_model.specs.declared.call.Entry.{Entry}
 use Rattle.arn_ids.specs.declared.config.Config.{Config}
 use Rattle.call_model.specs.History.{answer_in, call_of, place_of, env_of, or_else}
@@ -12,26 +11,26 @@ use Rattle.call_model.specs.Stand.{Stand, Role, NoRole, Waiting, RuntimePoll, Ex
 use Rattle.call_model.specs.Table.{own_answer, to_waiting}
 use Rattle.call_model.specs.Polls.{by_role}
 use Rattle.call_model.specs.Life.{life, phase, stand, seen, concerns, names, request_at}
-use Rattle.call_model.specs.Limits.{place_for}
 use Rattle.call_model.specs.Answers.{first_answer, own_first, home, answer_at, other_answer}
 use Rattle.call_model.specs.Next.{IsLegal, Follows}
-use Rattle.call_model.specs.After.{Step, step_at, first_moves, poll_gets, give, give_each, waiting_call}
+use Rattle.environment_step.specs.After.{Step, step_at, first_moves, poll_gets, give, give_each, waiting_call}
 use Rattle.call_model.proofs.Pairs.{eqb-other}
 use Rattle.call_model.proofs.Once.{no_role}
 use Rattle.call_model.proofs.TicketsWithin.{call_past}
 use Rattle.call_model.specs.Calls.{is_invoke}
 use Rattle.call_model.proofs.AtHand.{held}
 use Rattle.call_model.proofs.BoundWaits.{generation_part, held_home}
-use Rattle.call_model.proofs.Frame.{env_place}
-use Rattle.call_model.proofs.Extensions.{own_value, named_here, counts_fall}
+use Rattle.environment_step.proofs.Frame.{env_place}
+use Rattle.environment_step.proofs.Extensions.{own_value, named_here, counts_fall}
 use Rattle.call_model.proofs.Roles.{other_number}
-use Rattle.call_model.proofs.FirstStage.{invoke_gives, not_named_call, member_actor, runtime_actor}
-use Rattle.call_model.proofs.PhaseAfter.{placed_silent, invoke_waits}
-use Rattle.call_model.proofs.Rising.{IsRising}
-use Rattle.call_model.proofs.Puts.{given_at, IsFresh, give_rising, give_answer}
-use Rattle.call_model.proofs.HeldTickets.{IsOrderly, orderly, IsRoled, roled, none_holds}
-use Rattle.call_model.proofs.Basics.{eqb-self, number_some, some-none}
-use Rattle.call_model.proofs.PendingAfter.{no_own}
+use Rattle.environment_step.proofs.FirstStage.{invoke_gives, not_named_call, member_actor, runtime_actor}
+use Rattle.call_model.proofs.Flight.{placed_invoke, placed_silent}
+use Rattle.environment_step.proofs.PhaseAfter.{invoke_waits}
+use Rattle.environment_step.proofs.Rising.{IsRising}
+use Rattle.environment_step.proofs.Puts.{given_at, IsFresh, give_rising, give_answer}
+use Rattle.environment_step.proofs.HeldTickets.{IsOrderly, orderly, IsRoled, roled, none_holds}
+use Rattle.call_model.proofs.Basics.{eqb-self, number_some}
+use Rattle.environment_step.proofs.PendingAfter.{no_own}
 
 -- A ticket of elsewhere has no role.
 pub role_away : (config : Config) (h : List Entry) (e t : ℕ) → IsLegal config h → is_number (home h t) e ≡ false → role (stand config h e) t ≡ NoRole
@@ -67,10 +66,6 @@ older_roled config h step call e l =
   where
     s : Stand
     s = stand config h e
-
-pub placed_invoke : (config : Config) (h : List Entry) (call : Call) (d : ℕ) → place_for config h call ≡ Some d → is_invoke call ≡ true
-placed_invoke config h (Invoke f qualified trace body) d q = refl
-placed_invoke config h call d q = absurd (some-none (sym q))
 
 -- an Invoke gives older tickets nothing
 invoke_none : (own now : ℕ) (s : Stand) (call : Call) (t : ℕ) (r : Role) → is_invoke call ≡ true → by_role own now s call t r ≡ None

@@ -4,7 +4,7 @@ use Rattle.call_model.specs.declared.answer.Answer.{Answer}
 use Rattle.call_model.specs.Generation.{Member, Generation}
 use Rattle.call_model.specs.Stand.{Stand, ExtensionPoll, Role, NoRole, Waiting, RuntimePoll, is_number, role, member_role, waits_as, at_hand, bound_of}
 use Rattle.call_model.specs.Polls.{delivered, begun}
-use Rattle.call_model.specs.After.{give, give_each, served_moves, Fixed, turned, turned_moves, closing_ends, settled_phase, restarted, settled_stand}
+use Rattle.environment_step.specs.After.{give, give_each, served_moves, Fixed, turned, turned_moves, closing_ends, settled_phase, restarted, settled_stand}
 use Rattle.call_model.specs.declared.answer.Phase.{Phase}
 use Rattle.call_model.specs.declared.answer.Phase.TheVariants.{Busy}
 use Rattle.call_model.specs.declared.call.Call.{Call}
@@ -16,10 +16,10 @@ use Rattle.call_model.specs.Life.{life, lived, after, first_part, phase, stand, 
 use Rattle.call_model.specs.Limits.{place_for}
 use Rattle.call_model.specs.Answers.{first_answer, first_answers, first_entry, each_from, with_answer}
 use Rattle.call_model.proofs.PhaseStep.{cell_of}
-use Rattle.call_model.proofs.AnswerValues.{early, is_early, first_early}
-use Rattle.call_model.proofs.Rising.{IsRising}
-use Rattle.call_model.proofs.Puts.{IsFresh, give_rising, give_answer}
-use Rattle.call_model.proofs.HeldTickets.{IsOrderly, holder, AreFresh, IsEach, each_given, given_role, member_or}
+use Rattle.environment_step.proofs.FirstValues.{early, is_early, first_early}
+use Rattle.environment_step.proofs.Rising.{IsRising}
+use Rattle.environment_step.proofs.Puts.{IsFresh, give_rising, give_answer}
+use Rattle.environment_step.proofs.HeldTickets.{IsOrderly, holder, AreFresh, IsEach, each_given, given_role, member_or}
 use Rattle.call_model.proofs.Basics.{number_some, some-none}
 use Rattle.call_model.proofs.Visits.{visit, if_concerned, if_ended}
 

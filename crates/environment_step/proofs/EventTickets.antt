@@ -17,10 +17,11 @@ use Rattle.call_model.specs.Next.{IsLegal, Follows}
 use Rattle.call_model.proofs.TicketsWithin.{call_past}
 use Rattle.call_model.specs.Calls.{is_invoke}
 use Rattle.call_model.proofs.BoundWaits.{invoke_role, invoke_second}
-use Rattle.call_model.proofs.AnswerValues.{first_valued}
-use Rattle.call_model.proofs.EventNumbers.{AreAt}
-use Rattle.call_model.proofs.FirstMoves.{is_here, placed_invoke}
-use Rattle.call_model.proofs.NumberedMoves.{AreNamed}
+use Rattle.environment_step.proofs.FirstValues.{first_valued}
+use Rattle.environment_step.proofs.EventNumbers.{AreAt}
+use Rattle.environment_step.proofs.FirstMoves.{is_here}
+use Rattle.call_model.proofs.Flight.{placed_invoke}
+use Rattle.environment_step.proofs.NumberedMoves.{AreNamed}
 use Rattle.call_model.proofs.Basics.{some-none}
 use Rattle.call_model.proofs.Cells.{waiting_values}
 
