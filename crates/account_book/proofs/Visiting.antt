@@ -4,12 +4,13 @@ use Rattle.std.proofs.lemmas.Bool.{cases_lt, eqb-true}
 use Rattle.arn_ids.specs.declared.config.Config.{Config}
 use Rattle.arn_ids.specs.Environments.{owners, function_of}
 use Rattle.arn_ids.proofs.Bounds.{label_between}
-use Rattle.call_model.specs.declared.answer.Throttle.{Throttle}
-use Rattle.call_model.specs.declared.answer.Answer.{Answer}
-use Rattle.call_model.specs.declared.call.Call.{Call}
-use Rattle.call_model.specs.declared.call.Call.TheVariants.{Invoke, RuntimeNext, Response, ResponseTooLarge, Failure, InitFailure, Register, ExtNext, ExtInitFailure, ExtExitFailure, Tick, Withdraw, Spindown, Stop, Expire, Reserve}
-use Rattle.call_model.specs.declared.call.Entry.{Entry}
-use Rattle.call_model.specs.History.{call_of, env_of, or_else, is_stop, stopped, poll_env}
+use Rattle.calls.specs.declared.answer.Throttle.{Throttle}
+use Rattle.calls.specs.declared.answer.Answer.{Answer}
+use Rattle.calls.specs.declared.call.Call.{Call}
+use Rattle.calls.specs.declared.call.Call.TheVariants.{Invoke, RuntimeNext, Response, ResponseTooLarge, Failure, InitFailure, Register, ExtNext, ExtInitFailure, ExtExitFailure, Tick, Withdraw, Spindown, Stop, Expire, Reserve}
+use Rattle.calls.specs.declared.call.Entry.{Entry}
+use Rattle.call_model.specs.History.{call_of, or_else, is_stop, stopped, poll_env}
+use Rattle.calls.specs.Calls.{env_of, is_invoke}
 use Rattle.call_model.specs.Limits.{Verdict, AfterStop, Refuses, Admits, admitted_to, verdict, place_for, by_limits, reservation}
 use Rattle.call_model.specs.Limits as limits
 use Rattle.environment_step.specs.After.{fixed_of}
@@ -18,7 +19,6 @@ use Rattle.call_model.specs.Life.{stand}
 use Rattle.call_model.specs.Next.{IsLegal, Follows}
 use Rattle.call_model.specs.Stand.{is_number}
 use Rattle.environment_step.proofs.Rising.{IsRising}
-use Rattle.call_model.specs.Calls.{is_invoke}
 use Rattle.call_model.proofs.Basics.{none-some, eqb-self}
 use Rattle.call_model.proofs.Flight.{place_for_between}
 use Rattle.call_model.proofs.OwnTickets.{placed_function}
@@ -27,7 +27,7 @@ use Rattle.concurrency_pool.specs.Pools.{throttle}
 use Rattle.concurrency_pool.proofs.History as pool
 use Rattle.env_phase.specs.Taking.{registered_name, IsShort}
 use Rattle.call_model.proofs.PastLemmas.{no_call}
-use Rattle.call_model.specs.Within.{IsEnv}
+use Rattle.calls.specs.Within.{IsEnv}
 use Rattle.account_book.specs.Answering.{most_answers}
 use Rattle.account_book.specs.declared.reach.Reach.{Reach}
 use Rattle.account_book.specs.declared.reach.Reach.TheVariants.{Nowhere, At, Everywhere}

@@ -2,10 +2,10 @@
 -- The ticket of a call is how many entries are older: 0 for the first.
 use Rattle.std.specs.Prelude.{ℕ, Bool, true, false, not, ◌&&◌, if◌then◌else◌, ◌==◌, nat_lt, List, [], ◌∷◌, length, Option, Some, None, count_by, is_some}
 use Rattle.std.specs.List.{list_any}
-use Rattle.call_model.specs.declared.call.Call.{Call}
-use Rattle.call_model.specs.declared.call.Call.TheVariants.{Invoke, RuntimeNext, Response, ResponseTooLarge, Failure, InitFailure, Register, ExtNext, ExtInitFailure, ExtExitFailure, Spindown, Stop, Expire}
-use Rattle.call_model.specs.declared.call.Entry.{Entry}
-use Rattle.call_model.specs.declared.answer.Answer.{Answer}
+use Rattle.calls.specs.declared.call.Call.{Call}
+use Rattle.calls.specs.declared.call.Call.TheVariants.{Invoke, RuntimeNext, Response, ResponseTooLarge, Failure, InitFailure, Register, ExtNext, ExtInitFailure, ExtExitFailure, Spindown, Stop, Expire}
+use Rattle.calls.specs.declared.call.Entry.{Entry}
+use Rattle.calls.specs.declared.answer.Answer.{Answer}
 
 -- the answer that a list of pairs has for a ticket
 abbrev pub answer_in : List (ℕ × Answer) → ℕ → Option Answer
@@ -54,21 +54,6 @@ is_stop _ = false
 -- whether the service was stopped
 abbrev pub stopped : List Entry → Bool
 stopped h = list_any (λ entry. is_stop entry.call) h
-
--- the environment that a call names
-abbrev pub env_of : Call → Option ℕ
-env_of (RuntimeNext e) = Some e
-env_of (Response e id body) = Some e
-env_of (ResponseTooLarge e id) = Some e
-env_of (Failure e id body) = Some e
-env_of (InitFailure e body) = Some e
-env_of (Register e name invoke shutdown account) = Some e
-env_of (ExtNext e x) = Some e
-env_of (ExtInitFailure e x body) = Some e
-env_of (ExtExitFailure e x body) = Some e
-env_of (Spindown e) = Some e
-env_of (Expire e) = Some e
-env_of _ = None
 
 -- the entries with their tickets, the newest first
 abbrev pub with_tickets : List Entry → List (ℕ × Entry)

@@ -1,5 +1,6 @@
 -- What the headline (`headline/specs/Headline.antt`) rests on, in the order in which it reads: whoever believes these words
--- believes the headline. They are under 600 lines without comments; only the second half of Next isn't among them.
+-- believes the headline. They are under 600 lines without comments; only the second half of Next isn't among them. What a call
+-- is, and which environment it names, tells the crate `calls`.
 -- What has happened: entries, answers, what is pending.
 pub mod History
 -- An environment: its generation, its stand, the table of phases, what its parked Nexts get, its life.
@@ -19,12 +20,7 @@ pub mod Laws
 -- Words of isolation by reservation, for whoever reads those laws.
 pub mod Own
 pub mod Isolation
--- What a call names and its bytes, its head, which a receipt keeps, and the words of reasons.
-pub mod Calls
-pub mod Heads
-pub mod Words
--- Which calls are within the limits of the service, and the count in each request identifier.
-pub mod Within
+-- The count in each request identifier.
 pub mod CallCounts
 -- Examples, proved by computation: worked histories, each cell of the table, each refusal.
 pub mod Sample

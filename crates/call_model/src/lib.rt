@@ -1,16 +1,8 @@
-//! The calls, answers and entries of one account, and what a history of them means.
+//! What a history of calls means: the definitions, and the laws that follow of every legal history.
 #![tactic(auto)]
 
-mod answer;
-mod call;
-mod head;
 pub mod laws;
-mod parts;
 mod past;
-mod stats;
 
-pub use answer::{Answer, Phase, Reason, Rejection, Throttle};
-pub use call::{Answers, Call, Entry, Ticket};
-pub use head::{Head, Kind};
+pub use calls::{Answer, Answers, Call, Entry, Head, Kind, Phase, Reason, Rejection, Stats, Throttle, Ticket};
 pub use past::Past;
-pub use stats::Stats;

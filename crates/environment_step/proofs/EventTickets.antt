@@ -1,12 +1,13 @@
 -- An invocation is told no event: each event stands at a ticket whose call names its environment.
 use Rattle.std.proofs.lemmas.Bool.{cases_lt}
 use Rattle.std.proofs.Common.{◌≡◌, ℕ, zero, suc, ◌≤◌, Bool, true, false, List, [], ◌∷◌, length, Option, Some, None, sym, refl, ap, ◌∙◌, inl, inr, not, true≢false, if◌then◌else◌, ◌==◌}
-use Rattle.call_model.specs.declared.answer.Answer.{Answer}
-use Rattle.call_model.specs.declared.call.Call.{Call}
-use Rattle.call_model.specs.declared.call.Call.TheVariants.{Invoke}
-use Rattle.call_model.specs.declared.call.Entry.{Entry}
+use Rattle.calls.specs.declared.answer.Answer.{Answer}
+use Rattle.calls.specs.declared.call.Call.{Call}
+use Rattle.calls.specs.declared.call.Call.TheVariants.{Invoke}
+use Rattle.calls.specs.declared.call.Entry.{Entry}
 use Rattle.arn_ids.specs.declared.config.Config.{Config}
-use Rattle.call_model.specs.History.{call_of, place_of, env_of, or_else}
+use Rattle.call_model.specs.History.{call_of, place_of, or_else}
+use Rattle.calls.specs.Calls.{env_of, is_invoke}
 use Rattle.call_model.specs.Stand.{Stand, NoRole, Waiting, role, is_number, waits_as}
 use Rattle.call_model.specs.Polls.{by_role}
 use Rattle.call_model.specs.Table.{to_waiting}
@@ -15,7 +16,6 @@ use Rattle.call_model.specs.Limits.{Verdict, AfterStop, Refuses, Admits, verdict
 use Rattle.call_model.specs.Answers.{first_answer, own_first, other_answer, answer_at, verdict_answer, first_entry, home, answer_to, each_from, with_answer}
 use Rattle.call_model.specs.Next.{IsLegal, Follows}
 use Rattle.call_model.proofs.TicketsWithin.{call_past}
-use Rattle.call_model.specs.Calls.{is_invoke}
 use Rattle.call_model.proofs.BoundWaits.{invoke_role, invoke_second}
 use Rattle.environment_step.proofs.FirstValues.{first_valued}
 use Rattle.environment_step.proofs.EventNumbers.{AreAt}

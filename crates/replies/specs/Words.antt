@@ -6,11 +6,10 @@ use Rattle.arn_ids.specs.declared.config.Config.{Config}
 use Rattle.arn_ids.specs.declared.config.Function.{Function}
 use Rattle.arn_ids.specs.declared.identifiers.IdKind.{IdKind}
 use Rattle.arn_ids.specs.declared.identifiers.IdKind.TheVariants.{Request}
-use Rattle.call_model.specs.declared.call.Call.{Call}
-use Rattle.call_model.specs.declared.call.Call.TheVariants.{Invoke, Register}
-use Rattle.call_model.specs.History.{env_of}
+use Rattle.calls.specs.declared.call.Call.{Call}
+use Rattle.calls.specs.declared.call.Call.TheVariants.{Invoke, Register}
+use Rattle.calls.specs.Calls.{env_of, invoked}
 use Rattle.arn_ids.specs.Identifiers.{id_word}
-use Rattle.call_model.specs.Calls.{invoked}
 
 -- the number of the function that a call invokes; 0 for a call that is no Invoke
 abbrev pub function_number : Call → ℕ

@@ -1,7 +1,7 @@
 //! The two ways to keep: everything and nothing.
 
 use crate::Keep;
-use call_model::{Answer, Head, Ticket};
+use calls::{Answer, Head, Ticket};
 use std::alloc::{AllocError, Global};
 
 /// Keeps every receipt and every call.

@@ -1,0 +1,13 @@
+//! The calls, answers and entries of one account, as types: what a history of them means is told by `call_model`.
+#![tactic(auto)]
+
+mod answer;
+mod call;
+mod head;
+mod parts;
+mod stats;
+
+pub use answer::{Answer, Phase, Reason, Rejection, Throttle};
+pub use call::{Answers, Call, Entry, Ticket};
+pub use head::{Head, Kind};
+pub use stats::Stats;
