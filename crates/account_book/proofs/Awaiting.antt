@@ -5,8 +5,8 @@ use Rattle.arn_ids.proofs.Bounds.{owner_is_function}
 use Rattle.arn_ids.proofs.Repeats.{list_any-map}
 use Rattle.arn_ids.specs.declared.config.Config.{Config}
 use Rattle.arn_ids.specs.Environments.{count_from, environments, function_of, owners}
-use Rattle.calls.specs.declared.answer.Throttle.{Throttle}
-use Rattle.calls.specs.declared.call.Entry.{Entry}
+use Rattle.call_types.specs.declared.answer.Throttle.{Throttle}
+use Rattle.call_types.specs.declared.call.Entry.{Entry}
 use Rattle.call_model.specs.Life.{stand}
 use Rattle.call_model.specs.Limits.{reservation}
 use Rattle.concurrency_pool.specs.declared.pool.Usage.{Usage}

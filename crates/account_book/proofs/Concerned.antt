@@ -8,9 +8,9 @@ use Rattle.call_model.proofs.Basics.{eqb-self, map_map}
 use Rattle.environment_step.proofs.Frame.{stand_elsewhere}
 use Rattle.environment_step.proofs.Stands.{all_same, one_changes}
 use Rattle.environment_step.proofs.StepLaws.{stand_is}
-use Rattle.calls.specs.declared.call.Call.{Call}
-use Rattle.calls.specs.declared.call.Call.TheVariants.{Invoke, RuntimeNext, Response, ResponseTooLarge, Failure, InitFailure, Register, ExtNext, ExtInitFailure, ExtExitFailure, Tick, Withdraw, Spindown, Stop, Expire, Reserve}
-use Rattle.calls.specs.declared.call.Entry.{Entry}
+use Rattle.call_types.specs.declared.call.Call.{Call}
+use Rattle.call_types.specs.declared.call.Call.TheVariants.{Invoke, RuntimeNext, Response, ResponseTooLarge, Failure, InitFailure, Register, ExtNext, ExtInitFailure, ExtExitFailure, Tick, Withdraw, Spindown, Stop, Expire, Reserve}
+use Rattle.call_types.specs.declared.call.Entry.{Entry}
 use Rattle.call_model.specs.History.{call_of, requests, poll_env}
 use Rattle.call_model.specs.Life.{concerns, names}
 use Rattle.call_model.specs.Limits.{place_for}

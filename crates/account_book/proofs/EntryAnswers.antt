@@ -2,15 +2,15 @@
 use Rattle.std.proofs.Common.{◌≡◌, ◌≢◌, ℕ, suc, ◌<◌, ◌≤◌, Bool, true, false, List, [], ◌∷◌, ◌++◌, length, filter, Option, Some, None, is_some, sym, refl, ap, ◌∙◌, arith, inl, inr, if◌then◌else◌, true≢false, le_refl}
 use Rattle.std.proofs.lemmas.Bool.{cases_lt}
 use Rattle.arn_ids.specs.declared.config.Config.{Config}
-use Rattle.calls.specs.declared.answer.Answer.{Answer}
-use Rattle.calls.specs.declared.answer.Answer.TheVariants.{Told, Ending, Stopped, Refused, Reserved}
-use Rattle.calls.specs.declared.answer.Rejection.TheVariants.{BadReservation}
-use Rattle.calls.specs.declared.call.Call.{Call}
-use Rattle.calls.specs.declared.call.Call.TheVariants.{Invoke, RuntimeNext, Response, ResponseTooLarge, Failure, InitFailure, Register, ExtNext, ExtInitFailure, ExtExitFailure, Tick, Withdraw, Spindown, Stop, Expire, Reserve}
-use Rattle.calls.specs.declared.call.Entry.{Entry}
+use Rattle.call_types.specs.declared.answer.Answer.{Answer}
+use Rattle.call_types.specs.declared.answer.Answer.TheVariants.{Told, Ending, Stopped, Refused, Reserved}
+use Rattle.call_types.specs.declared.answer.Rejection.TheVariants.{BadReservation}
+use Rattle.call_types.specs.declared.call.Call.{Call}
+use Rattle.call_types.specs.declared.call.Call.TheVariants.{Invoke, RuntimeNext, Response, ResponseTooLarge, Failure, InitFailure, Register, ExtNext, ExtInitFailure, ExtExitFailure, Tick, Withdraw, Spindown, Stop, Expire, Reserve}
+use Rattle.call_types.specs.declared.call.Entry.{Entry}
 use Rattle.call_model.specs.Answers.{answers, answer_to, first_answer, first_entry, second_answer, own_first, home, verdict_answer, with_event, reserve_answer}
 use Rattle.call_model.specs.History.{answer_in, or_else, stopped}
-use Rattle.calls.specs.Calls.{env_of}
+use Rattle.call_types.specs.Calls.{env_of}
 use Rattle.call_model.specs.Life.{is_event}
 use Rattle.call_model.specs.Limits.{place_for, Verdict, verdict, AfterStop, Refuses, Admits, admitted_to}
 use Rattle.call_model.specs.Next.{Follows}

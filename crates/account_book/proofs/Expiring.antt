@@ -4,15 +4,15 @@ use Rattle.std.specs.List.{cons_option}
 use Rattle.arn_ids.specs.declared.config.Config.{Config}
 use Rattle.arn_ids.specs.Environments.{environments, count_from, owners}
 use Rattle.call_model.proofs.Basics.{none-some}
-use Rattle.calls.specs.declared.answer.Answer.{Answer}
-use Rattle.calls.specs.declared.answer.Phase.{Phase}
-use Rattle.calls.specs.declared.call.Call.TheVariants.{Expire}
-use Rattle.calls.specs.declared.call.Entry.{Entry}
+use Rattle.call_types.specs.declared.answer.Answer.{Answer}
+use Rattle.call_types.specs.declared.answer.Phase.{Phase}
+use Rattle.call_types.specs.declared.call.Call.TheVariants.{Expire}
+use Rattle.call_types.specs.declared.call.Entry.{Entry}
 use Rattle.call_model.specs.Life.{phase}
 use Rattle.call_model.specs.Next.{IsLegal, due, due_at, deadline_of, in_order, by_deadline, expiries, expiries_at, entered, last_moment}
 use Rattle.call_model.proofs.NextLegal.{due_after_expiry, expiries_on}
 use Rattle.deadlines.specs.Due.{first}
-use Rattle.calls.specs.Within.{IsEnv}
+use Rattle.call_types.specs.Within.{IsEnv}
 use Rattle.account_book.specs.Answering.{IsRoom, first_or_0}
 use Rattle.account_book.specs.Pages.{Pages}
 

@@ -6,8 +6,8 @@ use Rattle.std.proofs.lemmas.List.{length-map}
 use Rattle.arn_ids.specs.declared.config.Config.{Config}
 use Rattle.arn_ids.specs.Environments.{environments, function_of, count_from, owners}
 use Rattle.call_model.proofs.Basics.{map_map, none-some}
-use Rattle.calls.specs.declared.answer.Phase.{Phase}
-use Rattle.calls.specs.declared.call.Entry.{Entry}
+use Rattle.call_types.specs.declared.answer.Phase.{Phase}
+use Rattle.call_types.specs.declared.call.Entry.{Entry}
 use Rattle.call_model.specs.Laws.{is_taken, has_come}
 use Rattle.call_model.specs.Life.{phase, seen}
 use Rattle.call_model.specs.Limits.{in_flight, by_limits, reservation}

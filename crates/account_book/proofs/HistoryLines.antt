@@ -4,15 +4,15 @@ use Rattle.std.specs.List.{flat_map}
 use Rattle.std.proofs.lemmas.Bool.{leb-true}
 use Rattle.arn_ids.specs.Faults.{first_fault}
 use Rattle.arn_ids.specs.declared.config.Config.{Config}
-use Rattle.calls.specs.declared.answer.Answer.{Answer}
-use Rattle.calls.specs.declared.call.Call.{Call}
-use Rattle.calls.specs.declared.call.Call.TheVariants.{Invoke, RuntimeNext, Response, ResponseTooLarge, Failure, InitFailure, Register, ExtNext, ExtInitFailure, ExtExitFailure, Tick, Withdraw, Spindown, Stop, Expire, Reserve}
-use Rattle.calls.specs.declared.call.Entry.{Entry}
+use Rattle.call_types.specs.declared.answer.Answer.{Answer}
+use Rattle.call_types.specs.declared.call.Call.{Call}
+use Rattle.call_types.specs.declared.call.Call.TheVariants.{Invoke, RuntimeNext, Response, ResponseTooLarge, Failure, InitFailure, Register, ExtNext, ExtInitFailure, ExtExitFailure, Tick, Withdraw, Spindown, Stop, Expire, Reserve}
+use Rattle.call_types.specs.declared.call.Entry.{Entry}
 use Rattle.call_model.specs.History.{call_of, is_expiry}
-use Rattle.calls.specs.Calls.{body_of}
+use Rattle.call_types.specs.Calls.{body_of}
 use Rattle.script.specs.AnswerText.{answer_words, answer_line, comment_line, entry_text}
 use Rattle.script.specs.CallText.{line_of, call_text}
-use Rattle.calls.specs.Within.{IsWithin}
+use Rattle.call_types.specs.Within.{IsWithin}
 use Rattle.script.proofs.WordBounds.{Fits}
 use Rattle.script.proofs.LineBounds.{HasShortBodies, comment, comment_fits, call_line_fits, expiry_line_fits}
 use Rattle.account_book.specs.HistoryText.{entries_text}

@@ -2,8 +2,8 @@
 use Rattle.std.proofs.Common.{◌≡◌, ◌≢◌, ℕ, suc, ◌+◌, ◌<◌, ◌≤◌, Bool, List, [], ◌∷◌, ◌++◌, length, map, set, get_or, All, Option, Some, None, sym, refl, ap, ◌∙◌, arith, if◌then◌else◌}
 use Rattle.std.proofs.lemmas.List.{length-set}
 use Rattle.arn_ids.specs.Environments.{count_from}
-use Rattle.calls.specs.declared.answer.Answer.{Answer}
-use Rattle.calls.specs.declared.call.Entry.{Entry}
+use Rattle.call_types.specs.declared.answer.Answer.{Answer}
+use Rattle.call_types.specs.declared.call.Entry.{Entry}
 use Rattle.call_model.specs.History.{answer_in, answer_of, or_else}
 use Rattle.call_model.proofs.Basics.{eqb-self}
 use Rattle.call_model.proofs.Pairs.{eqb-other}

@@ -1,6 +1,6 @@
 -- A loop in which one environment after the other takes a call.
 use Rattle.std.proofs.Common.{◌≡◌, ℕ, zero, suc, ◌+◌, ◌*◌, ◌<◌, ◌≤◌, List, [], ◌∷◌, ◌++◌, length, map, take, drop, get_or, set, sym, refl, ap, ap₂, ◌∙◌, arith, drop-cons, add-one, count_by}
-use Rattle.calls.specs.declared.answer.Answer.{Answer}
+use Rattle.call_types.specs.declared.answer.Answer.{Answer}
 use Rattle.concurrency_pool.specs.declared.pool.Usage.{Usage}
 use Rattle.account_book.specs.Crew.{Crew}
 use Rattle.account_book.specs.declared.site.Site.{Site}

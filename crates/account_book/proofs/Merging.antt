@@ -2,7 +2,7 @@
 use Rattle.std.proofs.Common.{◌≡◌, ◌≢◌, ℕ, suc, ◌<◌, ◌≤◌, true, List, [], ◌∷◌, ◌++◌, Option, None, is_some, sym, refl, ap, ◌∙◌, arith, inl, inr, true≢false}
 use Rattle.std.proofs.lemmas.Bool.{cases_lt}
 use Rattle.std.proofs.lemmas.Bool.Decides.{eqb_tells}
-use Rattle.calls.specs.declared.answer.Answer.{Answer}
+use Rattle.call_types.specs.declared.answer.Answer.{Answer}
 use Rattle.call_model.specs.History.{answer_in, or_else}
 use Rattle.environment_step.specs.After.{put}
 use Rattle.call_model.proofs.Basics.{some-none}

@@ -1,12 +1,12 @@
 -- An environment that a call newly gives an invocation was given one by an Invoke.
 use Rattle.std.proofs.Common.{◌≡◌, ℕ, ◌+◌, Bool, true, false, Option, Some, None, is_some, sym, refl, ap, ◌∙◌, ◌⊎◌, inl, inr, true≢false, if◌then◌else◌}
-use Rattle.calls.specs.declared.call.Call.{Call}
+use Rattle.call_types.specs.declared.call.Call.{Call}
 use Rattle.environment_step.specs.After.{Fixed, Step, stand_after, limit_at, closing_ends, expires_now, first_stand, cell_at, finished, turned, restarted, settled_stand}
 use Rattle.call_model.specs.Generation.{ready}
 use Rattle.call_model.specs.Laws.{is_taken}
 use Rattle.call_model.specs.Stand.{Stand, at_hand}
 use Rattle.call_model.specs.Table.{closes, kept}
-use Rattle.calls.specs.Calls.{is_invoke}
+use Rattle.call_types.specs.Calls.{is_invoke}
 use Rattle.call_model.proofs.AtHand.{from_after, from_kept, from_closing}
 
 at_hand_after : (fixed : Fixed) (step : Step) (s : Stand) (call : Call) (p : ℕ) → at_hand (stand_after fixed step s call).phase ≡ Some p → (is_invoke call ≡ true) ⊎ (at_hand s.phase ≡ Some p)

@@ -2,13 +2,13 @@
 use Rattle.std.proofs.Common.{◌≡◌, ℕ, ◌≤◌, max, true, false, List, [], ◌∷◌, ◌++◌, refl, sym, ap, subst, arith}
 use Rattle.std.proofs.Math.Nat.{max-le, max-eq_left, le-max_right}
 use Rattle.arn_ids.specs.declared.config.Config.{Config}
-use Rattle.calls.specs.declared.call.Call.{Call}
-use Rattle.calls.specs.declared.call.Call.TheVariants.{Invoke, RuntimeNext, Response, ResponseTooLarge, Failure, InitFailure, Register, ExtNext, ExtInitFailure, ExtExitFailure, Tick, Withdraw, Spindown, Stop, Expire, Reserve}
-use Rattle.calls.specs.declared.call.Entry.{Entry}
+use Rattle.call_types.specs.declared.call.Call.{Call}
+use Rattle.call_types.specs.declared.call.Call.TheVariants.{Invoke, RuntimeNext, Response, ResponseTooLarge, Failure, InitFailure, Register, ExtNext, ExtInitFailure, ExtExitFailure, Tick, Withdraw, Spindown, Stop, Expire, Reserve}
+use Rattle.call_types.specs.declared.call.Entry.{Entry}
 use Rattle.call_model.specs.History.{is_expiry}
 use Rattle.call_model.specs.Next.{IsLegal, due, entry_of, expiries, entered, moment_at, last_moment, added, next}
 use Rattle.call_model.proofs.NextLegal.{legal_next}
-use Rattle.calls.specs.Within.{IsWithin}
+use Rattle.call_types.specs.Within.{IsWithin}
 use Rattle.arn_ids.specs.Limits.{greatest_moment}
 use Rattle.account_book.specs.Reached.{IsTakenAfter, led_to, AreTaken, IsReached}
 use Rattle.account_book.proofs.HistoryLines.{AreHandedIn}

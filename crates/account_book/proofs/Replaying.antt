@@ -6,12 +6,12 @@ use Rattle.std.proofs.lemmas.List.{append-nil}
 use Rattle.std.proofs.Math.Nat.{max-le}
 use Rattle.arn_ids.specs.Faults.{first_fault}
 use Rattle.arn_ids.specs.declared.config.Config.{Config}
-use Rattle.calls.specs.declared.call.Call.{Call}
-use Rattle.calls.specs.declared.call.Entry.{Entry}
+use Rattle.call_types.specs.declared.call.Call.{Call}
+use Rattle.call_types.specs.declared.call.Entry.{Entry}
 use Rattle.call_model.specs.Counts.{full}
 use Rattle.call_model.specs.Next.{IsLegal, due, entry_of, expiries, moment_at, last_moment, added, next}
 use Rattle.script.specs.CallText.{call_text}
-use Rattle.calls.specs.Within.{IsWithin}
+use Rattle.call_types.specs.Within.{IsWithin}
 use Rattle.arn_ids.specs.Limits.{greatest_moment}
 use Rattle.script.proofs.LineBounds.{HasShortBodies, call_line_fits}
 use Rattle.script.proofs.ReadAgain.{no_mark, read_again}

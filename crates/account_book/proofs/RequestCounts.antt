@@ -8,8 +8,8 @@ use Rattle.arn_ids.specs.Environments.{function_numbers, count_from}
 use Rattle.call_model.proofs.AfterEntry.{requests_cons}
 use Rattle.call_model.proofs.Basics.{eqb-self}
 use Rattle.environment_step.proofs.Stands.{one_changes}
-use Rattle.calls.specs.declared.call.Call.TheVariants.{Invoke}
-use Rattle.calls.specs.declared.call.Entry.{Entry}
+use Rattle.call_types.specs.declared.call.Call.TheVariants.{Invoke}
+use Rattle.call_types.specs.declared.call.Entry.{Entry}
 use Rattle.call_model.specs.History.{is_invoke_of, requests}
 use Rattle.account_book.specs.Taking.{request_counts}
 use Rattle.account_book.proofs.FleetMeets.{count_length}

@@ -5,7 +5,7 @@ use Rattle.std.proofs.Math.Seq.{get_or-append_seam}
 use Rattle.std.proofs.lemmas.List.{append-nil, get_or-reverse}
 use Rattle.arn_ids.specs.Environments.{count_from}
 use Rattle.arn_ids.specs.declared.config.Config.{Config}
-use Rattle.calls.specs.declared.call.Entry.{Entry}
+use Rattle.call_types.specs.declared.call.Entry.{Entry}
 use Rattle.script.specs.AnswerText.{entry_text}
 use Rattle.account_book.specs.HistoryText.{opening_text, entries_text, history_text}
 

@@ -1,8 +1,8 @@
 -- What an account says to an Invoke and to a Reserve.
 use Rattle.std.proofs.Common.{◌≡◌, ℕ, ◌≤◌, true, false, Bool, List, length, map, Option, sym, ap, ap₂, ◌∙◌, if◌then◌else◌}
 use Rattle.arn_ids.specs.declared.config.Config.{Config}
-use Rattle.calls.specs.declared.answer.Answer.TheVariants.{Stopped}
-use Rattle.calls.specs.declared.call.Entry.{Entry}
+use Rattle.call_types.specs.declared.answer.Answer.TheVariants.{Stopped}
+use Rattle.call_types.specs.declared.call.Entry.{Entry}
 use Rattle.call_model.specs.Answers.{reserve_answer}
 use Rattle.call_model.specs.History.{stopped}
 use Rattle.call_model.specs.Limits.{AfterStop, verdict, by_limits, reservation}

@@ -4,13 +4,13 @@ use Rattle.std.proofs.lemmas.Bool.{cases_lt, eqb-true}
 use Rattle.arn_ids.specs.declared.config.Config.{Config}
 use Rattle.arn_ids.specs.Environments.{owners, function_of}
 use Rattle.arn_ids.proofs.Bounds.{label_between}
-use Rattle.calls.specs.declared.answer.Throttle.{Throttle}
-use Rattle.calls.specs.declared.answer.Answer.{Answer}
-use Rattle.calls.specs.declared.call.Call.{Call}
-use Rattle.calls.specs.declared.call.Call.TheVariants.{Invoke, RuntimeNext, Response, ResponseTooLarge, Failure, InitFailure, Register, ExtNext, ExtInitFailure, ExtExitFailure, Tick, Withdraw, Spindown, Stop, Expire, Reserve}
-use Rattle.calls.specs.declared.call.Entry.{Entry}
+use Rattle.call_types.specs.declared.answer.Throttle.{Throttle}
+use Rattle.call_types.specs.declared.answer.Answer.{Answer}
+use Rattle.call_types.specs.declared.call.Call.{Call}
+use Rattle.call_types.specs.declared.call.Call.TheVariants.{Invoke, RuntimeNext, Response, ResponseTooLarge, Failure, InitFailure, Register, ExtNext, ExtInitFailure, ExtExitFailure, Tick, Withdraw, Spindown, Stop, Expire, Reserve}
+use Rattle.call_types.specs.declared.call.Entry.{Entry}
 use Rattle.call_model.specs.History.{call_of, or_else, is_stop, stopped, poll_env}
-use Rattle.calls.specs.Calls.{env_of, is_invoke}
+use Rattle.call_types.specs.Calls.{env_of, is_invoke}
 use Rattle.call_model.specs.Limits.{Verdict, AfterStop, Refuses, Admits, admitted_to, verdict, place_for, by_limits, reservation}
 use Rattle.call_model.specs.Limits as limits
 use Rattle.environment_step.specs.After.{fixed_of}
@@ -27,7 +27,7 @@ use Rattle.concurrency_pool.specs.Pools.{throttle}
 use Rattle.concurrency_pool.proofs.History as pool
 use Rattle.env_phase.specs.Taking.{registered_name, IsShort}
 use Rattle.call_model.proofs.PastLemmas.{no_call}
-use Rattle.calls.specs.Within.{IsEnv}
+use Rattle.call_types.specs.Within.{IsEnv}
 use Rattle.account_book.specs.Answering.{most_answers}
 use Rattle.account_book.specs.declared.reach.Reach.{Reach}
 use Rattle.account_book.specs.declared.reach.Reach.TheVariants.{Nowhere, At, Everywhere}

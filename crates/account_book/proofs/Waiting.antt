@@ -2,8 +2,8 @@
 -- extensions, each once at most.
 use Rattle.std.proofs.Common.{◌≡◌, ◌≢◌, ℕ, suc, ◌+◌, ◌<◌, ◌≤◌, Bool, true, false, eqb, List, [], ◌∷◌, ◌++◌, length, map, Option, Some, None, sym, refl, ap, ◌∙◌, arith, if◌then◌else◌, ◌||◌, inl, inr, true≢false, nat_lt, length-append}
 use Rattle.std.proofs.lemmas.Bool.Decides.{eqb_tells}
-use Rattle.calls.specs.declared.answer.Answer.{Answer}
-use Rattle.calls.specs.declared.call.Call.{Call}
+use Rattle.call_types.specs.declared.answer.Answer.{Answer}
+use Rattle.call_types.specs.declared.call.Call.{Call}
 use Rattle.environment_step.specs.After.{Fixed, Step, put, give, give_each, waiting_call, first_moves, first_stand, runtime_first, members_first, fresh_members, member_first, member_gets, actor_gets, poll_gets, left, turned_moves, served_moves, closing_ends, settled_phase, numbered_from, finished_moves, moves_of, expires_now}
 use Rattle.call_model.specs.Generation.{Extension, Member, TheRuntime, TheExtension, asks, as_registered}
 use Rattle.call_model.specs.Polls.{begun, delivered}

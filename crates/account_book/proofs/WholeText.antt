@@ -13,7 +13,7 @@ use Rattle.lambda_wire.specs.declared.setup.Setup.{Setup}
 use Rattle.lambda_wire.specs.declared.fault.WireFault.TheVariants.{TooLong}
 use Rattle.lambda_wire.proofs.PlainText.{setup_plain}
 use Rattle.lambda_wire.proofs.SetupAgain.{setup_read_again}
-use Rattle.calls.specs.declared.call.Entry.{Entry}
+use Rattle.call_types.specs.declared.call.Entry.{Entry}
 use Rattle.arn_ids.proofs.Printable.{both}
 use Rattle.script.proofs.WordBounds.{fits_word}
 use Rattle.script.proofs.LineBounds.{HasShortBodies}

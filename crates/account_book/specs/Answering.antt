@@ -1,16 +1,16 @@
 -- What answering a call takes, and what it leaves in force.
 use Rattle.std.specs.Prelude.{◌≡◌, ℕ, ◌+◌, ◌*◌, ◌≤◌, true, if◌then◌else◌, List, [], ◌∷◌, length, Option, Some}
 use Rattle.arn_ids.specs.declared.config.Config.{Config}
-use Rattle.calls.specs.declared.answer.Answer.{Answer}
-use Rattle.calls.specs.declared.answer.Answer.TheVariants.{Reserved, Unreserved}
-use Rattle.calls.specs.declared.call.Call.{Call}
-use Rattle.calls.specs.declared.call.Call.TheVariants.{Reserve}
-use Rattle.calls.specs.declared.call.Entry.{Entry}
+use Rattle.call_types.specs.declared.answer.Answer.{Answer}
+use Rattle.call_types.specs.declared.answer.Answer.TheVariants.{Reserved, Unreserved}
+use Rattle.call_types.specs.declared.call.Call.{Call}
+use Rattle.call_types.specs.declared.call.Call.TheVariants.{Reserve}
+use Rattle.call_types.specs.declared.call.Entry.{Entry}
 use Rattle.call_model.specs.History.{is_stop}
 use Rattle.call_model.specs.Life.{stand}
 use Rattle.concurrency_pool.specs.Numbers.{Numbers}
 use Rattle.concurrency_pool.specs.Pools.{may_reserve, with_reserved}
-use Rattle.calls.specs.Within.{IsEnv}
+use Rattle.call_types.specs.Within.{IsEnv}
 
 -- For how many answers a call wants room: a Stop at every environment, any other call at one, where the call itself, the
 -- waiting call, the runtime's Next and that of each extension may get one; and for the book's own.

@@ -4,8 +4,8 @@ use Rattle.std.specs.List.{list_all}
 use Rattle.arn_ids.specs.declared.config.Config.{Config}
 use Rattle.arn_ids.specs.Environments.{environments, owners}
 use Rattle.lambda_wire.specs.Ranges.{IsConfigInRange}
-use Rattle.calls.specs.declared.call.Call.TheVariants.{Stop}
-use Rattle.calls.specs.declared.call.Entry.{Entry}
+use Rattle.call_types.specs.declared.call.Call.TheVariants.{Stop}
+use Rattle.call_types.specs.declared.call.Entry.{Entry}
 use Rattle.call_model.specs.Counts.{full}
 use Rattle.call_model.specs.History.{stopped}
 use Rattle.call_model.specs.Life.{phase}

@@ -1,8 +1,8 @@
 -- What a call makes of the environments that it visits, and what is kept beside them.
 use Rattle.std.specs.Prelude.{◌≡◌, ℕ, suc, ◌<◌, ◌≤◌, ◌^◌, Bool, ◌==◌, ◌&&◌, List, [], ◌∷◌, length, map, count_by, Option, All}
 use Rattle.arn_ids.specs.Environments.{numbered}
-use Rattle.calls.specs.declared.answer.Answer.{Answer}
-use Rattle.calls.specs.declared.call.Call.{Call}
+use Rattle.call_types.specs.declared.answer.Answer.{Answer}
+use Rattle.call_types.specs.declared.call.Call.{Call}
 use Rattle.environment_step.specs.After.{Step, put}
 use Rattle.call_model.specs.Laws.{is_taken, has_come}
 use Rattle.call_model.specs.Next.{deadline_of}

@@ -1,8 +1,8 @@
 -- What was answered, by ticket.
 use Rattle.std.specs.Prelude.{ℕ, List, [], ◌∷◌, length, map, slice_set, Option, Some}
 use Rattle.arn_ids.specs.Environments.{count_from}
-use Rattle.calls.specs.declared.answer.Answer.{Answer}
-use Rattle.calls.specs.declared.call.Entry.{Entry}
+use Rattle.call_types.specs.declared.answer.Answer.{Answer}
+use Rattle.call_types.specs.declared.call.Entry.{Entry}
 use Rattle.call_model.specs.History.{answer_of}
 
 -- the answers to the tickets of a history, from 0 on

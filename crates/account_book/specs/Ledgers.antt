@@ -1,6 +1,6 @@
 -- The entries of an account with what is read off them.
 use Rattle.std.specs.Prelude.{◌≡◌, ℕ, ◌+◌, ◌*◌, ◌≤◌, ◌^◌, List, length, reverse}
-use Rattle.calls.specs.declared.call.Entry.{Entry}
+use Rattle.call_types.specs.declared.call.Entry.{Entry}
 use Rattle.call_model.specs.Counts.{admitted, throttled, failed}
 use Rattle.call_model.specs.History.{stopped}
 use Rattle.call_model.specs.CallCounts.{call_counts}

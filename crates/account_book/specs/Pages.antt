@@ -1,7 +1,7 @@
 -- A journal as the book sees it.
 use Rattle.std.specs.Prelude.{ℕ, List}
 use Rattle.arn_ids.specs.declared.config.Config.{Config}
-use Rattle.calls.specs.declared.call.Entry.{Entry}
+use Rattle.call_types.specs.declared.call.Entry.{Entry}
 
 -- the configuration, the history, how many entries it takes without taking memory, and the most extensions that any
 -- environment has had at once

@@ -4,12 +4,12 @@ use Rattle.arn_ids.specs.Environments.{owners}
 use Rattle.arn_ids.specs.Faults.{first_fault, is_between}
 use Rattle.arn_ids.specs.declared.config.Config.{Config}
 use Rattle.lambda_wire.specs.Ranges.{IsConfigInRange}
-use Rattle.calls.specs.declared.call.Call.{Call}
-use Rattle.calls.specs.declared.call.Entry.{Entry}
+use Rattle.call_types.specs.declared.call.Call.{Call}
+use Rattle.call_types.specs.declared.call.Entry.{Entry}
 use Rattle.call_model.specs.Counts.{full}
 use Rattle.call_model.specs.Next.{next}
-use Rattle.calls.specs.Calls.{body_of}
-use Rattle.calls.specs.Within.{IsTimed}
+use Rattle.call_types.specs.Calls.{body_of}
+use Rattle.call_types.specs.Within.{IsTimed}
 
 -- a configuration, a salt and a greatest number of entries that a book can have
 pub record IsBooked (config : Config) (salt max_entries : ℕ) : Type 0 where

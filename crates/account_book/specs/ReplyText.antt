@@ -2,8 +2,8 @@
 use Rattle.std.specs.Prelude.{ℕ, List, Option}
 use Rattle.arn_ids.specs.declared.config.Config.{Config}
 use Rattle.lambda_wire.specs.declared.reply.Reply.{Reply}
-use Rattle.calls.specs.declared.answer.Answer.{Answer}
-use Rattle.calls.specs.declared.call.Entry.{Entry}
+use Rattle.call_types.specs.declared.answer.Answer.{Answer}
+use Rattle.call_types.specs.declared.call.Entry.{Entry}
 use Rattle.call_model.specs.History.{answer_of, call_of, upto}
 use Rattle.call_model.specs.Isolation.{Gist, named_in, source_of}
 use Rattle.call_model.specs.CallCounts.{request_count}

@@ -9,8 +9,8 @@ use Rattle.lambda_wire.specs.Configuration.{read_setup}
 use Rattle.lambda_wire.specs.declared.setup.Setup.{Setup}
 use Rattle.lambda_wire.specs.declared.fault.WireFault.{WireFault}
 use Rattle.lambda_wire.specs.declared.fault.WireFault.TheVariants.{NotJson}
-use Rattle.calls.specs.declared.call.Call.{Call}
-use Rattle.calls.specs.declared.call.Entry.{Entry}
+use Rattle.call_types.specs.declared.call.Call.{Call}
+use Rattle.call_types.specs.declared.call.Entry.{Entry}
 use Rattle.call_model.specs.Counts.{full}
 use Rattle.call_model.specs.Next.{next, added}
 use Rattle.script.specs.Lines.{call_in}

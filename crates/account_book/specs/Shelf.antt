@@ -1,6 +1,6 @@
 -- The entries of an account as its journal sees them.
 use Rattle.std.specs.Prelude.{ℕ, List}
-use Rattle.calls.specs.declared.call.Entry.{Entry}
+use Rattle.call_types.specs.declared.call.Entry.{Entry}
 
 -- the history, and how many entries it takes without taking memory
 pub record Shelf : Type 0 where

@@ -2,13 +2,13 @@
 use Rattle.std.specs.Prelude.{ℕ, List, [], ◌∷◌, map}
 use Rattle.arn_ids.specs.declared.config.Config.{Config}
 use Rattle.arn_ids.specs.Environments.{environments, function_numbers, function_of}
-use Rattle.calls.specs.declared.call.Call.{Call}
-use Rattle.calls.specs.declared.call.Call.TheVariants.{Expire}
-use Rattle.calls.specs.declared.call.Entry.{Entry}
+use Rattle.call_types.specs.declared.call.Call.{Call}
+use Rattle.call_types.specs.declared.call.Call.TheVariants.{Expire}
+use Rattle.call_types.specs.declared.call.Entry.{Entry}
 use Rattle.call_model.specs.History.{requests}
 use Rattle.call_model.specs.Life.{stand}
 use Rattle.environment_step.specs.After.{fixed_of}
-use Rattle.calls.specs.Within.{IsEnv, IsWithin}
+use Rattle.call_types.specs.Within.{IsEnv, IsWithin}
 use Rattle.account_book.specs.declared.site.Site.{Site}
 
 -- an environment as the history has it, with its function's number

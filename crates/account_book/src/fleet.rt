@@ -4,7 +4,7 @@
 ghost use Rattle.std.specs.Prelude.{◌≡◌, ◌+◌, ◌-◌, ◌*◌, ◌<◌, ◌≤◌, ◌^◌, length, map, slice_set, All, true, false, None, cond, [], count_by, IfOk, MatchResult, ◌&&◌};
 ghost use Rattle.std.specs.List.{list_all, list_any};
 ghost use Rattle.arn_ids.specs.Faults.{first_fault};
-ghost use Rattle.calls.specs.Calls.{is_invoke};
+ghost use Rattle.call_types.specs.Calls.{is_invoke};
 ghost use Rattle.call_model.specs.Limits.{Admits, Refuses};
 ghost use Rattle.concurrency_pool.specs.Meets.{numbers, by_throttle};
 ghost use Rattle.concurrency_pool.specs.Pools.{usage_at, throttle, with_in_flight, in_flight_in_all, may_reserve, with_reserved};

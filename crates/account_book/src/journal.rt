@@ -4,8 +4,8 @@ ghost use Rattle.std.specs.Prelude.{◌≡◌, ◌+◌, ◌++◌, ◌-◌, ◌<�
 ghost use Rattle.std.specs.List.{list_all};
 ghost use Rattle.arn_ids.specs.Environments.{owners, environments};
 ghost use Rattle.arn_ids.specs.Faults.{first_fault};
-ghost use Rattle.calls.specs.declared.answer.Answer.TheVariants.{Stopped};
-ghost use Rattle.calls.specs.declared.call.Call.TheVariants.{Expire};
+ghost use Rattle.call_types.specs.declared.answer.Answer.TheVariants.{Stopped};
+ghost use Rattle.call_types.specs.declared.call.Call.TheVariants.{Expire};
 ghost use Rattle.call_model.specs.Answers.{reserve_answer, verdict_answer};
 ghost use Rattle.call_model.specs.Counts.{stats};
 ghost use Rattle.call_model.specs.History.{answer_of, is_expiry, stopped};
@@ -15,7 +15,7 @@ ghost use Rattle.call_model.specs.Next.{IsLegal, Follows, entry_of, entered, due
 ghost use Rattle.deadlines.specs.Due.{first};
 ghost use Rattle.env_phase.specs.Taking.{registered_name, is_off};
 ghost use Rattle.call_model.specs.CallCounts.{call_counts};
-ghost use Rattle.calls.specs.Within.{IsWithin};
+ghost use Rattle.call_types.specs.Within.{IsWithin};
 ghost use Rattle.account_book.specs.Answering.{most_answers, first_or_0, IsRoom, IsNarrow};
 ghost use Rattle.account_book.specs.Premature.{awaits};
 ghost use Rattle.account_book.specs.Reaches.{book_answer};

@@ -1,13 +1,13 @@
 -- What a call that was taken leaves of a desk.
 use Rattle.std.proofs.Common.{◌≡◌, ℕ, ◌+◌, ◌-◌, ◌≤◌, ◌++◌, true, List, drop, length, length-append, reverse, Option, refl, sym, ap, ◌∙◌, arith}
 use Rattle.std.specs.List.{list_all}
-use Rattle.calls.specs.declared.call.Call.{Call}
-use Rattle.calls.specs.declared.stats.Stats.{Stats}
+use Rattle.call_types.specs.declared.call.Call.{Call}
+use Rattle.call_types.specs.declared.stats.Stats.{Stats}
 use Rattle.call_model.specs.Counts.{admitted, throttled, failed, stats}
 use Rattle.call_model.specs.History.{pending}
 use Rattle.call_model.specs.Next.{IsLegal}
 use Rattle.call_model.proofs.NextLegal.{legal_next}
-use Rattle.calls.specs.Within.{IsWithin}
+use Rattle.call_types.specs.Within.{IsWithin}
 use Rattle.account_book.specs.Book.{Kept as Booked}
 use Rattle.account_book.proofs.Reaching.{no_expiry}
 use Rattle.usage_ledger.specs.declared.counts.Counts.{Counts}

@@ -6,7 +6,7 @@ use Rattle.std.proofs.lemmas.List.Elements.{All-nil, All-cons}
 use Rattle.std.proofs.lemmas.List.Sums.{sum_by-cons}
 use Rattle.std.specs.List.{All, list_all}
 use Rattle.call_model.proofs.Basics.{and_left, and_right}
-use Rattle.calls.specs.declared.call.Entry.{Entry}
+use Rattle.call_types.specs.declared.call.Entry.{Entry}
 use Rattle.usage_ledger.specs.Keeping.{Kept, nothing}
 use Rattle.usage_ledger.specs.Tallies.{Tallied}
 use Rattle.call_model.specs.History.{answer_of}

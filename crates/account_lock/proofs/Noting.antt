@@ -1,7 +1,7 @@
 -- How many answers a step gives.
 use Rattle.std.proofs.Common.{◌≡◌, ◌+◌, List, [], ◌∷◌, ◌++◌, length, reverse, ap, arith, length-append}
 use Rattle.std.proofs.lemmas.List.{reverse-append}
-use Rattle.calls.specs.declared.call.Entry.{Entry}
+use Rattle.call_types.specs.declared.call.Entry.{Entry}
 use Rattle.account_book.specs.Answering.{answers_in}
 use Rattle.account_lock.specs.Bells.{given, answers_of}
 

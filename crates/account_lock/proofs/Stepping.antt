@@ -2,14 +2,14 @@
 use Rattle.std.proofs.Common.{◌≡◌, ℕ, ◌+◌, ◌-◌, ◌≤◌, Bool, true, false, not, cond, List, [], ◌∷◌, ◌++◌, drop, length, reverse, refl, sym, ap, ◌∙◌, arith}
 use Rattle.std.proofs.lemmas.List.{drop_at, length-reverse, reverse-append}
 use Rattle.arn_ids.specs.declared.config.Config.{Config}
-use Rattle.calls.specs.declared.call.Call.{Call}
-use Rattle.calls.specs.declared.call.Call.TheVariants.{Expire}
-use Rattle.calls.specs.declared.call.Entry.{Entry}
+use Rattle.call_types.specs.declared.call.Call.{Call}
+use Rattle.call_types.specs.declared.call.Call.TheVariants.{Expire}
+use Rattle.call_types.specs.declared.call.Entry.{Entry}
 use Rattle.call_model.specs.Counts.{calls, admitted, throttled, failed, is_throttle, is_failure}
 use Rattle.call_model.specs.History.{is_expiry}
 use Rattle.call_model.specs.Next.{added, next, expiries, entered, entry_of, moment_at, due}
 use Rattle.call_model.proofs.AfterEntry.{calls_cons, calls_append, admitted_append, answers_that_append}
-use Rattle.calls.specs.Within.{IsWithin}
+use Rattle.call_types.specs.Within.{IsWithin}
 use Rattle.account_book.proofs.Reaching.{no_expiry}
 use Rattle.usage_ledger.specs.Counts.{counts, plus}
 use Rattle.account_lock.specs.Counting.{counts_of}

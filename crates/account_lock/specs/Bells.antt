@@ -1,8 +1,8 @@
 -- The bells of those who wait, and which of them ring.
 use Rattle.std.specs.Prelude.{ℕ, Bool, true, ◌&&◌, ◌==◌, nat_lt, if◌then◌else◌, List, [], ◌∷◌, ◌++◌, Option, Some, None, flat_map, reverse}
 use Rattle.std.specs.List.{list_all}
-use Rattle.calls.specs.declared.answer.Answer.{Answer}
-use Rattle.calls.specs.declared.call.Entry.{Entry}
+use Rattle.call_types.specs.declared.answer.Answer.{Answer}
+use Rattle.call_types.specs.declared.call.Entry.{Entry}
 
 -- the bells of a ticket
 abbrev pub of_ticket : {B : Type 0} → ℕ → List (ℕ × B) → List B

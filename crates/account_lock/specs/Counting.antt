@@ -1,6 +1,6 @@
 -- The four counts of a history.
 use Rattle.std.specs.Prelude.{List}
-use Rattle.calls.specs.declared.call.Entry.{Entry}
+use Rattle.call_types.specs.declared.call.Entry.{Entry}
 use Rattle.call_model.specs.Counts.{calls, admitted, throttled, failed}
 use Rattle.usage_ledger.specs.declared.counts.Counts.{Counts}
 use Rattle.usage_ledger.specs.Counts.{counts}

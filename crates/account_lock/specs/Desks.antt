@@ -2,8 +2,8 @@
 use Rattle.std.specs.Prelude.{◌≡◌, ℕ, ◌++◌, true, List, Option}
 use Rattle.std.specs.List.{list_all}
 use Rattle.account_book.specs.Book.{Kept as Booked}
-use Rattle.calls.specs.declared.call.Call.{Call}
-use Rattle.calls.specs.declared.call.Entry.{Entry}
+use Rattle.call_types.specs.declared.call.Call.{Call}
+use Rattle.call_types.specs.declared.call.Entry.{Entry}
 use Rattle.call_model.specs.History.{pending}
 use Rattle.call_model.specs.Next.{IsLegal, added, next}
 use Rattle.usage_ledger.specs.Counts.{plus}

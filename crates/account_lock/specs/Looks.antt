@@ -1,6 +1,6 @@
 -- What a look at a ticket tells.
 use Rattle.std.specs.Prelude.{Option, Some, None}
-use Rattle.calls.specs.declared.answer.Answer.{Answer}
+use Rattle.call_types.specs.declared.answer.Answer.{Answer}
 use Rattle.account_lock.specs.declared.desk.Look.{Look}
 use Rattle.account_lock.specs.declared.desk.Look.TheVariants.{Given, Waiting}
 

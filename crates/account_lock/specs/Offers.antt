@@ -1,6 +1,6 @@
 -- What comes back of a call that was offered and not taken.
 use Rattle.std.specs.Prelude.{◌≡◌, Bool, true, false, Option}
-use Rattle.calls.specs.declared.call.Call.{Call}
+use Rattle.call_types.specs.declared.call.Call.{Call}
 use Rattle.account_book.specs.declared.book.Refusal.{Refusal}
 use Rattle.account_lock.specs.declared.offering.Declined.{Declined}
 use Rattle.account_lock.specs.declared.offering.Declined.TheVariants.{Premature, Refused}

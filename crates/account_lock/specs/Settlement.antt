@@ -1,9 +1,9 @@
 -- When an account is settled, and why it may not be.
 use Rattle.std.specs.Prelude.{◌≡◌, ◌≢◌, ℕ, ◌<◌, ◌≤◌, ◌^◌, Bool, true, false, if◌then◌else◌, List, [], ◌∷◌, Option, Some, None, is_some, All}
-use Rattle.calls.specs.declared.call.Call.{Call}
-use Rattle.calls.specs.declared.call.Entry.{Entry}
-use Rattle.calls.specs.declared.head.Head.{Head}
-use Rattle.calls.specs.Heads.{head_of}
+use Rattle.call_types.specs.declared.call.Call.{Call}
+use Rattle.call_types.specs.declared.call.Entry.{Entry}
+use Rattle.call_types.specs.declared.head.Head.{Head}
+use Rattle.call_types.specs.Heads.{head_of}
 use Rattle.call_model.specs.History.{answer_of, answered, call_of, is_expiry}
 use Rattle.usage_ledger.specs.Tallies.{Tallied}
 use Rattle.account_lock.specs.Counting.{counts_of}

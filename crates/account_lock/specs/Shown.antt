@@ -1,8 +1,8 @@
 -- What an account shows to those who read it under its lock: what a history says that calls led to.
 use Rattle.std.specs.Prelude.{◌≡◌, ◌+◌, ◌<◌, ◌≤◌, ℕ, List, Option, Some, None, length, reverse, slice_index_or}
 use Rattle.arn_ids.specs.declared.config.Config.{Config}
-use Rattle.calls.specs.declared.call.Call.{Call}
-use Rattle.calls.specs.declared.call.Entry.{Entry}
+use Rattle.call_types.specs.declared.call.Call.{Call}
+use Rattle.call_types.specs.declared.call.Entry.{Entry}
 use Rattle.call_model.specs.History.{call_of}
 use Rattle.call_model.specs.Next.{next}
 use Rattle.script.specs.AnswerText.{entry_text}

@@ -4,14 +4,14 @@ ghost use Rattle.std.specs.Prelude.{◌≡◌, ◌≢◌, ◌⊎◌, [], ◌+◌
 ghost use Rattle.std.specs.List.{list_all};
 ghost use Rattle.arn_ids.specs.Environments.{owners};
 ghost use Rattle.account_book.specs.declared.book.OpenFault.TheVariants.{EntriesOutOfRange};
-ghost use Rattle.calls.specs.declared.answer.Answer.{Answer as Told};
+ghost use Rattle.call_types.specs.declared.answer.Answer.{Answer as Told};
 ghost use Rattle.call_model.specs.Counts.{stats};
-ghost use Rattle.calls.specs.Heads.{head_of};
+ghost use Rattle.call_types.specs.Heads.{head_of};
 ghost use Rattle.call_model.specs.History.{answer_of};
 ghost use Rattle.call_model.specs.Limits.{reservation};
 ghost use Rattle.call_model.specs.Next.{due};
 ghost use Rattle.deadlines.specs.Due.{first};
-ghost use Rattle.calls.specs.Within.{IsWithin};
+ghost use Rattle.call_types.specs.Within.{IsWithin};
 ghost use Rattle.account_book.specs.Books.{life};
 ghost use Rattle.account_book.specs.HistoryText.{opening_text};
 ghost use Rattle.account_book.specs.ReplyText.{reply_text};
@@ -70,7 +70,7 @@ struct Locked<S: Identity, B> {
 
 impl<S: Identity, B> Model for Locked<S, B> {
     ghost use Rattle.std.specs.Prelude.{◌≡◌, List};
-    ghost use Rattle.calls.specs.declared.call.Entry.{Entry};
+    ghost use Rattle.call_types.specs.declared.call.Entry.{Entry};
 
     ghost Value = { List Entry };
 

@@ -3,8 +3,8 @@
 
 ghost use Rattle.std.specs.Prelude.{◌≡◌, ◌<◌, ℕ, Bool, List, length};
 ghost use Rattle.arn_ids.specs.declared.config.Config.{Config};
-ghost use Rattle.calls.specs.declared.call.Call.{Call};
-ghost use Rattle.calls.specs.declared.call.Entry.{Entry};
+ghost use Rattle.call_types.specs.declared.call.Call.{Call};
+ghost use Rattle.call_types.specs.declared.call.Entry.{Entry};
 ghost use Rattle.call_model.specs.History.{call_of};
 ghost use Rattle.usage_ledger.specs.Tallies.{Tallied};
 ghost use Rattle.account_lock.specs.declared.fault.SettleFault.{SettleFault};

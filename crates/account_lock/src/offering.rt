@@ -2,8 +2,8 @@
 
 ghost use Rattle.std.specs.Prelude.{◌≡◌, ◌+◌, ◌<◌, ◌^◌, ◌↔◌, true, false, length, IfOk, IfErr, MatchResult};
 ghost use Rattle.call_model.specs.Counts.{full};
-ghost use Rattle.calls.specs.Heads.{head_of};
-ghost use Rattle.calls.specs.Within.{IsWithin};
+ghost use Rattle.call_types.specs.Heads.{head_of};
+ghost use Rattle.call_types.specs.Within.{IsWithin};
 ghost use Rattle.account_book.specs.Premature.{premature};
 ghost use Rattle.account_book.specs.declared.book.Refusal.TheVariants.{JournalFull};
 ghost use Rattle.usage_ledger.specs.Counts.{plus};

@@ -2,7 +2,7 @@
 
 ghost use Rattle.std.specs.Prelude.{◌≡◌, ◌+◌, ◌≤◌, ℕ, [], length, vec_len, vec_capacity, IfOk, OnOk};
 ghost use Rattle.call_model.specs.Next.{due, moment_at};
-ghost use Rattle.calls.specs.Within.{IsWithin};
+ghost use Rattle.call_types.specs.Within.{IsWithin};
 ghost use Rattle.account_lock.specs.Bells.{given};
 ghost use Rattle.account_lock.specs.Desks.{added_to};
 

@@ -2,9 +2,9 @@
 use Rattle.std.proofs.Common.{◌≡◌, ℕ, suc, ◌+◌, ◌≤◌, Bool, true, false, List, [], ◌∷◌, length, filter_map, Option, Some, None, refl, ap, ◌∙◌, arith, if◌then◌else◌, length-append, nat_lt, ◌*◌}
 use Rattle.std.proofs.lemmas.List.{length-map}
 use Rattle.std.specs.List.{cons_option}
-use Rattle.calls.specs.declared.call.Call.{Call}
-use Rattle.calls.specs.declared.call.Call.TheVariants.{Expire, Stop}
-use Rattle.calls.specs.declared.call.Entry.{Entry}
+use Rattle.call_types.specs.declared.call.Call.{Call}
+use Rattle.call_types.specs.declared.call.Call.TheVariants.{Expire, Stop}
+use Rattle.call_types.specs.declared.call.Entry.{Entry}
 use Rattle.arn_ids.specs.declared.config.Config.{Config}
 use Rattle.arn_ids.specs.Environments.{environments}
 use Rattle.call_model.specs.Life.{phase}

@@ -1,6 +1,6 @@
 -- No admission takes a reserved function past its reservation, nor the unreserved ones together past the remainder.
 use Rattle.std.proofs.Common.{◌≡◌, ℕ, ◌+◌, ◌<◌, ◌≤◌, Bool, true, false, cond, List, [], ◌∷◌, length, Option, Some, None, sym, refl, ◌∙◌, inl, inr, arith, is_some, is_none, ◌&&◌, ◌||◌, true≢false, count_by, ◌-◌, ap, ap₂, subst, ◌⊎◌, ◌==◌, if◌then◌else◌, nat_le, sum_by}
-use Rattle.calls.specs.declared.call.Entry.{Entry}
+use Rattle.call_types.specs.declared.call.Entry.{Entry}
 use Rattle.arn_ids.specs.declared.config.Config.{Config}
 use Rattle.call_model.specs.History.{answer_in, pending, with_tickets, is_invoke_of, stopped}
 use Rattle.call_model.specs.Life.{phase}
@@ -14,9 +14,9 @@ use Rattle.std.specs.List.{list_any}
 use Rattle.std.proofs.lemmas.Bool.Decides.{eqb_tells, nat_tests}
 use Rattle.std.proofs.lemmas.Bool.{eqb-true}
 use Rattle.std.proofs.lemmas.List.Sums.{sum_by-cons}
-use Rattle.calls.specs.declared.answer.Throttle.TheVariants.{Function as ByFunction, Account as ByAccount}
-use Rattle.calls.specs.declared.call.Call.{Call}
-use Rattle.calls.specs.declared.call.Call.TheVariants.{Invoke, Reserve}
+use Rattle.call_types.specs.declared.answer.Throttle.TheVariants.{Function as ByFunction, Account as ByAccount}
+use Rattle.call_types.specs.declared.call.Call.{Call}
+use Rattle.call_types.specs.declared.call.Call.TheVariants.{Invoke, Reserve}
 use Rattle.arn_ids.specs.Environments.{function_numbers, count_from}
 use Rattle.call_model.specs.Laws.{admits, is_reserve, re_reserved}
 use Rattle.call_model.proofs.Charges.{IsIn, AreIn, entries_in}

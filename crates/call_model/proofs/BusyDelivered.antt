@@ -1,12 +1,12 @@
 -- The invocation that a Busy serves was delivered.
 use Rattle.std.proofs.Common.{◌≡◌, ℕ, true, List, length, Option, Some, None, sym, refl, ◌≢◌, true≢false, false, ◌∷◌, ◌∙◌, suc, ◌<◌, ◌≤◌, Bool, ap, inl, inr, arith, ◌||◌, if◌then◌else◌, is_some, ◌&&◌, [], subst, count_by, ◌+◌}
 use Rattle.std.proofs.lemmas.Bool.{eq-eqb}
-use Rattle.calls.specs.declared.answer.Answer.{Answer}
-use Rattle.calls.specs.declared.answer.Phase.{Phase}
-use Rattle.calls.specs.declared.answer.Phase.TheVariants.{Busy, Starting, Idle, Closing, Off}
-use Rattle.calls.specs.declared.call.Call.{Call}
-use Rattle.calls.specs.declared.call.Call.TheVariants.{Invoke}
-use Rattle.calls.specs.declared.call.Entry.{Entry}
+use Rattle.call_types.specs.declared.answer.Answer.{Answer}
+use Rattle.call_types.specs.declared.answer.Phase.{Phase}
+use Rattle.call_types.specs.declared.answer.Phase.TheVariants.{Busy, Starting, Idle, Closing, Off}
+use Rattle.call_types.specs.declared.call.Call.{Call}
+use Rattle.call_types.specs.declared.call.Call.TheVariants.{Invoke}
+use Rattle.call_types.specs.declared.call.Entry.{Entry}
 use Rattle.arn_ids.specs.declared.config.Config.{Config}
 use Rattle.call_model.specs.History.{answer_in, pending, call_of, or_else}
 use Rattle.call_model.specs.Generation.{TheRuntime, asks, Generation, parked, last_next}
@@ -19,7 +19,7 @@ use Rattle.call_model.specs.Laws.{delivers, deliveries}
 use Rattle.call_model.specs.Next.{IsLegal}
 use Rattle.call_model.proofs.Pairs.{eqb-other}
 use Rattle.call_model.proofs.Once.{pending_cons}
-use Rattle.calls.specs.Calls.{is_invoke}
+use Rattle.call_types.specs.Calls.{is_invoke}
 use Rattle.call_model.proofs.AtHand.{busy_at_hand, held, from_entry, placed_here}
 use Rattle.call_model.proofs.BoundWaits.{generation_part, last_asks, invoke_asks}
 use Rattle.call_model.proofs.Lives.{placed_free}

@@ -1,15 +1,15 @@
 -- The table of phases by its cells: which values they hold, and which row holds what in which phase.
 use Rattle.std.proofs.Common.{◌≡◌, ap, ℕ, suc, Bool, true, false, Option, Some, None, refl, if◌then◌else◌, not, ◌&&◌, is_some, bytes_eq, nat_le, length}
 use Rattle.std.specs.List.{list_any, find}
-use Rattle.calls.specs.declared.answer.Answer.{Answer}
-use Rattle.calls.specs.declared.answer.Answer.TheVariants.{Ending, Registered, Accepted, Output, Error, TimedOut, InitTimedOut, OutputTooLarge, Stopped, Refused}
-use Rattle.calls.specs.declared.answer.Rejection.{Rejection}
-use Rattle.calls.specs.declared.answer.Rejection.TheVariants.{State, BadId, Unknown, TooLarge, Container, NameInUse, TooMany, NotIdle}
-use Rattle.calls.specs.declared.answer.Reason.{Reason}
-use Rattle.calls.specs.declared.answer.Phase.{Phase}
-use Rattle.calls.specs.declared.answer.Phase.TheVariants.{Starting, Idle, Busy, Closing, Off}
-use Rattle.calls.specs.declared.call.Call.{Call}
-use Rattle.calls.specs.declared.call.Call.TheVariants.{Invoke, RuntimeNext, Response, ResponseTooLarge, Failure, InitFailure, Register, ExtNext, ExtInitFailure, ExtExitFailure, Tick, Withdraw, Spindown, Stop, Expire, Reserve}
+use Rattle.call_types.specs.declared.answer.Answer.{Answer}
+use Rattle.call_types.specs.declared.answer.Answer.TheVariants.{Ending, Registered, Accepted, Output, Error, TimedOut, InitTimedOut, OutputTooLarge, Stopped, Refused}
+use Rattle.call_types.specs.declared.answer.Rejection.{Rejection}
+use Rattle.call_types.specs.declared.answer.Rejection.TheVariants.{State, BadId, Unknown, TooLarge, Container, NameInUse, TooMany, NotIdle}
+use Rattle.call_types.specs.declared.answer.Reason.{Reason}
+use Rattle.call_types.specs.declared.answer.Phase.{Phase}
+use Rattle.call_types.specs.declared.answer.Phase.TheVariants.{Starting, Idle, Busy, Closing, Off}
+use Rattle.call_types.specs.declared.call.Call.{Call}
+use Rattle.call_types.specs.declared.call.Call.TheVariants.{Invoke, RuntimeNext, Response, ResponseTooLarge, Failure, InitFailure, Register, ExtNext, ExtInitFailure, ExtExitFailure, Tick, Withdraw, Spindown, Stop, Expire, Reserve}
 use Rattle.call_model.specs.History.{is_stop}
 use Rattle.call_model.specs.Generation.{Member, hears_end, has_count}
 use Rattle.call_model.specs.Stand.{Stand, is_known, is_number}

@@ -1,7 +1,7 @@
 -- An environment is Busy or bound exactly where one charged invocation is placed in it.
 use Rattle.std.proofs.Common.{◌≡◌, ℕ, suc, ◌+◌, ◌<◌, Bool, true, false, cond, eqb, List, [], ◌∷◌, length, Option, Some, None, sym, refl, ap, ap₂, ◌∙◌, subst, inl, inr, arith, is_some, ◌&&◌, ◌||◌, ◌==◌, true≢false, count_by, nat_lt}
 use Rattle.std.proofs.lemmas.Bool.Decides.{nat_tests}
-use Rattle.calls.specs.declared.call.Entry.{Entry}
+use Rattle.call_types.specs.declared.call.Entry.{Entry}
 use Rattle.arn_ids.specs.declared.config.Config.{Config}
 use Rattle.call_model.specs.History.{pending, with_tickets, call_of, place_of}
 use Rattle.call_model.specs.Stand.{at_hand, is_number}

@@ -1,16 +1,16 @@
 -- What the table answers by itself is no answer of a Busy that begins, and one that only a Busy gives is the waiting call's.
 use Rattle.std.proofs.Common.{Bool, true, false, Option, Some, ◌≡◌, refl, ℕ, ◌+◌, ◌-◌, List, length, None, ◌||◌, if◌then◌else◌, nat_lt, not, ◌&&◌, ◌==◌, sym, ◌∙◌, true≢false, ap}
-use Rattle.calls.specs.declared.answer.Answer.{Answer}
-use Rattle.calls.specs.declared.answer.Answer.TheVariants.{Delivered, Told, Output, TimedOut, OutputTooLarge, Stopped, Refused, Reserved, Ending, Withdrawn}
-use Rattle.calls.specs.declared.answer.Rejection.TheVariants.{BadReservation}
-use Rattle.calls.specs.declared.answer.Reason.{Reason}
-use Rattle.calls.specs.declared.call.Call.{Call}
-use Rattle.calls.specs.declared.call.Call.TheVariants.{Invoke, Tick, Withdraw, Stop, Reserve, RuntimeNext, ExtNext}
-use Rattle.calls.specs.declared.call.Entry.{Entry}
+use Rattle.call_types.specs.declared.answer.Answer.{Answer}
+use Rattle.call_types.specs.declared.answer.Answer.TheVariants.{Delivered, Told, Output, TimedOut, OutputTooLarge, Stopped, Refused, Reserved, Ending, Withdrawn}
+use Rattle.call_types.specs.declared.answer.Rejection.TheVariants.{BadReservation}
+use Rattle.call_types.specs.declared.answer.Reason.{Reason}
+use Rattle.call_types.specs.declared.call.Call.{Call}
+use Rattle.call_types.specs.declared.call.Call.TheVariants.{Invoke, Tick, Withdraw, Stop, Reserve, RuntimeNext, ExtNext}
+use Rattle.call_types.specs.declared.call.Entry.{Entry}
 use Rattle.arn_ids.specs.declared.config.Config.{Config}
 use Rattle.arn_ids.specs.Environments.{function_at}
 use Rattle.call_model.specs.History.{stopped, or_else}
-use Rattle.calls.specs.Calls.{env_of}
+use Rattle.call_types.specs.Calls.{env_of}
 use Rattle.call_model.specs.Generation.{hears_end, reports_exit}
 use Rattle.call_model.specs.Stand.{Stand, Role, NoRole, Waiting, RuntimePoll, ExtensionPoll, role}
 use Rattle.call_model.specs.Table.{own_answer, closes, to_waiting}
@@ -67,7 +67,7 @@ or_plain (Some a) b p q = p
 close_plain : (now : ℕ) (c : Option Reason) (call : Call) (r : Role) → special (at_close now c call r) ≡ false
 close_plain now (Some reason) call (ExtensionPoll x) = go (hears_end x && not (reports_exit x.extension.count call))
   where
-    go : (b : Bool) → special (if b then Some (Ending reason (now + 2000) 0) else Some (Refused Rattle.calls.specs.declared.answer.Rejection.TheVariants.Container)) ≡ false
+    go : (b : Bool) → special (if b then Some (Ending reason (now + 2000) 0) else Some (Refused Rattle.call_types.specs.declared.answer.Rejection.TheVariants.Container)) ≡ false
     go true = refl
     go false = refl
 close_plain now (Some reason) call RuntimePoll = refl
@@ -79,7 +79,7 @@ replaced_plain : (t : ℕ) (call : Call) (r : Role) → special (replaced t call
 replaced_plain t (RuntimeNext e) RuntimePoll = refl
 replaced_plain t (ExtNext e x) (ExtensionPoll y) = go (y.extension.count == x)
   where
-    go : (b : Bool) → special (if b then Some (Refused Rattle.calls.specs.declared.answer.Rejection.TheVariants.Replaced) else None) ≡ false
+    go : (b : Bool) → special (if b then Some (Refused Rattle.call_types.specs.declared.answer.Rejection.TheVariants.Replaced) else None) ≡ false
     go true = refl
     go false = refl
 replaced_plain t (Withdraw u) RuntimePoll = go (u == t)

@@ -3,15 +3,15 @@ use Rattle.std.proofs.Common.{◌≡◌, ℕ, zero, suc, ◌+◌, ◌<◌, ◌�
 use Rattle.std.proofs.lemmas.Bool.{eqb-true}
 use Rattle.std.proofs.lemmas.Bool.Decides.{nat_tests}
 use Rattle.std.specs.List.{find}
-use Rattle.calls.specs.declared.call.Call.{Call}
-use Rattle.calls.specs.declared.call.Call.TheVariants.{Invoke}
-use Rattle.calls.specs.declared.call.Entry.{Entry}
+use Rattle.call_types.specs.declared.call.Call.{Call}
+use Rattle.call_types.specs.declared.call.Call.TheVariants.{Invoke}
+use Rattle.call_types.specs.declared.call.Entry.{Entry}
 use Rattle.arn_ids.specs.declared.config.Config.{Config}
 use Rattle.arn_ids.specs.Environments.{function_of, environments, owners, count_from}
 use Rattle.call_model.specs.History.{with_tickets, is_invoke_of, call_of, place_of, or_else}
 use Rattle.call_model.specs.Stand.{at_hand, is_number, is_idle}
 use Rattle.call_model.specs.Life.{phase}
-use Rattle.calls.specs.Calls.{is_invoke}
+use Rattle.call_types.specs.Calls.{is_invoke}
 use Rattle.call_model.specs.Limits.{charged, in_flight, place, place_for, lowest, is_free_starting, is_free_closing, verdict, Verdict, AfterStop, Refuses, Admits, admitted_to}
 use Rattle.call_model.specs.Answers.{first_answer, own_first, verdict_answer}
 use Rattle.call_model.specs.Next.{IsLegal, Follows}

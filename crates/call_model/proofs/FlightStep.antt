@@ -1,10 +1,10 @@
 -- What an entry adds to what a function has in flight.
 use Rattle.std.proofs.Common.{◌≡◌, ℕ, zero, suc, ◌+◌, ◌<◌, ◌≤◌, Bool, true, false, cond, eqb, List, [], ◌∷◌, length, Option, Some, None, sym, refl, ap, ap₂, ◌∙◌, inl, inr, arith, is_some, is_none, not, ◌&&◌, ◌==◌, true≢false, count_by, nat_le, nat_lt}
 use Rattle.std.proofs.lemmas.Bool.Decides.{nat_tests}
-use Rattle.calls.specs.declared.answer.Answer.{Answer}
-use Rattle.calls.specs.declared.call.Call.{Call}
-use Rattle.calls.specs.declared.call.Call.TheVariants.{Invoke}
-use Rattle.calls.specs.declared.call.Entry.{Entry}
+use Rattle.call_types.specs.declared.answer.Answer.{Answer}
+use Rattle.call_types.specs.declared.call.Call.{Call}
+use Rattle.call_types.specs.declared.call.Call.TheVariants.{Invoke}
+use Rattle.call_types.specs.declared.call.Entry.{Entry}
 use Rattle.arn_ids.specs.declared.config.Config.{Config}
 use Rattle.arn_ids.specs.Environments.{count_from, environments, owners, function_of}
 use Rattle.call_model.specs.History.{answer_in, or_else, pending, is_expiry, is_invoke_of}
@@ -17,7 +17,7 @@ use Rattle.call_model.specs.Next.{IsLegal, Follows}
 use Rattle.call_model.proofs.Pairs.{is_some_none}
 use Rattle.call_model.proofs.Once.{answers_at}
 use Rattle.call_model.proofs.AfterEntry.{place_of_new, call_of_new, pending_new}
-use Rattle.calls.specs.Calls.{is_invoke}
+use Rattle.call_types.specs.Calls.{is_invoke}
 use Rattle.call_model.proofs.AtHand.{from_entry, placed_here}
 use Rattle.call_model.proofs.BoundWaits.{invoke_second}
 use Rattle.call_model.proofs.Lives.{lives, placed_free}

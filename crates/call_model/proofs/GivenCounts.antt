@@ -1,10 +1,10 @@
 -- How many of an entry's answers give an invocation.
 use Rattle.std.proofs.Common.{ℕ, Bool, false, Option, Some, None, ◌≡◌, true, sym, refl, true≢false, List, ◌+◌, ◌∙◌, cond, [], ◌∷◌, ap₂, count_by, arith, suc, zero, ◌≤◌, nat_le, ◌<◌, subst, ap, inl, inr, ◌≢◌}
-use Rattle.calls.specs.declared.answer.Answer.{Answer}
-use Rattle.calls.specs.declared.answer.Answer.TheVariants.{Delivered, Told, Ending}
-use Rattle.calls.specs.declared.call.Entry.{Entry}
+use Rattle.call_types.specs.declared.answer.Answer.{Answer}
+use Rattle.call_types.specs.declared.answer.Answer.TheVariants.{Delivered, Told, Ending}
+use Rattle.call_types.specs.declared.call.Entry.{Entry}
 use Rattle.call_model.specs.History.{call_of}
-use Rattle.calls.specs.Calls.{env_of}
+use Rattle.call_types.specs.Calls.{env_of}
 use Rattle.call_model.specs.Answers.{event_at, numbered, with_answer, each_from}
 use Rattle.std.proofs.lemmas.Bool.Decides.{nat_tests, eqb_tells}
 use Rattle.call_model.specs.Laws.{delivers}

@@ -1,17 +1,17 @@
 -- Where an environment is Idle, its runtime's Next is parked.
 use Rattle.std.proofs.Common.{◌≡◌, ℕ, true, List, ◌∷◌, length, ◌⊎◌, is_some, Bool, false, if◌then◌else◌, sym, refl, ◌≢◌, true≢false, ◌∙◌, Option, Some, None, ◌||◌, inl, inr, ap, subst, not, ◌&&◌, ◌≤◌, ◌==◌, suc, ◌<◌, [], ap₂, arith}
-use Rattle.calls.specs.declared.answer.Answer.{Answer}
-use Rattle.calls.specs.declared.answer.Answer.TheVariants.{Delivered, Told, Ending}
-use Rattle.calls.specs.declared.answer.Reason.{Reason}
-use Rattle.calls.specs.declared.answer.Phase.{Phase}
-use Rattle.calls.specs.declared.answer.Phase.TheVariants.{Starting, Closing, Idle, Busy, Off}
-use Rattle.calls.specs.declared.call.Call.{Call}
-use Rattle.calls.specs.declared.call.Call.TheVariants.{Invoke, RuntimeNext, Register, ExtNext, Stop}
-use Rattle.calls.specs.declared.call.Entry.{Entry}
+use Rattle.call_types.specs.declared.answer.Answer.{Answer}
+use Rattle.call_types.specs.declared.answer.Answer.TheVariants.{Delivered, Told, Ending}
+use Rattle.call_types.specs.declared.answer.Reason.{Reason}
+use Rattle.call_types.specs.declared.answer.Phase.{Phase}
+use Rattle.call_types.specs.declared.answer.Phase.TheVariants.{Starting, Closing, Idle, Busy, Off}
+use Rattle.call_types.specs.declared.call.Call.{Call}
+use Rattle.call_types.specs.declared.call.Call.TheVariants.{Invoke, RuntimeNext, Register, ExtNext, Stop}
+use Rattle.call_types.specs.declared.call.Entry.{Entry}
 use Rattle.arn_ids.specs.declared.config.Config.{Config}
 use Rattle.arn_ids.specs.Environments.{expected_at}
 use Rattle.call_model.specs.History.{stopped, answer_in, answer_of, pending, call_of, is_expiry, or_else, place_of}
-use Rattle.calls.specs.Calls.{env_of, is_invoke}
+use Rattle.call_types.specs.Calls.{env_of, is_invoke}
 use Rattle.call_model.specs.Generation.{TheRuntime, parked, Generation, members, ready, last_next}
 use Rattle.call_model.specs.Stand.{is_idle, is_busy, Stand, is_known, at_hand, bound_of, role, is_number}
 use Rattle.call_model.specs.Table.{clock_started, unbound, placed, is_registered, own_answer, kept, or_closing, reborn, settled, closes, after_cell}

@@ -1,12 +1,12 @@
 -- A placed invocation that is pending lives in its place.
 use Rattle.std.proofs.Common.{◌≡◌, ℕ, Bool, true, false, List, [], ◌∷◌, length, Option, Some, None, sym, refl, ap, ◌∙◌, inl, inr, arith, ◌≢◌, ◌⊎◌, is_some, is_none, not, ◌&&◌, ◌||◌, ◌==◌, true≢false, if◌then◌else◌}
-use Rattle.calls.specs.declared.answer.Answer.{Answer}
-use Rattle.calls.specs.declared.answer.Reason.{Reason}
-use Rattle.calls.specs.declared.answer.Phase.{Phase}
-use Rattle.calls.specs.declared.answer.Phase.TheVariants.{Starting, Idle, Busy, Closing, Off}
-use Rattle.calls.specs.declared.call.Call.{Call}
-use Rattle.calls.specs.declared.call.Call.TheVariants.{Invoke, RuntimeNext, Register, ExtNext, Stop}
-use Rattle.calls.specs.declared.call.Entry.{Entry}
+use Rattle.call_types.specs.declared.answer.Answer.{Answer}
+use Rattle.call_types.specs.declared.answer.Reason.{Reason}
+use Rattle.call_types.specs.declared.answer.Phase.{Phase}
+use Rattle.call_types.specs.declared.answer.Phase.TheVariants.{Starting, Idle, Busy, Closing, Off}
+use Rattle.call_types.specs.declared.call.Call.{Call}
+use Rattle.call_types.specs.declared.call.Call.TheVariants.{Invoke, RuntimeNext, Register, ExtNext, Stop}
+use Rattle.call_types.specs.declared.call.Entry.{Entry}
 use Rattle.std.proofs.lemmas.Bool.{eqb-true, eq-eqb, or_right}
 use Rattle.call_model.proofs.OwnTickets.{find_passes, admits_place}
 use Rattle.arn_ids.specs.declared.config.Config.{Config}
@@ -21,7 +21,7 @@ use Rattle.call_model.specs.Answers.{first_answer, second_answer, first_entry}
 use Rattle.call_model.specs.Next.{IsLegal, Follows}
 use Rattle.call_model.proofs.Once.{fresh, pending_cons, answers_at}
 use Rattle.call_model.proofs.Pairs.{eqb-other}
-use Rattle.calls.specs.Calls.{is_invoke}
+use Rattle.call_types.specs.Calls.{is_invoke}
 use Rattle.call_model.proofs.AtHand.{IsHeld, held, from_entry, from_after, placed_here}
 use Rattle.call_model.proofs.BoundWaits.{held_home, invoke_role}
 use Rattle.call_model.proofs.Scans.{legal_silent}

@@ -1,12 +1,12 @@
 -- The Nexts of a generation were made at its environment.
 use Rattle.std.proofs.Common.{◌≡◌, ℕ, true, List, [], ◌∷◌, Some, length, arith, None, sym, refl, true≢false, ◌≢◌, ap, Bool, false, Option, ◌∙◌, ◌||◌, if◌then◌else◌}
 use Rattle.std.proofs.lemmas.Bool.{eqb-true}
-use Rattle.calls.specs.declared.call.Call.{Call}
-use Rattle.calls.specs.declared.call.Call.TheVariants.{Invoke, RuntimeNext, ExtNext}
-use Rattle.calls.specs.declared.call.Entry.{Entry}
+use Rattle.call_types.specs.declared.call.Call.{Call}
+use Rattle.call_types.specs.declared.call.Call.TheVariants.{Invoke, RuntimeNext, ExtNext}
+use Rattle.call_types.specs.declared.call.Entry.{Entry}
 use Rattle.arn_ids.specs.declared.config.Config.{Config}
 use Rattle.call_model.specs.History.{or_else}
-use Rattle.calls.specs.Calls.{env_of}
+use Rattle.call_types.specs.Calls.{env_of}
 use Rattle.call_model.specs.Generation.{Generation, Actor, asks, TheRuntime, TheExtension, last_next}
 use Rattle.call_model.specs.Stand.{is_number}
 use Rattle.call_model.specs.Life.{names, life, concerns, lived, after, ends_here}

@@ -1,16 +1,16 @@
 -- An environment that is Starting, Idle or Busy stays one of these where nothing closes, and its generation goes on.
 use Rattle.std.proofs.Common.{◌≡◌, ℕ, true, refl, Bool, false, if◌then◌else◌, Some, None, sym, List, ◌∷◌, length, Option, ap, ◌∙◌, true≢false, subst, ◌≢◌, ◌&&◌}
-use Rattle.calls.specs.declared.answer.Phase.{Phase}
-use Rattle.calls.specs.declared.call.Call.{Call}
-use Rattle.calls.specs.declared.call.Call.TheVariants.{Invoke, RuntimeNext, ExtNext, Register, Stop}
-use Rattle.calls.specs.declared.call.Entry.{Entry}
+use Rattle.call_types.specs.declared.answer.Phase.{Phase}
+use Rattle.call_types.specs.declared.call.Call.{Call}
+use Rattle.call_types.specs.declared.call.Call.TheVariants.{Invoke, RuntimeNext, ExtNext, Register, Stop}
+use Rattle.call_types.specs.declared.call.Entry.{Entry}
 use Rattle.arn_ids.specs.declared.config.Config.{Config}
 use Rattle.call_model.specs.Generation.{Generation}
 use Rattle.call_model.specs.Stand.{Stand, is_known, is_closing}
 use Rattle.call_model.specs.Table.{clock_started, placed, unbound, own_answer, is_registered, kept, settled, after_cell, closes, or_closing}
 use Rattle.call_model.specs.Life.{Lifecycle, life, stand, seen, concerns, limit_of, lived, after, phase}
-use Rattle.calls.specs.declared.answer.Reason.{Reason}
-use Rattle.calls.specs.declared.answer.Phase.TheVariants.{Starting, Idle, Closing, Busy, Off}
+use Rattle.call_types.specs.declared.answer.Reason.{Reason}
+use Rattle.call_types.specs.declared.answer.Phase.TheVariants.{Starting, Idle, Closing, Busy, Off}
 use Rattle.call_model.specs.Laws.{is_open}
 use Rattle.call_model.proofs.Visits.{visit, if_concerned, if_ended}
 

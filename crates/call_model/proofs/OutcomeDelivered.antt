@@ -2,12 +2,12 @@
 use Rattle.std.proofs.Common.{Bool, false, Option, Some, None, ◌≡◌, true, sym, refl, ◌≢◌, true≢false, ℕ, is_some, ◌&&◌, if◌then◌else◌, ◌≤◌, List, ◌∷◌, length, ap, ◌∙◌, inl, inr, arith, ◌==◌}
 use Rattle.std.proofs.lemmas.Bool.{cases_lt}
 use Rattle.std.specs.List.{find}
-use Rattle.calls.specs.declared.answer.Answer.{Answer}
-use Rattle.calls.specs.declared.answer.Answer.TheVariants.{Output, TimedOut, OutputTooLarge, Told, Ending, Delivered}
-use Rattle.calls.specs.declared.answer.Phase.{Phase}
-use Rattle.calls.specs.declared.answer.Phase.TheVariants.{Starting, Idle}
-use Rattle.calls.specs.declared.call.Call.{Call}
-use Rattle.calls.specs.declared.call.Entry.{Entry}
+use Rattle.call_types.specs.declared.answer.Answer.{Answer}
+use Rattle.call_types.specs.declared.answer.Answer.TheVariants.{Output, TimedOut, OutputTooLarge, Told, Ending, Delivered}
+use Rattle.call_types.specs.declared.answer.Phase.{Phase}
+use Rattle.call_types.specs.declared.answer.Phase.TheVariants.{Starting, Idle}
+use Rattle.call_types.specs.declared.call.Call.{Call}
+use Rattle.call_types.specs.declared.call.Entry.{Entry}
 use Rattle.arn_ids.specs.declared.config.Config.{Config}
 use Rattle.call_model.specs.History.{answer_in, or_else}
 use Rattle.call_model.specs.Generation.{Member}

@@ -1,14 +1,14 @@
 -- The function's own history counts the same events and registrations at an environment of the function.
 use Rattle.std.proofs.Common.{◌≡◌, ℕ, true, false, List, Some, sym, refl, ap, ◌∙◌, arith, ◌≢◌, ◌==◌, true≢false, ◌<◌, [], ◌∷◌, length, inl, inr, ◌+◌, Bool, cond, ◌&&◌, filter, if◌then◌else◌, Option, None, ap₂}
 use Rattle.std.proofs.lemmas.Bool.Decides.{nat_tests, eqb_tells}
-use Rattle.calls.specs.declared.answer.Answer.{Answer}
-use Rattle.calls.specs.declared.call.Call.{Call}
-use Rattle.calls.specs.declared.call.Call.TheVariants.{Invoke, RuntimeNext, Response, ResponseTooLarge, Failure, InitFailure, Register, ExtNext, ExtInitFailure, ExtExitFailure, Tick, Withdraw, Spindown, Stop, Expire, Reserve}
-use Rattle.calls.specs.declared.call.Entry.{Entry}
+use Rattle.call_types.specs.declared.answer.Answer.{Answer}
+use Rattle.call_types.specs.declared.call.Call.{Call}
+use Rattle.call_types.specs.declared.call.Call.TheVariants.{Invoke, RuntimeNext, Response, ResponseTooLarge, Failure, InitFailure, Register, ExtNext, ExtInitFailure, ExtExitFailure, Tick, Withdraw, Spindown, Stop, Expire, Reserve}
+use Rattle.call_types.specs.declared.call.Entry.{Entry}
 use Rattle.arn_ids.specs.declared.config.Config.{Config}
 use Rattle.arn_ids.specs.Environments.{function_of}
 use Rattle.call_model.specs.History.{call_of, answer_in, with_tickets}
-use Rattle.calls.specs.Calls.{env_of}
+use Rattle.call_types.specs.Calls.{env_of}
 use Rattle.call_model.specs.Stand.{is_number}
 use Rattle.call_model.specs.Life.{events_in, is_event, registrations, events}
 use Rattle.call_model.specs.Next.{IsLegal}

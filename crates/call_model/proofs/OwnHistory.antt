@@ -2,10 +2,10 @@
 use Rattle.std.proofs.lemmas.Bool.{cases_lt}
 use Rattle.std.proofs.Common.{◌≡◌, ℕ, ◌<◌, Bool, List, length, ◌∷◌, refl, ◌∙◌, arith, true, sym, inl, inr, false, [], ap, ◌||◌, is_some, not, ◌&&◌, suc, ◌==◌, if◌then◌else◌, filter, ◌≢◌, true≢false, ◌+◌, cond, nat_lt, None}
 use Rattle.std.proofs.lemmas.Bool.Decides.{eqb_tells}
-use Rattle.calls.specs.declared.answer.Answer.{Answer}
-use Rattle.calls.specs.declared.call.Call.{Call}
-use Rattle.calls.specs.declared.call.Call.TheVariants.{Stop, Invoke, RuntimeNext, ExtNext, Withdraw}
-use Rattle.calls.specs.declared.call.Entry.{Entry}
+use Rattle.call_types.specs.declared.answer.Answer.{Answer}
+use Rattle.call_types.specs.declared.call.Call.{Call}
+use Rattle.call_types.specs.declared.call.Call.TheVariants.{Stop, Invoke, RuntimeNext, ExtNext, Withdraw}
+use Rattle.call_types.specs.declared.call.Entry.{Entry}
 use Rattle.arn_ids.specs.declared.config.Config.{Config}
 use Rattle.call_model.specs.History.{call_of, answer_of, is_stop, is_invoke_of, stopped, is_expiry, answer_in, or_else, poll_env, requests, upto}
 use Rattle.call_model.specs.Stand.{is_number}

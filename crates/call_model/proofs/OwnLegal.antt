@@ -1,11 +1,11 @@
 -- The function's own history is legal, save that at a Tick something may be due.
 use Rattle.std.proofs.Common.{◌≡◌, ℕ, ◌≤◌, Bool, true, false, List, [], ◌∷◌, Option, Some, None, sym, refl, ap, ◌∙◌, subst, inl, inr, ◌⊎◌, ◌||◌, ◌==◌, map, filter, true≢false, if◌then◌else◌}
 use Rattle.std.proofs.lemmas.Bool.{eqb-true}
-use Rattle.calls.specs.declared.answer.Answer.{Answer}
-use Rattle.calls.specs.declared.answer.Answer.TheVariants.{Done}
-use Rattle.calls.specs.declared.call.Call.{Call}
-use Rattle.calls.specs.declared.call.Call.TheVariants.{Invoke, RuntimeNext, Response, ResponseTooLarge, Failure, InitFailure, Register, ExtNext, ExtInitFailure, ExtExitFailure, Tick, Withdraw, Spindown, Stop, Expire, Reserve}
-use Rattle.calls.specs.declared.call.Entry.{Entry}
+use Rattle.call_types.specs.declared.answer.Answer.{Answer}
+use Rattle.call_types.specs.declared.answer.Answer.TheVariants.{Done}
+use Rattle.call_types.specs.declared.call.Call.{Call}
+use Rattle.call_types.specs.declared.call.Call.TheVariants.{Invoke, RuntimeNext, Response, ResponseTooLarge, Failure, InitFailure, Register, ExtNext, ExtInitFailure, ExtExitFailure, Tick, Withdraw, Spindown, Stop, Expire, Reserve}
+use Rattle.call_types.specs.declared.call.Entry.{Entry}
 use Rattle.arn_ids.specs.declared.config.Config.{Config}
 use Rattle.arn_ids.specs.Environments.{function_of}
 use Rattle.call_model.specs.History.{call_of, poll_env, is_stop, stopped}
@@ -14,7 +14,7 @@ use Rattle.call_model.specs.Stand.{is_number}
 use Rattle.call_model.specs.Life.{Lifecycle, life, phase, seen, lived, after, phase_by_table, concerns, names}
 use Rattle.call_model.specs.Limits.{place_for}
 use Rattle.arn_ids.specs.Environments.{environments, function_at}
-use Rattle.calls.specs.declared.answer.Phase.TheVariants.{Starting, Off}
+use Rattle.call_types.specs.declared.answer.Phase.TheVariants.{Starting, Off}
 use Rattle.call_model.specs.Next.{due, due_at, deadline_of, by_deadline, IsFirst, IsTimely, last_moment, IsLegal}
 use Rattle.call_model.specs.Isolation.{IsUnnamed, IsTimelySave, IsLegalSave, FollowsSave}
 use Rattle.call_model.proofs.OwnVerdict.{own_verdict}

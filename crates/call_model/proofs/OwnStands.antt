@@ -1,6 +1,6 @@
 -- The stand of an environment of the function is the same in the function's own history.
 use Rattle.std.proofs.Common.{◌≡◌, ℕ, Bool, true, List, Option, Some, None, sym, refl, ap, ◌∙◌, if◌then◌else◌, false, ◌∷◌, length, inl, inr, ◌≢◌, ◌||◌, true≢false, subst, []}
-use Rattle.calls.specs.declared.call.Entry.{Entry}
+use Rattle.call_types.specs.declared.call.Entry.{Entry}
 use Rattle.arn_ids.specs.declared.config.Config.{Config}
 use Rattle.arn_ids.specs.Environments.{function_of}
 use Rattle.call_model.specs.History.{stopped, requests, upto}
@@ -12,7 +12,7 @@ use Rattle.call_model.specs.Own.{own, own_entry, is_own, own_ticket}
 use Rattle.call_model.proofs.OwnTickets.{own_length, foreign}
 use Rattle.call_model.proofs.TwinHistories.{IsTwin, IsMine, IsSameLife, parked_alike, members_alike, IsAlike, after_alike}
 use Rattle.call_model.proofs.Basics.{some-none}
-use Rattle.calls.specs.declared.answer.Phase.{Phase}
+use Rattle.call_types.specs.declared.answer.Phase.{Phase}
 use Rattle.call_model.specs.Generation.{TheRuntime}
 use Rattle.call_model.specs.Table.{after_cell, kept, closes}
 use Rattle.call_model.proofs.AtHand.{from_after, from_kept, from_closing}

@@ -1,25 +1,25 @@
 -- The tickets that an answer's text is made of are the function's own.
 use Rattle.std.proofs.Common.{◌≡◌, ℕ, suc, ◌+◌, ◌<◌, Bool, true, false, List, [], ◌∷◌, length, Option, Some, None, sym, refl, ap, ◌∙◌, subst, arith, not, ◌&&◌, ◌==◌, true≢false, if◌then◌else◌}
 use Rattle.std.proofs.lemmas.Bool.{eqb-true}
-use Rattle.calls.specs.declared.answer.Answer.{Answer}
-use Rattle.calls.specs.declared.answer.Answer.TheVariants.{Ending, TimedOut, InitTimedOut, Stopped, OutputTooLarge, Told, Withdrawn}
-use Rattle.calls.specs.declared.answer.Phase.{Phase}
-use Rattle.calls.specs.declared.call.Call.{Call}
-use Rattle.calls.specs.declared.call.Call.TheVariants.{Invoke, RuntimeNext, Response, ResponseTooLarge, Failure, InitFailure, Register, ExtNext, ExtInitFailure, ExtExitFailure, Tick, Withdraw, Spindown, Stop, Expire, Reserve}
-use Rattle.calls.specs.declared.call.Entry.{Entry}
+use Rattle.call_types.specs.declared.answer.Answer.{Answer}
+use Rattle.call_types.specs.declared.answer.Answer.TheVariants.{Ending, TimedOut, InitTimedOut, Stopped, OutputTooLarge, Told, Withdrawn}
+use Rattle.call_types.specs.declared.answer.Phase.{Phase}
+use Rattle.call_types.specs.declared.call.Call.{Call}
+use Rattle.call_types.specs.declared.call.Call.TheVariants.{Invoke, RuntimeNext, Response, ResponseTooLarge, Failure, InitFailure, Register, ExtNext, ExtInitFailure, ExtExitFailure, Tick, Withdraw, Spindown, Stop, Expire, Reserve}
+use Rattle.call_types.specs.declared.call.Entry.{Entry}
 use Rattle.arn_ids.specs.declared.config.Config.{Config}
 use Rattle.arn_ids.specs.Environments.{function_of}
 use Rattle.call_model.specs.History.{answer_in, answer_of, call_of, place_of, requests, stopped, upto, or_else}
-use Rattle.calls.specs.Calls.{env_of}
+use Rattle.call_types.specs.Calls.{env_of}
 use Rattle.call_model.specs.Generation.{Member}
 use Rattle.call_model.specs.Stand.{Stand, at_hand, role, Role, NoRole, Waiting, RuntimePoll, ExtensionPoll}
 use Rattle.call_model.specs.Table.{closes, own_answer, refused, to_waiting}
 use Rattle.call_model.specs.Life.{phase, stand, names}
 use Rattle.call_model.specs.Answers.{answers, each_from, answer_to, home, first_answer, first_answers, second_answer, second_at, own_first, other_answer, answer_at, verdict_answer, reserve_answer, with_event}
 use Rattle.call_model.specs.Limits.{verdict, Verdict, Admits, AfterStop, Refuses}
-use Rattle.calls.specs.declared.answer.Phase.TheVariants.{Busy}
-use Rattle.calls.specs.declared.answer.Rejection.TheVariants.{Container, Replaced}
-use Rattle.calls.specs.declared.answer.Reason.{Reason}
+use Rattle.call_types.specs.declared.answer.Phase.TheVariants.{Busy}
+use Rattle.call_types.specs.declared.answer.Rejection.TheVariants.{Container, Replaced}
+use Rattle.call_types.specs.declared.answer.Reason.{Reason}
 use Rattle.call_model.specs.Polls.{by_role, delivered, begun, at_close, replaced}
 use Rattle.call_model.specs.Isolation.{named, named_in, source_of, gist}
 use Rattle.call_model.proofs.Pairs.{in_each, eqb-other}
@@ -57,7 +57,7 @@ mute_reserve : (config : Config) (h : List Entry) (f : ℕ) (count : Option ℕ)
 mute_reserve config h f None = refl
 mute_reserve config h f (Some count) = go _
   where
-    go : (b : Bool) → named (if b then Rattle.calls.specs.declared.answer.Answer.TheVariants.Refused Rattle.calls.specs.declared.answer.Rejection.TheVariants.BadReservation else Rattle.calls.specs.declared.answer.Answer.TheVariants.Reserved count) ≡ None
+    go : (b : Bool) → named (if b then Rattle.call_types.specs.declared.answer.Answer.TheVariants.Refused Rattle.call_types.specs.declared.answer.Rejection.TheVariants.BadReservation else Rattle.call_types.specs.declared.answer.Answer.TheVariants.Reserved count) ≡ None
     go true = refl
     go false = refl
 

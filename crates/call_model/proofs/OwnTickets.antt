@@ -1,14 +1,14 @@
 -- The tickets of a function, their answers and what is pending of them are those that it would have alone.
 use Rattle.std.proofs.Common.{◌≡◌, ℕ, suc, ◌<◌, Bool, true, false, eqb, List, [], ◌∷◌, length, Option, Some, None, sym, refl, ap, ◌∙◌, inl, inr, arith, ◌≢◌, ◌||◌, ◌==◌, filter, true≢false, if◌then◌else◌, ◌≤◌, ap₂, subst, ◌&&◌, nat_le}
 use Rattle.std.proofs.lemmas.Bool.Decides.{eqb_tells, nat_tests}
-use Rattle.calls.specs.declared.answer.Answer.{Answer}
-use Rattle.calls.specs.declared.answer.Phase.{Phase}
-use Rattle.calls.specs.declared.call.Call.{Call}
-use Rattle.calls.specs.declared.call.Entry.{Entry}
+use Rattle.call_types.specs.declared.answer.Answer.{Answer}
+use Rattle.call_types.specs.declared.answer.Phase.{Phase}
+use Rattle.call_types.specs.declared.call.Call.{Call}
+use Rattle.call_types.specs.declared.call.Entry.{Entry}
 use Rattle.arn_ids.specs.declared.config.Config.{Config}
 use Rattle.arn_ids.specs.Environments.{function_of, environments}
 use Rattle.call_model.specs.History.{answer_in, call_of, answer_of, pending, place_of, poll_env, stopped, or_else}
-use Rattle.calls.specs.Calls.{env_of}
+use Rattle.call_types.specs.Calls.{env_of}
 use Rattle.call_model.specs.Life.{phase, concerns, names}
 use Rattle.call_model.specs.Stand.{is_number, is_idle}
 use Rattle.call_model.specs.Answers.{answers, home}
@@ -20,9 +20,9 @@ use Rattle.call_model.proofs.Basics.{and_left, number_some, some-none}
 use Rattle.call_model.proofs.Elsewhere.{elsewhere, nowhere}
 use Rattle.std.proofs.lemmas.Bool.{eqb-true}
 use Rattle.std.specs.List.{find}
-use Rattle.calls.specs.declared.call.Call.TheVariants.{Invoke, RuntimeNext, Response, ResponseTooLarge, Failure, InitFailure, Register, ExtNext, ExtInitFailure, ExtExitFailure, Tick, Withdraw, Spindown, Stop, Expire, Reserve}
-use Rattle.calls.specs.declared.answer.Throttle.{Throttle}
-use Rattle.calls.specs.declared.answer.Throttle.TheVariants.{Function as ByFunction, Account as ByAccount}
+use Rattle.call_types.specs.declared.call.Call.TheVariants.{Invoke, RuntimeNext, Response, ResponseTooLarge, Failure, InitFailure, Register, ExtNext, ExtInitFailure, ExtExitFailure, Tick, Withdraw, Spindown, Stop, Expire, Reserve}
+use Rattle.call_types.specs.declared.answer.Throttle.{Throttle}
+use Rattle.call_types.specs.declared.answer.Throttle.TheVariants.{Function as ByFunction, Account as ByAccount}
 use Rattle.call_model.specs.Limits.{place_for, place, lowest, is_free_starting, is_free_closing, verdict, AfterStop, Refuses, admitted_to, by_limits, where_placed, reservation, in_flight, remainder, unreserved_in_flight}
 use Rattle.call_model.proofs.PhaseStep.{filter_none}
 

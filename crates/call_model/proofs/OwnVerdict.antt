@@ -1,16 +1,16 @@
 -- The verdict on an Invoke of a reserved function is the same in the function's own history.
 use Rattle.std.proofs.Common.{◌≡◌, ℕ, ◌+◌, ◌<◌, Bool, true, false, cond, List, [], ◌∷◌, length, Option, Some, None, sym, refl, ap, ◌∙◌, arith, is_some, ◌&&◌, ◌||◌, ◌==◌, true≢false, if◌then◌else◌, count_by}
 use Rattle.std.proofs.lemmas.Bool.{eqb-true}
-use Rattle.calls.specs.declared.answer.Phase.{Phase}
-use Rattle.calls.specs.declared.call.Call.{Call}
-use Rattle.calls.specs.declared.call.Call.TheVariants.{Reserve}
-use Rattle.calls.specs.declared.call.Entry.{Entry}
+use Rattle.call_types.specs.declared.answer.Phase.{Phase}
+use Rattle.call_types.specs.declared.call.Call.{Call}
+use Rattle.call_types.specs.declared.call.Call.TheVariants.{Reserve}
+use Rattle.call_types.specs.declared.call.Entry.{Entry}
 use Rattle.arn_ids.specs.declared.config.Config.{Config}
 use Rattle.arn_ids.specs.Environments.{function_of}
 use Rattle.call_model.specs.History.{answer_in, pending, stopped, is_invoke_of, with_tickets, or_else}
 use Rattle.call_model.specs.Life.{phase}
 use Rattle.call_model.specs.Limits.{place, lowest, is_free_starting, is_free_closing, verdict, AfterStop, Refuses, by_limits, where_placed, reservation, reserves, reserved_by, in_flight, charged, busy_at, is_busy_with}
-use Rattle.calls.specs.declared.answer.Throttle.TheVariants.{Function as ByFunction}
+use Rattle.call_types.specs.declared.answer.Throttle.TheVariants.{Function as ByFunction}
 use Rattle.call_model.specs.Isolation.{IsUnnamed}
 use Rattle.call_model.specs.Stand.{is_idle}
 use Rattle.std.specs.List.{find}

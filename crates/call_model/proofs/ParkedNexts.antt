@@ -2,10 +2,10 @@
 use Rattle.std.proofs.Common.{◌≡◌, ℕ, true, List, Some, ◌∷◌, Option, None, ◌==◌, Bool, [], refl, ap, ◌||◌, map, false, if◌then◌else◌, not, ◌&&◌, length, sym, ◌∙◌, true≢false, ◌≤◌, ◌≢◌, is_some, ◌+◌, arith, ◌<◌, subst, is_none}
 use Rattle.std.proofs.lemmas.Bool.{or_right, eq-eqb, eqb-true}
 use Rattle.std.specs.List.{list_any, cons_option, find}
-use Rattle.calls.specs.declared.answer.Phase.{Phase}
-use Rattle.calls.specs.declared.call.Call.{Call}
-use Rattle.calls.specs.declared.call.Call.TheVariants.{RuntimeNext, ExtNext, Invoke}
-use Rattle.calls.specs.declared.call.Entry.{Entry}
+use Rattle.call_types.specs.declared.answer.Phase.{Phase}
+use Rattle.call_types.specs.declared.call.Call.{Call}
+use Rattle.call_types.specs.declared.call.Call.TheVariants.{RuntimeNext, ExtNext, Invoke}
+use Rattle.call_types.specs.declared.call.Entry.{Entry}
 use Rattle.arn_ids.specs.declared.config.Config.{Config}
 use Rattle.call_model.specs.History.{answer_in, or_else, pending, call_of}
 use Rattle.call_model.specs.Generation.{Actor, TheExtension, last_next, Generation, Extension, extensions, as_registered, member, has_count, Member, hears_end, TheRuntime, asks, reports_exit, members}
@@ -18,11 +18,11 @@ use Rattle.call_model.specs.Next.{Follows, IsLegal}
 use Rattle.call_model.proofs.Pairs.{eqb-other}
 use Rattle.call_model.proofs.Basics.{some-none, eqb-self, and_left}
 use Rattle.call_model.proofs.Roles.{role_runtime}
-use Rattle.calls.specs.declared.answer.Answer.{Answer}
-use Rattle.calls.specs.declared.answer.Answer.TheVariants.{Ending, Refused}
-use Rattle.calls.specs.declared.answer.Rejection.TheVariants.{Container}
-use Rattle.calls.specs.declared.answer.Reason.{Reason}
-use Rattle.calls.specs.declared.answer.Phase.TheVariants.{Closing}
+use Rattle.call_types.specs.declared.answer.Answer.{Answer}
+use Rattle.call_types.specs.declared.answer.Answer.TheVariants.{Ending, Refused}
+use Rattle.call_types.specs.declared.answer.Rejection.TheVariants.{Container}
+use Rattle.call_types.specs.declared.answer.Reason.{Reason}
+use Rattle.call_types.specs.declared.answer.Phase.TheVariants.{Closing}
 use Rattle.call_model.specs.Polls.{at_close, replaced, by_role}
 use Rattle.call_model.specs.Laws.{is_open, poll_of}
 use Rattle.call_model.proofs.Once.{answers_at, pending_cons, none_given}
@@ -118,7 +118,7 @@ extension_left own now s call t y q =
     differ : (a b : ℕ) → (a == b) ≡ false → (b == a) ≡ false
     differ a b k = eqb-other b a (λ e. true≢false (sym (eq-eqb a b (sym e)) ∙ k))
 
-    same_count : (x : ℕ) (b : Bool) → (y.extension.count == x) ≡ b → (if b then Some (Refused Rattle.calls.specs.declared.answer.Rejection.TheVariants.Replaced) else None) ≡ None → (x == y.extension.count) ≡ false
+    same_count : (x : ℕ) (b : Bool) → (y.extension.count == x) ≡ b → (if b then Some (Refused Rattle.call_types.specs.declared.answer.Rejection.TheVariants.Replaced) else None) ≡ None → (x == y.extension.count) ≡ false
     same_count x true k r = absurd (some-none r)
     same_count x false k r = differ y.extension.count x k
 

@@ -2,7 +2,7 @@
 use Rattle.std.proofs.Common.{◌≡◌, ℕ, Bool, true, List, Some, None, ap, ◌∙◌, if◌then◌else◌, false, Option, sym, refl, ◌==◌, [], ◌∷◌, ◌||◌, map, true≢false, ◌≢◌}
 use Rattle.std.proofs.lemmas.Bool.{eqb-true}
 use Rattle.std.specs.List.{list_any, find}
-use Rattle.calls.specs.declared.call.Entry.{Entry}
+use Rattle.call_types.specs.declared.call.Entry.{Entry}
 use Rattle.arn_ids.specs.declared.config.Config.{Config}
 use Rattle.call_model.specs.History.{pending, call_of}
 use Rattle.call_model.specs.Generation.{Generation, Actor, parked, if_pending, last_next, extensions, Extension, TheExtension, member, TheRuntime, Member, asks, members}

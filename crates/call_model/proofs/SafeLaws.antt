@@ -1,6 +1,6 @@
 -- Where invocations live and Nexts stand, as the public law states it.
 use Rattle.std.proofs.Common.{◌≡◌, ℕ, Bool, true, false, List, Some, sym, refl, ◌∙◌, not, ◌&&◌}
-use Rattle.calls.specs.declared.call.Entry.{Entry}
+use Rattle.call_types.specs.declared.call.Entry.{Entry}
 use Rattle.arn_ids.specs.declared.config.Config.{Config}
 use Rattle.call_model.specs.History.{pending, answered, place_of, call_of, is_expiry}
 use Rattle.call_model.specs.Generation.{Actor}

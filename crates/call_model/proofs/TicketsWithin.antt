@@ -1,9 +1,9 @@
 -- Tickets of a history: an entry's answers are to them, and beyond them stands no call.
 use Rattle.std.proofs.Common.{ℕ, ◌≤◌, List, [], ◌∷◌, ◌≡◌, ◌<◌, None, refl, arith, zero, suc, ◌+◌, Option, Some, Bool, true, false, filter, if◌then◌else◌, length, sym, subst}
-use Rattle.calls.specs.declared.answer.Answer.{Answer}
-use Rattle.calls.specs.declared.call.Call.{Call}
-use Rattle.calls.specs.declared.call.Call.TheVariants.{Expire}
-use Rattle.calls.specs.declared.call.Entry.{Entry}
+use Rattle.call_types.specs.declared.answer.Answer.{Answer}
+use Rattle.call_types.specs.declared.call.Call.{Call}
+use Rattle.call_types.specs.declared.call.Call.TheVariants.{Expire}
+use Rattle.call_types.specs.declared.call.Entry.{Entry}
 use Rattle.arn_ids.specs.declared.config.Config.{Config}
 use Rattle.call_model.specs.History.{answer_in, call_of}
 use Rattle.call_model.specs.Answers.{with_answer, each_from, numbered, answers, first_entry, answer_to}

@@ -1,11 +1,11 @@
 -- Two histories whose tickets of one kind fare alike: what an environment's scans and its next phase make of them.
 use Rattle.std.proofs.Common.{◌≡◌, ℕ, Bool, true, false, List, [], ◌∷◌, length, Option, Some, None, sym, refl, ap, ap₂, ◌∙◌, subst, is_some, ◌&&◌, ◌||◌, map, true≢false, if◌then◌else◌}
 use Rattle.std.specs.List.{cons_option}
-use Rattle.calls.specs.declared.call.Entry.{Entry}
+use Rattle.call_types.specs.declared.call.Entry.{Entry}
 use Rattle.arn_ids.specs.declared.config.Config.{Config}
 use Rattle.call_model.specs.History.{answer_in, pending, stopped, requests, upto}
 use Rattle.call_model.specs.Generation.{Generation, Extension, Actor, TheRuntime, TheExtension, asks, last_next, parked, if_pending, extensions, as_registered, told, asked_again, exited, answer_to_next, is_ending, is_accepted, reports_exit, member, members, ready}
-use Rattle.calls.specs.declared.answer.Phase.{Phase}
+use Rattle.call_types.specs.declared.answer.Phase.{Phase}
 use Rattle.arn_ids.specs.Environments.{expected_at, function_of}
 use Rattle.call_model.specs.Stand.{at_hand, bound_of}
 use Rattle.call_model.specs.Table.{reborn, settled, after_cell}

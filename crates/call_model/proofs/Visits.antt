@@ -1,6 +1,6 @@
 -- An entry's visit to an environment, and the life after it by the two tests that decide it.
 use Rattle.std.proofs.Common.{ℕ, Bool, List, if◌then◌else◌}
-use Rattle.calls.specs.declared.call.Entry.{Entry}
+use Rattle.call_types.specs.declared.call.Entry.{Entry}
 use Rattle.arn_ids.specs.declared.config.Config.{Config}
 use Rattle.call_model.specs.Life.{Lifecycle, Visit, life, after, new_generation, settled_life}
 

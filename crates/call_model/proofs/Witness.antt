@@ -1,8 +1,8 @@
 -- Histories that show what the laws need and that they are not empty.
 use Rattle.std.proofs.Common.{◌≡◌, List, [], ◌∷◌, Some, None, refl, arith}
-use Rattle.calls.specs.declared.answer.Throttle.TheVariants.{Environments as ByEnvironments}
-use Rattle.calls.specs.declared.call.Call.TheVariants.{Reserve, RuntimeNext, Response}
-use Rattle.calls.specs.declared.call.Entry.{Entry}
+use Rattle.call_types.specs.declared.answer.Throttle.TheVariants.{Environments as ByEnvironments}
+use Rattle.call_types.specs.declared.call.Call.TheVariants.{Reserve, RuntimeNext, Response}
+use Rattle.call_types.specs.declared.call.Entry.{Entry}
 use Rattle.arn_ids.specs.declared.config.Config.{Config}
 use Rattle.call_model.specs.Next.{run, next, added, due, IsLegal}
 use Rattle.call_model.specs.Answers.{answers, first_answers, own_first, first_answer, second_answer, answer_to}

@@ -1,15 +1,15 @@
 -- The answers that a call gives: for each ticket, its own among them, the one that it gets, if any.
 use Rattle.std.specs.Prelude.{ℕ, zero, suc, ◌+◌, ◌-◌, Bool, true, false, ◌||◌, if◌then◌else◌, ◌==◌, nat_lt, List, [], ◌∷◌, length, Option, Some, None}
-use Rattle.calls.specs.declared.call.Call.{Call}
-use Rattle.calls.specs.declared.call.Call.TheVariants.{Invoke, Tick, Withdraw, Stop, Reserve}
-use Rattle.calls.specs.declared.call.Entry.{Entry}
-use Rattle.calls.specs.declared.answer.Answer.{Answer}
-use Rattle.calls.specs.declared.answer.Answer.TheVariants.{Told, Ending, Accepted, Done, Throttled, Stopped, Refused, Reserved, Unreserved}
-use Rattle.calls.specs.declared.answer.Rejection.TheVariants.{BadReservation}
+use Rattle.call_types.specs.declared.call.Call.{Call}
+use Rattle.call_types.specs.declared.call.Call.TheVariants.{Invoke, Tick, Withdraw, Stop, Reserve}
+use Rattle.call_types.specs.declared.call.Entry.{Entry}
+use Rattle.call_types.specs.declared.answer.Answer.{Answer}
+use Rattle.call_types.specs.declared.answer.Answer.TheVariants.{Told, Ending, Accepted, Done, Throttled, Stopped, Refused, Reserved, Unreserved}
+use Rattle.call_types.specs.declared.answer.Rejection.TheVariants.{BadReservation}
 use Rattle.arn_ids.specs.declared.config.Config.{Config}
 use Rattle.arn_ids.specs.Environments.{function_at}
 use Rattle.call_model.specs.History.{answer_in, stopped, call_of, place_of, or_else}
-use Rattle.calls.specs.Calls.{env_of}
+use Rattle.call_types.specs.Calls.{env_of}
 use Rattle.call_model.specs.Table.{own_answer}
 use Rattle.call_model.specs.Stand.{role}
 use Rattle.call_model.specs.Polls.{by_role, delivered, begun}

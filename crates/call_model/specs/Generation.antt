@@ -2,11 +2,11 @@
 -- A generation is what AWS calls one execution environment from its Init on; each reset begins the next one.
 use Rattle.std.specs.Prelude.{ℕ, ◌+◌, Bool, true, false, not, ◌&&◌, ◌||◌, if◌then◌else◌, ◌==◌, List, [], ◌∷◌, map, Option, Some, None, count_by, filter, filter_map, is_some, is_none, bytes_eq}
 use Rattle.std.specs.List.{list_any}
-use Rattle.calls.specs.declared.call.Call.{Call}
-use Rattle.calls.specs.declared.call.Call.TheVariants.{RuntimeNext, Register, ExtNext, ExtInitFailure, ExtExitFailure}
-use Rattle.calls.specs.declared.call.Entry.{Entry}
-use Rattle.calls.specs.declared.answer.Answer.{Answer}
-use Rattle.calls.specs.declared.answer.Answer.TheVariants.{Ending, Registered, Accepted}
+use Rattle.call_types.specs.declared.call.Call.{Call}
+use Rattle.call_types.specs.declared.call.Call.TheVariants.{RuntimeNext, Register, ExtNext, ExtInitFailure, ExtExitFailure}
+use Rattle.call_types.specs.declared.call.Entry.{Entry}
+use Rattle.call_types.specs.declared.answer.Answer.{Answer}
+use Rattle.call_types.specs.declared.answer.Answer.TheVariants.{Ending, Registered, Accepted}
 use Rattle.call_model.specs.History.{answer_in, pending}
 
 -- who asks for the next event: the runtime, or the extension with a count

@@ -1,13 +1,13 @@
 -- Words of the laws over legal histories.
 use Rattle.std.specs.Prelude.{◌≡◌, ◌≤◌, ℕ, Bool, true, false, ◌&&◌, ◌||◌, if◌then◌else◌, ◌+◌, ◌==◌, nat_le, nat_lt, nat_eq, List, [], ◌∷◌, Option, Some, None, option_map, count_by, filter_map, is_some, length}
 use Rattle.std.specs.List.{list_any, list_all}
-use Rattle.calls.specs.declared.call.Call.{Call}
-use Rattle.calls.specs.declared.call.Call.TheVariants.{Reserve, RuntimeNext, ExtNext}
-use Rattle.calls.specs.declared.call.Entry.{Entry}
-use Rattle.calls.specs.declared.answer.Answer.{Answer}
-use Rattle.calls.specs.declared.answer.Answer.TheVariants.{Delivered, Output, OutputTooLarge, TimedOut}
-use Rattle.calls.specs.declared.answer.Phase.{Phase}
-use Rattle.calls.specs.declared.answer.Phase.TheVariants.{Starting, Idle, Busy}
+use Rattle.call_types.specs.declared.call.Call.{Call}
+use Rattle.call_types.specs.declared.call.Call.TheVariants.{Reserve, RuntimeNext, ExtNext}
+use Rattle.call_types.specs.declared.call.Entry.{Entry}
+use Rattle.call_types.specs.declared.answer.Answer.{Answer}
+use Rattle.call_types.specs.declared.answer.Answer.TheVariants.{Delivered, Output, OutputTooLarge, TimedOut}
+use Rattle.call_types.specs.declared.answer.Phase.{Phase}
+use Rattle.call_types.specs.declared.answer.Phase.TheVariants.{Starting, Idle, Busy}
 use Rattle.call_model.specs.Generation.{Actor, TheRuntime, TheExtension}
 use Rattle.arn_ids.specs.declared.config.Config.{Config}
 use Rattle.arn_ids.specs.declared.config.Function.{Function}

@@ -1,13 +1,13 @@
 -- What an entry answers to the older tickets of an environment: the parked Nexts and the waiting call.
 use Rattle.std.specs.Prelude.{ℕ, ◌+◌, not, ◌&&◌, if◌then◌else◌, ◌==◌, Option, Some, None}
-use Rattle.calls.specs.declared.call.Call.{Call}
-use Rattle.calls.specs.declared.call.Call.TheVariants.{RuntimeNext, ExtNext, Withdraw}
-use Rattle.calls.specs.declared.answer.Answer.{Answer}
-use Rattle.calls.specs.declared.answer.Answer.TheVariants.{Delivered, Told, Ending, Withdrawn}
-use Rattle.calls.specs.declared.answer.Rejection.TheVariants.{Replaced, Container}
-use Rattle.calls.specs.declared.answer.Reason.{Reason}
-use Rattle.calls.specs.declared.answer.Phase.{Phase}
-use Rattle.calls.specs.declared.answer.Phase.TheVariants.{Busy}
+use Rattle.call_types.specs.declared.call.Call.{Call}
+use Rattle.call_types.specs.declared.call.Call.TheVariants.{RuntimeNext, ExtNext, Withdraw}
+use Rattle.call_types.specs.declared.answer.Answer.{Answer}
+use Rattle.call_types.specs.declared.answer.Answer.TheVariants.{Delivered, Told, Ending, Withdrawn}
+use Rattle.call_types.specs.declared.answer.Rejection.TheVariants.{Replaced, Container}
+use Rattle.call_types.specs.declared.answer.Reason.{Reason}
+use Rattle.call_types.specs.declared.answer.Phase.{Phase}
+use Rattle.call_types.specs.declared.answer.Phase.TheVariants.{Busy}
 use Rattle.call_model.specs.History.{or_else}
 use Rattle.call_model.specs.Generation.{hears_end, reports_exit}
 use Rattle.call_model.specs.Stand.{Stand, Role, NoRole, Waiting, RuntimePoll, ExtensionPoll}

@@ -1,11 +1,11 @@
 -- Worked histories: extensions. A line is (entry, ticket, answer).
 use Rattle.std.specs.Prelude.{◌≡◌, ℕ, true, false, [], ◌∷◌, None, refl}
-use Rattle.calls.specs.declared.call.Call.{Call}
-use Rattle.calls.specs.declared.call.Call.TheVariants.{RuntimeNext, InitFailure, ExtNext, ExtExitFailure}
-use Rattle.calls.specs.declared.answer.Answer.TheVariants.{Delivered, Told, Ending, Registered, Accepted, Output, Error, Throttled, Refused}
-use Rattle.calls.specs.declared.answer.Rejection.TheVariants.{State, Unknown, Container, NameInUse, TooMany}
-use Rattle.calls.specs.declared.answer.Throttle.TheVariants.{Function as ByFunction}
-use Rattle.calls.specs.declared.answer.Reason.TheVariants.{Failure as Failed}
+use Rattle.call_types.specs.declared.call.Call.{Call}
+use Rattle.call_types.specs.declared.call.Call.TheVariants.{RuntimeNext, InitFailure, ExtNext, ExtExitFailure}
+use Rattle.call_types.specs.declared.answer.Answer.TheVariants.{Delivered, Told, Ending, Registered, Accepted, Output, Error, Throttled, Refused}
+use Rattle.call_types.specs.declared.answer.Rejection.TheVariants.{State, Unknown, Container, NameInUse, TooMany}
+use Rattle.call_types.specs.declared.answer.Throttle.TheVariants.{Function as ByFunction}
+use Rattle.call_types.specs.declared.answer.Reason.TheVariants.{Failure as Failed}
 use Rattle.arn_ids.specs.declared.config.Config.{Config}
 use Rattle.call_model.specs.Sample.{name_a, name_b, function, account, one, reserved_one, invoke, registers, response, outcome}
 

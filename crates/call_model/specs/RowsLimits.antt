@@ -1,9 +1,9 @@
 -- Worked histories: deadlines, limits, reservations and the full journal. A line is (entry, ticket, answer).
 use Rattle.std.specs.Prelude.{◌≡◌, true, false, [], ◌∷◌, Some, None, refl}
-use Rattle.calls.specs.declared.call.Call.TheVariants.{ResponseTooLarge, Failure, RuntimeNext, Tick, Stop, Reserve}
-use Rattle.calls.specs.declared.answer.Answer.TheVariants.{Delivered, Accepted, Done, Output, TimedOut, InitTimedOut, Throttled, Stopped, Refused, Reserved, Unreserved}
-use Rattle.calls.specs.declared.answer.Rejection.TheVariants.{State, BadReservation}
-use Rattle.calls.specs.declared.answer.Throttle.TheVariants.{Function as ByFunction, Account as ByAccount, Environments as ByEnvironments}
+use Rattle.call_types.specs.declared.call.Call.TheVariants.{ResponseTooLarge, Failure, RuntimeNext, Tick, Stop, Reserve}
+use Rattle.call_types.specs.declared.answer.Answer.TheVariants.{Delivered, Accepted, Done, Output, TimedOut, InitTimedOut, Throttled, Stopped, Refused, Reserved, Unreserved}
+use Rattle.call_types.specs.declared.answer.Rejection.TheVariants.{State, BadReservation}
+use Rattle.call_types.specs.declared.answer.Throttle.TheVariants.{Function as ByFunction, Account as ByAccount, Environments as ByEnvironments}
 use Rattle.arn_ids.specs.declared.config.Config.{Config}
 use Rattle.call_model.specs.Sample.{function, account, plain, one, two, reserved_two, three, invoke, response, outcome, refusals, stats_after, calls_after}
 

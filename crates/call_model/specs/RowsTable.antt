@@ -1,15 +1,15 @@
 -- The table of phases cell by cell, at one stand for each of its columns: what a call is answered, why it makes the
 -- environment close, and what the waiting call gets.
 use Rattle.std.specs.Prelude.{◌≡◌, ℕ, Bool, true, false, if◌then◌else◌, List, [], ◌∷◌, map, Option, Some, None, is_some, refl}
-use Rattle.calls.specs.declared.call.Call.{Call}
-use Rattle.calls.specs.declared.call.Call.TheVariants.{RuntimeNext, Response, ResponseTooLarge, Failure, InitFailure, Register, ExtNext, ExtInitFailure, ExtExitFailure, Tick, Spindown, Stop, Expire}
-use Rattle.calls.specs.declared.answer.Answer.{Answer}
-use Rattle.calls.specs.declared.answer.Answer.TheVariants.{Ending, Registered, Accepted, Output, Error, TimedOut, InitTimedOut, OutputTooLarge, Stopped, Refused}
-use Rattle.calls.specs.declared.answer.Rejection.TheVariants.{State, BadId, Unknown, TooLarge, Container, NameInUse, NotIdle}
-use Rattle.calls.specs.declared.answer.Reason.{Reason}
-use Rattle.calls.specs.declared.answer.Reason.TheVariants.{Timeout, Failure as Failed, Spindown as SpunDown}
-use Rattle.calls.specs.declared.answer.Phase.{Phase}
-use Rattle.calls.specs.declared.answer.Phase.TheVariants.{Starting, Idle, Busy, Closing, Off}
+use Rattle.call_types.specs.declared.call.Call.{Call}
+use Rattle.call_types.specs.declared.call.Call.TheVariants.{RuntimeNext, Response, ResponseTooLarge, Failure, InitFailure, Register, ExtNext, ExtInitFailure, ExtExitFailure, Tick, Spindown, Stop, Expire}
+use Rattle.call_types.specs.declared.answer.Answer.{Answer}
+use Rattle.call_types.specs.declared.answer.Answer.TheVariants.{Ending, Registered, Accepted, Output, Error, TimedOut, InitTimedOut, OutputTooLarge, Stopped, Refused}
+use Rattle.call_types.specs.declared.answer.Rejection.TheVariants.{State, BadId, Unknown, TooLarge, Container, NameInUse, NotIdle}
+use Rattle.call_types.specs.declared.answer.Reason.{Reason}
+use Rattle.call_types.specs.declared.answer.Reason.TheVariants.{Timeout, Failure as Failed, Spindown as SpunDown}
+use Rattle.call_types.specs.declared.answer.Phase.{Phase}
+use Rattle.call_types.specs.declared.answer.Phase.TheVariants.{Starting, Idle, Busy, Closing, Off}
 use Rattle.call_model.specs.Generation.{Member}
 use Rattle.call_model.specs.Stand.{Stand}
 use Rattle.call_model.specs.Table.{own_answer, closes, to_waiting}

@@ -1,10 +1,10 @@
 -- Configurations and calls for worked histories, and what is read off a run.
 use Rattle.std.specs.Prelude.{ℕ, Bool, false, if◌then◌else◌, List, [], ◌∷◌, map, Option, Some, None}
-use Rattle.calls.specs.declared.call.Call.{Call}
-use Rattle.calls.specs.declared.call.Call.TheVariants.{Invoke, Response, Register}
-use Rattle.calls.specs.declared.answer.Answer.{Answer}
-use Rattle.calls.specs.declared.answer.Phase.{Phase}
-use Rattle.calls.specs.declared.call.Entry.{Entry}
+use Rattle.call_types.specs.declared.call.Call.{Call}
+use Rattle.call_types.specs.declared.call.Call.TheVariants.{Invoke, Response, Register}
+use Rattle.call_types.specs.declared.answer.Answer.{Answer}
+use Rattle.call_types.specs.declared.answer.Phase.{Phase}
+use Rattle.call_types.specs.declared.call.Entry.{Entry}
 use Rattle.arn_ids.specs.declared.config.Config.{Config}
 use Rattle.arn_ids.specs.declared.config.Function.{Function}
 use Rattle.arn_ids.specs.declared.config.Slot.{Slot}
@@ -18,7 +18,7 @@ use Rattle.call_model.specs.Table.{own_answer, closes, kept, to_waiting}
 use Rattle.call_model.specs.Generation.{members}
 use Rattle.call_model.specs.Limits.{verdict, in_flight, reservation, place}
 use Rattle.call_model.specs.Counts.{full, stats, calls as calls_of}
-use Rattle.calls.specs.declared.stats.Stats.{Stats}
+use Rattle.call_types.specs.declared.stats.Stats.{Stats}
 
 -- n environments, on ports from 9001 on
 abbrev pub ports_of : ℕ → List Slot

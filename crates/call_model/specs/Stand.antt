@@ -1,8 +1,8 @@
 -- What a history says of an environment, and what a waiting ticket is there.
 use Rattle.std.specs.Prelude.{ℕ, Bool, true, false, ◌&&◌, if◌then◌else◌, ◌==◌, List, Option, Some, None, is_some}
 use Rattle.std.specs.List.{list_any, find}
-use Rattle.calls.specs.declared.answer.Phase.{Phase}
-use Rattle.calls.specs.declared.answer.Phase.TheVariants.{Starting, Idle, Busy, Closing}
+use Rattle.call_types.specs.declared.answer.Phase.{Phase}
+use Rattle.call_types.specs.declared.answer.Phase.TheVariants.{Starting, Idle, Busy, Closing}
 use Rattle.call_model.specs.Generation.{Member, has_count}
 
 -- What a history says of an environment.

@@ -2,16 +2,16 @@
 -- (Lambda Developer Guide, "Understanding the Lambda execution environment lifecycle"; Runtime API; Extensions API)
 use Rattle.std.specs.Prelude.{ℕ, suc, ◌+◌, Bool, true, false, not, ◌&&◌, if◌then◌else◌, nat_le, List, length, Option, Some, None, is_some, bytes_eq}
 use Rattle.std.specs.List.{list_any, find}
-use Rattle.calls.specs.declared.call.Call.{Call}
-use Rattle.calls.specs.declared.call.Call.TheVariants.{Invoke, RuntimeNext, Response, ResponseTooLarge, Failure, InitFailure, Register, ExtNext, ExtInitFailure, ExtExitFailure, Spindown, Stop, Expire}
-use Rattle.calls.specs.declared.answer.Answer.{Answer}
-use Rattle.calls.specs.declared.answer.Answer.TheVariants.{Ending, Registered, Accepted, Output, Error, TimedOut, InitTimedOut, OutputTooLarge, Stopped, Refused}
-use Rattle.calls.specs.declared.answer.Rejection.{Rejection}
-use Rattle.calls.specs.declared.answer.Rejection.TheVariants.{State, BadId, Unknown, TooLarge, Container, NameInUse, TooMany, NotIdle}
-use Rattle.calls.specs.declared.answer.Reason.{Reason}
-use Rattle.calls.specs.declared.answer.Reason.TheVariants.{Timeout, Failure as Failed, Spindown as SpunDown}
-use Rattle.calls.specs.declared.answer.Phase.{Phase}
-use Rattle.calls.specs.declared.answer.Phase.TheVariants.{Starting, Idle, Busy, Closing, Off}
+use Rattle.call_types.specs.declared.call.Call.{Call}
+use Rattle.call_types.specs.declared.call.Call.TheVariants.{Invoke, RuntimeNext, Response, ResponseTooLarge, Failure, InitFailure, Register, ExtNext, ExtInitFailure, ExtExitFailure, Spindown, Stop, Expire}
+use Rattle.call_types.specs.declared.answer.Answer.{Answer}
+use Rattle.call_types.specs.declared.answer.Answer.TheVariants.{Ending, Registered, Accepted, Output, Error, TimedOut, InitTimedOut, OutputTooLarge, Stopped, Refused}
+use Rattle.call_types.specs.declared.answer.Rejection.{Rejection}
+use Rattle.call_types.specs.declared.answer.Rejection.TheVariants.{State, BadId, Unknown, TooLarge, Container, NameInUse, TooMany, NotIdle}
+use Rattle.call_types.specs.declared.answer.Reason.{Reason}
+use Rattle.call_types.specs.declared.answer.Reason.TheVariants.{Timeout, Failure as Failed, Spindown as SpunDown}
+use Rattle.call_types.specs.declared.answer.Phase.{Phase}
+use Rattle.call_types.specs.declared.answer.Phase.TheVariants.{Starting, Idle, Busy, Closing, Off}
 use Rattle.call_model.specs.Generation.{Member, hears_end, has_count}
 use Rattle.call_model.specs.Stand.{Stand, is_known, is_number}
 

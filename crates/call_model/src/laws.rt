@@ -1,10 +1,10 @@
 //! Laws over the definitions: what holds of every legal history. Each function does nothing; its clauses are the laws.
 
 ghost use Rattle.std.specs.Prelude.{◌≡◌, ◌<◌, ◌≤◌, ℕ, Bool, true, false, cond, List, [], ◌∷◌, ◌++◌, length, reverse, slice_index, Option, Some, None, count_by, filter, is_some, not, ◌+◌, ◌&&◌, ◌==◌};
-ghost use Rattle.calls.specs.declared.call.Call.{Call};
-ghost use Rattle.calls.specs.declared.call.Entry.{Entry};
-ghost use Rattle.calls.specs.declared.answer.Answer.{Answer};
-ghost use Rattle.calls.specs.declared.answer.Throttle.TheVariants.{Environments as ByEnvironments};
+ghost use Rattle.call_types.specs.declared.call.Call.{Call};
+ghost use Rattle.call_types.specs.declared.call.Entry.{Entry};
+ghost use Rattle.call_types.specs.declared.answer.Answer.{Answer};
+ghost use Rattle.call_types.specs.declared.answer.Throttle.TheVariants.{Environments as ByEnvironments};
 ghost use Rattle.arn_ids.specs.declared.config.Config.{Config};
 ghost use Rattle.arn_ids.specs.Environments.{function_of, environments, function_at};
 ghost use Rattle.call_model.specs.History.{pending, answered, place_of, call_of, answer_in, answer_of, is_expiry, is_invoke_of, requests, upto};

@@ -1,11 +1,11 @@
 //! The calls of a history and their counts, by ticket.
 
 ghost use Rattle.std.specs.Prelude.{◌≡◌, reverse, MatchOption};
-ghost use Rattle.calls.specs.declared.call.Call.TheVariants.{Expire as NoCall};
+ghost use Rattle.call_types.specs.declared.call.Call.TheVariants.{Expire as NoCall};
 ghost use Rattle.call_model.specs.History.{call_of, upto};
 ghost use Rattle.call_model.specs.CallCounts.{call_counts, request_count};
 
-use calls::{Call, Entry, Ticket};
+use call_types::{Call, Entry, Ticket};
 use entry_blocks::Blocks;
 
 /// The entries of a history, the oldest first, with the count in the request identifier of each

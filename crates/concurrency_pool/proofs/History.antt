@@ -4,10 +4,10 @@ use Rattle.std.proofs.lemmas.Bool.Decides.{nat_tests}
 use Rattle.arn_ids.specs.declared.config.Config.{Config}
 use Rattle.arn_ids.specs.Environments.{function_at, function_numbers, no_function}
 use Rattle.call_model.specs.Answers.{reserve_answer}
-use Rattle.calls.specs.declared.answer.Answer.TheVariants.{Refused, Reserved}
-use Rattle.calls.specs.declared.answer.Rejection.TheVariants.{BadReservation}
-use Rattle.calls.specs.declared.answer.Throttle.TheVariants.{Function as ByFunction, Account as ByAccount}
-use Rattle.calls.specs.declared.call.Entry.{Entry}
+use Rattle.call_types.specs.declared.answer.Answer.TheVariants.{Refused, Reserved}
+use Rattle.call_types.specs.declared.answer.Rejection.TheVariants.{BadReservation}
+use Rattle.call_types.specs.declared.answer.Throttle.TheVariants.{Function as ByFunction, Account as ByAccount}
+use Rattle.call_types.specs.declared.call.Entry.{Entry}
 use Rattle.call_model.specs.Counts.{all_in_flight}
 use Rattle.call_model.specs.Limits as model
 use Rattle.call_model.specs.Limits.{in_flight, reservation, place, by_limits, Refuses, Verdict, where_placed, or_zero}

@@ -6,7 +6,7 @@ use Rattle.arn_ids.specs.declared.config.Config.{Config}
 use Rattle.arn_ids.specs.Faults.{first_fault, reservation_of}
 use Rattle.arn_ids.proofs.Bounds.{reservations_fit}
 use Rattle.call_model.specs.Limits.{or_zero}
-use Rattle.calls.specs.declared.answer.Throttle.TheVariants.{Function as ByFunction, Account as ByAccount}
+use Rattle.call_types.specs.declared.answer.Throttle.TheVariants.{Function as ByFunction, Account as ByAccount}
 use Rattle.concurrency_pool.specs.declared.pool.Usage.{Usage}
 use Rattle.concurrency_pool.specs.Numbers.{Numbers}
 use Rattle.concurrency_pool.specs.Usages.{usage_of, reserved_by, unreserved_by, no_usage}

@@ -2,11 +2,11 @@
 use Rattle.std.specs.Prelude.{ℕ, Bool, true, false, List, length, map, Option, Some, None}
 use Rattle.arn_ids.specs.declared.config.Config.{Config}
 use Rattle.arn_ids.specs.Environments.{function_at, function_numbers}
-use Rattle.calls.specs.declared.answer.Answer.{Answer}
-use Rattle.calls.specs.declared.answer.Answer.TheVariants.{Refused, Reserved, Unreserved}
-use Rattle.calls.specs.declared.answer.Rejection.TheVariants.{BadReservation}
-use Rattle.calls.specs.declared.answer.Throttle.{Throttle}
-use Rattle.calls.specs.declared.call.Entry.{Entry}
+use Rattle.call_types.specs.declared.answer.Answer.{Answer}
+use Rattle.call_types.specs.declared.answer.Answer.TheVariants.{Refused, Reserved, Unreserved}
+use Rattle.call_types.specs.declared.answer.Rejection.TheVariants.{BadReservation}
+use Rattle.call_types.specs.declared.answer.Throttle.{Throttle}
+use Rattle.call_types.specs.declared.call.Entry.{Entry}
 use Rattle.call_model.specs.Limits.{in_flight, reservation, Verdict, Refuses, where_placed}
 use Rattle.concurrency_pool.specs.declared.pool.Usage.{Usage}
 use Rattle.concurrency_pool.specs.Numbers.{Numbers}

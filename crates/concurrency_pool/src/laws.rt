@@ -3,7 +3,7 @@
 ghost use Rattle.std.specs.Prelude.{◌≡◌, ◌≤◌, ℕ, List, [], length, Option};
 ghost use Rattle.arn_ids.specs.declared.config.Config.{Config};
 ghost use Rattle.call_model.specs.Answers.{reserve_answer};
-ghost use Rattle.calls.specs.declared.call.Entry.{Entry};
+ghost use Rattle.call_types.specs.declared.call.Entry.{Entry};
 ghost use Rattle.call_model.specs.Counts.{all_in_flight};
 ghost use Rattle.call_model.specs.Limits as model;
 ghost use Rattle.concurrency_pool.specs.Pools.{opened, usage_at, remainder, unreserved_in_flight, in_flight_in_all, throttle, may_reserve};

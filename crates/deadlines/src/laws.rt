@@ -3,7 +3,7 @@
 ghost use Rattle.std.specs.Prelude.{◌≡◌, ℕ, List, [], length, replicate, None};
 ghost use Rattle.arn_ids.specs.declared.config.Config.{Config};
 ghost use Rattle.arn_ids.specs.Environments.{owners};
-ghost use Rattle.calls.specs.declared.call.Entry.{Entry};
+ghost use Rattle.call_types.specs.declared.call.Entry.{Entry};
 ghost use Rattle.call_model.specs.Next.{due};
 ghost use Rattle.deadlines.specs.Due.{first, first_due};
 ghost use Rattle.deadlines.specs.Meets.{deadlines};

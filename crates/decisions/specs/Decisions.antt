@@ -1,6 +1,6 @@
 -- Which decisions an account can carry out.
 use Rattle.arn_ids.specs.declared.config.Config.{Config}
-use Rattle.calls.specs.Within.{IsWithin, IsFunction}
+use Rattle.call_types.specs.Within.{IsWithin, IsFunction}
 use Rattle.decisions.specs.declared.decide.Shown.{Shown}
 use Rattle.decisions.specs.declared.decide.Shown.TheVariants.{Stats, History, Reservation}
 use Rattle.decisions.specs.declared.decide.Decision.{Decision}

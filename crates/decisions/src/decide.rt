@@ -8,7 +8,7 @@ ghost use Rattle.decisions.specs.Decisions.{IsAllowed};
 
 use arn_ids::FnNo;
 use bytes::Bytes;
-use calls::Call;
+use call_types::Call;
 use http::request::Parts;
 use lambda_wire::{PayloadScratch, Reply};
 use std::alloc::{AllocError, Global};

@@ -5,10 +5,10 @@ use Rattle.std.specs.List.{list_any}
 use Rattle.std.specs.Prelude.{bytes_eq}
 use Rattle.std.proofs.lemmas.List.{length-map}
 use Rattle.arn_ids.specs.declared.config.Config.{Config}
-use Rattle.calls.specs.declared.answer.Answer.{Answer}
-use Rattle.calls.specs.declared.call.Call.{Call}
-use Rattle.calls.specs.declared.call.Call.TheVariants.{Register}
-use Rattle.calls.specs.declared.call.Entry.{Entry}
+use Rattle.call_types.specs.declared.answer.Answer.{Answer}
+use Rattle.call_types.specs.declared.call.Call.{Call}
+use Rattle.call_types.specs.declared.call.Call.TheVariants.{Register}
+use Rattle.call_types.specs.declared.call.Entry.{Entry}
 use Rattle.environment_step.specs.After.{Fixed, Step, stand_after, turned, closing_ends, expires_now, first_stand, members_first, fresh_members, finished, restarted, settled_stand, settled_phase, member_second, fixed_of, step_at, count_at, member_first}
 use Rattle.call_model.specs.Generation.{Extension, as_registered, Member, members}
 use Rattle.call_model.specs.Life.{stand, concerns, seen, life}

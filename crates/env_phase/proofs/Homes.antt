@@ -1,10 +1,10 @@
 -- The environment of a ticket after one more entry, and the answers past it.
 use Rattle.std.proofs.Common.{◌≡◌, ℕ, ◌<◌, ◌∷◌, List, None, length, refl, ap, ◌∙◌}
 use Rattle.arn_ids.specs.declared.config.Config.{Config}
-use Rattle.calls.specs.declared.call.Entry.{Entry}
+use Rattle.call_types.specs.declared.call.Entry.{Entry}
 use Rattle.call_model.specs.Answers.{home}
 use Rattle.call_model.specs.History.{answer_in, or_else}
-use Rattle.calls.specs.Calls.{env_of}
+use Rattle.call_types.specs.Calls.{env_of}
 use Rattle.call_model.specs.Next.{Follows}
 use Rattle.call_model.proofs.AfterEntry.{call_of_new, call_of_old, place_of_new, place_of_old}
 use Rattle.call_model.proofs.Once.{answers_past}

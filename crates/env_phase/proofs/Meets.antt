@@ -4,14 +4,14 @@ use Rattle.std.proofs.lemmas.Bool.{cases_lt}
 use Rattle.arn_ids.specs.declared.config.Config.{Config}
 use Rattle.arn_ids.specs.Environments.{function_at, function_of, owners}
 use Rattle.arn_ids.proofs.Bounds.{owner_is_function}
-use Rattle.calls.specs.declared.answer.Answer.{Answer}
-use Rattle.calls.specs.declared.call.Entry.{Entry}
+use Rattle.call_types.specs.declared.answer.Answer.{Answer}
+use Rattle.call_types.specs.declared.call.Entry.{Entry}
 use Rattle.environment_step.specs.After.{Known, count_at, fixed_of, step_at}
 use Rattle.call_model.specs.Laws.{ended_by}
 use Rattle.call_model.specs.Answers.{home}
 use Rattle.call_model.specs.Generation.{members}
 use Rattle.call_model.specs.History.{answer_in, or_else, place_of}
-use Rattle.calls.specs.Calls.{env_of}
+use Rattle.call_types.specs.Calls.{env_of}
 use Rattle.call_model.specs.Life.{concerns, life, names, seen, stand}
 use Rattle.call_model.specs.Limits.{is_charged}
 use Rattle.call_model.specs.Next.{IsLegal}

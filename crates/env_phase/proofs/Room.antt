@@ -1,9 +1,9 @@
 -- How many answers a call gives at an environment at most, and how many extensions it leaves.
 use Rattle.std.proofs.Common.{◌≡◌, ℕ, ◌+◌, ◌*◌, ◌≤◌, ◌++◌, Bool, true, false, List, map, length, ◌<◌, [], Option, Some, None, refl, ap, ◌∙◌, arith, if◌then◌else◌}
 use Rattle.std.proofs.lemmas.List.{length-map}
-use Rattle.calls.specs.declared.answer.Answer.{Answer}
-use Rattle.calls.specs.declared.answer.Phase.{Phase}
-use Rattle.calls.specs.declared.call.Call.{Call}
+use Rattle.call_types.specs.declared.answer.Answer.{Answer}
+use Rattle.call_types.specs.declared.answer.Phase.{Phase}
+use Rattle.call_types.specs.declared.call.Call.{Call}
 use Rattle.call_model.specs.Generation.{Member, Extension, as_registered}
 use Rattle.call_model.specs.Polls.{begun, delivered}
 use Rattle.call_model.specs.Stand.{Stand, RuntimePoll, ExtensionPoll}

@@ -1,14 +1,14 @@
 -- The table of phases as the code reads it: the answers to the call and to the waiting one, and the reason, each by tests.
 use Rattle.std.proofs.Common.{◌≡◌, ◌∙◌, ap, ℕ, Bool, true, false, Option, Some, None, refl, if◌then◌else◌, ◌==◌, not, ◌&&◌, ◌||◌, is_some}
-use Rattle.calls.specs.declared.answer.Answer.{Answer}
-use Rattle.calls.specs.declared.answer.Answer.TheVariants.{Accepted, Output, Error, TimedOut, InitTimedOut, OutputTooLarge, Stopped, Refused}
-use Rattle.calls.specs.declared.answer.Phase.{Phase}
-use Rattle.calls.specs.declared.answer.Phase.TheVariants.{Starting, Idle, Busy, Closing, Off}
-use Rattle.calls.specs.declared.answer.Reason.{Reason}
-use Rattle.calls.specs.declared.answer.Reason.TheVariants.{Timeout, Failure as Failed, Spindown as SpunDown}
-use Rattle.calls.specs.declared.answer.Rejection.TheVariants.{State, BadId, Unknown, TooLarge, Container, NotIdle}
-use Rattle.calls.specs.declared.call.Call.{Call}
-use Rattle.calls.specs.declared.call.Call.TheVariants.{Invoke, RuntimeNext, Response, ResponseTooLarge, Failure, InitFailure, Register, ExtNext, ExtInitFailure, ExtExitFailure, Tick, Withdraw, Spindown, Stop, Expire, Reserve}
+use Rattle.call_types.specs.declared.answer.Answer.{Answer}
+use Rattle.call_types.specs.declared.answer.Answer.TheVariants.{Accepted, Output, Error, TimedOut, InitTimedOut, OutputTooLarge, Stopped, Refused}
+use Rattle.call_types.specs.declared.answer.Phase.{Phase}
+use Rattle.call_types.specs.declared.answer.Phase.TheVariants.{Starting, Idle, Busy, Closing, Off}
+use Rattle.call_types.specs.declared.answer.Reason.{Reason}
+use Rattle.call_types.specs.declared.answer.Reason.TheVariants.{Timeout, Failure as Failed, Spindown as SpunDown}
+use Rattle.call_types.specs.declared.answer.Rejection.TheVariants.{State, BadId, Unknown, TooLarge, Container, NotIdle}
+use Rattle.call_types.specs.declared.call.Call.{Call}
+use Rattle.call_types.specs.declared.call.Call.TheVariants.{Invoke, RuntimeNext, Response, ResponseTooLarge, Failure, InitFailure, Register, ExtNext, ExtInitFailure, ExtExitFailure, Tick, Withdraw, Spindown, Stop, Expire, Reserve}
 use Rattle.call_model.specs.Stand.{Stand, is_known, is_number, is_starting, is_idle, is_busy}
 use Rattle.call_model.specs.Table.{Cell, row, by_phase, ext_row, refused, state, container, bad_id, unknown, output, too_large, error, fails, accepted, if_named, own_answer, closes, to_waiting, register, told_in_closing, nothing, stops, tells_stopped}
 use Rattle.call_model.proofs.Cells.{in_row, of_row, of_ext_row, next_closes, ext_next_closes, stop_own}

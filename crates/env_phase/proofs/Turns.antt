@@ -1,8 +1,8 @@
 -- The first stage by what the call comes to is that of the table.
 use Rattle.std.proofs.Common.{◌≡◌, ℕ, Bool, List, [], ◌∷◌, map, Option, Some, None, refl, ap, ap₂, is_some}
-use Rattle.calls.specs.declared.answer.Answer.{Answer}
-use Rattle.calls.specs.declared.answer.Phase.{Phase}
-use Rattle.calls.specs.declared.call.Call.{Call}
+use Rattle.call_types.specs.declared.answer.Answer.{Answer}
+use Rattle.call_types.specs.declared.answer.Phase.{Phase}
+use Rattle.call_types.specs.declared.call.Call.{Call}
 use Rattle.call_model.specs.Generation.{Member, TheRuntime}
 use Rattle.call_model.specs.Stand.{Stand, RuntimePoll, ExtensionPoll, at_hand}
 use Rattle.environment_step.specs.After.{Fixed, Known, Step, cell_at, first_moves, first_stand, give, give_each, member_first, over_now, request_of, runtime_first, poll_gets as polls_get}

@@ -2,12 +2,12 @@
 use Rattle.std.proofs.Common.{◌≡◌, ℕ, suc, Bool, true, false, List, [], ◌∷◌, map, length, Some, Err, Ok, refl, ap, if◌then◌else◌, ◌||◌, bytes_eq, nat_le, is_some}
 use Rattle.std.specs.List.{list_any}
 use Rattle.std.proofs.lemmas.List.{length-map}
-use Rattle.calls.specs.declared.answer.Answer.TheVariants.{Registered, Refused}
-use Rattle.calls.specs.declared.answer.Rejection.TheVariants.{NameInUse as InUse, TooMany as Full}
-use Rattle.calls.specs.declared.answer.Phase.{Phase}
-use Rattle.calls.specs.declared.answer.Phase.TheVariants.{Starting, Idle, Busy, Closing, Off}
-use Rattle.calls.specs.declared.call.Call.{Call}
-use Rattle.calls.specs.declared.call.Call.TheVariants.{Register}
+use Rattle.call_types.specs.declared.answer.Answer.TheVariants.{Registered, Refused}
+use Rattle.call_types.specs.declared.answer.Rejection.TheVariants.{NameInUse as InUse, TooMany as Full}
+use Rattle.call_types.specs.declared.answer.Phase.{Phase}
+use Rattle.call_types.specs.declared.answer.Phase.TheVariants.{Starting, Idle, Busy, Closing, Off}
+use Rattle.call_types.specs.declared.call.Call.{Call}
+use Rattle.call_types.specs.declared.call.Call.TheVariants.{Register}
 use Rattle.call_model.specs.Generation.{Member, as_registered}
 use Rattle.call_model.specs.Stand.{Stand}
 use Rattle.call_model.specs.Table.{own_answer, by_phase, registers, state, container}

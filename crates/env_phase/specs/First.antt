@@ -1,7 +1,7 @@
 -- The first stage of a call in steps: what it comes to, who is answered, and which extension it brings.
 use Rattle.std.specs.Prelude.{ℕ, ◌+◌, ◌++◌, Bool, if◌then◌else◌, ◌==◌, List, [], map, Option, Some, None, Ok, ◌≡◌}
-use Rattle.calls.specs.declared.answer.Answer.{Answer}
-use Rattle.calls.specs.declared.call.Call.{Call}
+use Rattle.call_types.specs.declared.answer.Answer.{Answer}
+use Rattle.call_types.specs.declared.call.Call.{Call}
 use Rattle.call_model.specs.Generation.{Member, Extension, TheRuntime, as_registered}
 use Rattle.call_model.specs.Stand.{Stand, RuntimePoll, ExtensionPoll}
 use Rattle.call_model.specs.Table.{own_answer, closes, is_registered}

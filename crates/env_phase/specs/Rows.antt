@@ -1,7 +1,7 @@
 -- The answers of the rows of the table that several calls share.
 use Rattle.std.specs.Prelude.{ℕ, if◌then◌else◌, Option, Some}
-use Rattle.calls.specs.declared.answer.Answer.{Answer}
-use Rattle.calls.specs.declared.answer.Rejection.TheVariants.{State, Container, BadId, Unknown}
+use Rattle.call_types.specs.declared.answer.Answer.{Answer}
+use Rattle.call_types.specs.declared.answer.Rejection.TheVariants.{State, Container, BadId, Unknown}
 use Rattle.call_model.specs.Stand.{Stand, is_known, is_number}
 use Rattle.call_model.specs.Table.{row, refused}
 

@@ -1,11 +1,11 @@
 -- What an environment is when it is opened, and after a call.
 use Rattle.std.specs.Prelude.{ℕ, ◌*◌, ◌≤◌, length, Bool, true, false, ◌&&◌, List, [], Option, Some, None, is_none}
 use Rattle.arn_ids.specs.declared.config.Function.{Function}
-use Rattle.calls.specs.declared.answer.Answer.{Answer}
-use Rattle.calls.specs.declared.answer.Phase.{Phase}
-use Rattle.calls.specs.declared.answer.Phase.TheVariants.{Starting, Off}
-use Rattle.calls.specs.declared.call.Call.{Call}
-use Rattle.calls.specs.declared.call.Call.TheVariants.{Register}
+use Rattle.call_types.specs.declared.answer.Answer.{Answer}
+use Rattle.call_types.specs.declared.answer.Phase.{Phase}
+use Rattle.call_types.specs.declared.answer.Phase.TheVariants.{Starting, Off}
+use Rattle.call_types.specs.declared.call.Call.{Call}
+use Rattle.call_types.specs.declared.call.Call.TheVariants.{Register}
 use Rattle.call_model.specs.Stand.{Stand, is_busy}
 use Rattle.environment_step.specs.After.{Known, Step, stand_after, moves_of}
 use Rattle.env_phase.specs.declared.step.Step.{Step as TheStep}

@@ -3,7 +3,7 @@
 ghost use Rattle.std.specs.Prelude.{◌≡◌, ◌+◌, ◌*◌, ◌≤◌, ℕ, true, List, [], ◌∷◌, length, filter, not, ◌&&◌};
 ghost use Rattle.arn_ids.specs.declared.config.Config.{Config};
 ghost use Rattle.arn_ids.specs.Environments.{owners, function_of, function_at};
-ghost use Rattle.calls.specs.declared.call.Entry.{Entry};
+ghost use Rattle.call_types.specs.declared.call.Entry.{Entry};
 ghost use Rattle.environment_step.specs.After.{Known, fixed_of, step_at, count_at};
 ghost use Rattle.call_model.specs.Laws.{ended_by};
 ghost use Rattle.call_model.specs.Answers.{home};

@@ -5,7 +5,7 @@ ghost use Rattle.std.specs.Prelude.{◌≡◌, ◌+◌, ◌<◌, ◌^◌, ◌||�
 ghost use Rattle.call_model.specs.Polls.{begun};
 ghost use Rattle.call_model.specs.Stand.{at_hand, bound_of, is_starting, is_idle, is_busy, is_closing};
 ghost use Rattle.call_model.specs.Table.{settled, reborn, clock_started, placed, unbound};
-ghost use Rattle.calls.specs.declared.answer.Answer.TheVariants.{InitTimedOut, TimedOut};
+ghost use Rattle.call_types.specs.declared.answer.Answer.TheVariants.{InitTimedOut, TimedOut};
 
 use call_model::{Answer, Phase, Ticket};
 

@@ -1,13 +1,13 @@
 -- An invocation is told no event: each event stands at a ticket whose call names its environment.
 use Rattle.std.proofs.lemmas.Bool.{cases_lt}
 use Rattle.std.proofs.Common.{◌≡◌, ℕ, zero, suc, ◌≤◌, Bool, true, false, List, [], ◌∷◌, length, Option, Some, None, sym, refl, ap, ◌∙◌, inl, inr, not, true≢false, if◌then◌else◌, ◌==◌}
-use Rattle.calls.specs.declared.answer.Answer.{Answer}
-use Rattle.calls.specs.declared.call.Call.{Call}
-use Rattle.calls.specs.declared.call.Call.TheVariants.{Invoke}
-use Rattle.calls.specs.declared.call.Entry.{Entry}
+use Rattle.call_types.specs.declared.answer.Answer.{Answer}
+use Rattle.call_types.specs.declared.call.Call.{Call}
+use Rattle.call_types.specs.declared.call.Call.TheVariants.{Invoke}
+use Rattle.call_types.specs.declared.call.Entry.{Entry}
 use Rattle.arn_ids.specs.declared.config.Config.{Config}
 use Rattle.call_model.specs.History.{call_of, place_of, or_else}
-use Rattle.calls.specs.Calls.{env_of, is_invoke}
+use Rattle.call_types.specs.Calls.{env_of, is_invoke}
 use Rattle.call_model.specs.Stand.{Stand, NoRole, Waiting, role, is_number, waits_as}
 use Rattle.call_model.specs.Polls.{by_role}
 use Rattle.call_model.specs.Table.{to_waiting}

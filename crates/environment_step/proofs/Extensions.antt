@@ -3,15 +3,15 @@ use Rattle.std.proofs.lemmas.List.Sums.{sum_by-cons}
 use Rattle.std.proofs.Common.{◌≡◌, ℕ, suc, ◌+◌, ◌<◌, ◌≤◌, Bool, true, false, cond, List, [], ◌∷◌, length, Option, Some, None, sym, refl, ap, ◌∙◌, arith, ◌&&◌, ◌||◌, if◌then◌else◌, eqb, subst, is_none, map, true≢false}
 use Rattle.std.specs.List.{list_any, cons_option}
 use Rattle.std.proofs.lemmas.Bool.{eqb-true}
-use Rattle.calls.specs.declared.answer.Answer.{Answer}
-use Rattle.calls.specs.declared.answer.Answer.TheVariants.{Registered, Refused}
-use Rattle.calls.specs.declared.answer.Rejection.TheVariants.{Container, Unknown}
-use Rattle.calls.specs.declared.call.Call.{Call}
-use Rattle.calls.specs.declared.call.Call.TheVariants.{Invoke, RuntimeNext, Response, ResponseTooLarge, Failure, InitFailure, Register, ExtNext, ExtInitFailure, ExtExitFailure, Tick, Withdraw, Spindown, Stop, Expire, Reserve}
-use Rattle.calls.specs.declared.call.Entry.{Entry}
+use Rattle.call_types.specs.declared.answer.Answer.{Answer}
+use Rattle.call_types.specs.declared.answer.Answer.TheVariants.{Registered, Refused}
+use Rattle.call_types.specs.declared.answer.Rejection.TheVariants.{Container, Unknown}
+use Rattle.call_types.specs.declared.call.Call.{Call}
+use Rattle.call_types.specs.declared.call.Call.TheVariants.{Invoke, RuntimeNext, Response, ResponseTooLarge, Failure, InitFailure, Register, ExtNext, ExtInitFailure, ExtExitFailure, Tick, Withdraw, Spindown, Stop, Expire, Reserve}
+use Rattle.call_types.specs.declared.call.Entry.{Entry}
 use Rattle.arn_ids.specs.declared.config.Config.{Config}
 use Rattle.call_model.specs.History.{answer_in, with_tickets, or_else}
-use Rattle.calls.specs.Calls.{env_of}
+use Rattle.call_types.specs.Calls.{env_of}
 use Rattle.call_model.specs.Generation.{Generation, Extension, extensions, as_registered, members, TheExtension, Member, asks, member, is_ending, is_accepted, reports_exit, answer_to_next, told, asked_again, exited, has_count}
 use Rattle.call_model.specs.Stand.{Stand, is_number, is_known}
 use Rattle.call_model.specs.Table.{is_registered, own_answer, Cell, ext_row}
@@ -22,7 +22,7 @@ use Rattle.environment_step.proofs.Frame.{env_place, parked_elsewhere}
 use Rattle.call_model.proofs.AnswerValues.{plain, stripped, valued}
 use Rattle.environment_step.proofs.FirstValues.{ending_plain, accepted_plain}
 use Rattle.call_model.proofs.Basics.{eqb-self, some-none}
-use Rattle.calls.specs.declared.answer.Rejection.{Rejection}
+use Rattle.call_types.specs.declared.answer.Rejection.{Rejection}
 use Rattle.call_model.proofs.Pairs.{eqb-other}
 use Rattle.call_model.proofs.Once.{fresh}
 use Rattle.call_model.proofs.Scans.{still, member_step, member_steps, generation_below, legal_silent}

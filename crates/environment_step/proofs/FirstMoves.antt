@@ -1,12 +1,12 @@
 -- The first answers at an environment, from its stand.
 use Rattle.std.proofs.lemmas.Bool.{cases_lt}
 use Rattle.std.proofs.Common.{◌≡◌, ℕ, ◌<◌, ◌≤◌, Bool, true, false, eqb, List, [], ◌∷◌, length, Option, Some, None, sym, refl, ap, ◌∙◌, inl, inr, arith, ◌≢◌, is_some, ◌&&◌, true≢false, if◌then◌else◌}
-use Rattle.calls.specs.declared.answer.Answer.{Answer}
-use Rattle.calls.specs.declared.call.Call.{Call}
-use Rattle.calls.specs.declared.call.Entry.{Entry}
+use Rattle.call_types.specs.declared.answer.Answer.{Answer}
+use Rattle.call_types.specs.declared.call.Call.{Call}
+use Rattle.call_types.specs.declared.call.Entry.{Entry}
 use Rattle.arn_ids.specs.declared.config.Config.{Config}
 use Rattle.call_model.specs.History.{answer_in, call_of, place_of, or_else}
-use Rattle.calls.specs.Calls.{env_of, is_invoke}
+use Rattle.call_types.specs.Calls.{env_of, is_invoke}
 use Rattle.call_model.specs.Generation.{Generation, TheRuntime, parked, extensions, members}
 use Rattle.call_model.specs.Stand.{Stand, Role, NoRole, Waiting, RuntimePoll, ExtensionPoll, is_number, role, at_hand}
 use Rattle.call_model.specs.Table.{own_answer, to_waiting}

@@ -1,12 +1,12 @@
 -- The first answers to an environment's Nexts, and its runtime and its extensions after them, from the stand alone.
 use Rattle.std.proofs.Common.{◌≡◌, ℕ, ◌<◌, ◌≤◌, Bool, true, false, List, length, Option, Some, None, sym, refl, ap, ◌∙◌, arith, is_none, ◌||◌, true≢false, if◌then◌else◌, ◌∷◌, ◌&&◌, suc, ◌++◌, ap₂, map}
-use Rattle.calls.specs.declared.answer.Answer.{Answer}
-use Rattle.calls.specs.declared.call.Call.{Call}
-use Rattle.calls.specs.declared.call.Call.TheVariants.{Invoke, RuntimeNext, ExtNext, ExtInitFailure, ExtExitFailure, Register}
-use Rattle.calls.specs.declared.call.Entry.{Entry}
+use Rattle.call_types.specs.declared.answer.Answer.{Answer}
+use Rattle.call_types.specs.declared.call.Call.{Call}
+use Rattle.call_types.specs.declared.call.Call.TheVariants.{Invoke, RuntimeNext, ExtNext, ExtInitFailure, ExtExitFailure, Register}
+use Rattle.call_types.specs.declared.call.Entry.{Entry}
 use Rattle.arn_ids.specs.declared.config.Config.{Config}
 use Rattle.call_model.specs.History.{answer_in, pending}
-use Rattle.calls.specs.Calls.{env_of, is_invoke}
+use Rattle.call_types.specs.Calls.{env_of, is_invoke}
 use Rattle.call_model.specs.Generation.{Actor, TheRuntime, TheExtension, asks, is_ending, answer_to_next, Generation, Extension, Member, parked, if_pending, last_next, extensions, member, is_accepted, reports_exit, members, as_registered}
 use Rattle.call_model.specs.Stand.{Stand, is_number, role, Role, NoRole, Waiting, RuntimePoll, ExtensionPoll}
 use Rattle.call_model.specs.Table.{own_answer, closes}
@@ -27,7 +27,7 @@ use Rattle.environment_step.proofs.MemberRoles.{IsIn, role_member, map_in}
 use Rattle.call_model.proofs.Roles.{role_runtime}
 use Rattle.call_model.proofs.Basics.{some-none, map_map}
 use Rattle.std.specs.List.{cons_option}
-use Rattle.calls.specs.declared.answer.Answer.TheVariants.{Registered}
+use Rattle.call_types.specs.declared.answer.Answer.TheVariants.{Registered}
 use Rattle.std.proofs.Math.Bool.{or-false}
 
 abbrev pub gets : (ℕ → Option Answer) → Option ℕ → Option Answer

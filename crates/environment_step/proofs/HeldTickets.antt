@@ -2,13 +2,13 @@
 use Rattle.std.proofs.Common.{◌≡◌, ℕ, ◌<◌, Bool, true, false, eqb, List, [], ◌∷◌, Option, Some, None, sym, refl, ap, ◌∙◌, inl, inr, arith, is_some, ◌&&◌, map, true≢false, if◌then◌else◌}
 use Rattle.std.specs.List.{find}
 use Rattle.std.proofs.lemmas.Bool.Decides.{eqb_tells}
-use Rattle.calls.specs.declared.answer.Answer.{Answer}
-use Rattle.calls.specs.declared.call.Entry.{Entry}
+use Rattle.call_types.specs.declared.answer.Answer.{Answer}
+use Rattle.call_types.specs.declared.call.Entry.{Entry}
 use Rattle.call_model.specs.History.{answer_in, call_of}
 use Rattle.call_model.specs.Generation.{Generation, Extension, Member, TheRuntime, TheExtension, parked, extensions, member, members}
 use Rattle.call_model.specs.Stand.{Stand, Role, NoRole, Waiting, RuntimePoll, ExtensionPoll, is_number, role, member_role, waits_as, at_hand}
 use Rattle.environment_step.specs.After.{give, give_each, waiting_call}
-use Rattle.calls.specs.Calls.{is_invoke}
+use Rattle.call_types.specs.Calls.{is_invoke}
 use Rattle.call_model.proofs.BoundWaits.{IsPart, invoke_asks}
 use Rattle.environment_step.proofs.Extensions.{IsUnder}
 use Rattle.environment_step.proofs.MemberRoles.{IsIn, under_in}

@@ -1,19 +1,19 @@
 -- The roles of parked Nexts, those of extensions among them.
 use Rattle.std.proofs.Common.{◌≡◌, ℕ, suc, ◌<◌, Bool, true, false, List, [], ◌∷◌, Option, Some, sym, refl, ap, ap₂, ◌∙◌, subst, inl, inr, arith, ◌⊎◌, is_some, ◌&&◌, map, true≢false, if◌then◌else◌}
 use Rattle.std.specs.List.{find}
-use Rattle.calls.specs.declared.call.Entry.{Entry}
+use Rattle.call_types.specs.declared.call.Entry.{Entry}
 use Rattle.arn_ids.specs.declared.config.Config.{Config}
 use Rattle.call_model.specs.History.{call_of}
 use Rattle.call_model.specs.Generation.{Generation, Extension, Actor, TheRuntime, TheExtension, parked, asks, extensions, member, members}
 use Rattle.call_model.specs.Stand.{is_number, at_hand, role, RuntimePoll, ExtensionPoll, waits_as}
 use Rattle.call_model.specs.Life.{life, phase, stand, seen, request_at, registrations}
 use Rattle.call_model.specs.Next.{IsLegal}
-use Rattle.calls.specs.Calls.{is_invoke}
+use Rattle.call_types.specs.Calls.{is_invoke}
 use Rattle.call_model.proofs.AtHand.{held}
 use Rattle.call_model.proofs.BoundWaits.{IsPart, generation_part, invoke_asks}
 use Rattle.environment_step.proofs.Extensions.{IsUnder, counts_fall}
 use Rattle.call_model.proofs.Basics.{eqb-self}
-use Rattle.calls.specs.declared.answer.Phase.{Phase}
+use Rattle.call_types.specs.declared.answer.Phase.{Phase}
 use Rattle.call_model.proofs.Roles.{parked_asks_for, one_asker, not_both, other_number, not_waiting}
 
 abbrev pub IsIn : Extension → List Extension → Type 0

@@ -1,11 +1,11 @@
 -- moves_of is the list of the entry's answers at the environment, and the events that stand_after counts.
 use Rattle.std.proofs.lemmas.Bool.{cases_lt}
 use Rattle.std.proofs.Common.{◌≡◌, ℕ, suc, ◌+◌, ◌<◌, ◌≤◌, Bool, true, false, List, [], ◌∷◌, length, Option, None, sym, refl, ap, ap₂, ◌∙◌, inl, inr, arith, filter, if◌then◌else◌}
-use Rattle.calls.specs.declared.answer.Answer.{Answer}
-use Rattle.calls.specs.declared.call.Entry.{Entry}
+use Rattle.call_types.specs.declared.answer.Answer.{Answer}
+use Rattle.call_types.specs.declared.call.Entry.{Entry}
 use Rattle.arn_ids.specs.declared.config.Config.{Config}
 use Rattle.call_model.specs.History.{answer_in, call_of, or_else}
-use Rattle.calls.specs.Calls.{env_of}
+use Rattle.call_types.specs.Calls.{env_of}
 use Rattle.call_model.specs.Life.{phase, stand, seen, concerns, events, events_in}
 use Rattle.call_model.specs.Answers.{answers, answer_to, first_answer, second_answer, first_entry, each_from}
 use Rattle.call_model.specs.Next.{IsLegal, Follows}

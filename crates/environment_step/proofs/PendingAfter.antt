@@ -1,15 +1,15 @@
 -- What an entry leaves pending: what its first answers leave, but for what the second answer.
 use Rattle.std.proofs.Common.{◌≡◌, ℕ, ◌<◌, ◌≤◌, Bool, true, false, List, ◌∷◌, length, Option, Some, None, sym, refl, ap, ◌∙◌, inl, inr, arith, ◌⊎◌, is_some, is_none, not, ◌&&◌, ◌+◌, true≢false, if◌then◌else◌, ltb, eqb}
-use Rattle.calls.specs.declared.answer.Answer.{Answer}
-use Rattle.calls.specs.declared.answer.Answer.TheVariants.{Told, Ending, Delivered}
-use Rattle.calls.specs.declared.answer.Phase.{Phase}
-use Rattle.calls.specs.declared.call.Call.{Call}
-use Rattle.calls.specs.declared.call.Call.TheVariants.{Invoke, Tick, Withdraw, Stop, Reserve}
-use Rattle.calls.specs.declared.call.Entry.{Entry}
+use Rattle.call_types.specs.declared.answer.Answer.{Answer}
+use Rattle.call_types.specs.declared.answer.Answer.TheVariants.{Told, Ending, Delivered}
+use Rattle.call_types.specs.declared.answer.Phase.{Phase}
+use Rattle.call_types.specs.declared.call.Call.{Call}
+use Rattle.call_types.specs.declared.call.Call.TheVariants.{Invoke, Tick, Withdraw, Stop, Reserve}
+use Rattle.call_types.specs.declared.call.Entry.{Entry}
 use Rattle.arn_ids.specs.declared.config.Config.{Config}
 use Rattle.arn_ids.specs.Environments.{function_of}
 use Rattle.call_model.specs.History.{answer_in, answer_of, pending, call_of, is_expiry, upto, requests, or_else}
-use Rattle.calls.specs.Calls.{env_of, is_invoke}
+use Rattle.call_types.specs.Calls.{env_of, is_invoke}
 use Rattle.call_model.specs.Stand.{Stand, at_hand, is_number}
 use Rattle.call_model.specs.Table.{is_registered, own_answer, closes, kept}
 use Rattle.call_model.specs.Life.{first_part, request_at, concerns, phase, stand, seen, limit_of, registrations}

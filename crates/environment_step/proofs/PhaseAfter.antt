@@ -2,15 +2,15 @@
 use Rattle.std.proofs.Common.{◌≡◌, ℕ, ◌<◌, Bool, true, false, ltb, List, ◌∷◌, length, Option, Some, None, sym, refl, ap, ap₂, ◌∙◌, subst, inl, inr, arith, ◌≢◌, ◌⊎◌, is_some, is_none, not, ◌&&◌, ◌||◌, ◌==◌, true≢false, if◌then◌else◌}
 use Rattle.std.proofs.lemmas.Bool.{eqb-true}
 use Rattle.std.proofs.lemmas.Bool.Decides.{nat_tests}
-use Rattle.calls.specs.declared.answer.Answer.{Answer}
-use Rattle.calls.specs.declared.answer.Phase.{Phase}
-use Rattle.calls.specs.declared.call.Call.{Call}
-use Rattle.calls.specs.declared.call.Call.TheVariants.{Invoke}
-use Rattle.calls.specs.declared.call.Entry.{Entry}
+use Rattle.call_types.specs.declared.answer.Answer.{Answer}
+use Rattle.call_types.specs.declared.answer.Phase.{Phase}
+use Rattle.call_types.specs.declared.call.Call.{Call}
+use Rattle.call_types.specs.declared.call.Call.TheVariants.{Invoke}
+use Rattle.call_types.specs.declared.call.Entry.{Entry}
 use Rattle.arn_ids.specs.declared.config.Config.{Config}
 use Rattle.arn_ids.specs.Environments.{expected_at, function_of}
 use Rattle.call_model.specs.History.{answer_in, answer_of, pending, call_of, place_of, is_stop, is_expiry, stopped, upto, requests, or_else}
-use Rattle.calls.specs.Calls.{env_of, is_invoke}
+use Rattle.call_types.specs.Calls.{env_of, is_invoke}
 use Rattle.call_model.specs.Generation.{Generation, Member, TheRuntime, parked, members, ready, awaited}
 use Rattle.call_model.specs.Stand.{Stand, is_closing, is_number, at_hand, bound_of, role, Waiting}
 use Rattle.call_model.specs.Table.{reborn, settled, to_waiting, closes, kept}

@@ -1,14 +1,14 @@
 -- The second answers at an environment, from its stand after the first.
 use Rattle.std.proofs.Common.{◌≡◌, ℕ, List, [], ◌∷◌, Option, Some, None, refl, ◌∙◌, zero, suc, Bool, true, false, length, sym, ap, is_some, ◌&&◌, filter, true≢false, if◌then◌else◌}
-use Rattle.calls.specs.declared.answer.Answer.{Answer}
+use Rattle.call_types.specs.declared.answer.Answer.{Answer}
 use Rattle.call_model.specs.Generation.{Member, Generation}
 use Rattle.call_model.specs.Stand.{Stand, ExtensionPoll, Role, NoRole, Waiting, RuntimePoll, is_number, role, member_role, waits_as, at_hand, bound_of}
 use Rattle.call_model.specs.Polls.{delivered, begun}
 use Rattle.environment_step.specs.After.{give, give_each, served_moves, Fixed, turned, turned_moves, closing_ends, settled_phase, restarted, settled_stand}
-use Rattle.calls.specs.declared.answer.Phase.{Phase}
-use Rattle.calls.specs.declared.answer.Phase.TheVariants.{Busy}
-use Rattle.calls.specs.declared.call.Call.{Call}
-use Rattle.calls.specs.declared.call.Entry.{Entry}
+use Rattle.call_types.specs.declared.answer.Phase.{Phase}
+use Rattle.call_types.specs.declared.answer.Phase.TheVariants.{Busy}
+use Rattle.call_types.specs.declared.call.Call.{Call}
+use Rattle.call_types.specs.declared.call.Entry.{Entry}
 use Rattle.arn_ids.specs.declared.config.Config.{Config}
 use Rattle.call_model.specs.History.{answer_in, or_else}
 use Rattle.call_model.specs.Table.{reborn}

@@ -1,10 +1,10 @@
 -- The second answers to an environment's Nexts, and its stand after an entry that concerns it.
 use Rattle.std.proofs.Common.{◌≡◌, ℕ, suc, ◌≤◌, Bool, true, false, List, [], ◌∷◌, length, Option, Some, None, sym, refl, ap, ap₂, ◌∙◌, subst, arith, is_none, ◌&&◌, ◌||◌, ◌==◌, if◌then◌else◌, map}
 use Rattle.std.specs.List.{cons_option}
-use Rattle.calls.specs.declared.answer.Answer.{Answer}
-use Rattle.calls.specs.declared.answer.Answer.TheVariants.{Told}
-use Rattle.calls.specs.declared.answer.Phase.{Phase}
-use Rattle.calls.specs.declared.call.Entry.{Entry}
+use Rattle.call_types.specs.declared.answer.Answer.{Answer}
+use Rattle.call_types.specs.declared.answer.Answer.TheVariants.{Told}
+use Rattle.call_types.specs.declared.answer.Phase.{Phase}
+use Rattle.call_types.specs.declared.call.Entry.{Entry}
 use Rattle.arn_ids.specs.declared.config.Config.{Config}
 use Rattle.call_model.specs.History.{pending, call_of, is_expiry, stopped, is_stop}
 use Rattle.call_model.specs.Generation.{Generation, Extension, Actor, TheRuntime, TheExtension, Member, parked, if_pending, last_next, extensions, member, members, awaited}
@@ -17,7 +17,7 @@ use Rattle.call_model.specs.Next.{IsLegal, Follows}
 use Rattle.environment_step.specs.After.{fixed_of, step_at, count_at, first_stand, expires_now, closing_ends, cell_at, left, Step, stand_after, finished, turned, restarted, settled_stand, settled_phase, member_second, if_held, runtime_first, members_first, with_events}
 use Rattle.call_model.proofs.Scans.{IsSilent, legal_silent, last_below, generation_below}
 use Rattle.environment_step.proofs.Frame.{AreHere, poll_home, generation_here, last_here}
-use Rattle.calls.specs.Calls.{is_invoke}
+use Rattle.call_types.specs.Calls.{is_invoke}
 use Rattle.call_model.proofs.AtHand.{held, from_after}
 use Rattle.call_model.proofs.BoundWaits.{IsPart, generation_part}
 use Rattle.environment_step.proofs.Extensions.{IsUnder, counts_fall}

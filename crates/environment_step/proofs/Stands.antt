@@ -1,6 +1,6 @@
 -- The stands of all environments after an entry that concerns one of them.
 use Rattle.std.proofs.Common.{◌≡◌, ℕ, zero, suc, ◌+◌, ◌<◌, ◌≤◌, false, List, ◌∷◌, length, sym, refl, ap, ap₂, ◌∙◌, subst, arith, ◌≢◌, map, set}
-use Rattle.calls.specs.declared.call.Entry.{Entry}
+use Rattle.call_types.specs.declared.call.Entry.{Entry}
 use Rattle.arn_ids.specs.declared.config.Config.{Config}
 use Rattle.arn_ids.specs.Environments.{count_from, owners, environments}
 use Rattle.call_model.specs.Life.{stand, concerns}

@@ -1,6 +1,6 @@
 -- The step of an environment: its stand after an entry that concerns it, and the answers that the entry gives there.
 use Rattle.std.proofs.Common.{◌≡◌, ℕ, true, List, ◌∷◌, filter, ◌∙◌, ap}
-use Rattle.calls.specs.declared.call.Entry.{Entry}
+use Rattle.call_types.specs.declared.call.Entry.{Entry}
 use Rattle.arn_ids.specs.declared.config.Config.{Config}
 use Rattle.call_model.specs.Life.{stand, concerns, seen}
 use Rattle.call_model.specs.Next.{IsLegal, Follows}

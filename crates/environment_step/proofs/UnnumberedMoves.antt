@@ -1,11 +1,11 @@
 -- The moves before their events have numbers are the answers to the environment's tickets.
 use Rattle.std.proofs.Common.{◌≡◌, ℕ, suc, ◌<◌, ◌≤◌, Bool, true, false, List, [], ◌∷◌, length, Option, Some, None, sym, refl, ap, ◌∙◌, subst, arith, is_some, not, ◌&&◌, true≢false, if◌then◌else◌, map, ◌==◌}
 use Rattle.std.specs.List.{cons_option}
-use Rattle.calls.specs.declared.answer.Answer.{Answer}
-use Rattle.calls.specs.declared.call.Entry.{Entry}
+use Rattle.call_types.specs.declared.answer.Answer.{Answer}
+use Rattle.call_types.specs.declared.call.Entry.{Entry}
 use Rattle.arn_ids.specs.declared.config.Config.{Config}
 use Rattle.call_model.specs.History.{answer_in, answer_of, call_of, pending, is_expiry, or_else, place_of}
-use Rattle.calls.specs.Calls.{env_of}
+use Rattle.call_types.specs.Calls.{env_of}
 use Rattle.call_model.specs.Generation.{Extension, Actor, TheRuntime, parked, if_pending, last_next, extensions, members, as_registered, Generation, Member, TheExtension, member}
 use Rattle.call_model.specs.Stand.{at_hand, Stand, Role, NoRole, RuntimePoll, ExtensionPoll, is_number, role}
 use Rattle.call_model.specs.Polls.{begun, delivered}

@@ -1,7 +1,7 @@
 //! The link between the definitions and the code: the function does nothing; its clauses are the laws.
 
 ghost use Rattle.std.specs.Prelude.{◌≡◌, ℕ, true, false, List, ◌∷◌, filter, not, ◌&&◌};
-ghost use Rattle.calls.specs.declared.call.Entry.{Entry};
+ghost use Rattle.call_types.specs.declared.call.Entry.{Entry};
 ghost use Rattle.arn_ids.specs.declared.config.Config.{Config};
 ghost use Rattle.call_model.specs.History.{place_of};
 ghost use Rattle.call_model.specs.Stand.{is_number};

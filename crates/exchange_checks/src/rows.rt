@@ -1,7 +1,7 @@
 //! What a request is decided to be in these checks, by its path alone, and their clock.
 
 ghost use Rattle.std.specs.Prelude.{◌≡◌, true, IfOk, IfSome};
-ghost use Rattle.calls.specs.Within.{IsEnv, IsFunction, is_body};
+ghost use Rattle.call_types.specs.Within.{IsEnv, IsFunction, is_body};
 ghost use Rattle.decisions.specs.Decisions.{IsAllowed};
 
 use account_lock::Identity;

@@ -2,7 +2,7 @@
 
 ghost use Rattle.std.specs.Prelude.{◌≡◌, ⊤, IfOk};
 ghost use Rattle.std.specs.Arc.{arc_value};
-ghost use Rattle.calls.specs.Within.{IsEnv, IsFunction};
+ghost use Rattle.call_types.specs.Within.{IsEnv, IsFunction};
 ghost use Rattle.long_poll.specs.Stages.{CanGoOn};
 
 use crate::lines::{Ask, Pieces, ask_in, lines_in, malformed, number_of};

@@ -2,7 +2,7 @@
 use Rattle.std.proofs.Common.{◌≡◌, ℕ, suc, ◌+◌, ◌<◌, ◌≤◌, length, List, [], ◌∷◌, ◌++◌, take, drop, set, get_or, map, reverse, Option, arith, refl, sym, ◌∙◌, ap}
 use Rattle.std.proofs.Math.Seq.{take-suc, take-suc-set}
 use Rattle.std.proofs.lemmas.List.{drop-set-lt, length-set, map-append, reverse-append, take_all}
-use Rattle.calls.specs.declared.answer.Answer.{Answer}
+use Rattle.call_types.specs.declared.answer.Answer.{Answer}
 use Rattle.call_model.specs.Generation.{Member}
 use Rattle.environment_step.specs.After.{give, give_each}
 use Rattle.extension_set.proofs.Lists.{same_rest}

@@ -1,6 +1,6 @@
 -- How many answers there are after some were given, and how many of them are events.
 use Rattle.std.proofs.Common.{◌≡◌, ℕ, suc, ◌+◌, ◌≤◌, length, List, [], ◌∷◌, Option, Some, None, ltb, Bool, true, false, arith, refl, ap, if◌then◌else◌}
-use Rattle.calls.specs.declared.answer.Answer.{Answer}
+use Rattle.call_types.specs.declared.answer.Answer.{Answer}
 use Rattle.call_model.specs.Generation.{Member}
 use Rattle.call_model.specs.Life.{is_event}
 use Rattle.environment_step.specs.After.{put, give, give_each, numbered_from, events_of}

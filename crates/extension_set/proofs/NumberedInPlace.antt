@@ -4,7 +4,7 @@ use Rattle.std.proofs.Math.Seq.{take-suc-set}
 use Rattle.std.proofs.lemmas.List.{drop-set-lt, length-set}
 use Rattle.call_model.specs.Answers.{with_event}
 use Rattle.call_model.specs.Life.{is_event}
-use Rattle.calls.specs.declared.answer.Answer.{Answer}
+use Rattle.call_types.specs.declared.answer.Answer.{Answer}
 use Rattle.environment_step.specs.After.{numbered_from, events_of}
 use Rattle.extension_set.proofs.Lists.{drop_take_one, same_rest}
 

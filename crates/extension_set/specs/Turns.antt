@@ -1,7 +1,7 @@
 -- What a call makes of the parked Nexts of an environment, by what it comes to there.
 use Rattle.std.specs.Prelude.{ℕ, ◌||◌, ◌&&◌, if◌then◌else◌, Option, Some, None}
-use Rattle.calls.specs.declared.answer.Answer.{Answer}
-use Rattle.calls.specs.declared.call.Call.{Call}
+use Rattle.call_types.specs.declared.answer.Answer.{Answer}
+use Rattle.call_types.specs.declared.call.Call.{Call}
 use Rattle.call_model.specs.History.{or_else}
 use Rattle.call_model.specs.Generation.{Member, Actor, TheExtension, asks, is_ending, is_accepted, reports_exit}
 use Rattle.call_model.specs.Stand.{Role, ExtensionPoll}

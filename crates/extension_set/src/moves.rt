@@ -19,7 +19,7 @@ pub struct Moves {
 
 impl Model for Moves {
     ghost use Rattle.std.specs.Prelude.{ℕ, List, take, ◌≤◌};
-    ghost use Rattle.calls.specs.declared.answer.Answer.{Answer};
+    ghost use Rattle.call_types.specs.declared.answer.Answer.{Answer};
 
     ghost Value = { List (ℕ × Answer) };
 

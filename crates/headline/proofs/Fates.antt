@@ -2,10 +2,10 @@
 use Rattle.std.proofs.Common.{◌≡◌, ◌≤◌, ◌⊎◌, ℕ, Bool, true, false, cond, ◌+◌, ◌==◌, not, ◌&&◌, List, [], ◌∷◌, Option, Some, None, is_some, sym, refl, ◌∙◌, inl, inr, arith, true≢false, count_by, if◌then◌else◌}
 use Rattle.arn_ids.specs.Environments.{function_of}
 use Rattle.arn_ids.specs.declared.config.Config.{Config}
-use Rattle.calls.specs.declared.answer.Answer.{Answer}
-use Rattle.calls.specs.declared.call.Call.{Call}
-use Rattle.calls.specs.declared.call.Call.TheVariants.{Invoke}
-use Rattle.calls.specs.declared.call.Entry.{Entry}
+use Rattle.call_types.specs.declared.answer.Answer.{Answer}
+use Rattle.call_types.specs.declared.call.Call.{Call}
+use Rattle.call_types.specs.declared.call.Call.TheVariants.{Invoke}
+use Rattle.call_types.specs.declared.call.Entry.{Entry}
 use Rattle.call_model.specs.History.{answer_in, answer_of, answered, call_of, is_expiry, is_invoke_of, or_else, pending, place_of}
 use Rattle.call_model.specs.Laws.{times}
 use Rattle.call_model.specs.Life.{phase}

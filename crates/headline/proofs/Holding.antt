@@ -3,10 +3,10 @@ use Rattle.std.proofs.Common.{◌≡◌, ℕ, true, false, List, [], ◌∷◌, 
 use Rattle.arn_ids.specs.Faults.{first_fault}
 use Rattle.arn_ids.specs.declared.config.Config.{Config}
 use Rattle.arn_ids.proofs.Bounds.{reserved_within}
-use Rattle.calls.specs.declared.answer.Throttle.TheVariants.{Environments as ByEnvironments}
-use Rattle.calls.specs.declared.call.Call.TheVariants.{Tick}
-use Rattle.calls.specs.declared.call.Entry.{Entry}
-use Rattle.calls.specs.declared.stats.Stats.{Stats}
+use Rattle.call_types.specs.declared.answer.Throttle.TheVariants.{Environments as ByEnvironments}
+use Rattle.call_types.specs.declared.call.Call.TheVariants.{Tick}
+use Rattle.call_types.specs.declared.call.Entry.{Entry}
+use Rattle.call_types.specs.declared.stats.Stats.{Stats}
 use Rattle.call_model.specs.Counts.{stats}
 use Rattle.call_model.specs.Laws.{admits}
 use Rattle.call_model.specs.Life.{concerns, names, stand}

@@ -2,8 +2,8 @@
 use Rattle.std.specs.Prelude.{◌≡◌, ◌≤◌, ◌⊎◌, ℕ, true, false, List, ◌∷◌, ◌++◌, Some, None}
 use Rattle.arn_ids.specs.Environments.{function_of}
 use Rattle.arn_ids.specs.declared.config.Config.{Config}
-use Rattle.calls.specs.declared.call.Entry.{Entry}
-use Rattle.calls.specs.declared.stats.Stats.{Stats}
+use Rattle.call_types.specs.declared.call.Entry.{Entry}
+use Rattle.call_types.specs.declared.stats.Stats.{Stats}
 use Rattle.call_model.specs.Counts.{stats}
 use Rattle.call_model.specs.History.{call_of, is_invoke_of, pending, place_of}
 use Rattle.call_model.specs.Laws.{admits, times}

@@ -3,9 +3,9 @@
 ghost use Rattle.std.specs.Prelude.{◌≡◌, ℕ, true, List, ◌∷◌, Some, None};
 ghost use Rattle.arn_ids.specs.Faults.{first_fault};
 ghost use Rattle.arn_ids.specs.declared.config.Config.{Config};
-ghost use Rattle.calls.specs.declared.answer.Throttle.TheVariants.{Environments as ByEnvironments};
-ghost use Rattle.calls.specs.declared.call.Call.TheVariants.{Tick};
-ghost use Rattle.calls.specs.declared.call.Entry.{Entry};
+ghost use Rattle.call_types.specs.declared.answer.Throttle.TheVariants.{Environments as ByEnvironments};
+ghost use Rattle.call_types.specs.declared.call.Call.TheVariants.{Tick};
+ghost use Rattle.call_types.specs.declared.call.Entry.{Entry};
 ghost use Rattle.call_model.specs.Counts.{stats};
 ghost use Rattle.call_model.specs.Life.{stand};
 ghost use Rattle.call_model.specs.Limits.{reservation, verdict, Refuses};

@@ -6,14 +6,14 @@ use Rattle.http.specs.declared.request.Parts.{Parts}
 use Rattle.arn_ids.specs.Words.{is_label}
 use Rattle.arn_ids.specs.Environments.{function_of}
 use Rattle.arn_ids.specs.declared.config.Config.{Config}
-use Rattle.calls.specs.declared.call.Call.{Call}
-use Rattle.calls.specs.declared.call.Call.TheVariants as call
+use Rattle.call_types.specs.declared.call.Call.{Call}
+use Rattle.call_types.specs.declared.call.Call.TheVariants as call
 use Rattle.lambda_wire.specs.Requests.{read_payload, read_count, read_events}
 use Rattle.lambda_wire.specs.declared.request_reader.Events.{Events}
 use Rattle.lambda_wire.specs.declared.fault.WireFault.{WireFault}
 use Rattle.lambda_wire.specs.declared.fault.WireFault.TheVariants as wire
 use Rattle.arn_ids.specs.Limits.{longest_body, greatest_reservation}
-use Rattle.calls.specs.Within.{is_body, IsEnv, IsFunction, IsCount, IsTrace, IsWithin}
+use Rattle.call_types.specs.Within.{is_body, IsEnv, IsFunction, IsCount, IsTrace, IsWithin}
 use Rattle.decisions.specs.Decisions.{IsAllowed}
 use Rattle.decisions.specs.declared.decide.Decision.{Decision}
 use Rattle.decisions.specs.declared.decide.Decision.TheVariants.{Submit, Show}

@@ -27,7 +27,7 @@ use Rattle.lambda_wire.specs.declared.fault.WireFault.{WireFault}
 use Rattle.lambda_wire.specs.declared.fault.WireFault.TheVariants as wire
 use Rattle.arn_ids.specs.Numbers.{digits_in, number_in, from_one, env_in}
 use Rattle.arn_ids.specs.Limits.{longest_body, greatest_reservation}
-use Rattle.calls.specs.Within.{is_body, is_trace, IsEnv, IsFunction, IsCount, IsTrace}
+use Rattle.call_types.specs.Within.{is_body, is_trace, IsEnv, IsFunction, IsCount, IsTrace}
 use Rattle.http_routes.specs.Paths.{path_part}
 use Rattle.http_routes.specs.Heads.{header, header_text, that, trace_of}
 use Rattle.http_routes.specs.Identifiers.{count_of, of_request, of_extension, identifier_in, request_count, extension_count, request_of, extension_of}

@@ -5,7 +5,7 @@ use Rattle.http.specs.Uri.{uri_path}
 use Rattle.http.specs.declared.request.Parts.{Parts}
 use Rattle.arn_ids.specs.declared.config.Config.{Config}
 use Rattle.arn_ids.specs.Numbers.{env_in}
-use Rattle.calls.specs.declared.call.Call.TheVariants as call
+use Rattle.call_types.specs.declared.call.Call.TheVariants as call
 use Rattle.lambda_wire.specs.Requests.{read_payload, read_count}
 use Rattle.lambda_wire.specs.declared.fault.WireFault.{WireFault}
 use Rattle.lambda_wire.specs.declared.fault.WireFault.TheVariants.{TooLong, NotJson, BadShape, BadEvent, OutOfMemory}

@@ -2,7 +2,7 @@
 use Rattle.std.specs.Prelude.{ℕ, List}
 use Rattle.http.specs.declared.request.Parts.{Parts}
 use Rattle.arn_ids.specs.declared.config.Config.{Config}
-use Rattle.calls.specs.Within.{IsEnv}
+use Rattle.call_types.specs.Within.{IsEnv}
 use Rattle.decisions.specs.declared.decide.Decision.{Decision}
 use Rattle.http_routes.specs.EnvironmentDecisions.{environment_decision}
 use Rattle.http_routes.specs.AccountDecisions.{account_decision}

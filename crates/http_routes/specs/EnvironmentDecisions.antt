@@ -6,8 +6,8 @@ use Rattle.http.specs.declared.request.Parts.{Parts}
 use Rattle.arn_ids.specs.Environments.{function_of}
 use Rattle.arn_ids.specs.Limits.{longest_body}
 use Rattle.arn_ids.specs.declared.config.Config.{Config}
-use Rattle.calls.specs.declared.call.Call.{Call}
-use Rattle.calls.specs.declared.call.Call.TheVariants as call
+use Rattle.call_types.specs.declared.call.Call.{Call}
+use Rattle.call_types.specs.declared.call.Call.TheVariants as call
 use Rattle.lambda_wire.specs.Requests.{read_events}
 use Rattle.lambda_wire.specs.declared.request_reader.Events.{Events}
 use Rattle.lambda_wire.specs.declared.fault.WireFault.{WireFault}

@@ -5,7 +5,7 @@ use Rattle.http.specs.HeaderMap.{get}
 use Rattle.http.specs.Token.{is_visible_or_blank}
 use Rattle.http.specs.declared.request.Parts.{Parts}
 use Rattle.arn_ids.specs.Words.{is_label}
-use Rattle.calls.specs.Within.{is_trace}
+use Rattle.call_types.specs.Within.{is_trace}
 
 -- the bytes of the first header of a name, which is given in lower case
 abbrev pub header : List ℕ → Parts → Option (List ℕ)

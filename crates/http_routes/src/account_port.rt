@@ -17,7 +17,7 @@ use crate::refusals::{
 use crate::routes::{AccountRoute, account_route};
 use arn_ids::{Checked, EnvNo, FnNo, read_environment};
 use bytes::Bytes;
-use calls::Call;
+use call_types::Call;
 use decisions::{Decision, Shown};
 use http::request::Parts;
 use lambda_wire::{PayloadScratch, WireFault, read_invoke_body, read_reservation};

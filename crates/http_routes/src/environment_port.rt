@@ -1,8 +1,8 @@
 //! What is done with a request on an environment's port.
 
 ghost use Rattle.std.specs.Prelude.{◌≡◌, IfOk};
-ghost use Rattle.calls.specs.Within.{IsEnv};
-ghost use Rattle.calls.specs.declared.call.Call.TheVariants as calls;
+ghost use Rattle.call_types.specs.Within.{IsEnv};
+ghost use Rattle.call_types.specs.declared.call.Call.TheVariants as calls;
 ghost use Rattle.http_routes.specs.EnvironmentDecisions as spec;
 ghost use Rattle.http_routes.specs.Routes.{environment_rows};
 
@@ -15,7 +15,7 @@ use crate::refusals::{
 use crate::routes::{EnvironmentRoute, environment_route};
 use arn_ids::{Checked, EnvNo, LONGEST_BODY, Text};
 use bytes::Bytes;
-use calls::Call;
+use call_types::Call;
 use decisions::Decision;
 use http::request::Parts;
 use lambda_wire::{WireFault, read_register};

@@ -1,7 +1,7 @@
 -- A settled account's counts, of one of two configurations that are the same.
 use Rattle.std.proofs.Common.{◌≡◌, List, Result, Ok, Err, IfOk, sym, subst}
 use Rattle.arn_ids.specs.declared.config.Config.{Config}
-use Rattle.calls.specs.declared.stats.Stats.{Stats}
+use Rattle.call_types.specs.declared.stats.Stats.{Stats}
 use Rattle.usage_ledger.specs.Tallies.{Tallied}
 use Rattle.lambda_local.specs.Ending.{AreSettled}
 

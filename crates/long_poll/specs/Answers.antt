@@ -1,8 +1,8 @@
 -- What a poll may give.
 use Rattle.std.specs.Prelude.{ℕ, List, Result, Ok, Err}
-use Rattle.calls.specs.declared.call.Entry.{Entry}
+use Rattle.call_types.specs.declared.call.Entry.{Entry}
 use Rattle.long_poll.specs.declared.service.Service as Service
-use Rattle.calls.specs.declared.answer.Answer.{Answer}
+use Rattle.call_types.specs.declared.answer.Answer.{Answer}
 use Rattle.account_lock.specs.declared.desk.Look.{Look}
 use Rattle.account_lock.specs.declared.desk.Look.TheVariants.{Given, Waiting}
 

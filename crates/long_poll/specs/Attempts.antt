@@ -1,6 +1,6 @@
 -- What came of an attempt to submit a call.
 use Rattle.std.specs.Prelude.{◌≡◌}
-use Rattle.calls.specs.declared.call.Call.{Call}
+use Rattle.call_types.specs.declared.call.Call.{Call}
 use Rattle.long_poll.specs.Exchanges.{Submitted}
 use Rattle.long_poll.specs.declared.bell.OneShotBell.{OneShotBell}
 use Rattle.long_poll.specs.declared.clock.Clock as Clock

@@ -1,8 +1,8 @@
 -- What an exchange may give.
 use Rattle.std.specs.Prelude.{◌≡◌, ◌⊎◌, ℕ, List, Option, Some, None, Result, Ok, Err}
 use Rattle.account_lock.specs.declared.desk.Refused.{Refused}
-use Rattle.calls.specs.declared.call.Call.{Call}
-use Rattle.calls.specs.declared.call.Entry.{Entry}
+use Rattle.call_types.specs.declared.call.Call.{Call}
+use Rattle.call_types.specs.declared.call.Entry.{Entry}
 use Rattle.futures.specs.Runs.{Runs}
 use Rattle.http.specs.declared.request.Parts.{Parts}
 use Rattle.http_body.specs.declared.frame.Frame.{Frame}
@@ -11,7 +11,7 @@ use Rattle.usage_ledger.specs.Tallies.{Held}
 use Rattle.long_poll.specs.Bodies.{Reads, Fails}
 use Rattle.long_poll.specs.Moments.{moment_of}
 use Rattle.long_poll.specs.Ringing.{rings_at, hears_at}
-use Rattle.calls.specs.Calls.{is_invoke}
+use Rattle.call_types.specs.Calls.{is_invoke}
 use Rattle.long_poll.specs.Refusals.{refusal_reply}
 use Rattle.long_poll.specs.Views.{stats_reply, reservation_reply}
 use Rattle.long_poll.specs.declared.bell.Heard.{Heard}

@@ -1,6 +1,6 @@
 -- What a body that shows a history gives.
 use Rattle.std.specs.Prelude.{◌≡◌, ℕ, ◌+◌, ⊤, List, [], ◌∷◌, Option, Some, None, Result, Ok, Err}
-use Rattle.calls.specs.declared.call.Entry.{Entry as Taken}
+use Rattle.call_types.specs.declared.call.Entry.{Entry as Taken}
 use Rattle.http_body.specs.declared.frame.Frame.{Frame}
 use Rattle.http_body.specs.Frame.{data_frame}
 use Rattle.long_poll.specs.declared.history_body.Stage.{Stage}

@@ -3,7 +3,7 @@ use Rattle.std.specs.Prelude.{◌≡◌, Option, Result, Ok, Err}
 use Rattle.account_lock.specs.declared.desk.Refused.{Refused}
 use Rattle.account_lock.specs.declared.offering.Declined.{Declined}
 use Rattle.account_lock.specs.declared.offering.Declined.TheVariants as declined
-use Rattle.calls.specs.declared.call.Call.{Call}
+use Rattle.call_types.specs.declared.call.Call.{Call}
 use Rattle.usage_ledger.specs.Tallies.{Held}
 
 -- It is submitted, and this is what came back and what the tally holds then; or it is premature, comes back with its

@@ -1,11 +1,11 @@
 -- What a submit to an account says.
 use Rattle.std.specs.Prelude.{ℕ, ◌≡◌, ◌+◌, List, Option, Result, Ok, Err}
-use Rattle.calls.specs.declared.answer.Answer.{Answer}
+use Rattle.call_types.specs.declared.answer.Answer.{Answer}
 use Rattle.arn_ids.specs.declared.config.Config.{Config}
-use Rattle.calls.specs.declared.call.Call.{Call}
-use Rattle.calls.specs.declared.call.Entry.{Entry}
-use Rattle.calls.specs.declared.head.Head.{Head}
-use Rattle.calls.specs.Heads.{head_of}
+use Rattle.call_types.specs.declared.call.Call.{Call}
+use Rattle.call_types.specs.declared.call.Entry.{Entry}
+use Rattle.call_types.specs.declared.head.Head.{Head}
+use Rattle.call_types.specs.Heads.{head_of}
 use Rattle.usage_ledger.specs.Keeping.{Kept, Steps}
 use Rattle.usage_ledger.specs.Tallies.{Held}
 use Rattle.account_lock.specs.Shown.{IsTaken}

@@ -1,6 +1,6 @@
 -- What is shown of an account.
 use Rattle.std.specs.Prelude.{ℕ, List, [], ◌∷◌, ◌++◌, codes, decimal, Option}
-use Rattle.calls.specs.declared.stats.Stats.{Stats}
+use Rattle.call_types.specs.declared.stats.Stats.{Stats}
 use Rattle.serde_json.specs.Data.{Data, number, unsigned, object, member, no_members}
 use Rattle.http_header.specs.FieldValue.{FieldValue}
 use Rattle.lambda_wire.specs.Bodies.{reservation_text}

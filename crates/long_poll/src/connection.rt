@@ -2,7 +2,7 @@
 
 ghost use Rattle.std.specs.Prelude.{◌≡◌, ◌≤◌, IfOk, IfErr};
 ghost use Rattle.std.specs.Arc.{arc_value};
-ghost use Rattle.calls.specs.Within.{IsWithin};
+ghost use Rattle.call_types.specs.Within.{IsWithin};
 ghost use Rattle.futures.specs.Task.{Covers, Keeps};
 ghost use Rattle.futures.specs.Poll.{IfReady, OnPending};
 ghost use Rattle.long_poll.specs.Exchanges.{Submitted, IsBegun, HasBegun, Renders, RendersOnce, shown};

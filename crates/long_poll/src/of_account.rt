@@ -4,7 +4,7 @@ ghost use Rattle.std.specs.Prelude.{◌≡◌, ◌<◌, ◌^◌, ℕ, [], IfOk};
 ghost use Rattle.call_model.specs.Counts.{stats};
 ghost use Rattle.call_model.specs.History.{answer_of};
 ghost use Rattle.call_model.specs.Limits.{reservation};
-ghost use Rattle.calls.specs.Within.{IsWithin, IsFunction};
+ghost use Rattle.call_types.specs.Within.{IsWithin, IsFunction};
 ghost use Rattle.account_book.specs.HistoryText.{opening_text};
 ghost use Rattle.account_book.specs.ReplyText.{reply_text};
 ghost use Rattle.account_lock.specs.Looks.{look_of};

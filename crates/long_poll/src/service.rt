@@ -2,11 +2,11 @@
 
 ghost use Rattle.std.specs.Prelude.{◌≡◌, ◌<◌, ◌^◌, ℕ, List, Option, Result, IfOk, option_map};
 ghost use Rattle.arn_ids.specs.declared.config.Config.{Config};
-ghost use Rattle.calls.specs.declared.call.Call.{Call as Called};
-ghost use Rattle.calls.specs.declared.call.Entry.{Entry};
-ghost use Rattle.calls.specs.declared.stats.Stats.{Stats as Counted};
+ghost use Rattle.call_types.specs.declared.call.Call.{Call as Called};
+ghost use Rattle.call_types.specs.declared.call.Entry.{Entry};
+ghost use Rattle.call_types.specs.declared.stats.Stats.{Stats as Counted};
 ghost use Rattle.lambda_wire.specs.declared.reply.Reply.{Reply as Replied};
-ghost use Rattle.calls.specs.Within.{IsWithin, IsFunction};
+ghost use Rattle.call_types.specs.Within.{IsWithin, IsFunction};
 ghost use Rattle.usage_ledger.specs.Tallies.{Held};
 ghost use Rattle.account_lock.specs.declared.desk.Look.{Look as Seen};
 ghost use Rattle.account_lock.specs.declared.desk.Refused.{Refused as Back};

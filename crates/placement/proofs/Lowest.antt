@@ -4,9 +4,9 @@ use Rattle.std.specs.List.{find, position, position_or_len}
 use Rattle.std.proofs.lemmas.Bool.Decides.{nat_tests}
 use Rattle.arn_ids.specs.declared.config.Config.{Config}
 use Rattle.arn_ids.specs.Environments.{function_of, count_from, owners}
-use Rattle.calls.specs.declared.answer.Phase.{Phase}
-use Rattle.calls.specs.declared.answer.Phase.TheVariants as phases
-use Rattle.calls.specs.declared.call.Entry.{Entry}
+use Rattle.call_types.specs.declared.answer.Phase.{Phase}
+use Rattle.call_types.specs.declared.answer.Phase.TheVariants as phases
+use Rattle.call_types.specs.declared.call.Entry.{Entry}
 use Rattle.call_model.specs.History.{or_else}
 use Rattle.call_model.specs.Life.{phase, life}
 use Rattle.call_model.specs.Limits.{lowest, place, is_free_starting, is_free_closing}

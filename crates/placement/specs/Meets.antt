@@ -2,7 +2,7 @@
 use Rattle.std.specs.Prelude.{ℕ, List, map}
 use Rattle.arn_ids.specs.declared.config.Config.{Config}
 use Rattle.arn_ids.specs.Environments.{environments, function_of}
-use Rattle.calls.specs.declared.call.Entry.{Entry}
+use Rattle.call_types.specs.declared.call.Entry.{Entry}
 use Rattle.call_model.specs.Life.{phase}
 use Rattle.placement.specs.declared.places.Place.{Place}
 use Rattle.placement.specs.Class.{class_of}

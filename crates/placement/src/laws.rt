@@ -2,7 +2,7 @@
 
 ghost use Rattle.std.specs.Prelude.{◌≡◌, ℕ, List, []};
 ghost use Rattle.arn_ids.specs.declared.config.Config.{Config};
-ghost use Rattle.calls.specs.declared.call.Entry.{Entry};
+ghost use Rattle.call_types.specs.declared.call.Entry.{Entry};
 ghost use Rattle.call_model.specs.Limits.{place};
 ghost use Rattle.placement.specs.Places.{opened, place_among};
 ghost use Rattle.placement.specs.Meets.{places};

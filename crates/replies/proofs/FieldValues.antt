@@ -12,7 +12,7 @@ use Rattle.uuid.proofs.TextLemmas.{by_index_at, by_index_length, nibble_small}
 use Rattle.arn_ids.specs.Words.{is_digit, is_name_byte, is_region_byte, is_printable, is_word}
 use Rattle.arn_ids.specs.Identifiers.{identifier_of, id_word}
 use Rattle.arn_ids.specs.declared.identifiers.IdKind.{IdKind}
-use Rattle.calls.specs.Within.{is_trace}
+use Rattle.call_types.specs.Within.{is_trace}
 use Rattle.arn_ids.specs.Environments.{function_at}
 use Rattle.arn_ids.specs.Faults.{first_fault}
 use Rattle.arn_ids.specs.Grammar.{qualifier_text}
@@ -20,9 +20,9 @@ use Rattle.arn_ids.specs.declared.config.Config.{Config}
 use Rattle.arn_ids.specs.declared.config.Function.{Function}
 use Rattle.std.proofs.lemmas.Bool.{ltb-true, ltb-false}
 use Rattle.arn_ids.proofs.Bounds.{name_is, account_is, region_is}
-use Rattle.calls.specs.declared.call.Call.{Call}
-use Rattle.calls.specs.declared.answer.Rejection.{Rejection}
-use Rattle.calls.specs.declared.answer.Rejection.TheVariants.{State, Replaced, BadId, Unknown, TooLarge, Container, NameInUse, TooMany, NotIdle, BadReservation}
+use Rattle.call_types.specs.declared.call.Call.{Call}
+use Rattle.call_types.specs.declared.answer.Rejection.{Rejection}
+use Rattle.call_types.specs.declared.answer.Rejection.TheVariants.{State, Replaced, BadId, Unknown, TooLarge, Container, NameInUse, TooMany, NotIdle, BadReservation}
 use Rattle.replies.specs.Words.{function_number, invoked_function, is_qualified, arn_text, no_trace}
 use Rattle.replies.specs.Refusals.{refusal_words}
 use Rattle.replies.proofs.NoFunction.{beyond}

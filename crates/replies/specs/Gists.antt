@@ -1,9 +1,9 @@
 -- What a caller hands in, as the definitions see it.
 use Rattle.std.specs.Prelude.{Some}
-use Rattle.calls.specs.declared.call.Call.{Call}
-use Rattle.calls.specs.declared.call.Call.TheVariants.{Invoke}
+use Rattle.call_types.specs.declared.call.Call.{Call}
+use Rattle.call_types.specs.declared.call.Call.TheVariants.{Invoke}
 use Rattle.call_model.specs.Isolation.{Gist as GistOfTicket}
-use Rattle.calls.specs.Within.{IsTrace}
+use Rattle.call_types.specs.Within.{IsTrace}
 use Rattle.replies.specs.declared.gist.Gist.{Gist}
 
 -- the gist of an answered ticket

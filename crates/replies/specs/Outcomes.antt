@@ -5,12 +5,12 @@ use Rattle.lambda_wire.specs.Headers.{json_headers, invoke_headers, error_header
 use Rattle.lambda_wire.specs.declared.body_writer.InvokeFault.TheVariants.{Service}
 use Rattle.lambda_wire.specs.declared.reply.Reply.{Reply}
 use Rattle.arn_ids.specs.declared.config.Config.{Config}
-use Rattle.calls.specs.declared.call.Call.{Call}
-use Rattle.calls.specs.declared.call.Call.TheVariants.{Invoke}
-use Rattle.calls.specs.declared.answer.Throttle.{Throttle}
+use Rattle.call_types.specs.declared.call.Call.{Call}
+use Rattle.call_types.specs.declared.call.Call.TheVariants.{Invoke}
+use Rattle.call_types.specs.declared.answer.Throttle.{Throttle}
 use Rattle.call_model.specs.Isolation.{Gist}
-use Rattle.calls.specs.Calls.{body_of}
-use Rattle.calls.specs.Words.{throttle_word}
+use Rattle.call_types.specs.Calls.{body_of}
+use Rattle.call_types.specs.Words.{throttle_word}
 use Rattle.replies.specs.Words.{request_text, invoked_function}
 
 -- The invocation ran: the bytes of the report, marked where they tell of a failure (Lambda API, Invoke: Response Elements).

@@ -5,10 +5,10 @@ use Rattle.lambda_wire.specs.Headers.{next_headers, event_headers, registered_he
 use Rattle.lambda_wire.specs.declared.reply.Reply.{Reply}
 use Rattle.arn_ids.specs.declared.config.Config.{Config}
 use Rattle.arn_ids.specs.declared.identifiers.IdKind.TheVariants.{Extension, Event}
-use Rattle.calls.specs.declared.answer.Reason.{Reason}
+use Rattle.call_types.specs.declared.answer.Reason.{Reason}
 use Rattle.call_model.specs.Isolation.{Gist}
-use Rattle.calls.specs.Calls.{body_of}
-use Rattle.calls.specs.Words.{reason_word}
+use Rattle.call_types.specs.Calls.{body_of}
+use Rattle.call_types.specs.Words.{reason_word}
 use Rattle.replies.specs.Words.{request_text, env_text, env_function, arn_text, trace_text, account_text}
 
 -- An invocation is delivered to a runtime: the payload of its Invoke as it stands (Runtime API, Next invocation).

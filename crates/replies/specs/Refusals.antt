@@ -4,8 +4,8 @@ use Rattle.std.specs.Prelude.{ℕ, List, codes}
 use Rattle.lambda_wire.specs.Replies.{fault_reply, invoke_fault_reply}
 use Rattle.lambda_wire.specs.declared.body_writer.InvokeFault.TheVariants.{User}
 use Rattle.lambda_wire.specs.declared.reply.Reply.{Reply}
-use Rattle.calls.specs.declared.answer.Rejection.{Rejection}
-use Rattle.calls.specs.declared.answer.Rejection.TheVariants.{State, Replaced, BadId, Unknown, TooLarge, Container, NameInUse, TooMany, NotIdle, BadReservation}
+use Rattle.call_types.specs.declared.answer.Rejection.{Rejection}
+use Rattle.call_types.specs.declared.answer.Rejection.TheVariants.{State, Replaced, BadId, Unknown, TooLarge, Container, NameInUse, TooMany, NotIdle, BadReservation}
 
 -- The status, the type and the message of a refusal.
 abbrev pub refusal_words : Rejection → ℕ × List ℕ × List ℕ

@@ -2,8 +2,8 @@
 use Rattle.std.specs.Prelude.{ℕ, true, false, Option, option_map}
 use Rattle.lambda_wire.specs.declared.reply.Reply.{Reply}
 use Rattle.arn_ids.specs.declared.config.Config.{Config}
-use Rattle.calls.specs.declared.answer.Answer.{Answer}
-use Rattle.calls.specs.declared.answer.Answer.TheVariants.{Delivered, Told, Ending, Registered, Accepted, Done, Output, Error, TimedOut, InitTimedOut, OutputTooLarge, Throttled, Stopped, Withdrawn, Refused, Reserved, Unreserved}
+use Rattle.call_types.specs.declared.answer.Answer.{Answer}
+use Rattle.call_types.specs.declared.answer.Answer.TheVariants.{Delivered, Told, Ending, Registered, Accepted, Done, Output, Error, TimedOut, InitTimedOut, OutputTooLarge, Throttled, Stopped, Withdrawn, Refused, Reserved, Unreserved}
 use Rattle.call_model.specs.Isolation.{Gist}
 use Rattle.replies.specs.Refusals.{refused, withdrawn}
 use Rattle.replies.specs.Polls.{delivery, invoke_event, shutdown_event, registration}

@@ -6,9 +6,9 @@ use Rattle.arn_ids.specs.declared.config.Config.{Config}
 use Rattle.arn_ids.specs.declared.config.Function.{Function}
 use Rattle.arn_ids.specs.declared.identifiers.IdKind.{IdKind}
 use Rattle.arn_ids.specs.declared.identifiers.IdKind.TheVariants.{Request}
-use Rattle.calls.specs.declared.call.Call.{Call}
-use Rattle.calls.specs.declared.call.Call.TheVariants.{Invoke, Register}
-use Rattle.calls.specs.Calls.{env_of, invoked}
+use Rattle.call_types.specs.declared.call.Call.{Call}
+use Rattle.call_types.specs.declared.call.Call.TheVariants.{Invoke, Register}
+use Rattle.call_types.specs.Calls.{env_of, invoked}
 use Rattle.arn_ids.specs.Identifiers.{id_word}
 
 -- the number of the function that a call invokes; 0 for a call that is no Invoke

@@ -2,7 +2,7 @@
 
 ghost use Rattle.std.specs.Prelude.{◌≡◌, IfOk};
 ghost use Rattle.http_header.specs.FieldValue.{IsFieldValue};
-ghost use Rattle.calls.specs.Calls.{body_of};
+ghost use Rattle.call_types.specs.Calls.{body_of};
 ghost use Rattle.replies.specs.Gists.{IsTraced};
 ghost use Rattle.replies.specs.Words as spec;
 

@@ -1,6 +1,6 @@
 -- What is left of a line has at least one field.
 use Rattle.std.proofs.Common.{◌≡◌, ℕ, ◌==◌, List, ◌∷◌, None, refl}
-use Rattle.calls.specs.declared.call.Call.{Call}
+use Rattle.call_types.specs.declared.call.Call.{Call}
 use Rattle.script.specs.Lines.{fields, one_field, alone}
 use Rattle.arn_ids.proofs.Pieces.{pieces_begin}
 

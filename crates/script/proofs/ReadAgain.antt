@@ -7,15 +7,15 @@ use Rattle.arn_ids.specs.Environments.{owners, function_at}
 use Rattle.arn_ids.specs.Faults.{first_fault}
 use Rattle.arn_ids.specs.declared.config.Config.{Config}
 use Rattle.arn_ids.proofs.Bounds.{environments_256, name_is, named_once}
-use Rattle.calls.specs.declared.call.Call.{Call}
-use Rattle.calls.specs.declared.call.Call.TheVariants.{Invoke, RuntimeNext, Response, ResponseTooLarge, Failure, InitFailure, Register, ExtNext, ExtInitFailure, ExtExitFailure, Tick, Withdraw, Spindown, Stop, Expire, Reserve}
+use Rattle.call_types.specs.declared.call.Call.{Call}
+use Rattle.call_types.specs.declared.call.Call.TheVariants.{Invoke, RuntimeNext, Response, ResponseTooLarge, Failure, InitFailure, Register, ExtNext, ExtInitFailure, ExtExitFailure, Tick, Withdraw, Spindown, Stop, Expire, Reserve}
 use Rattle.arn_ids.specs.Numbers.{number_in, env_in}
 use Rattle.arn_ids.specs.Limits.{greatest_moment, greatest_count, greatest_ticket, greatest_reservation}
-use Rattle.calls.specs.Within.{is_body, is_trace, IsEnv, IsFunction, IsCount, IsTrace, IsReservation, IsWithin}
+use Rattle.call_types.specs.Within.{is_body, is_trace, IsEnv, IsFunction, IsCount, IsTrace, IsReservation, IsWithin}
 use Rattle.script.specs.TextFields.{text_field, text_that, body_in, name_in, trace_in}
 use Rattle.script.specs.Lines.{count_in, flag_in, events_in, reservation_in, invoke_in, lone_env_in, env_and_count_in, report_in, init_failure_in, register_in, withdraw_in, reserve_in, extension_call_in, runtime_call_in, call_by_word, timed_call_in, call_in}
 use Rattle.script.specs.CallText.{before_moment, flag, or_dash, events, reservation, call_words, call_text}
-use Rattle.calls.specs.Calls.{body_of}
+use Rattle.call_types.specs.Calls.{body_of}
 use Rattle.script.proofs.NumberLemmas.{number_again}
 use Rattle.arn_ids.proofs.Printable.{both, ascii_from_printable}
 use Rattle.script.proofs.TextFieldLemmas.{decoded_again}

@@ -4,12 +4,12 @@ use Rattle.std.specs.List.{flat_map}
 use Rattle.std.proofs.lemmas.Bool.Decides.{nat_tests}
 use Rattle.arn_ids.specs.declared.identifiers.IdKind.{IdKind}
 use Rattle.arn_ids.specs.declared.identifiers.IdKind.TheVariants.{Request, Extension, Event}
-use Rattle.calls.specs.declared.call.Call.{Call}
-use Rattle.calls.specs.declared.call.Entry.{Entry}
-use Rattle.calls.specs.declared.answer.Answer.{Answer}
-use Rattle.calls.specs.declared.answer.Answer.TheVariants.{Delivered, Told, Ending, Registered, Accepted, Done, Output, Error, TimedOut, InitTimedOut, OutputTooLarge, Throttled, Stopped, Withdrawn, Refused, Reserved, Unreserved}
+use Rattle.call_types.specs.declared.call.Call.{Call}
+use Rattle.call_types.specs.declared.call.Entry.{Entry}
+use Rattle.call_types.specs.declared.answer.Answer.{Answer}
+use Rattle.call_types.specs.declared.answer.Answer.TheVariants.{Delivered, Told, Ending, Registered, Accepted, Done, Output, Error, TimedOut, InitTimedOut, OutputTooLarge, Throttled, Stopped, Withdrawn, Refused, Reserved, Unreserved}
 use Rattle.call_model.specs.History.{call_of, upto}
-use Rattle.calls.specs.Calls.{env_of, invoked, body_of}
+use Rattle.call_types.specs.Calls.{env_of, invoked, body_of}
 use Rattle.call_model.specs.Isolation.{named}
 use Rattle.call_model.proofs.AfterEntry.{call_of_old}
 use Rattle.call_model.proofs.NamedTickets.{IsBounded}
@@ -17,7 +17,7 @@ use Rattle.script.specs.CallText.{line_of}
 use Rattle.call_model.specs.CallCounts.{request_count}
 use Rattle.script.specs.TextFields.{text_field}
 use Rattle.arn_ids.specs.Identifiers.{id_word}
-use Rattle.calls.specs.Words.{reason_word}
+use Rattle.call_types.specs.Words.{reason_word}
 use Rattle.script.specs.AnswerText.{body_word, request_word, env_word, answer_words, answer_line, answer_lines}
 
 upto_old : (e : Entry) (h : List Entry) (t : ℕ) → t < length h → upto (e ∷ h) t ≡ upto h t

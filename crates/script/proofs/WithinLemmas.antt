@@ -7,11 +7,11 @@ use Rattle.arn_ids.specs.Words.{is_digit, is_label}
 use Rattle.arn_ids.specs.Environments.{owners, number_named}
 use Rattle.arn_ids.specs.declared.config.Config.{Config}
 use Rattle.arn_ids.specs.declared.config.Function.{Function}
-use Rattle.calls.specs.declared.call.Call.{Call}
-use Rattle.calls.specs.declared.call.Call.TheVariants.{Tick, Stop}
+use Rattle.call_types.specs.declared.call.Call.{Call}
+use Rattle.call_types.specs.declared.call.Call.TheVariants.{Tick, Stop}
 use Rattle.arn_ids.specs.Numbers.{digits_in, number_in, from_one, env_in}
 use Rattle.arn_ids.specs.Limits.{greatest_moment, greatest_count, greatest_ticket, greatest_reservation}
-use Rattle.calls.specs.Within.{is_body, is_trace, IsEnv, IsFunction, IsCount, IsTrace, IsReservation, IsWithin, IsTimed}
+use Rattle.call_types.specs.Within.{is_body, is_trace, IsEnv, IsFunction, IsCount, IsTrace, IsReservation, IsWithin, IsTimed}
 use Rattle.script.specs.TextFields.{text_in, text_that, body_in, name_in, trace_in}
 use Rattle.script.specs.Lines.{fields, one_field, two_fields, three_fields, four_fields, alone, count_in, flag_in, events_in, reservation_in, invoke_in, lone_env_in, env_and_count_in, report_in, init_failure_in, register_in, withdraw_in, reserve_in, extension_call_in, runtime_call_in, call_by_word, timed_call_in, call_in}
 

@@ -5,14 +5,14 @@ use Rattle.arn_ids.specs.Identifiers.{id_word}
 use Rattle.arn_ids.specs.declared.identifiers.IdKind.{IdKind}
 use Rattle.arn_ids.specs.declared.identifiers.IdKind.TheVariants.{Request, Extension, Event}
 use Rattle.arn_ids.specs.declared.config.Config.{Config}
-use Rattle.calls.specs.declared.call.Entry.{Entry}
-use Rattle.calls.specs.declared.answer.Answer.{Answer}
-use Rattle.calls.specs.declared.answer.Answer.TheVariants.{Delivered, Told, Ending, Registered, Accepted, Done, Output, Error, TimedOut, InitTimedOut, OutputTooLarge, Throttled, Stopped, Withdrawn, Refused, Reserved, Unreserved}
-use Rattle.calls.specs.declared.answer.Rejection.{Rejection}
-use Rattle.calls.specs.declared.answer.Rejection.TheVariants.{State, Replaced, BadId, Unknown, TooLarge, Container, NameInUse, TooMany, NotIdle, BadReservation}
+use Rattle.call_types.specs.declared.call.Entry.{Entry}
+use Rattle.call_types.specs.declared.answer.Answer.{Answer}
+use Rattle.call_types.specs.declared.answer.Answer.TheVariants.{Delivered, Told, Ending, Registered, Accepted, Done, Output, Error, TimedOut, InitTimedOut, OutputTooLarge, Throttled, Stopped, Withdrawn, Refused, Reserved, Unreserved}
+use Rattle.call_types.specs.declared.answer.Rejection.{Rejection}
+use Rattle.call_types.specs.declared.answer.Rejection.TheVariants.{State, Replaced, BadId, Unknown, TooLarge, Container, NameInUse, TooMany, NotIdle, BadReservation}
 use Rattle.call_model.specs.History.{call_of, upto}
-use Rattle.calls.specs.Calls.{env_of, invoked, body_of}
-use Rattle.calls.specs.Words.{reason_word, throttle_word}
+use Rattle.call_types.specs.Calls.{env_of, invoked, body_of}
+use Rattle.call_types.specs.Words.{reason_word, throttle_word}
 use Rattle.script.specs.CallText.{line_of, call_text}
 use Rattle.call_model.specs.CallCounts.{request_count}
 use Rattle.script.specs.TextFields.{text_field}

@@ -4,7 +4,7 @@ use Rattle.std.specs.List.{flat_map}
 use Rattle.std.specs.Fmt.{digit_glyph}
 use Rattle.percent_encoding.specs.Percent.{percent_decode}
 use Rattle.arn_ids.specs.Words.{is_label}
-use Rattle.calls.specs.Within.{is_body, is_trace}
+use Rattle.call_types.specs.Within.{is_body, is_trace}
 
 -- a byte below 0x21, the percent sign, or a byte above 0x7E
 abbrev pub is_escaped : ℕ → Bool

@@ -6,8 +6,8 @@ use Rattle.script.specs.declared.words.Word.{Word}
 use Rattle.script.specs.declared.words.Word.TheVariants as words
 use Rattle.script.specs.TextFields.{text_field}
 use Rattle.script.specs.AnswerText.{answer_line}
-use Rattle.calls.specs.declared.call.Entry.{Entry}
-use Rattle.calls.specs.declared.answer.Answer.{Answer}
+use Rattle.call_types.specs.declared.call.Entry.{Entry}
+use Rattle.call_types.specs.declared.answer.Answer.{Answer}
 
 -- what a word is written as
 abbrev pub word_text : Word → List ℕ

@@ -3,7 +3,7 @@
 ghost use Rattle.std.specs.Prelude.{◌≡◌, codes, IfOk, IfSome};
 ghost use Rattle.script.specs.Lines as spec;
 ghost use Rattle.script.specs.Lines.{call_in};
-ghost use Rattle.calls.specs.Within.{IsTimed};
+ghost use Rattle.call_types.specs.Within.{IsTimed};
 ghost use Rattle.script.specs.Views.{fields_left};
 
 use crate::fields::{cut, four_fields, one_field, three_fields, two_fields};

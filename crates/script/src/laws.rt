@@ -3,10 +3,10 @@
 ghost use Rattle.std.specs.Prelude.{◌≡◌, ◌<◌, ◌≤◌, ℕ, true, Some, None, All};
 ghost use Rattle.arn_ids.specs.Faults.{first_fault};
 ghost use Rattle.arn_ids.specs.declared.config.Config.{Config};
-ghost use Rattle.calls.specs.declared.call.Call.{Call};
-ghost use Rattle.calls.specs.Calls.{body_of};
+ghost use Rattle.call_types.specs.declared.call.Call.{Call};
+ghost use Rattle.call_types.specs.Calls.{body_of};
 ghost use Rattle.script.specs.CallText.{call_text};
-ghost use Rattle.calls.specs.Within.{IsWithin};
+ghost use Rattle.call_types.specs.Within.{IsWithin};
 ghost use Rattle.script.specs.Lines.{call_in};
 ghost use Rattle.arn_ids.specs.Limits.{greatest_moment};
 

@@ -1,7 +1,7 @@
 //! The book of a script: how its configuration opens it, and what it answers to a call.
 
 ghost use Rattle.std.specs.Prelude.{◌≡◌, ◌<◌, ◌≤◌, ◌^◌, ◌++◌, length, reverse, drop, OnOk, IfOk, IfErr, Ok, Err};
-ghost use Rattle.calls.specs.Within.{IsWithin};
+ghost use Rattle.call_types.specs.Within.{IsWithin};
 ghost use Rattle.account_book.specs.Run.{opened, call_answered, lines_from};
 ghost use Rattle.script_replay.specs.Faults.{HasFault};
 

@@ -1,7 +1,7 @@
 -- What is kept after a list of answers or calls.
 use Rattle.std.proofs.Common.{ℕ, ◌≡◌, List, [], ◌∷◌, sym, ap, ◌∙◌, append-nil, append_assoc}
-use Rattle.calls.specs.declared.answer.Answer.{Answer}
-use Rattle.calls.specs.declared.head.Head.{Head}
+use Rattle.call_types.specs.declared.answer.Answer.{Answer}
+use Rattle.call_types.specs.declared.head.Head.{Head}
 use Rattle.usage_ledger.specs.Keeping.{Kept, Steps, kept, with_receipt, with_call, with_receipts, with_calls}
 
 -- one receipt after the other is all receipts

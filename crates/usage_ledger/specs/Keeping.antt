@@ -1,7 +1,7 @@
 -- What a tally keeps, and how it grows.
 use Rattle.std.specs.Prelude.{ℕ, ◌≡◌, List, [], ◌∷◌, ◌++◌}
-use Rattle.calls.specs.declared.answer.Answer.{Answer}
-use Rattle.calls.specs.declared.head.Head.{Head}
+use Rattle.call_types.specs.declared.answer.Answer.{Answer}
+use Rattle.call_types.specs.declared.head.Head.{Head}
 
 -- What is kept: the answers that were given, and the heads of the calls that were made, each with its ticket, the
 -- oldest first.

@@ -1,11 +1,11 @@
 //! What a tally keeps of the steps that it was handed to.
 
 ghost use Rattle.std.specs.Prelude.{◌≡◌, ◌+◌, ◌<◌, ◌≤◌, ℕ, Bool, OnOk};
-ghost use Rattle.calls.specs.declared.answer.Answer.{Answer as Given};
-ghost use Rattle.calls.specs.declared.head.Head.{Head as Made};
+ghost use Rattle.call_types.specs.declared.answer.Answer.{Answer as Given};
+ghost use Rattle.call_types.specs.declared.head.Head.{Head as Made};
 ghost use Rattle.usage_ledger.specs.Keeping.{Kept, nothing};
 
-use calls::{Answer, Head, Ticket};
+use call_types::{Answer, Head, Ticket};
 use std::alloc::{AllocError, Global};
 
 /// What a tally keeps: receipts, which are the answers that were given in its steps, and the heads

@@ -1,7 +1,7 @@
 //! The two ways to keep: everything and nothing.
 
 use crate::Keep;
-use calls::{Answer, Head, Ticket};
+use call_types::{Answer, Head, Ticket};
 use std::alloc::{AllocError, Global};
 
 /// Keeps every receipt and every call.

@@ -2,8 +2,8 @@
 //! nothing; its clauses are the laws.
 
 ghost use Rattle.std.specs.Prelude.{◌≡◌, ℕ, List};
-ghost use Rattle.calls.specs.declared.answer.Answer.{Answer};
-ghost use Rattle.calls.specs.declared.head.Head.{Head};
+ghost use Rattle.call_types.specs.declared.answer.Answer.{Answer};
+ghost use Rattle.call_types.specs.declared.head.Head.{Head};
 ghost use Rattle.usage_ledger.specs.Keeping.{Kept, Steps, with_receipts, with_calls};
 
 use crate::{Keep, KeepAll, KeepNone};

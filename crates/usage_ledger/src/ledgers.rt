@@ -1,6 +1,6 @@
 //! The four ledgers of an account and its history, named by one type.
 
-use calls::Entry;
+use call_types::Entry;
 use shared_history::{Naming, Opened};
 use std::alloc::{AllocError, Global};
 use std::marker::{Brand, Model, PhantomData};

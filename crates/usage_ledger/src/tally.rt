@@ -9,7 +9,7 @@ ghost use Rattle.usage_ledger.specs.Tallies.{fresh, with_held};
 use crate::ledgers::{Admitted, Calls, Failed, Throttled};
 use crate::shares::Shares;
 use crate::{JoinFault, Keep, Ledgers};
-use calls::{Answer, Head, Ticket};
+use call_types::{Answer, Head, Ticket};
 use std::alloc::{AllocError, Global};
 use std::fmt;
 use std::marker::Model;

@@ -1,9 +1,9 @@
 -- The call of a line brings no trace but one that a header holds.
 use Rattle.std.proofs.Common.{ℕ}
 use Rattle.arn_ids.specs.declared.config.Config.{Config}
-use Rattle.calls.specs.declared.call.Call.{Call}
-use Rattle.calls.specs.declared.call.Call.TheVariants.{Invoke, RuntimeNext, Response, ResponseTooLarge, Failure, InitFailure, Register, ExtNext, ExtInitFailure, ExtExitFailure, Tick, Withdraw, Spindown, Stop, Expire, Reserve}
-use Rattle.calls.specs.Within.{IsWithin, IsTimed}
+use Rattle.call_types.specs.declared.call.Call.{Call}
+use Rattle.call_types.specs.declared.call.Call.TheVariants.{Invoke, RuntimeNext, Response, ResponseTooLarge, Failure, InitFailure, Register, ExtNext, ExtInitFailure, ExtExitFailure, Tick, Withdraw, Spindown, Stop, Expire, Reserve}
+use Rattle.call_types.specs.Within.{IsWithin, IsTimed}
 use Rattle.replies.specs.Gists.{IsTraced}
 
 within_traced : (config : Config) (call : Call) → IsWithin config call → IsTraced call

@@ -1,7 +1,7 @@
 //! What comes after each entry: who waits no longer, which phase comes, and who is told.
 
 ghost use Rattle.std.specs.Prelude.{◌≡◌, ◌+◌, ◌<◌, ◌≤◌, ◌^◌, length, Some, None, map};
-ghost use Rattle.calls.specs.declared.answer.Answer.TheVariants.{Delivered};
+ghost use Rattle.call_types.specs.declared.answer.Answer.TheVariants.{Delivered};
 ghost use Rattle.call_model.specs.Generation.{ready};
 ghost use Rattle.call_model.specs.Polls.{begun, delivered};
 ghost use Rattle.call_model.specs.Stand.{RuntimePoll};

@@ -21,7 +21,7 @@ pub struct Past {
 
 impl Model for Past {
     ghost use Rattle.std.specs.Prelude.{◌≡◌, List, reverse};
-    ghost use Rattle.calls.specs.declared.call.Entry.{Entry as TheEntry};
+    ghost use Rattle.call_types.specs.declared.call.Entry.{Entry as TheEntry};
     ghost use Rattle.call_model.specs.CallCounts.{call_counts};
 
     ghost Value = { List TheEntry };

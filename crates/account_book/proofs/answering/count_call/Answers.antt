@@ -1,6 +1,6 @@
 use Rattle.std.proofs.Common.{reverse, sym, arith, refl}
 use Rattle.std.proofs.lemmas.List.{length-reverse}
-use Rattle.calls.specs.declared.call.Call.TheVariants.{Invoke}
+use Rattle.call_types.specs.declared.call.Call.TheVariants.{Invoke}
 use Rattle.call_model.specs.Next.{entry_of}
 use Rattle.account_book.proofs.RequestCounts.{counts_length, request_at, requests_few, counts_after_invoke, one_more}
 use Rattle.account_book.proofs.answering.count_call.Goals as goal

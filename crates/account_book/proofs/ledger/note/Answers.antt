@@ -1,7 +1,7 @@
 use Rattle.std.proofs.Common.{◌≡◌, ◌<◌, ◌-◌, ◌∙◌, ap, ℕ, List, arith, length, drop, Option}
 use Rattle.std.proofs.lemmas.List.Elements.{All-get_or}
-use Rattle.calls.specs.declared.answer.Answer.{Answer}
-use Rattle.calls.specs.declared.answer.Answer.TheVariants.{Delivered}
+use Rattle.call_types.specs.declared.answer.Answer.{Answer}
+use Rattle.call_types.specs.declared.answer.Answer.TheVariants.{Delivered}
 use Rattle.account_book.proofs.Indexed.{noted_length}
 use Rattle.account_book.proofs.ledger.note.Goals as goal
 

@@ -1,5 +1,5 @@
 use Rattle.std.proofs.Common.{◌∙◌, ap}
-use Rattle.calls.specs.declared.call.Entry.{Entry}
+use Rattle.call_types.specs.declared.call.Entry.{Entry}
 use Rattle.call_model.proofs.PastLemmas.{call_here}
 use Rattle.account_book.proofs.rendering.call_at.Goals as goal
 

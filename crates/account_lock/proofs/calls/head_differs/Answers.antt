@@ -1,7 +1,7 @@
 use Rattle.std.proofs.Common.{ℕ, ◌+◌, List, take, sym, subst}
 use Rattle.std.specs.List.{All}
 use Rattle.std.proofs.lemmas.List.{take_all}
-use Rattle.calls.specs.declared.head.Head.{Head}
+use Rattle.call_types.specs.declared.head.Head.{Head}
 use Rattle.usage_ledger.specs.Tallies.{Tallied}
 use Rattle.account_lock.specs.Failing.{FirstFailure}
 use Rattle.account_lock.specs.Settlement.{head_at, Agree}

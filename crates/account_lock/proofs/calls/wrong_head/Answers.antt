@@ -1,5 +1,5 @@
 use Rattle.std.proofs.Common.{◌≡◌, ℕ, ◌+◌, Some, take, sym, subst}
-use Rattle.calls.specs.declared.head.Head.{Head}
+use Rattle.call_types.specs.declared.head.Head.{Head}
 use Rattle.account_lock.specs.Failing.{FirstFailure}
 use Rattle.account_lock.specs.Settlement.{head_at, Agree}
 use Rattle.account_lock.proofs.FirstFailures.{all_more}

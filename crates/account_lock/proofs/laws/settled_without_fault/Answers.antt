@@ -1,5 +1,5 @@
 use Rattle.std.proofs.Common.{◌≡◌, Bool, List, refl}
-use Rattle.calls.specs.declared.call.Entry.{Entry}
+use Rattle.call_types.specs.declared.call.Entry.{Entry}
 use Rattle.usage_ledger.specs.Tallies.{Tallied}
 use Rattle.account_lock.specs.declared.fault.SettleFault.{SettleFault}
 use Rattle.account_lock.specs.declared.fault.SettleFault.TheVariants.{TallyMissing, OutOfMemory, ReceiptDiffers, ReceiptMissing, CallDiffers}

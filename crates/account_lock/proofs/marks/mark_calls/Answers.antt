@@ -1,6 +1,6 @@
 use Rattle.std.proofs.Common.{◌≡◌, ℕ, ◌+◌, ◌<◌, ◌≤◌, List, take, vec_len, sym, ap, ◌∙◌, subst}
 use Rattle.std.proofs.lemmas.List.{take_all}
-use Rattle.calls.specs.declared.head.Head.{Head}
+use Rattle.call_types.specs.declared.head.Head.{Head}
 use Rattle.usage_ledger.specs.Tallies.{Tallied}
 use Rattle.account_lock.specs.Failing.{FirstFailure}
 use Rattle.account_lock.specs.Gathered.{times, calls_of}

@@ -1,5 +1,5 @@
 use Rattle.std.proofs.Common.{◌≡◌, ℕ, ◌+◌, Some, take, sym, subst}
-use Rattle.calls.specs.declared.answer.Answer.{Answer}
+use Rattle.call_types.specs.declared.answer.Answer.{Answer}
 use Rattle.call_model.specs.History.{answer_of}
 use Rattle.account_lock.specs.Failing.{FirstFailure}
 use Rattle.account_lock.specs.Settlement.{Agree}

@@ -4,7 +4,7 @@ use Rattle.arn_ids.specs.declared.config.Config.{Config}
 use Rattle.arn_ids.specs.Environments.{owners}
 use Rattle.lambda_wire.specs.Ranges.{IsConfigInRange}
 use Rattle.call_model.specs.Counts.{full}
-use Rattle.calls.specs.declared.call.Call.TheVariants.{Stop}
+use Rattle.call_types.specs.declared.call.Call.TheVariants.{Stop}
 use Rattle.account_book.specs.declared.book.Book.TheInside.{Inside}
 use Rattle.account_book.specs.Books.{IsBook}
 use Rattle.account_book.specs.Pages.{Pages}

@@ -1,6 +1,6 @@
 use Rattle.std.proofs.Common.{◌≡◌, ◌≤◌, ◌<◌, ◌∙◌, ℕ, List, ◌++◌, sym, ap, refl, arith, max, All, Bool, true, false, true≢false, ◌||◌, ◌^◌}
-use Rattle.calls.specs.declared.call.Call.{Call}
-use Rattle.calls.specs.declared.call.Entry.{Entry}
+use Rattle.call_types.specs.declared.call.Call.{Call}
+use Rattle.call_types.specs.declared.call.Entry.{Entry}
 use Rattle.arn_ids.specs.declared.config.Config.{Config}
 use Rattle.call_model.specs.Counts.{full}
 use Rattle.call_model.specs.History.{stopped, is_stop}
@@ -9,8 +9,8 @@ use Rattle.call_model.proofs.NextLegal.{none_due_at, next_entered}
 use Rattle.account_book.specs.declared.book.Book.TheInside.{Inside}
 use Rattle.account_book.specs.Book.{Kept}
 use Rattle.account_book.specs.Books.{IsBook}
-use Rattle.calls.specs.Calls.{body_of}
-use Rattle.calls.specs.Within.{IsWithin}
+use Rattle.call_types.specs.Calls.{body_of}
+use Rattle.call_types.specs.Within.{IsWithin}
 use Rattle.call_model.proofs.Added.{room_for_stop}
 use Rattle.account_book.proofs.Reaching.{reached_next}
 use Rattle.account_book.specs.Pages.{Pages}

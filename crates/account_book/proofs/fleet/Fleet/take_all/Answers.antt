@@ -5,7 +5,7 @@ use Rattle.account_book.specs.declared.site.Site.{Site}
 use Rattle.account_book.specs.Crew.{Crew}
 use Rattle.account_book.specs.Fleets.{no_site, site_at, step_at, moves_at, moved, crew, IsFleet, IsFew}
 use Rattle.account_book.specs.declared.fleet.Fleet.TheInside.{Inside}
-use Rattle.calls.specs.declared.call.Call.{Call}
+use Rattle.call_types.specs.declared.call.Call.{Call}
 use Rattle.concurrency_pool.specs.Numbers.{Numbers}
 use Rattle.account_book.proofs.Loops.{visit_one, not_yet, as_many}
 use Rattle.account_book.proofs.Visits.{site_is_at, flown_length}

@@ -5,7 +5,7 @@ use Rattle.account_book.specs.declared.fleet.Fleet.TheInside.{Inside}
 use Rattle.account_book.specs.declared.site.Site.{Site}
 use Rattle.account_book.specs.Crew.{Crew}
 use Rattle.account_book.specs.Fleets.{no_site, site_at, crew, IsOwned, IsFleet, flown, moved}
-use Rattle.calls.specs.Calls.{is_invoke}
+use Rattle.call_types.specs.Calls.{is_invoke}
 use Rattle.call_model.specs.Laws.{is_taken}
 use Rattle.concurrency_pool.specs.Pools.{throttle, with_in_flight, usage_at}
 use Rattle.placement.specs.Class.{class_of}

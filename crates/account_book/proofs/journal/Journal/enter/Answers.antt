@@ -1,6 +1,6 @@
 use Rattle.std.proofs.Common.{◌≡◌, length, reverse, sym, ap, ◌∙◌, List, le_refl}
 use Rattle.std.proofs.lemmas.List.{reverse-reverse}
-use Rattle.calls.specs.declared.call.Entry.{Entry}
+use Rattle.call_types.specs.declared.call.Entry.{Entry}
 use Rattle.call_model.specs.Answers.{answers}
 use Rattle.call_model.specs.Next.{entry_of}
 use Rattle.call_model.proofs.Once.{fresh}

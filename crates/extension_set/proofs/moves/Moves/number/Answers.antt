@@ -1,6 +1,6 @@
 use Rattle.std.proofs.Common.{arith, refl, add-one}
 use Rattle.extension_set.proofs.NumberedInPlace.{number_more}
-use Rattle.calls.specs.declared.answer.Answer.TheVariants.{Delivered}
+use Rattle.call_types.specs.declared.answer.Answer.TheVariants.{Delivered}
 use Rattle.extension_set.proofs.moves.Moves.number.Goals as goal
 
 pub loop-place-preserved : goal.loop-place-preserved

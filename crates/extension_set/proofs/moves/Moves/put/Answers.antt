@@ -1,6 +1,6 @@
 use Rattle.std.proofs.Common.{arith, add-one}
 use Rattle.extension_set.proofs.PutInPlace.{carry_past, carry_on}
-use Rattle.calls.specs.declared.answer.Answer.TheVariants.{Delivered}
+use Rattle.call_types.specs.declared.answer.Answer.TheVariants.{Delivered}
 use Rattle.extension_set.proofs.moves.Moves.put.Goals as goal
 use Rattle.extension_set.proofs.moves.Moves.put.Goals.{then-carried-self, else-carried-self}
 

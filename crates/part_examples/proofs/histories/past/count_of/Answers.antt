@@ -1,7 +1,7 @@
 use Rattle.std.proofs.Common.{◌+◌, sym, ap, ◌∙◌, arith}
 use Rattle.std.proofs.lemmas.List.Sums.{count_by_more_yes, count_by_more_no}
 use Rattle.call_model.specs.History.{is_invoke_of}
-use Rattle.calls.specs.declared.call.Entry.{Entry}
+use Rattle.call_types.specs.declared.call.Entry.{Entry}
 use Rattle.part_examples.proofs.histories.past.count_of.Goals as goal
 use Rattle.part_examples.proofs.histories.past.count_of.Goals.{then-invokes, else-invokes}
 

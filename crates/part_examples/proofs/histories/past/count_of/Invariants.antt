@@ -1,6 +1,6 @@
 use Rattle.std.proofs.Common.{◌≡◌, ◌≤◌, take, count_by}
 use Rattle.call_model.specs.History.{is_invoke_of}
-use Rattle.calls.specs.declared.call.Entry.{Entry}
+use Rattle.call_types.specs.declared.call.Entry.{Entry}
 use Rattle.part_examples.proofs.histories.past.count_of.Given as goal
 
 abbrev pub invariant-loop-number : goal.invariant-loop-number

@@ -4,8 +4,8 @@ use Rattle.arn_ids.specs.Words.{is_word, is_printable, is_label}
 use Rattle.arn_ids.specs.Limits.{longest_body, greatest_moment, greatest_count, greatest_ticket, greatest_reservation}
 use Rattle.arn_ids.specs.Environments.{owners}
 use Rattle.arn_ids.specs.declared.config.Config.{Config}
-use Rattle.calls.specs.declared.call.Call.{Call}
-use Rattle.calls.specs.declared.call.Call.TheVariants.{Invoke, RuntimeNext, Response, ResponseTooLarge, Failure, InitFailure, Register, ExtNext, ExtInitFailure, ExtExitFailure, Tick, Withdraw, Spindown, Stop, Expire, Reserve}
+use Rattle.call_types.specs.declared.call.Call.{Call}
+use Rattle.call_types.specs.declared.call.Call.TheVariants.{Invoke, RuntimeNext, Response, ResponseTooLarge, Failure, InitFailure, Register, ExtNext, ExtInitFailure, ExtExitFailure, Tick, Withdraw, Spindown, Stop, Expire, Reserve}
 
 -- a payload, an output or a report has at most 6,291,456 bytes (Lambda quotas: invocation payload)
 abbrev pub is_body : List ℕ → Bool

@@ -119,7 +119,7 @@ pub struct Answers {
 
 impl Model for Answers {
     ghost use Rattle.std.specs.Prelude.{ℕ, List};
-    ghost use Rattle.calls.specs.declared.answer.Answer.{Answer};
+    ghost use Rattle.call_types.specs.declared.answer.Answer.{Answer};
 
     ghost Value = { List (ℕ × Answer) };
 

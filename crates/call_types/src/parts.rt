@@ -1,8 +1,8 @@
 //! What a call names, and its bytes.
 
 ghost use Rattle.std.specs.Prelude.{◌≡◌};
-ghost use Rattle.calls.specs.Calls.{env_of};
-ghost use Rattle.calls.specs.Calls as spec;
+ghost use Rattle.call_types.specs.Calls.{env_of};
+ghost use Rattle.call_types.specs.Calls as spec;
 
 use crate::Call;
 use arn_ids::{EnvNo, FnNo};

@@ -1,9 +1,9 @@
 -- The words that the service's clients know reasons by.
 use Rattle.std.specs.Prelude.{ℕ, List, codes}
-use Rattle.calls.specs.declared.answer.Reason.{Reason}
-use Rattle.calls.specs.declared.answer.Reason.TheVariants.{Timeout, Failure, Spindown}
-use Rattle.calls.specs.declared.answer.Throttle.{Throttle}
-use Rattle.calls.specs.declared.answer.Throttle.TheVariants.{Function, Account, Environments}
+use Rattle.call_types.specs.declared.answer.Reason.{Reason}
+use Rattle.call_types.specs.declared.answer.Reason.TheVariants.{Timeout, Failure, Spindown}
+use Rattle.call_types.specs.declared.answer.Throttle.{Throttle}
+use Rattle.call_types.specs.declared.answer.Throttle.TheVariants.{Function, Account, Environments}
 
 -- why an environment ends (Extensions API: shutdownReason)
 abbrev pub reason_word : Reason → List ℕ

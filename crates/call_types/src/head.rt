@@ -1,7 +1,7 @@
 //! The head of a call: its variant and its numbers, without its bytes.
 
 ghost use Rattle.std.specs.Prelude.{◌≡◌};
-ghost use Rattle.calls.specs.Heads.{head_of};
+ghost use Rattle.call_types.specs.Heads.{head_of};
 
 use crate::Call;
 

@@ -1,7 +1,7 @@
 //! Answers, reasons and phases.
 
 ghost use Rattle.std.specs.Prelude.{◌≡◌};
-ghost use Rattle.calls.specs.Words.{reason_word, throttle_word};
+ghost use Rattle.call_types.specs.Words.{reason_word, throttle_word};
 
 use crate::Ticket;
 
