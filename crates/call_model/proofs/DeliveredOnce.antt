@@ -1,6 +1,6 @@
 -- An invocation is delivered at most once.
 use Rattle.call_model.proofs.BoundWaits as W
-use Rattle.std.proofs.Common.{◌≡◌, ℕ, true, false, List, length, Option, Some, None, sym, ap, ◌∙◌, true≢false, inl, inr, arith, ◌∷◌, ◌-◌, refl, Bool, if◌then◌else◌, subst, suc, ◌+◌, ◌<◌, ◌≤◌, [], count_by, ◌⊎◌, zero, cond, nat_le}
+use Rattle.std.proofs.Common.{◌≡◌, ℕ, true, false, List, length, Option, Some, None, sym, ap, ◌∙◌, true≢false, inl, inr, arith, ◌∷◌, refl, Bool, if◌then◌else◌, subst, suc, ◌+◌, ◌<◌, ◌≤◌, [], count_by, ◌⊎◌, zero, cond, nat_le}
 use Rattle.std.specs.List.{find}
 use Rattle.call_types.specs.declared.answer.Answer.{Answer}
 use Rattle.call_types.specs.declared.answer.Answer.TheVariants.{Told}

@@ -1,5 +1,5 @@
 -- Where an environment is Idle, its runtime's Next is parked.
-use Rattle.std.proofs.Common.{◌≡◌, ℕ, true, List, ◌∷◌, length, ◌⊎◌, is_some, Bool, false, if◌then◌else◌, sym, refl, ◌≢◌, true≢false, ◌∙◌, Option, Some, None, ◌||◌, inl, inr, ap, subst, not, ◌&&◌, ◌≤◌, ◌==◌, suc, ◌<◌, [], ap₂, arith}
+use Rattle.std.proofs.Common.{◌≡◌, ℕ, true, List, ◌∷◌, length, ◌⊎◌, is_some, Bool, false, if◌then◌else◌, sym, refl, true≢false, ◌∙◌, Option, Some, None, ◌||◌, inl, inr, ap, subst, not, ◌&&◌, ◌≤◌, ◌==◌, suc, ◌<◌, [], ap₂, arith}
 use Rattle.call_types.specs.declared.answer.Answer.{Answer}
 use Rattle.call_types.specs.declared.answer.Answer.TheVariants.{Delivered, Told, Ending}
 use Rattle.call_types.specs.declared.answer.Reason.{Reason}
@@ -17,7 +17,7 @@ use Rattle.call_model.specs.Stand.{is_idle, is_busy, Stand, is_known, at_hand, b
 use Rattle.call_model.specs.Table.{clock_started, unbound, placed, is_registered, own_answer, kept, or_closing, reborn, settled, closes, after_cell}
 use Rattle.call_model.specs.Polls.{begun, delivered}
 use Rattle.call_model.specs.Life.{life, phase, first_part, Lifecycle, stand, seen, concerns, limit_of, lived, after, request_at, ends_here, names}
-use Rattle.call_model.specs.Answers.{answers, first_answer, first_entry, home, second_answer, second_at}
+use Rattle.call_model.specs.Answers.{first_answer, first_entry, home, second_answer, second_at}
 use Rattle.call_model.specs.Next.{Follows, IsLegal}
 use Rattle.call_model.proofs.Pairs.{is_some_none, times_in}
 use Rattle.call_model.proofs.Once.{answers_once, none_given, answers_at, pending_cons}

@@ -1,5 +1,5 @@
 -- The Nexts of a generation were made at its environment.
-use Rattle.std.proofs.Common.{◌≡◌, ℕ, true, List, [], ◌∷◌, Some, length, arith, None, sym, refl, true≢false, ◌≢◌, ap, Bool, false, Option, ◌∙◌, ◌||◌, if◌then◌else◌}
+use Rattle.std.proofs.Common.{◌≡◌, ℕ, true, List, [], ◌∷◌, Some, length, arith, None, sym, refl, true≢false, ap, Bool, false, Option, ◌∙◌, ◌||◌, if◌then◌else◌}
 use Rattle.std.proofs.lemmas.Bool.{eqb-true}
 use Rattle.call_types.specs.declared.call.Call.{Call}
 use Rattle.call_types.specs.declared.call.Call.TheVariants.{Invoke, RuntimeNext, ExtNext}

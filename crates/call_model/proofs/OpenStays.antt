@@ -1,5 +1,5 @@
 -- An environment that is Starting, Idle or Busy stays one of these where nothing closes, and its generation goes on.
-use Rattle.std.proofs.Common.{◌≡◌, ℕ, true, refl, Bool, false, if◌then◌else◌, Some, None, sym, List, ◌∷◌, length, Option, ap, ◌∙◌, true≢false, subst, ◌≢◌, ◌&&◌}
+use Rattle.std.proofs.Common.{◌≡◌, ℕ, true, refl, Bool, false, if◌then◌else◌, Some, None, sym, List, ◌∷◌, length, Option, ap, ◌∙◌, true≢false, subst, ◌&&◌}
 use Rattle.call_types.specs.declared.answer.Phase.{Phase}
 use Rattle.call_types.specs.declared.call.Call.{Call}
 use Rattle.call_types.specs.declared.call.Call.TheVariants.{Invoke, RuntimeNext, ExtNext, Register, Stop}

@@ -1,5 +1,5 @@
 -- An invocation is answered with an output, or that it timed out, only after its delivery.
-use Rattle.std.proofs.Common.{Bool, false, Option, Some, None, ◌≡◌, true, sym, refl, ◌≢◌, true≢false, ℕ, is_some, ◌&&◌, if◌then◌else◌, ◌≤◌, List, ◌∷◌, length, ap, ◌∙◌, inl, inr, arith, ◌==◌}
+use Rattle.std.proofs.Common.{Bool, false, Option, Some, None, ◌≡◌, true, sym, refl, true≢false, ℕ, is_some, ◌&&◌, if◌then◌else◌, ◌≤◌, List, ◌∷◌, length, ap, ◌∙◌, inl, inr, arith, ◌==◌}
 use Rattle.std.proofs.lemmas.Bool.{cases_lt}
 use Rattle.std.specs.List.{find}
 use Rattle.call_types.specs.declared.answer.Answer.{Answer}

@@ -16,7 +16,7 @@ use Rattle.call_model.specs.Own.{is_own, own_ticket, own, own_entry}
 use Rattle.call_model.proofs.Pairs.{eqb-other}
 use Rattle.call_model.proofs.OwnTickets.{own_call, own_length, filtered}
 use Rattle.call_model.proofs.Basics.{count_cons, and_false, eqb-self, some-none}
-use Rattle.call_model.specs.Table.{kept, is_registered}
+use Rattle.call_model.specs.Table.{is_registered}
 use Rattle.call_model.proofs.TicketsWithin.{IsWithin, legal_fit}
 use Rattle.call_model.proofs.OwnHistory.{own_cons, others_silent}
 

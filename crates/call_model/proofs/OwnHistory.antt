@@ -1,6 +1,6 @@
 -- The function's own history says the same as the whole one of the function's tickets: calls, answers, polls, requests, the Stop.
 use Rattle.std.proofs.lemmas.Bool.{cases_lt}
-use Rattle.std.proofs.Common.{◌≡◌, ℕ, ◌<◌, Bool, List, length, ◌∷◌, refl, ◌∙◌, arith, true, sym, inl, inr, false, [], ap, ◌||◌, is_some, not, ◌&&◌, suc, ◌==◌, if◌then◌else◌, filter, ◌≢◌, true≢false, ◌+◌, cond, nat_lt, None}
+use Rattle.std.proofs.Common.{◌≡◌, ℕ, ◌<◌, Bool, List, length, ◌∷◌, refl, ◌∙◌, arith, true, sym, inl, inr, false, [], ap, ◌||◌, is_some, not, ◌&&◌, suc, ◌==◌, if◌then◌else◌, filter, true≢false, ◌+◌, cond, nat_lt, None}
 use Rattle.std.proofs.lemmas.Bool.Decides.{eqb_tells}
 use Rattle.call_types.specs.declared.answer.Answer.{Answer}
 use Rattle.call_types.specs.declared.call.Call.{Call}

@@ -1,12 +1,11 @@
 -- The stand of an environment of the function is the same in the function's own history.
-use Rattle.std.proofs.Common.{◌≡◌, ℕ, Bool, true, List, Option, Some, None, sym, refl, ap, ◌∙◌, if◌then◌else◌, false, ◌∷◌, length, inl, inr, ◌≢◌, ◌||◌, true≢false, subst, []}
+use Rattle.std.proofs.Common.{◌≡◌, ℕ, Bool, true, List, Option, Some, None, sym, refl, ap, ◌∙◌, if◌then◌else◌, false, ◌∷◌, length, inl, inr, ◌||◌, true≢false, subst, []}
 use Rattle.call_types.specs.declared.call.Entry.{Entry}
 use Rattle.arn_ids.specs.declared.config.Config.{Config}
 use Rattle.arn_ids.specs.Environments.{function_of}
 use Rattle.call_model.specs.History.{stopped, requests, upto}
 use Rattle.call_model.specs.Stand.{at_hand, is_number}
 use Rattle.call_model.specs.Life.{Lifecycle, phase, seen, request_at, registrations, events, Visit, history_with, limit, phase_by_table, ends_here, after, life, first_part, stand, lived, concerns, limit_of}
-use Rattle.call_model.specs.Answers.{answers}
 use Rattle.call_model.specs.Next.{IsLegal}
 use Rattle.call_model.specs.Own.{own, own_entry, is_own, own_ticket}
 use Rattle.call_model.proofs.OwnTickets.{own_length, foreign}

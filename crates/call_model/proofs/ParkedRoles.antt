@@ -1,5 +1,5 @@
 -- A parked Next is its actor's last one, still pending; an extension's has the role of that extension's poll.
-use Rattle.std.proofs.Common.{◌≡◌, ℕ, Bool, true, List, Some, None, ap, ◌∙◌, if◌then◌else◌, false, Option, sym, refl, ◌==◌, [], ◌∷◌, ◌||◌, map, true≢false, ◌≢◌}
+use Rattle.std.proofs.Common.{◌≡◌, ℕ, Bool, true, List, Some, None, ap, ◌∙◌, if◌then◌else◌, false, Option, sym, refl, ◌==◌, [], ◌∷◌, ◌||◌, map, true≢false}
 use Rattle.std.proofs.lemmas.Bool.{eqb-true}
 use Rattle.std.specs.List.{list_any, find}
 use Rattle.call_types.specs.declared.call.Entry.{Entry}

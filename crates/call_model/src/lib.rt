@@ -4,5 +4,7 @@
 pub mod laws;
 mod past;
 
-pub use call_types::{Answer, Answers, Call, Entry, Head, Kind, Phase, Reason, Rejection, Stats, Throttle, Ticket};
+pub use call_types::{
+    Answer, Answers, Call, Entry, Head, Kind, Phase, Reason, Rejection, Stats, Throttle, Ticket,
+};
 pub use past::Past;

@@ -8,7 +8,6 @@ use Rattle.call_model.specs.History.{call_of, place_of}
 use Rattle.call_model.specs.Stand.{at_hand, is_number}
 use Rattle.call_model.specs.Life.{phase}
 use Rattle.call_model.specs.Limits.{is_charged}
-use Rattle.call_model.specs.Answers.{answers}
 use Rattle.call_model.specs.Laws.{ended_by, no_longer}
 use Rattle.call_model.specs.Next.{IsLegal}
 use Rattle.call_model.proofs.Pairs.{eqb-other}

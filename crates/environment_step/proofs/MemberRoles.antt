@@ -6,7 +6,7 @@ use Rattle.arn_ids.specs.declared.config.Config.{Config}
 use Rattle.call_model.specs.History.{call_of}
 use Rattle.call_model.specs.Generation.{Generation, Extension, Actor, TheRuntime, TheExtension, parked, asks, extensions, member, members}
 use Rattle.call_model.specs.Stand.{is_number, at_hand, role, RuntimePoll, ExtensionPoll, waits_as}
-use Rattle.call_model.specs.Life.{life, phase, stand, seen, request_at, registrations}
+use Rattle.call_model.specs.Life.{life, stand, seen, request_at, registrations}
 use Rattle.call_model.specs.Next.{IsLegal}
 use Rattle.call_types.specs.Calls.{is_invoke}
 use Rattle.call_model.proofs.AtHand.{held}
