@@ -1,5 +1,6 @@
 -- The bells of those who wait, and which of them ring.
-use Rattle.std.specs.Prelude.{ℕ, Bool, true, ◌&&◌, ◌==◌, nat_lt, if◌then◌else◌, List, [], ◌∷◌, ◌++◌, Option, Some, None, flat_map, reverse}
+use Rattle.std.specs.Prelude.{ℕ, Bool, true, ◌&&◌, ◌==◌, nat_lt, if◌then◌else◌, List, [], ◌∷◌, ◌++◌, Option}
+use Rattle.std.specs.Prelude.{Some, None, flat_map, reverse}
 use Rattle.std.specs.List.{list_all}
 use Rattle.call_types.specs.declared.answer.Answer.{Answer}
 use Rattle.call_types.specs.declared.call.Entry.{Entry}
@@ -38,7 +39,7 @@ own_bell t (Some bell) = (t, bell) ∷ []
 abbrev pub answers_of : List Entry → List (ℕ × Answer)
 answers_of entries = flat_map (λ entry. entry.answers) entries
 
--- The answers that a step's entries give, in the order in which they are given. (The entries of a history stand
--- newest first.)
+-- The answers that a step's entries give, in the order in which they are given. (The entries of a history
+-- stand newest first.)
 abbrev pub given : List Entry → List (ℕ × Answer)
 given entries = answers_of (reverse entries)

@@ -1,17 +1,22 @@
 -- A desk as contracts see it, what is always true of it, and what one call makes of it.
-use Rattle.std.specs.Prelude.{◌≡◌, ℕ, ◌++◌, true, List, Option}
+use Rattle.std.specs.Prelude.{◌≡◌, ℕ, ◌++◌, Bool, true, List, Option}
 use Rattle.std.specs.List.{list_all}
 use Rattle.account_book.specs.Book.{Kept as Booked}
+use Rattle.account_book.specs.Premature.{premature}
 use Rattle.call_types.specs.declared.call.Call.{Call}
 use Rattle.call_types.specs.declared.call.Entry.{Entry}
+use Rattle.call_model.specs.Counts.{full}
 use Rattle.call_model.specs.History.{pending}
 use Rattle.call_model.specs.Next.{IsLegal, added, next}
 use Rattle.usage_ledger.specs.Counts.{plus}
+use Rattle.usage_ledger.specs.Keeping.{Kept}
+use Rattle.usage_ledger.specs.Tallies.{Held}
 use Rattle.usage_ledger.specs.declared.counts.Counts.{Counts}
-use Rattle.account_lock.specs.Bells.{are_rising, bells_after, own_bell, given}
+use Rattle.account_lock.specs.Bells.{are_rising, rings_of, bells_after, own_bell, given}
 use Rattle.account_lock.specs.Counting.{counts_of}
 
--- Its book, the bells of those who wait, each with the ticket whose answer it waits for, and the totals of its ledgers.
+-- Its book, the bells of those who wait, each with the ticket whose answer it waits for, and the totals of
+-- its ledgers.
 pub record Opened (B : Type 0) : Type 0 where
   pub book : Booked
   pub bells : List (ℕ × B)
@@ -21,8 +26,8 @@ pub record Opened (B : Type 0) : Type 0 where
 abbrev pub opened : {B : Type 0} → Booked → List (ℕ × B) → Counts → Opened B
 opened book bells totals = record { book = book; bells = bells; totals = totals }
 
--- What the type of a desk keeps: its history is legal, each bell belongs to a pending ticket, which no other has, and
--- they stand in the order of their tickets; and the totals are what the history counts.
+-- What the type of a desk keeps: its history is legal, each bell belongs to a pending ticket, which no other
+-- has, and they stand in the order of their tickets; and the totals are what the history counts.
 pub record IsDesk {B : Type 0} (desk : Opened B) : Type 0 where
   pub legal : IsLegal desk.book.config desk.book.history
   pub waiting : list_all (λ bell. pending desk.book.history bell.0) desk.bells ≡ true
@@ -41,7 +46,27 @@ next_book book now call = record book { history = next book.config book.history 
 abbrev pub all_bells : {B : Type 0} → Opened B → ℕ → Option B → List (ℕ × B)
 all_bells desk ticket bell = desk.bells ++ own_bell ticket bell
 
+-- the bells that a step hands out: those of the tickets that it answers, in the order of the answers
+abbrev pub handed_out : {B : Type 0} → Opened B → ℕ → Call → ℕ → Option B → List B
+handed_out desk now call ticket bell =
+    rings_of (given (added_to desk.book now call)) (all_bells desk ticket bell)
+
+-- what a tally holds that has counted what these entries count, and keeps this
+abbrev pub held_after : List Entry → Held → Kept → Held
+held_after entries before kept =
+    record before { counts = plus before.counts (counts_of entries); kept = kept }
+
+-- whether a book has no room for a call
+abbrev pub is_full : Booked → Call → Bool
+is_full book call = full book.config book.max_entries book.history call
+
+-- whether a call would come too early to it
+abbrev pub comes_early : Booked → ℕ → Call → Bool
+comes_early book now call = premature book.config book.history now call
+
 -- The desk after a call that was taken with this ticket and this bell.
 abbrev pub after_step : {B : Type 0} → Opened B → ℕ → Call → ℕ → Option B → Opened B
 after_step desk now call ticket bell =
-    opened (next_book desk.book now call) (bells_after (given (added_to desk.book now call)) (all_bells desk ticket bell)) (plus desk.totals (counts_of (added_to desk.book now call)))
+    opened (next_book desk.book now call)
+    (bells_after (given (added_to desk.book now call)) (all_bells desk ticket bell))
+    (plus desk.totals (counts_of (added_to desk.book now call)))

@@ -8,3 +8,4 @@ pub mod Marking
 pub mod Offers
 pub mod Shown
 pub mod Settlement
+pub mod Tallying

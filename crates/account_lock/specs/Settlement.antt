@@ -1,16 +1,20 @@
 -- When an account is settled, and why it may not be.
-use Rattle.std.specs.Prelude.{◌≡◌, ◌≢◌, ℕ, ◌<◌, ◌≤◌, ◌^◌, Bool, true, false, if◌then◌else◌, List, [], ◌∷◌, Option, Some, None, is_some, All}
+use Rattle.std.specs.Prelude.{◌≡◌, ◌≢◌, ℕ, ◌<◌, ◌≤◌, ◌^◌, Bool, true, false, if◌then◌else◌}
+use Rattle.std.specs.Prelude.{List, [], ◌∷◌, Option, Some, None, is_some, All}
 use Rattle.call_types.specs.declared.call.Call.{Call}
 use Rattle.call_types.specs.declared.call.Entry.{Entry}
 use Rattle.call_types.specs.declared.head.Head.{Head}
 use Rattle.call_types.specs.Heads.{head_of}
 use Rattle.call_model.specs.History.{answer_of, answered, call_of, is_expiry}
+use Rattle.usage_ledger.specs.Keeping.{Kept}
 use Rattle.usage_ledger.specs.Tallies.{Tallied}
 use Rattle.account_lock.specs.Counting.{counts_of}
 use Rattle.account_lock.specs.Gathered.{parts_in, counts_in, times, receipts_of, calls_of}
 use Rattle.account_lock.specs.Failing.{FailsFirstAt}
 use Rattle.account_lock.specs.declared.fault.SettleFault.{SettleFault}
-use Rattle.account_lock.specs.declared.fault.SettleFault.TheVariants.{TallyMissing, OutOfMemory, ReceiptDiffers, ReceiptMissing, CallDiffers}
+use Rattle.account_lock.specs.declared.fault.SettleFault.TheVariants.{TallyMissing, OutOfMemory}
+use Rattle.account_lock.specs.declared.fault.SettleFault.TheVariants.{ReceiptDiffers, ReceiptMissing}
+use Rattle.account_lock.specs.declared.fault.SettleFault.TheVariants.{CallDiffers}
 
 -- the head of a call that somebody made; none of an expiry
 abbrev pub made : Call → Option Head
@@ -24,25 +28,38 @@ head_at h t = made (call_of h t)
 abbrev pub Agree : {X : Type 0} → (ℕ → Option X) → List (ℕ × X) → ℕ → Type 0
 Agree wanted pairs t = All (λ pair. pair.0 ≡ t → wanted t ≡ Some pair.1) pairs
 
+-- the same of this part of what each tally keeps
+abbrev pub AllAgree : {X : Type 0} → (ℕ → Option X) → (Kept → List (ℕ × X)) → List Tallied → ℕ → Type 0
+AllAgree wanted part tallies t = All (λ tally. Agree wanted (part tally.held.kept) t) tallies
+
 -- a ticket stands behind no greater one
 abbrev pub Rises : {X : Type 0} → List (ℕ × X) → ℕ → Type 0
 Rises [] t = Unit {0}
 Rises (pair ∷ pairs) t = (t < pair.0 → times t pairs ≡ 0) × Rises pairs t
 
+-- in a tally that no join made, a ticket stands behind no greater one
+abbrev pub RisesUnjoined : Tallied → ℕ → Type 0
+RisesUnjoined tally t = tally.held.joined ≡ false → Rises tally.held.kept.calls t
+
+-- so it is in each of them
+abbrev pub AllRise : List Tallied → ℕ → Type 0
+AllRise tallies t = All (λ tally. RisesUnjoined tally t) tallies
+
 -- Each receipt of a ticket is the history's answer.
 abbrev pub ReceiptsAgree : List Entry → List Tallied → ℕ → Type 0
-ReceiptsAgree h tallies t = All (λ tally. Agree (answer_of h) tally.held.kept.receipts t) tallies
+ReceiptsAgree h = AllAgree (answer_of h) (λ kept. kept.receipts)
 
 -- An answered ticket has a receipt.
 abbrev pub HasReceipt : List Entry → List Tallied → ℕ → Type 0
 HasReceipt h tallies t = answered h t ≡ true → 1 ≤ receipts_of t tallies
 
--- What tallies keep of the call with a ticket is right: each kept head is its entry's; it stands once at most; in a tally
--- that no join made it stands behind no greater ticket; and where all are kept, a call that somebody made is there.
+-- What tallies keep of the call with a ticket is right: each kept head is its entry's; it stands once at
+-- most; in a tally that no join made it stands behind no greater ticket; and where all are kept, a call that
+-- somebody made is there.
 pub record CallsAgree (all : Bool) (h : List Entry) (tallies : List Tallied) (t : ℕ) : Type 0 where
-  pub heads : All (λ tally. Agree (head_at h) tally.held.kept.calls t) tallies
+  pub heads : AllAgree (head_at h) (λ kept. kept.calls) tallies t
   pub once : calls_of t tallies ≤ 1
-  pub rising : All (λ tally. tally.held.joined ≡ false → Rises tally.held.kept.calls t) tallies
+  pub rising : AllRise tallies t
   pub kept : all ≡ true → is_some (head_at h t) ≡ true → 1 ≤ calls_of t tallies
 
 -- What tallies keep is right at each ticket.
@@ -51,21 +68,24 @@ pub record IsKept (all : Bool) (h : List Entry) (tallies : List Tallied) : Type 
   pub answered : all ≡ true → (t : ℕ) → HasReceipt h tallies t
   pub calls : (t : ℕ) → CallsAgree all h tallies t
 
--- Settled: the tallies have all parts, so they have counted what the history counts; and what they keep is right.
+-- Settled: the tallies have all parts, so they have counted what the history counts; and what they keep is
+-- right.
 pub record IsSettled (all : Bool) (h : List Entry) (tallies : List Tallied) : Type 0 where
   pub parts : parts_in tallies ≡ 2 ^ 32
   pub counts : counts_in tallies ≡ counts_of h
   pub kept : IsKept all h tallies
 
--- The cause of each fault. None that stands before it in this list is there, want of memory aside, and its ticket is the
--- least.
+-- The cause of each fault. None that stands before it in this list is there, want of memory aside, and its
+-- ticket is the least.
 abbrev pub IsFault : Bool → SettleFault → List Entry → List Tallied → Type 0
 IsFault all TallyMissing h tallies = parts_in tallies ≢ 2 ^ 32
 IsFault all OutOfMemory h tallies = parts_in tallies ≡ 2 ^ 32
 IsFault all (ReceiptDiffers t) h tallies =
     (parts_in tallies ≡ 2 ^ 32) × FailsFirstAt (ReceiptsAgree h tallies) t
 IsFault all (ReceiptMissing t) h tallies =
-    (parts_in tallies ≡ 2 ^ 32) × ((k : ℕ) → ReceiptsAgree h tallies k) × (all ≡ true) × FailsFirstAt (HasReceipt h tallies) t
+    (parts_in tallies ≡ 2 ^ 32) × ((k : ℕ) → ReceiptsAgree h tallies k) × (all ≡ true)
+    × FailsFirstAt (HasReceipt h tallies) t
 IsFault all (CallDiffers t) h tallies =
-    (parts_in tallies ≡ 2 ^ 32) × ((k : ℕ) → ReceiptsAgree h tallies k) × (all ≡ true → (k : ℕ) → HasReceipt h tallies k)
+    (parts_in tallies ≡ 2 ^ 32) × ((k : ℕ) → ReceiptsAgree h tallies k)
+    × (all ≡ true → (k : ℕ) → HasReceipt h tallies k)
     × FailsFirstAt (CallsAgree all h tallies) t

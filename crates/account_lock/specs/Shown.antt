@@ -1,5 +1,6 @@
 -- What an account shows to those who read it under its lock: what a history says that calls led to.
-use Rattle.std.specs.Prelude.{◌≡◌, ◌+◌, ◌<◌, ◌≤◌, ℕ, List, Option, Some, None, length, reverse, slice_index_or}
+use Rattle.std.specs.Prelude.{◌≡◌, ◌+◌, ◌<◌, ◌≤◌, ℕ, List, Option, Some, None, length, reverse}
+use Rattle.std.specs.Prelude.{slice_index_or}
 use Rattle.arn_ids.specs.declared.config.Config.{Config}
 use Rattle.call_types.specs.declared.call.Call.{Call}
 use Rattle.call_types.specs.declared.call.Entry.{Entry}
@@ -9,18 +10,20 @@ use Rattle.script.specs.AnswerText.{entry_text}
 use Rattle.account_book.specs.Reached.{IsReached}
 use Rattle.shared_history.specs.Sharing.{Extends}
 
--- Some history that calls led to in this configuration, each of which a book takes, says it. (Which one it was can't be
--- said: others may call as soon as the lock is free.)
+-- Some history that calls led to in this configuration, each of which a book takes, says it. (Which one it
+-- was can't be said: others may call as soon as the lock is free.)
 abbrev pub Shown : Config → (List Entry → Type 0) → Type 0
 Shown config says = (most : ℕ) × (h : List Entry) × IsReached config most h × says h
 
--- What a thread sees under the lock: a history that calls led to, and that goes on where the one ends that it saw before.
+-- What a thread sees under the lock: a history that calls led to, and that goes on where the one ends that
+-- it saw before.
 pub record Sees (config : Config) (before h : List Entry) : Type 0 where
   pub later : Extends before h
   pub most : ℕ
   pub reached : IsReached config most h
 
--- A call was taken at a moment: it made the next history of one that calls led to, and is its newest call, at its ticket.
+-- A call was taken at a moment: it made the next history of one that calls led to, and is its newest call,
+-- at its ticket.
 pub record IsTaken (config : Config) (now : ℕ) (call : Call) (ticket : ℕ) (h : List Entry) : Type 0 where
   pub before : List Entry
   pub most : ℕ
@@ -32,4 +35,6 @@ pub record IsTaken (config : Config) (now : ℕ) (call : Call) (ticket : ℕ) (h
 -- a text is that of a history's entry with a ticket; none where the history ends before it
 abbrev pub IsTextOf : Config → ℕ → ℕ → Option (List ℕ) → List Entry → Type 0
 IsTextOf config salt ticket None h = length h ≤ ticket
-IsTextOf config salt ticket (Some text) h = (ticket < length h) × ((d : Entry) → text ≡ entry_text config salt h ticket (slice_index_or (reverse h) ticket d))
+IsTextOf config salt ticket (Some text) h =
+    (ticket < length h)
+    × ((d : Entry) → text ≡ entry_text config salt h ticket (slice_index_or (reverse h) ticket d))

@@ -1,12 +1,11 @@
 //! The account: a desk that threads share.
 
-ghost use Rattle.std.specs.Prelude.{◌≡◌, ◌≢◌, ◌⊎◌, [], ◌+◌, ◌<◌, ◌≤◌, ◌^◌, ◌↔◌, ℕ, List, true, false, is_some, length, option_map, IfOk, IfErr, OnOk, IsErrOf};
+ghost use Rattle.std.specs.Prelude.{◌≡◌, ◌≢◌, ◌⊎◌, [], ◌+◌, ◌<◌, ◌≤◌, ◌^◌, ◌↔◌, ℕ, false, is_some};
+ghost use Rattle.std.specs.Prelude.{true, length, option_map, IfOk, IfErr, OnOk, IsErrOf};
 ghost use Rattle.std.specs.List.{list_all};
 ghost use Rattle.arn_ids.specs.Environments.{owners};
 ghost use Rattle.account_book.specs.declared.book.OpenFault.TheVariants.{EntriesOutOfRange};
-ghost use Rattle.call_types.specs.declared.answer.Answer.{Answer as Told};
 ghost use Rattle.call_model.specs.Counts.{stats};
-ghost use Rattle.call_types.specs.Heads.{head_of};
 ghost use Rattle.call_model.specs.History.{answer_of};
 ghost use Rattle.call_model.specs.Limits.{reservation};
 ghost use Rattle.call_model.specs.Next.{due};
@@ -16,7 +15,6 @@ ghost use Rattle.account_book.specs.Books.{life};
 ghost use Rattle.account_book.specs.HistoryText.{opening_text};
 ghost use Rattle.account_book.specs.ReplyText.{reply_text};
 ghost use Rattle.shared_history.specs.Sharing.{Extends};
-ghost use Rattle.usage_ledger.specs.Keeping.{Steps, Kept};
 ghost use Rattle.usage_ledger.specs.Tallies.{fresh};
 ghost use Rattle.account_lock.specs.Counting.{counts_of};
 ghost use Rattle.account_lock.specs.Gathered.{counts_in, keeps_nothing};
@@ -24,6 +22,7 @@ ghost use Rattle.account_lock.specs.Looks.{look_of};
 ghost use Rattle.account_lock.specs.Offers.{IsBack};
 ghost use Rattle.account_lock.specs.Settlement.{IsSettled, IsFault};
 ghost use Rattle.account_lock.specs.Shown.{IsTaken, IsTextOf, Sees, Shown};
+ghost use Rattle.account_lock.specs.Tallying.{HasPartsOf, KeepsCall};
 ghost use Rattle.account_lock.specs.declared.fault.SettleFault.TheVariants.{TallyMissing};
 
 use crate::{Bell, Declined, Desk, Look, Refused, SettleFault, Settled, Step};
@@ -76,7 +75,8 @@ impl<S: Identity, B> Model for Locked<S, B> {
 
     ghost view = { λ l. l.pen };
 
-    ghost invariant = { λ l. (l.desk.book.config ≡ S.config) × (l.desk.book.salt ≡ S.salt) × (l.desk.book.history ≡ l.pen) };
+    ghost invariant = { λ l.
+        (l.desk.book.config ≡ S.config) × (l.desk.book.salt ≡ S.salt) × (l.desk.book.history ≡ l.pen) };
 }
 
 /// One account, which threads share: its desk, of which one thread at a time makes a step or reads. What
@@ -120,9 +120,10 @@ impl<S: Identity, B: Bell> Locked<S, B> {
         requires within { IsWithin S.config call }
         ensures taken { IfOk result (λ step. IsTaken S.config now call step.0.ticket step.1) }
         ensures counted { OnOk result (tally.new.held.counts.calls ≡ tally.old.held.counts.calls + 1) }
-        ensures parts { (tally.new.held.parts ≡ tally.old.held.parts) × (tally.new.held.joined ≡ tally.old.held.joined) }
-        ensures made { IfOk result (λ step. (answers : List (ℕ × Told)) × (between : Kept) × Steps K.notes tally.old.held.kept answers between × K.makes between step.0.ticket (head_of call) tally.new.held.kept) }
-        ensures refused { IfErr result (λ refused. (refused.bell ≡ bell) × (tally.new.held ≡ tally.old.held)) }
+        ensures parts { HasPartsOf tally.old.held tally.new.held }
+        ensures made { IfOk result (λ step.
+            KeepsCall K.notes K.makes tally.old.held call step.0.ticket tally.new.held) }
+        ensures refused { IfErr result (λ back. (back.bell ≡ bell) × (tally.new.held ≡ tally.old.held)) }
     {
         self.desk.facts();
         let step = match self.desk.apply(tally, now, call, bell) {
@@ -147,9 +148,10 @@ impl<S: Identity, B: Bell> Locked<S, B> {
         requires within { IsWithin S.config call }
         ensures taken { IfOk result (λ step. IsTaken S.config now call step.0.ticket step.1) }
         ensures counted { OnOk result (tally.new.held.counts.calls ≡ tally.old.held.counts.calls + 1) }
-        ensures parts { (tally.new.held.parts ≡ tally.old.held.parts) × (tally.new.held.joined ≡ tally.old.held.joined) }
-        ensures made { IfOk result (λ step. (answers : List (ℕ × Told)) × (between : Kept) × Steps K.notes tally.old.held.kept answers between × K.makes between step.0.ticket (head_of call) tally.new.held.kept) }
-        ensures declined { IfErr result (λ declined. IsBack call bell declined × (tally.new.held ≡ tally.old.held)) }
+        ensures parts { HasPartsOf tally.old.held tally.new.held }
+        ensures made { IfOk result (λ step.
+            KeepsCall K.notes K.makes tally.old.held call step.0.ticket tally.new.held) }
+        ensures declined { IfErr result (λ back. IsBack call bell back × (tally.new.held ≡ tally.old.held)) }
     {
         self.desk.facts();
         let step = match self.desk.offer(tally, now, call, bell) {
@@ -234,7 +236,8 @@ impl<S: Identity, B: Bell> Locked<S, B> {
         ticket: Ticket,
     ) -> Result<Option<Vec<u8>>, AllocError>
         ensures seen { Sees S.config front.old front.new }
-        ensures text { IfOk result (λ text. IsTextOf S.config S.salt ticket (option_map (λ bytes. bytes.items) text) front.new) }
+        ensures text { IfOk result (λ text.
+            IsTextOf S.config S.salt ticket (option_map (λ bytes. bytes.items) text) front.new) }
     {
         self.desk.facts();
         self.pen.show(line, front);
@@ -259,7 +262,8 @@ impl<S: Identity, B: Bell> Account<S, B> {
         requires configured { config ≡ S.config }
         requires salted { salt ≡ S.salt }
         requires named { blanks ≡ S.names }
-        ensures range { IsErrOf result EntriesOutOfRange ↔ ((length (owners config) + 1 ≤ max_entries) × (max_entries ≤ 2 ^ 32) → ⊥) }
+        ensures range { IsErrOf result EntriesOutOfRange
+            ↔ ((length (owners config) + 1 ≤ max_entries) × (max_entries ≤ 2 ^ 32) → ⊥) }
         ensures tally { IfOk result (λ opened. opened.1.held ≡ fresh (2 ^ 32)) }
     {
         let book = match Book::open(alloc, config, salt, max_entries) {
@@ -306,9 +310,10 @@ impl<S: Identity, B: Bell> Account<S, B> {
         requires within { IsWithin S.config call }
         ensures taken { IfOk result (λ taken. IsTaken S.config now call taken.0 taken.1) }
         ensures counted { OnOk result (tally.new.held.counts.calls ≡ tally.old.held.counts.calls + 1) }
-        ensures parts { (tally.new.held.parts ≡ tally.old.held.parts) × (tally.new.held.joined ≡ tally.old.held.joined) }
-        ensures made { IfOk result (λ taken. (answers : List (ℕ × Told)) × (between : Kept) × Steps K.notes tally.old.held.kept answers between × K.makes between taken.0 (head_of call) tally.new.held.kept) }
-        ensures refused { IfErr result (λ refused. (refused.bell ≡ bell) × (tally.new.held ≡ tally.old.held)) }
+        ensures parts { HasPartsOf tally.old.held tally.new.held }
+        ensures made { IfOk result (λ taken.
+            KeepsCall K.notes K.makes tally.old.held call taken.0 tally.new.held) }
+        ensures refused { IfErr result (λ back. (back.bell ≡ bell) × (tally.new.held ≡ tally.old.held)) }
     {
         let step = self
             .locked
@@ -338,9 +343,10 @@ impl<S: Identity, B: Bell> Account<S, B> {
         requires within { IsWithin S.config call }
         ensures taken { IfOk result (λ taken. IsTaken S.config now call taken.0 taken.1) }
         ensures counted { OnOk result (tally.new.held.counts.calls ≡ tally.old.held.counts.calls + 1) }
-        ensures parts { (tally.new.held.parts ≡ tally.old.held.parts) × (tally.new.held.joined ≡ tally.old.held.joined) }
-        ensures made { IfOk result (λ taken. (answers : List (ℕ × Told)) × (between : Kept) × Steps K.notes tally.old.held.kept answers between × K.makes between taken.0 (head_of call) tally.new.held.kept) }
-        ensures declined { IfErr result (λ declined. IsBack call bell declined × (tally.new.held ≡ tally.old.held)) }
+        ensures parts { HasPartsOf tally.old.held tally.new.held }
+        ensures made { IfOk result (λ taken.
+            KeepsCall K.notes K.makes tally.old.held call taken.0 tally.new.held) }
+        ensures declined { IfErr result (λ back. IsBack call bell back × (tally.new.held ≡ tally.old.held)) }
     {
         let step = self
             .locked
@@ -442,7 +448,8 @@ impl<S: Identity, B: Bell> Account<S, B> {
         ticket: Ticket,
     ) -> Result<Option<Vec<u8>>, AllocError>
         ensures seen { Sees S.config front.old front.new }
-        ensures text { IfOk result (λ text. IsTextOf S.config S.salt ticket (option_map (λ bytes. bytes.items) text) front.new) }
+        ensures text { IfOk result (λ text.
+            IsTextOf S.config S.salt ticket (option_map (λ bytes. bytes.items) text) front.new) }
     {
         self.locked.lock(rt).history(&self.line, front, ticket)
     }
@@ -455,10 +462,13 @@ impl<S: Identity, B: Bell> Account<S, B> {
     /// led to, and where no tally was missing, of one whose counts the tallies have. Where nothing is
     /// kept and nothing need be, a missing tally is the only one.
     pub fn settle<K: Keep>(self, tallies: Vec<Tally<K, S>>) -> Result<Settled, SettleFault>
-        ensures book { IfOk result (λ settled. (settled.book.config ≡ S.config) × (settled.stats ≡ stats S.config settled.book.history)) }
+        ensures book { IfOk result (λ settled.
+            (settled.book.config ≡ S.config) × (settled.stats ≡ stats S.config settled.book.history)) }
         ensures settled { IfOk result (λ settled. IsSettled K.ALL settled.book.history tallies.items) }
-        ensures fault { IfErr result (λ fault. Shown S.config (λ h. IsFault K.ALL fault h tallies.items × (fault ≢ TallyMissing → counts_in tallies.items ≡ counts_of h))) }
-        ensures nothing { IfErr result (λ fault. K.ALL ≡ false → list_all keeps_nothing tallies.items ≡ true → fault ≡ TallyMissing) }
+        ensures fault { IfErr result (λ fault. Shown S.config (λ h. IsFault K.ALL fault h tallies.items
+            × (fault ≢ TallyMissing → counts_in tallies.items ≡ counts_of h))) }
+        ensures nothing { IfErr result (λ fault.
+            K.ALL ≡ false → list_all keeps_nothing tallies.items ≡ true → fault ≡ TallyMissing) }
     {
         let desk = self.into_desk();
         desk.facts();

@@ -1,6 +1,7 @@
 //! The bells of those who wait for an answer, in rising order of their tickets.
 
-ghost use Rattle.std.specs.Prelude.{◌≡◌, ◌+◌, ◌<◌, ◌≤◌, ◌++◌, true, false, nat_lt, length, vec_len, vec_capacity};
+ghost use Rattle.std.specs.Prelude.{◌≡◌, ◌+◌, ◌<◌, ◌≤◌, ◌++◌, true, false, nat_lt, length, vec_len};
+ghost use Rattle.std.specs.Prelude.{vec_capacity};
 ghost use Rattle.std.specs.List.Sorted.{IsPartitionPoint};
 ghost use Rattle.account_lock.specs.Bells.{of_ticket, other_bells, own_bell, are_rising};
 
@@ -28,7 +29,8 @@ pub(crate) fn store<B>(bells: &mut Vec<(Ticket, B)>, ticket: Ticket, bell: Optio
 fn find_bell<B>(bells: &[(Ticket, B)], ticket: Ticket) -> usize
     requires { are_rising bells.now ≡ true }
     ensures within { result ≤ length bells.now }
-    ensures between { IsPartitionPoint (λ bell. nat_lt bell.0 ticket ≡ true) (λ bell. nat_lt bell.0 ticket ≡ false) bells.now result }
+    ensures between { IsPartitionPoint (λ bell. nat_lt bell.0 ticket ≡ true)
+        (λ bell. nat_lt bell.0 ticket ≡ false) bells.now result }
 {
     bells.partition_point(|bell| bell.0 < ticket)
 }
@@ -40,7 +42,8 @@ pub(crate) fn take_bell<B>(bells: &mut Vec<(Ticket, B)>, ticket: Ticket, rings: 
     ensures rings { rings.new.items ≡ rings.old.items ++ of_ticket ticket bells.old.items }
     ensures bells { bells.new.items ≡ other_bells ticket bells.old.items }
     ensures rising { are_rising bells.new.items ≡ true }
-    ensures room { (vec_len rings.new ≤ vec_len rings.old + 1) × (vec_capacity rings.new ≡ vec_capacity rings.old) }
+    ensures room { (vec_len rings.new ≤ vec_len rings.old + 1)
+        × (vec_capacity rings.new ≡ vec_capacity rings.old) }
 {
     let place = find_bell(bells, ticket);
     if place < bells.len() && bells[place].0 == ticket {

@@ -1,12 +1,12 @@
 //! What the calls of tallies must be: the heads of the history's entries, each once and in order.
 
-ghost use Rattle.std.specs.Prelude.{◌≡◌, ◌≢◌, ℕ, ◌<◌, ◌≤◌, Some, true, false, is_some, length, vec_len, All};
+ghost use Rattle.std.specs.Prelude.{◌≡◌, ℕ, ◌≤◌, true, length, vec_len};
 ghost use Rattle.account_lock.specs.Failing.{FirstFailure};
-ghost use Rattle.account_lock.specs.Marking.{marked};
-ghost use Rattle.account_lock.specs.Settlement.{made, head_at, Agree, Rises, CallsAgree};
+ghost use Rattle.account_lock.specs.Marking.{marked, HasMark};
+ghost use Rattle.account_lock.specs.Settlement.{made, head_at, Rises, RisesUnjoined, AllRise, CallsAgree};
 
+use crate::claims::{Claim, mark_claims, unmarked, wrong_claim};
 use crate::least::lesser;
-use crate::marks::mark_calls;
 use account_book::Book;
 use call_model::{Call, Head, Ticket};
 use usage_ledger::{Keep, Ledgers, Tally};
@@ -32,48 +32,27 @@ fn head_of_entry(book: &Book, ticket: Ticket) -> Option<Head>
     }
 }
 
-/// Whether the call with a ticket has this head.
-fn is_head(book: &Book, ticket: Ticket, head: Head) -> bool
-    ensures yes { result ≡ true → head_at book.now.history ticket ≡ Some head }
-    ensures no { result ≡ false → head_at book.now.history ticket ≢ Some head }
-{
-    match head_of_entry(book, ticket) {
-        Some(made) => made == head,
-        None => false,
-    }
-}
+impl Claim for Head {
+    ghost use Rattle.account_lock.specs.Settlement.{head_at};
 
-/// A ticket whose head is not its entry's.
-fn unless_head(book: &Book, ticket: Ticket, head: Head) -> Option<Ticket>
-    ensures { FirstFailure (λ t. ticket ≡ t → head_at book.now.history t ≡ Some head) result }
-{
-    if is_head(book, ticket, head) {
-        None
-    } else {
-        Some(ticket)
-    }
-}
+    ghost wanted = { head_at };
 
-/// The least ticket at which one of these heads is not its entry's.
-fn wrong_head(book: &Book, calls: &[(Ticket, Head)]) -> Option<Ticket>
-    ensures { FirstFailure (Agree (head_at book.now.history) calls.now) result }
-{
-    let mut wrong = None;
-    for call in calls {
-        wrong = lesser(wrong, unless_head(book, call.0, call.1));
-    }
-    wrong
-}
+    ghost part = { λ kept. kept.calls };
 
-/// The same of the heads of all tallies.
-fn head_differs<K: Keep, L: Ledgers>(book: &Book, tallies: &[Tally<K, L>]) -> Option<Ticket>
-    ensures { FirstFailure (λ t. All (λ tally. Agree (head_at book.now.history) tally.held.kept.calls t) tallies.now) result }
-{
-    let mut wrong = None;
-    for tally in tallies {
-        wrong = lesser(wrong, wrong_head(book, tally.calls()));
+    fn stands(&self, book: &Book, ticket: Ticket) -> bool {
+        match head_of_entry(book, ticket) {
+            Some(made) => made == *self,
+            None => false,
+        }
     }
-    wrong
+
+    fn is_wanted(book: &Book, ticket: Ticket) -> bool {
+        head_of_entry(book, ticket).is_some()
+    }
+
+    fn kept<K: Keep, L: Ledgers>(tally: &Tally<K, L>) -> &[(Ticket, Head)] {
+        tally.calls()
+    }
 }
 
 /// A ticket that is below the highest before it.
@@ -98,7 +77,7 @@ fn fallen(calls: &[(Ticket, Head)]) -> Option<Ticket>
 
 /// The same, if no join made the tally.
 fn fallen_in<K: Keep, L: Ledgers>(tally: &Tally<K, L>) -> Option<Ticket>
-    ensures { FirstFailure (λ t. tally.now.held.joined ≡ false → Rises tally.now.held.kept.calls t) result }
+    ensures { FirstFailure (RisesUnjoined tally.now) result }
 {
     if tally.joined() {
         None
@@ -109,7 +88,7 @@ fn fallen_in<K: Keep, L: Ledgers>(tally: &Tally<K, L>) -> Option<Ticket>
 
 /// The same of all tallies.
 fn order_differs<K: Keep, L: Ledgers>(tallies: &[Tally<K, L>]) -> Option<Ticket>
-    ensures { FirstFailure (λ t. All (λ tally. tally.held.joined ≡ false → Rises tally.held.kept.calls t) tallies.now) result }
+    ensures { FirstFailure (AllRise tallies.now) result }
 {
     let mut least = None;
     for tally in tallies {
@@ -118,26 +97,15 @@ fn order_differs<K: Keep, L: Ledgers>(tallies: &[Tally<K, L>]) -> Option<Ticket>
     least
 }
 
-/// The least ticket of a call that somebody made and that has no mark.
-fn unmarked_call(book: &Book, marks: &[bool]) -> Option<Ticket>
-    requires { length marks.now ≡ length book.now.history }
-    ensures { FirstFailure (λ t. t < length book.now.history → is_some (head_at book.now.history t) ≡ true → 1 ≤ marked t marks.now) result }
-{
-    for ticket in 0..book.len() {
-        if head_of_entry(book, ticket).is_some() && !marks[ticket as usize] {
-            return Some(ticket);
-        }
-    }
-    None
-}
-
-/// The same where all calls are said to be kept.
+/// The least ticket of a call that somebody made and that has no mark, where all calls are said to be
+/// kept.
 fn call_missing(book: &Book, marks: &[bool], all: bool) -> Option<Ticket>
     requires { length marks.now ≡ length book.now.history }
-    ensures { FirstFailure (λ t. all ≡ true → t < length book.now.history → is_some (head_at book.now.history t) ≡ true → 1 ≤ marked t marks.now) result }
+    ensures { FirstFailure (λ t. all ≡ true →
+        HasMark (head_at book.now.history) (length book.now.history) marks.now t) result }
 {
     if all {
-        unmarked_call(book, marks)
+        unmarked::<Head>(book, marks)
     } else {
         None
     }
@@ -156,8 +124,8 @@ pub(crate) fn call_differs<K: Keep, L: Ledgers>(
     ensures { FirstFailure (CallsAgree all book.now.history tallies.now) result }
 {
     let mut marks = marks;
-    let wrong = head_differs(book, tallies);
-    let twice = mark_calls(&mut marks, tallies);
+    let wrong = wrong_claim::<Head, K, L>(book, tallies);
+    let twice = mark_claims::<Head, K, L>(&mut marks, tallies);
     let fallen = order_differs(tallies);
     let missing = call_missing(book, &marks, all);
     lesser(lesser(wrong, twice), lesser(fallen, missing))

@@ -1,8 +1,9 @@
 //! The desk: the book, the bells of those who wait, and the totals of its ledgers.
 
-ghost use Rattle.std.specs.Prelude.{◌≡◌, ◌+◌, ◌<◌, ◌≤◌, ◌^◌, ◌↔◌, [], true, false, is_some, length, reverse, slice_index_or, IfOk, IfErr, MatchResult, MatchOption};
+ghost use Rattle.std.specs.Prelude.{◌≡◌, ◌+◌, ◌<◌, ◌≤◌, ◌^◌, ◌↔◌, [], true, false, is_some, length};
+ghost use Rattle.std.specs.Prelude.{reverse, slice_index_or, IfOk, IfErr, MatchResult, MatchOption};
 ghost use Rattle.call_types.specs.declared.call.Entry.{Entry};
-ghost use Rattle.call_model.specs.Counts.{full, stats};
+ghost use Rattle.call_model.specs.Counts.{stats};
 ghost use Rattle.call_types.specs.Heads.{head_of};
 ghost use Rattle.call_model.specs.History.{answer_of};
 ghost use Rattle.call_model.specs.Limits.{reservation};
@@ -15,12 +16,12 @@ ghost use Rattle.account_book.specs.HistoryText.{opening_text};
 ghost use Rattle.account_book.specs.Reached.{IsReached};
 ghost use Rattle.account_book.specs.ReplyText.{reply_text};
 ghost use Rattle.account_book.specs.declared.book.Refusal.TheVariants.{JournalFull};
-ghost use Rattle.usage_ledger.specs.Counts.{no_counts, plus};
+ghost use Rattle.usage_ledger.specs.Counts.{no_counts};
 ghost use Rattle.usage_ledger.specs.Keeping.{Steps, Kept};
-ghost use Rattle.account_lock.specs.Bells.{rings_of, given};
-ghost use Rattle.account_lock.specs.Counting.{counts_of};
+ghost use Rattle.account_lock.specs.Bells.{given};
 ghost use Rattle.account_lock.specs.Looks.{look_of};
-ghost use Rattle.account_lock.specs.Desks.{IsDesk, opened, added_to, all_bells, after_step};
+ghost use Rattle.account_lock.specs.Desks.{IsDesk, opened, added_to, handed_out, held_after, after_step};
+ghost use Rattle.account_lock.specs.Desks.{is_full};
 
 use crate::Bell;
 use crate::bells::store;
@@ -116,11 +117,17 @@ impl<B: Bell, L: Ledgers> Desk<B, L> {
         requires within { IsWithin self.old.book.config call }
         ensures step { IfOk result (λ step. self.new ≡ after_step self.old now call step.ticket bell) }
         ensures ticket { IfOk result (λ step. step.ticket + 1 ≡ length self.new.book.history) }
-        ensures rings { IfOk result (λ step. step.rings.items ≡ rings_of (given (added_to self.old.book now call)) (all_bells self.old step.ticket bell)) }
-        ensures counts { IfOk result (λ step. tally.new.held ≡ record tally.old.held { counts = plus tally.old.held.counts (counts_of (added_to self.old.book now call)); kept = tally.new.held.kept }) }
-        ensures kept { IfOk result (λ step. (between : Kept) × Steps K.notes tally.old.held.kept (given (added_to self.old.book now call)) between × K.makes between step.ticket (head_of call) tally.new.held.kept) }
-        ensures refused { IfErr result (λ refused. (refused.bell ≡ bell) × (self.new ≡ self.old) × (tally.new.held ≡ tally.old.held)) }
-        ensures full { MatchResult result (λ step. full self.old.book.config self.old.book.max_entries self.old.book.history call ≡ false) (λ refused. (refused.refusal ≡ JournalFull) ↔ (full self.old.book.config self.old.book.max_entries self.old.book.history call ≡ true)) }
+        ensures rings { IfOk result (λ step. step.rings.items
+            ≡ handed_out self.old now call step.ticket bell) }
+        ensures counts { IfOk result (λ step. tally.new.held
+            ≡ held_after (added_to self.old.book now call) tally.old.held tally.new.held.kept) }
+        ensures kept { IfOk result (λ step. (between : Kept)
+            × Steps K.notes tally.old.held.kept (given (added_to self.old.book now call)) between
+            × K.makes between step.ticket (head_of call) tally.new.held.kept) }
+        ensures refused { IfErr result (λ refused.
+            (refused.bell ≡ bell) × (self.new ≡ self.old) × (tally.new.held ≡ tally.old.held)) }
+        ensures full { MatchResult result (λ step. is_full self.old.book call ≡ false)
+            (λ refused. (refused.refusal ≡ JournalFull) ↔ (is_full self.old.book call ≡ true)) }
     {
         if self.book.full(&call) {
             return Err(Refused {
@@ -213,7 +220,8 @@ impl<B: Bell, L: Ledgers> Desk<B, L> {
     ///
     /// The only error is want of memory.
     pub fn render(&self, ticket: Ticket) -> Result<Option<Reply>, AllocError>
-        ensures { IfOk result (λ reply. reply ≡ reply_text self.now.book.config self.now.book.salt self.now.book.history ticket) }
+        ensures { IfOk result (λ reply.
+            reply ≡ reply_text self.now.book.config self.now.book.salt self.now.book.history ticket) }
     {
         self.book.render(ticket)
     }
@@ -222,7 +230,8 @@ impl<B: Bell, L: Ledgers> Desk<B, L> {
     ///
     /// The only error is want of memory.
     pub fn opening(&self) -> Result<Vec<u8>, AllocError>
-        ensures { IfOk result (λ text. text.items ≡ opening_text self.now.book.config self.now.book.salt self.now.book.max_entries) }
+        ensures { IfOk result (λ text. text.items
+            ≡ opening_text self.now.book.config self.now.book.salt self.now.book.max_entries) }
     {
         self.book.opening()
     }
@@ -232,7 +241,9 @@ impl<B: Bell, L: Ledgers> Desk<B, L> {
     /// The only error is want of memory.
     pub fn history(&self, ticket: Ticket) -> Result<Option<Vec<u8>>, AllocError>
         ensures { IfOk result (λ text. MatchOption text (length self.now.book.history ≤ ticket)
-            (λ bytes. (ticket < length self.now.book.history) × ((d : Entry) → bytes.items ≡ entry_text self.now.book.config self.now.book.salt self.now.book.history ticket (slice_index_or (reverse self.now.book.history) ticket d)))) }
+            (λ bytes. (ticket < length self.now.book.history) × ((d : Entry) → bytes.items
+                ≡ entry_text self.now.book.config self.now.book.salt self.now.book.history ticket
+                (slice_index_or (reverse self.now.book.history) ticket d)))) }
     {
         self.book.history(ticket)
     }

@@ -15,11 +15,14 @@ ghost use Rattle.account_lock.specs.Shown.{IsTaken, Sees};
 /// What is settled has no fault: an account settles exactly where none of the faults is there, want
 /// of memory aside.
 pub fn settled_without_fault()
-    ensures { (all : Bool) (h : List Entry) (tallies : List Tallied) (fault : SettleFault) → IsSettled all h tallies → IsFault all fault h tallies → fault ≡ OutOfMemory }
+    ensures { (all : Bool) (h : List Entry) (tallies : List Tallied) (fault : SettleFault) →
+        IsSettled all h tallies → IsFault all fault h tallies → fault ≡ OutOfMemory }
 {}
 
 /// Whoever submitted a call and then sees the history finds the call there, at its own ticket.
 pub fn stands_where_it_was_taken()
-    ensures there { (config : Config) (now : ℕ) (call : Call) (ticket : ℕ) (seen then : List Entry) → IsTaken config now call ticket seen → Sees config seen then → ticket < length then }
-    ensures same { (config : Config) (now : ℕ) (call : Call) (ticket : ℕ) (seen then : List Entry) → IsTaken config now call ticket seen → Sees config seen then → call_of then ticket ≡ call }
+    ensures there { (config : Config) (now : ℕ) (call : Call) (ticket : ℕ) (seen then : List Entry) →
+        IsTaken config now call ticket seen → Sees config seen then → ticket < length then }
+    ensures same { (config : Config) (now : ℕ) (call : Call) (ticket : ℕ) (seen then : List Entry) →
+        IsTaken config now call ticket seen → Sees config seen then → call_of then ticket ≡ call }
 {}

@@ -5,6 +5,7 @@
 mod account;
 mod bells;
 mod calls;
+mod claims;
 mod desk;
 mod fault;
 pub mod laws;

@@ -1,14 +1,13 @@
 //! A mark for each ticket of a history: whether what tallies keep has it.
 
 ghost use Rattle.std.specs.Prelude.{◌≡◌, ℕ, ◌+◌, ◌<◌, ◌≤◌, min, vec_len, IfOk};
-ghost use Rattle.account_lock.specs.Gathered.{times, receipts_of, calls_of};
+ghost use Rattle.account_lock.specs.Gathered.{times};
 ghost use Rattle.account_lock.specs.Failing.{FirstFailure};
 ghost use Rattle.account_lock.specs.Marking.{marked, is_at};
 
 use crate::least::lesser;
 use call_model::Ticket;
 use std::alloc::{AllocError, Global};
-use usage_ledger::{Keep, Ledgers, Tally};
 
 /// So many marks, none set.
 pub(crate) fn blank_marks(alloc: Global, count: usize) -> Result<Vec<bool>, AllocError>
@@ -24,8 +23,10 @@ pub(crate) fn blank_marks(alloc: Global, count: usize) -> Result<Vec<bool>, Allo
 /// Sets the mark of a ticket; the ticket where it was set. A ticket past the marks has none.
 fn mark(marks: &mut Vec<bool>, ticket: Ticket) -> Option<Ticket>
     ensures len { vec_len marks.new ≡ vec_len marks.old }
-    ensures marks { (t : ℕ) → t < vec_len marks.old → marked t marks.new.items ≡ min 1 (marked t marks.old.items + is_at t ticket) }
-    ensures twice { FirstFailure (λ t. t < vec_len marks.old → marked t marks.old.items + is_at t ticket ≤ 1) result }
+    ensures marks { (t : ℕ) → t < vec_len marks.old →
+        marked t marks.new.items ≡ min 1 (marked t marks.old.items + is_at t ticket) }
+    ensures twice { FirstFailure (λ t. t < vec_len marks.old →
+        marked t marks.old.items + is_at t ticket ≤ 1) result }
 {
     let at = ticket as usize;
     if at >= marks.len() {
@@ -39,42 +40,16 @@ fn mark(marks: &mut Vec<bool>, ticket: Ticket) -> Option<Ticket>
 }
 
 /// Sets the marks of these pairs' tickets; the least that was set, or stands twice.
-fn mark_pairs<X>(marks: &mut Vec<bool>, pairs: &[(Ticket, X)]) -> Option<Ticket>
+pub(crate) fn mark_pairs<X>(marks: &mut Vec<bool>, pairs: &[(Ticket, X)]) -> Option<Ticket>
     ensures len { vec_len marks.new ≡ vec_len marks.old }
-    ensures marks { (t : ℕ) → t < vec_len marks.old → marked t marks.new.items ≡ min 1 (marked t marks.old.items + times t pairs.now) }
-    ensures twice { FirstFailure (λ t. t < vec_len marks.old → marked t marks.old.items + times t pairs.now ≤ 1) result }
+    ensures marks { (t : ℕ) → t < vec_len marks.old →
+        marked t marks.new.items ≡ min 1 (marked t marks.old.items + times t pairs.now) }
+    ensures twice { FirstFailure (λ t. t < vec_len marks.old →
+        marked t marks.old.items + times t pairs.now ≤ 1) result }
 {
     let mut twice = None;
     for pair in pairs {
         twice = lesser(twice, mark(marks, pair.0));
-    }
-    twice
-}
-
-/// Sets the marks of all receipts' tickets; none is set before.
-pub(crate) fn mark_receipts<K: Keep, L: Ledgers>(marks: &mut Vec<bool>, tallies: &[Tally<K, L>])
-    requires { (t : ℕ) → marked t marks.old.items ≡ 0 }
-    ensures len { vec_len marks.new ≡ vec_len marks.old }
-    ensures marks { (t : ℕ) → t < vec_len marks.old → marked t marks.new.items ≡ min 1 (receipts_of t tallies.now) }
-{
-    for tally in tallies {
-        let _ = mark_pairs(marks, tally.kept());
-    }
-}
-
-/// Sets the marks of all calls' tickets; none is set before. Gives the least that stands twice.
-pub(crate) fn mark_calls<K: Keep, L: Ledgers>(
-    marks: &mut Vec<bool>,
-    tallies: &[Tally<K, L>],
-) -> Option<Ticket>
-    requires { (t : ℕ) → marked t marks.old.items ≡ 0 }
-    ensures len { vec_len marks.new ≡ vec_len marks.old }
-    ensures marks { (t : ℕ) → t < vec_len marks.old → marked t marks.new.items ≡ min 1 (calls_of t tallies.now) }
-    ensures twice { FirstFailure (λ t. t < vec_len marks.old → calls_of t tallies.now ≤ 1) result }
-{
-    let mut twice = None;
-    for tally in tallies {
-        twice = lesser(twice, mark_pairs(marks, tally.calls()));
     }
     twice
 }

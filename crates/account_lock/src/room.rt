@@ -15,7 +15,9 @@ use usage_ledger::{Keep, Ledgers, Tally};
 pub(crate) fn most_given(book: &Book, expiries: usize, call: &Call) -> usize
     requires within { IsWithin book.now.config call.now }
     requires few_due { expiries ≤ 256 }
-    ensures { (now : ℕ) → expiries ≡ length (due book.now.config book.now.history (moment_at book.now.history now)) → length (given (added_to book.now now call.now)) ≤ result }
+    ensures { (now : ℕ) →
+        expiries ≡ length (due book.now.config book.now.history (moment_at book.now.history now)) →
+        length (given (added_to book.now now call.now)) ≤ result }
 {
     book.most_given(expiries, call)
 }

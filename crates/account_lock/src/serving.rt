@@ -1,6 +1,7 @@
 //! What the answers of a step's entries do: they ring bells, and the tally notes them.
 
-ghost use Rattle.std.specs.Prelude.{◌≡◌, ◌+◌, ◌-◌, ◌≤◌, ◌++◌, true, drop, reverse, length, vec_len, vec_capacity};
+ghost use Rattle.std.specs.Prelude.{◌≡◌, ◌+◌, ◌-◌, ◌≤◌, ◌++◌, true, drop, reverse, length, vec_len};
+ghost use Rattle.std.specs.Prelude.{vec_capacity};
 ghost use Rattle.call_model.specs.Counts.{admitted, throttled, failed};
 ghost use Rattle.usage_ledger.specs.Counts.{counts, plus};
 ghost use Rattle.usage_ledger.specs.Keeping.{Steps};
@@ -30,7 +31,8 @@ fn serve_answers<B, K: Keep, L: Ledgers>(
     ensures calls { tally.old.spare_calls ≤ tally.new.spare_calls }
     ensures notes { tally.old.spare_notes ≤ tally.new.spare_notes + length answers.now }
     ensures rising { are_rising bells.new.items ≡ true }
-    ensures room { (vec_len rings.new ≤ vec_len rings.old + length answers.now) × (vec_capacity rings.new ≡ vec_capacity rings.old) }
+    ensures room { (vec_len rings.new ≤ vec_len rings.old + length answers.now)
+        × (vec_capacity rings.new ≡ vec_capacity rings.old) }
 {
     for pair in answers {
         take_bell(bells, pair.0, rings);
@@ -48,11 +50,14 @@ pub(crate) fn serve_entries<B, K: Keep, L: Ledgers>(
 )
     requires start { start ≤ length entries.now.0 }
     requires rising { are_rising bells.old.items ≡ true }
-    requires room { vec_len rings.old + length (answers_of (drop start entries.now.0)) ≤ vec_capacity rings.old }
+    requires room { vec_len rings.old + length (answers_of (drop start entries.now.0))
+        ≤ vec_capacity rings.old }
     requires notes { length (answers_of (drop start entries.now.0)) ≤ tally.old.spare_notes }
-    ensures rings { rings.new.items ≡ rings.old.items ++ rings_of (answers_of (drop start entries.now.0)) bells.old.items }
+    ensures rings { rings.new.items
+        ≡ rings.old.items ++ rings_of (answers_of (drop start entries.now.0)) bells.old.items }
     ensures bells { bells.new.items ≡ bells_after (answers_of (drop start entries.now.0)) bells.old.items }
-    ensures kept { Steps K.notes tally.old.held.kept (answers_of (drop start entries.now.0)) tally.new.held.kept }
+    ensures kept { Steps K.notes tally.old.held.kept
+        (answers_of (drop start entries.now.0)) tally.new.held.kept }
     ensures same { tally.new.held ≡ record tally.old.held { kept = tally.new.held.kept } }
     ensures calls { tally.old.spare_calls ≤ tally.new.spare_calls }
 {
@@ -74,14 +79,24 @@ pub(crate) fn serve_step<B, K: Keep, L: Ledgers>(
 )
     requires start { start ≤ length book.now.history }
     requires rising { are_rising bells.old.items ≡ true }
-    requires room { vec_len rings.old + length (answers_of (drop start (reverse book.now.history))) ≤ vec_capacity rings.old }
+    requires room { vec_len rings.old + length (answers_of (drop start (reverse book.now.history)))
+        ≤ vec_capacity rings.old }
     requires notes { length (answers_of (drop start (reverse book.now.history))) ≤ tally.old.spare_notes }
-    requires risen { (before.admitted ≤ admitted book.now.history) × (before.throttled ≤ throttled book.now.history) × (before.failed ≤ failed book.now.history) }
-    ensures rings { rings.new.items ≡ rings.old.items ++ rings_of (answers_of (drop start (reverse book.now.history))) bells.old.items }
-    ensures bells { bells.new.items ≡ bells_after (answers_of (drop start (reverse book.now.history))) bells.old.items }
-    ensures kept { Steps K.notes tally.old.held.kept (answers_of (drop start (reverse book.now.history))) tally.new.held.kept }
-    ensures totals { totals.new ≡ plus totals.old (counts 1 (admitted book.now.history - before.admitted) (throttled book.now.history - before.throttled) (failed book.now.history - before.failed)) }
-    ensures held { tally.new.held ≡ record tally.old.held { counts = plus tally.old.held.counts (counts 1 (admitted book.now.history - before.admitted) (throttled book.now.history - before.throttled) (failed book.now.history - before.failed)); kept = tally.new.held.kept } }
+    requires risen { (before.admitted ≤ admitted book.now.history)
+        × (before.throttled ≤ throttled book.now.history) × (before.failed ≤ failed book.now.history) }
+    ensures rings { rings.new.items
+        ≡ rings.old.items ++ rings_of (answers_of (drop start (reverse book.now.history))) bells.old.items }
+    ensures bells { bells.new.items
+        ≡ bells_after (answers_of (drop start (reverse book.now.history))) bells.old.items }
+    ensures kept { Steps K.notes tally.old.held.kept
+        (answers_of (drop start (reverse book.now.history))) tally.new.held.kept }
+    ensures totals { totals.new ≡ plus totals.old
+        (counts 1 (admitted book.now.history - before.admitted)
+        (throttled book.now.history - before.throttled) (failed book.now.history - before.failed)) }
+    ensures held { tally.new.held ≡ record tally.old.held { counts = plus tally.old.held.counts
+        (counts 1 (admitted book.now.history - before.admitted)
+        (throttled book.now.history - before.throttled)
+        (failed book.now.history - before.failed)); kept = tally.new.held.kept } }
     ensures calls { tally.old.spare_calls ≤ tally.new.spare_calls }
 {
     serve_entries(book.entries(), start as usize, bells, rings, tally);

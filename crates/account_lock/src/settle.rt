@@ -1,6 +1,7 @@
 //! The end of an account: its tallies against its book.
 
-ghost use Rattle.std.specs.Prelude.{◌≡◌, ◌≢◌, ◌==◌, ◌^◌, ℕ, true, false, None, length, vec_len, IfOk, IfErr, IfSome, IfNone};
+ghost use Rattle.std.specs.Prelude.{◌≡◌, ◌≢◌, ◌==◌, ◌^◌, ℕ, true, false, None, length, vec_len, IfOk, IfErr};
+ghost use Rattle.std.specs.Prelude.{IfSome, IfNone};
 ghost use Rattle.std.specs.List.{list_all};
 ghost use Rattle.call_model.specs.Counts.{stats};
 ghost use Rattle.account_lock.specs.Counting.{counts_of};
@@ -10,11 +11,12 @@ ghost use Rattle.account_lock.specs.Settlement.{IsKept, IsSettled, IsFault};
 ghost use Rattle.account_lock.specs.declared.fault.SettleFault.TheVariants.{TallyMissing};
 
 use crate::calls::call_differs;
+use crate::claims::wrong_claim;
 use crate::marks::blank_marks;
-use crate::receipts::{receipt_differs, receipt_missing};
+use crate::receipts::receipt_missing;
 use crate::{Bell, Desk, SettleFault};
 use account_book::Book;
-use call_model::Stats;
+use call_model::{Answer, Stats};
 use std::alloc::Global;
 use usage_ledger::{Keep, Ledgers, Tally};
 
@@ -40,7 +42,8 @@ fn all_parts<K: Keep, L: Ledgers>(tallies: &[Tally<K, L>]) -> bool
 
 /// All shares in one tally; none where there is no tally.
 fn gather<K: Keep, L: Ledgers>(tallies: Vec<Tally<K, L>>) -> Option<Tally<K, L>>
-    ensures some { IfSome result (λ tally. (tally.held.parts ≡ parts_in tallies.items) × (tally.held.counts ≡ counts_in tallies.items)) }
+    ensures some { IfSome result (λ tally. (tally.held.parts ≡ parts_in tallies.items)
+        × (tally.held.counts ≡ counts_in tallies.items)) }
     ensures none { IfNone result (parts_in tallies.items ≡ 0) }
 {
     let mut tallies = tallies;
@@ -60,12 +63,13 @@ fn compare<K: Keep, L: Ledgers>(
     calls: Vec<bool>,
 ) -> Option<SettleFault>
     requires parts { parts_in tallies.now ≡ 2 ^ 32 }
-    requires receipts { (vec_len receipts ≡ length book.now.history) × ((t : ℕ) → marked t receipts.items ≡ 0) }
+    requires receipts { (vec_len receipts ≡ length book.now.history)
+        × ((t : ℕ) → marked t receipts.items ≡ 0) }
     requires calls { (vec_len calls ≡ length book.now.history) × ((t : ℕ) → marked t calls.items ≡ 0) }
     ensures none { IfNone result (IsKept K.ALL book.now.history tallies.now) }
     ensures some { IfSome result (λ fault. IsFault K.ALL fault book.now.history tallies.now) }
 {
-    if let Some(ticket) = receipt_differs(book, tallies) {
+    if let Some(ticket) = wrong_claim::<Answer, K, L>(book, tallies) {
         return Some(SettleFault::ReceiptDiffers { ticket });
     }
     if let Some(ticket) = receipt_missing(book, receipts, tallies, K::ALL) {
@@ -126,11 +130,14 @@ impl<B: Bell, L: Ledgers> Desk<B, L> {
     /// same. Where nothing is kept and nothing need be, no memory is asked for, and a missing tally is
     /// the only fault.
     pub fn settle<K: Keep>(self, tallies: Vec<Tally<K, L>>) -> Result<Settled, SettleFault>
-        ensures book { IfOk result (λ settled. (settled.book ≡ self.book) × (settled.stats ≡ stats self.book.config self.book.history)) }
+        ensures book { IfOk result (λ settled. (settled.book ≡ self.book)
+            × (settled.stats ≡ stats self.book.config self.book.history)) }
         ensures settled { IfOk result (λ settled. IsSettled K.ALL self.book.history tallies.items) }
         ensures fault { IfErr result (λ fault. IsFault K.ALL fault self.book.history tallies.items) }
-        ensures counted { IfErr result (λ fault. fault ≢ TallyMissing → counts_in tallies.items ≡ counts_of self.book.history) }
-        ensures nothing { IfErr result (λ fault. K.ALL ≡ false → list_all keeps_nothing tallies.items ≡ true → fault ≡ TallyMissing) }
+        ensures counted { IfErr result
+            (λ fault. fault ≢ TallyMissing → counts_in tallies.items ≡ counts_of self.book.history) }
+        ensures nothing { IfErr result
+            (λ fault. K.ALL ≡ false → list_all keeps_nothing tallies.items ≡ true → fault ≡ TallyMissing) }
     {
         if !all_parts(&tallies) {
             return Err(SettleFault::TallyMissing);

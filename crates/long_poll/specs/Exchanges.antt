@@ -1,5 +1,6 @@
 -- What an exchange may give.
 use Rattle.std.specs.Prelude.{◌≡◌, ◌⊎◌, ℕ, List, Option, Some, None, Result, Ok, Err}
+use Rattle.std.specs.Arc.{arc_value}
 use Rattle.account_lock.specs.declared.desk.Refused.{Refused}
 use Rattle.call_types.specs.declared.call.Call.{Call}
 use Rattle.call_types.specs.declared.call.Entry.{Entry}
@@ -10,6 +11,7 @@ use Rattle.lambda_wire.specs.declared.reply.Reply.{Reply}
 use Rattle.usage_ledger.specs.Tallies.{Held}
 use Rattle.long_poll.specs.Bodies.{Reads, Fails}
 use Rattle.long_poll.specs.Moments.{moment_of}
+use Rattle.long_poll.specs.Offers.{CameBack}
 use Rattle.long_poll.specs.Ringing.{rings_at, hears_at}
 use Rattle.call_types.specs.Calls.{is_invoke}
 use Rattle.long_poll.specs.Refusals.{refusal_reply}
@@ -19,6 +21,7 @@ use Rattle.long_poll.specs.declared.bell.OneShotBell.{OneShotBell}
 use Rattle.long_poll.specs.declared.clock.Clock as Clock
 use Rattle.long_poll.specs.declared.connection.Begun.{Begun}
 use Rattle.long_poll.specs.declared.connection.Begun.TheVariants.{Replied, AsksForHistory, Parked}
+use Rattle.long_poll.specs.declared.connection.Connection.{Connection}
 use Rattle.decisions.specs.declared.decide.Decide as Decide
 use Rattle.decisions.specs.declared.decide.Decision.{Decision}
 use Rattle.decisions.specs.declared.decide.Decision.TheVariants as decision
@@ -37,97 +40,119 @@ Renders renders ticket (Err BellLost) = renders ticket None
 Renders renders ticket (Err OutOfMemory) = Unit {0}
 Renders renders ticket (Err BodyFailed) = ⊥
 
--- What is rendered at a ticket, by who had seen so much of the history.
-abbrev pub shown : {S K L : Type 0} → Service.Ghosts S K L → S → List Entry → ℕ → Option Reply → Type 0
-shown service s seen ticket reply = (then : List Entry) × service.renders s seen ticket reply then
-
 -- Something was heard, as what hears it may give it, and this is rendered at the ticket.
-abbrev pub RendersOnce : {O : Type 0} → (O → Type 0) → (ℕ → Option Reply → Type 0) → ℕ → Result Reply ExchangeFault → Type 0
+abbrev pub RendersOnce : {O : Type 0} → (O → Type 0) → (ℕ → Option Reply → Type 0) → ℕ
+    → Result Reply ExchangeFault → Type 0
 RendersOnce {O} hears renders ticket result = ((said : O) × hears said) × Renders renders ticket result
 
 -- What is rendered at a ticket whose answer was awaited: a reply, never a history.
-abbrev pub Awaits : {H : Type 0} → (ℕ → Option Reply → Type 0) → ℕ → Result (Outcome H) ExchangeFault → Type 0
+abbrev pub Awaits : {H : Type 0} → (ℕ → Option Reply → Type 0) → ℕ → Result (Outcome H) ExchangeFault
+    → Type 0
 Awaits renders ticket (Ok (outcome.Reply reply)) = Renders renders ticket (Ok reply)
 Awaits renders ticket (Ok (outcome.History body)) = ⊥
 Awaits renders ticket (Err fault) = Renders renders ticket (Err fault)
 
-module _ {S K L : Type 0} (service : Service.Ghosts S K L) where
-  -- The reply shows what is asked for, as the account gives it. A history is shown by a body, and by no reply.
-  abbrev pub IsView : S → Shown → Reply → Type 0
-  IsView s Stats reply = (stats : _) × service.counts s stats × (reply ≡ stats_reply stats)
-  IsView s History reply = ⊥
-  IsView s (Reservation f) reply = (count : Option ℕ) × service.reserves s f count × (reply ≡ reservation_reply count)
+-- Of a connection: its account, its clock and who decides its requests, each by the relations of its trait.
+module _ {R S D N K L : Type 0} {service : Service.Ghosts S K L} {decider : Decide.Ghosts D}
+    (connection : Connection R S D N K L service decider) where
+  -- What its account renders at a ticket, to who had seen so much of the history.
+  abbrev pub shown : List Entry → ℕ → Option Reply → Type 0
+  shown seen ticket reply =
+      (then : List Entry) × service.renders (arc_value connection.service) seen ticket reply then
 
-  module _ {N : Type 0} (clock : Clock.Ghosts N) where
+  -- What is decided of a request with this head and this body.
+  abbrev pub Decides : Parts → List ℕ → Decision → Type 0
+  Decides head body made = decider.decides (arc_value connection.decider) head body made
+
+  -- The reply shows what is asked for, as the account gives it. A history is shown by a body, and by no
+  -- reply.
+  abbrev pub IsView : Shown → Reply → Type 0
+  IsView Stats reply =
+      (stats : _) × service.counts (arc_value connection.service) stats × (reply ≡ stats_reply stats)
+  IsView History reply = ⊥
+  IsView (Reservation f) reply =
+      (count : Option ℕ) × service.reserves (arc_value connection.service) f count
+      × (reply ≡ reservation_reply count)
+
+  module _ (clock : Clock.Ghosts N) where
     -- A call was submitted at a reading of the clock, with a bell, and this came back.
-    pub record Submitted (s : S) (n : N) (call : Call) (back : Result (ℕ × List Entry) (Refused OneShotBell)) : Type 0 where
+    pub record Submitted (call : Call) (back : CameBack) : Type 0 where
       pub reading : ℕ
-      pub read : clock.reads n reading
+      pub read : clock.reads (arc_value connection.clock) reading
       pub before : Held
       pub after : Held
       pub bell : OneShotBell
-      pub came : service.submits s before (moment_of reading) call (Some bell) back after
+      pub came : service.submits (arc_value connection.service)
+          before (moment_of reading) call (Some bell) back after
 
-    -- A call was submitted, and this is rendered at the ticket that it got, to who had seen the history that it made.
-    abbrev pub IsRendered : S → N → Call → Option Reply → Type 0
-    IsRendered s n call rendered =
-        (ticket : ℕ) × (seen : List Entry) × Submitted s n call (Ok (ticket, seen)) × shown service s seen ticket rendered
+    -- The same with this bell.
+    abbrev pub SubmittedWith : OneShotBell → Call → CameBack → Type 0
+    SubmittedWith bell call back = (submitted : Submitted call back) × (submitted.bell ≡ bell)
+
+    -- A call was submitted, and this is rendered at the ticket that it got, to who had seen the history that
+    -- it made.
+    abbrev pub IsRendered : Call → Option Reply → Type 0
+    IsRendered call rendered =
+        (ticket : ℕ) × (seen : List Entry) × Submitted call (Ok (ticket, seen)) × shown seen ticket rendered
 
     -- A call was submitted and refused, and the reply says so.
-    abbrev pub IsRefusal : S → N → Call → Reply → Type 0
-    IsRefusal s n call reply =
-        (refused : Refused OneShotBell) × Submitted s n call (Err refused) × (reply ≡ refusal_reply (is_invoke call) refused.refusal)
+    abbrev pub IsRefusal : Call → Reply → Type 0
+    IsRefusal call reply =
+        (refused : Refused OneShotBell) × Submitted call (Err refused)
+        × (reply ≡ refusal_reply (is_invoke call) refused.refusal)
 
-    -- A call was submitted, has this ticket and made this history, and this hears the bell that went with it.
-    abbrev pub IsParked : S → N → Call → ℕ → Heard → List Entry → Type 0
-    IsParked s n call ticket heard seen =
-        (submitted : Submitted s n call (Ok (ticket, seen))) × (rings_at submitted.bell ≡ hears_at heard)
+    -- A call was submitted, has this ticket and made this history, and this hears the bell that went with
+    -- it.
+    abbrev pub IsParked : Call → ℕ → Heard → List Entry → Type 0
+    IsParked call ticket heard seen =
+        (submitted : Submitted call (Ok (ticket, seen))) × (rings_at submitted.bell ≡ hears_at heard)
 
     -- A call was submitted with a bell that can be heard, and nothing is rendered at the ticket that it got.
-    abbrev pub IsLost : S → N → Call → Type 0
-    IsLost s n call =
-        (ticket : ℕ) × (heard : Heard) × (seen : List Entry) × IsParked s n call ticket heard seen
-        × shown service s seen ticket None
+    abbrev pub IsLost : Call → Type 0
+    IsLost call =
+        (ticket : ℕ) × (heard : Heard) × (seen : List Entry) × IsParked call ticket heard seen
+        × shown seen ticket None
 
     -- A call was submitted: it was refused and has its reply, or it has its ticket.
-    abbrev pub IsBegun : S → N → Call → Begun L → Type 0
-    IsBegun s n call (Replied reply) = IsRefusal s n call reply
-    IsBegun s n call AsksForHistory = ⊥
-    IsBegun s n call (Parked ticket heard front) = IsParked s n call ticket heard front
+    abbrev pub IsBegun : Call → Begun L → Type 0
+    IsBegun call (Replied reply) = IsRefusal call reply
+    IsBegun call AsksForHistory = ⊥
+    IsBegun call (Parked ticket heard front) = IsParked call ticket heard front
 
-    module _ {D : Type 0} (decider : Decide.Ghosts D) where
-      -- The reply to a request, by what is done with it.
-      abbrev pub IsReply : S → N → Decision → Reply → Type 0
-      IsReply s n (decision.Submit call) reply = IsRendered s n call (Some reply) ⊎ IsRefusal s n call reply
-      IsReply s n (decision.Reply own) reply = reply ≡ own
-      IsReply s n (decision.Show shown) reply = IsView s shown reply
+    -- The reply to a request, by what is done with it.
+    abbrev pub IsReply : Decision → Reply → Type 0
+    IsReply (decision.Submit call) reply = IsRendered call (Some reply) ⊎ IsRefusal call reply
+    IsReply (decision.Reply own) reply = reply ≡ own
+    IsReply (decision.Show shown) reply = IsView shown reply
 
-      module _ {H : Type 0} (shows : H → Type 0) where
-        -- What comes of a request with this head and this body: a reply, or, where the history is asked for, a body that
-        -- shows it. The fault of a lost bell comes only where its call was submitted and nothing is rendered at the
-        -- ticket; that the bell was heard before is said of no bell.
-        abbrev pub ComesOf : S → N → D → Parts → List ℕ → Result (Outcome H) ExchangeFault → Type 0
-        ComesOf s n d head body (Ok (outcome.Reply reply)) = (made : Decision) × decider.decides d head body made × IsReply s n made reply
-        ComesOf s n d head body (Ok (outcome.History shown)) = decider.decides d head body (decision.Show History) × shows shown
-        ComesOf s n d head body (Err BellLost) =
-            (call : Call) × decider.decides d head body (decision.Submit call) × IsLost s n call
-        ComesOf s n d head body (Err OutOfMemory) = Unit {0}
-        ComesOf s n d head body (Err BodyFailed) = ⊥
+    -- What a request with this head and this body has come to.
+    abbrev pub HasBegun : Parts → List ℕ → Begun L → Type 0
+    HasBegun head body (Replied reply) = (made : Decision) × Decides head body made × IsReply made reply
+    HasBegun head body AsksForHistory = Decides head body (decision.Show History)
+    HasBegun head body (Parked ticket heard front) =
+        (call : Call) × Decides head body (decision.Submit call) × IsParked call ticket heard front
 
-        -- What comes of a request with this head, and with a body of which this is held already: the body failed, or it is
-        -- what comes of the head and of what was read of the body.
-        abbrev pub Exchanges : {P E : Type 0} → S → N → D → (P → List ℕ → Type 0) → Runs (Result (Frame P) E) → Parts → List ℕ
-            → Result (Outcome H) ExchangeFault → Type 0
-        Exchanges s n d reads source head held (Err BodyFailed) = Fails source
-        Exchanges s n d reads source head held (Err OutOfMemory) = Unit {0}
-        Exchanges s n d reads source head held (Err BellLost) =
-            (body : List ℕ) × Reads reads source held body × ComesOf s n d head body (Err BellLost)
-        Exchanges s n d reads source head held (Ok answer) =
-            (body : List ℕ) × Reads reads source held body × ComesOf s n d head body (Ok answer)
+    module _ {H : Type 0} (shows : H → Type 0) where
+      -- What comes of a request with this head and this body: a reply, or, where the history is asked for, a
+      -- body that shows it. The fault of a lost bell comes only where its call was submitted and nothing is
+      -- rendered at the ticket; that the bell was heard before is said of no bell.
+      abbrev pub ComesOf : Parts → List ℕ → Result (Outcome H) ExchangeFault → Type 0
+      ComesOf head body (Ok (outcome.Reply reply)) =
+          (made : Decision) × Decides head body made × IsReply made reply
+      ComesOf head body (Ok (outcome.History shown)) =
+          Decides head body (decision.Show History) × shows shown
+      ComesOf head body (Err BellLost) =
+          (call : Call) × Decides head body (decision.Submit call) × IsLost call
+      ComesOf head body (Err OutOfMemory) = Unit {0}
+      ComesOf head body (Err BodyFailed) = ⊥
 
-      -- What a request with this head and this body has come to.
-      abbrev pub HasBegun : S → N → D → Parts → List ℕ → Begun L → Type 0
-      HasBegun s n d head body (Replied reply) = (made : Decision) × decider.decides d head body made × IsReply s n made reply
-      HasBegun s n d head body AsksForHistory = decider.decides d head body (decision.Show History)
-      HasBegun s n d head body (Parked ticket heard front) =
-          (call : Call) × decider.decides d head body (decision.Submit call) × IsParked s n call ticket heard front
+      -- What comes of a request with this head, and with a body of which this is held already: the body
+      -- failed, or it is what comes of the head and of what was read of the body.
+      abbrev pub Exchanges : {P E : Type 0} → (P → List ℕ → Type 0) → Runs (Result (Frame P) E) → Parts
+          → List ℕ → Result (Outcome H) ExchangeFault → Type 0
+      Exchanges reads source head held (Err BodyFailed) = Fails source
+      Exchanges reads source head held (Err OutOfMemory) = Unit {0}
+      Exchanges reads source head held (Err BellLost) =
+          (body : List ℕ) × Reads reads source held body × ComesOf head body (Err BellLost)
+      Exchanges reads source head held (Ok answer) =
+          (body : List ℕ) × Reads reads source held body × ComesOf head body (Ok answer)

@@ -1,10 +1,12 @@
 -- What a body that shows a history gives.
 use Rattle.std.specs.Prelude.{◌≡◌, ℕ, ◌+◌, ⊤, List, [], ◌∷◌, Option, Some, None, Result, Ok, Err}
 use Rattle.call_types.specs.declared.call.Entry.{Entry as Taken}
+use Rattle.futures.specs.Runs.{Runs}
 use Rattle.http_body.specs.declared.frame.Frame.{Frame}
 use Rattle.http_body.specs.Frame.{data_frame}
 use Rattle.long_poll.specs.declared.history_body.Stage.{Stage}
 use Rattle.long_poll.specs.declared.history_body.Stage.TheVariants.{Opening, Entry, Ended}
+use Rattle.long_poll.specs.declared.service.Service as Service
 
 -- the stage behind a frame, or behind a failure
 abbrev pub behind : {A E : Type 0} → Stage → Result A E → Stage
@@ -19,22 +21,25 @@ answer_of (Ok None) = None
 answer_of (Ok (Some frame)) = Some (Ok frame)
 answer_of (Err e) = Some (Err e)
 
-module _ {E : Type 0} (opens : List ℕ → Type 0) (tells : List Taken → ℕ → Option (List ℕ) → List Taken → Type 0) where
-  -- One answer of a poll at a stage, by who had seen so much of the history, and has then seen so much: a text of the
-  -- history where it is one, its end only where the history has ended, or that it failed.
+module _ {S K L E : Type 0} (service : Service.Ghosts S K L) (s : S) where
+  -- One answer of a poll at a stage, by who had seen so much of the history, and has then seen so much: a
+  -- text of the history where it is one, its end only where the history has ended, or that it failed.
   abbrev pub Answers : List Taken → Stage → Option (Result (Frame (List ℕ)) E) → List Taken → Type 0
   Answers seen Opening None then = ⊥
-  Answers seen Opening (Some (Ok frame)) then = (text : List ℕ) × (frame ≡ data_frame text) × opens text
+  Answers seen Opening (Some (Ok frame)) then =
+      (text : List ℕ) × (frame ≡ data_frame text) × service.opens s text
   Answers seen Opening (Some (Err e)) then = ⊤
-  Answers seen (Entry t) None then = tells seen t None then
-  Answers seen (Entry t) (Some (Ok frame)) then = (text : List ℕ) × (frame ≡ data_frame text) × tells seen t (Some text) then
+  Answers seen (Entry t) None then = service.tells s seen t None then
+  Answers seen (Entry t) (Some (Ok frame)) then =
+      (text : List ℕ) × (frame ≡ data_frame text) × service.tells s seen t (Some text) then
   Answers seen (Entry t) (Some (Err e)) then = ⊤
   Answers seen Ended next then = next ≡ None
 
-  -- The frames from a stage on, and one more answer: the opening, then the text of each ticket in its turn, from
-  -- ticket 0 on, to the first that has none. Each is of the history as it was then, which goes on where the one ends that
-  -- was seen before. A failure is the last.
-  abbrev pub Frames : List Taken → Stage → List (Result (Frame (List ℕ)) E) → Option (Result (Frame (List ℕ)) E) → Type 0
+  -- The frames from a stage on, and one more answer: the opening, then the text of each ticket in its turn,
+  -- from ticket 0 on, to the first that has none. Each is of the history as it was then, which goes on where
+  -- the one ends that was seen before. A failure is the last.
+  abbrev pub Frames : List Taken → Stage → Runs (Result (Frame (List ℕ)) E)
   Frames seen stage [] next = (then : List Taken) × Answers seen stage next then
   Frames seen stage (frame ∷ frames) next =
-      (then : List Taken) × Answers seen stage (Some frame) then × Frames then (behind stage frame) frames next
+      (then : List Taken) × Answers seen stage (Some frame) then
+      × Frames then (behind stage frame) frames next

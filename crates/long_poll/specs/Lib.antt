@@ -6,8 +6,11 @@ pub mod HistoryFrames
 pub mod Moments
 pub mod Offers
 pub mod Outcomes
+pub mod Pending
+pub mod Reads
 pub mod Refusals
 pub mod Ringing
 pub mod Stages
+pub mod Standing
 pub mod Submits
 pub mod Views

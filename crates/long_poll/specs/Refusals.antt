@@ -16,7 +16,8 @@ abbrev pub kind_of : Refusal → List ℕ
 kind_of JournalFull = codes "JournalFull"
 kind_of OutOfMemory = codes "OutOfMemory"
 
--- A refused Invoke is an error of the service (Lambda API, Invoke: ServiceException); any other call has a fault's body.
+-- A refused Invoke is an error of the service (Lambda API, Invoke: ServiceException); any other call has a
+-- fault's body.
 abbrev pub refusal_reply : Bool → Refusal → Reply
 refusal_reply true refusal = invoke_fault_reply 500 (codes "ServiceException") Service (message_of refusal)
 refusal_reply false refusal = fault_reply 500 (message_of refusal) (kind_of refusal)

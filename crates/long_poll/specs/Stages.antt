@@ -7,6 +7,7 @@ use Rattle.long_poll.specs.Exchanges.{Exchanges, HasBegun, Awaits, shown}
 use Rattle.long_poll.specs.Ringing.{hears_at}
 use Rattle.long_poll.specs.declared.clock.Clock as Clock
 use Rattle.long_poll.specs.declared.connection.Begun.{Begun}
+use Rattle.long_poll.specs.declared.connection.Connection.{Connection}
 use Rattle.decisions.specs.declared.decide.Decide as Decide
 use Rattle.long_poll.specs.declared.exchange.Stage.{Stage}
 use Rattle.long_poll.specs.declared.exchange.Stage.TheVariants.{Collecting, Waiting}
@@ -35,18 +36,21 @@ abbrev pub WaitsFor : {B L : Type 0} → (B → ℕ → Type 0) → Stage B L �
 WaitsFor needs (Collecting parts collecting) source = needs collecting.body source
 WaitsFor needs (Waiting ticket heard front) source = source ≡ hears_at heard
 
-module _ {S K L N D B P E : Type 0} (service : Service.Ghosts S K L) (clock : Clock.Ghosts N) (decider : Decide.Ghosts D)
-    (yields : B → Runs (Result (Frame P) E)) (reads : P → List ℕ → Type 0) (s : S) (n : N) (d : D) where
+module _ {R S D N K L : Type 0} {service : Service.Ghosts S K L} {decider : Decide.Ghosts D}
+    (connection : Connection R S D N K L service decider) (clock : Clock.Ghosts N) {B P E : Type 0}
+    (yields : B → Runs (Result (Frame P) E)) (reads : P → List ℕ → Type 0) where
   -- What it may give, where these bodies show the history.
-  abbrev pub Gives : {H : Type 0} → (H → Type 0) → Stage B L → Result (Outcome H) ExchangeFault → Type 0
-  Gives shows (Collecting parts collecting) = Exchanges service clock decider shows s n d reads (yields collecting.body) parts collecting.held
-  Gives shows (Waiting ticket heard front) = Awaits (shown service s front) ticket
+  abbrev pub GivesFrom : {H : Type 0} → (H → Type 0) → Stage B L → Result (Outcome H) ExchangeFault → Type 0
+  GivesFrom shows (Collecting parts collecting) =
+      Exchanges connection clock shows reads (yields collecting.body) parts collecting.held
+  GivesFrom shows (Waiting ticket heard front) = Awaits (shown connection front) ticket
 
   -- What it has come to once its body was collected.
-  abbrev pub Starts : Stage B L → Result (Begun L) ExchangeFault → Type 0
-  Starts (Collecting parts collecting) (Ok begun) =
-      (body : List ℕ) × Reads reads (yields collecting.body) collecting.held body × HasBegun service clock decider s n d parts body begun
-  Starts (Collecting parts collecting) (Err BodyFailed) = Fails (yields collecting.body)
-  Starts (Collecting parts collecting) (Err OutOfMemory) = Unit {0}
-  Starts (Collecting parts collecting) (Err BellLost) = ⊥
-  Starts (Waiting ticket heard front) begun = ⊥
+  abbrev pub StartsFrom : Stage B L → Result (Begun L) ExchangeFault → Type 0
+  StartsFrom (Collecting parts collecting) (Ok begun) =
+      (body : List ℕ) × Reads reads (yields collecting.body) collecting.held body
+      × HasBegun connection clock parts body begun
+  StartsFrom (Collecting parts collecting) (Err BodyFailed) = Fails (yields collecting.body)
+  StartsFrom (Collecting parts collecting) (Err OutOfMemory) = Unit {0}
+  StartsFrom (Collecting parts collecting) (Err BellLost) = ⊥
+  StartsFrom (Waiting ticket heard front) begun = ⊥

@@ -18,7 +18,8 @@ stats_data stats = object
 
 -- The counts of an account as JSON, the keys in the order of their bytes.
 unfoldable pub stats_text : Stats → List ℕ
-stats_text stats = codes "{\"admitted\":" ++ decimal stats.admitted ++ codes ",\"entries\":" ++ decimal stats.entries
+stats_text stats =
+    codes "{\"admitted\":" ++ decimal stats.admitted ++ codes ",\"entries\":" ++ decimal stats.entries
     ++ codes ",\"failed\":" ++ decimal stats.failed ++ codes ",\"inFlight\":" ++ decimal stats.in_flight
     ++ codes ",\"throttled\":" ++ decimal stats.throttled ++ codes "}"
 

@@ -1,7 +1,7 @@
 //! A future for the first bytes of a request's body.
 
-ghost use Rattle.std.specs.Prelude.{◌≡◌, ◌==◌, ◌≤◌, ◌++◌, ℕ, List, [], length, take, IfOk, MatchResult, OnOk};
-ghost use Rattle.long_poll.specs.Bodies.{Collects, IsDataOf, most_bytes};
+ghost use Rattle.std.specs.Prelude.{◌≡◌, ◌==◌, ◌≤◌, [], length, IfOk, MatchResult, OnOk};
+ghost use Rattle.long_poll.specs.Bodies.{Collects, IsDataOf, Takes, most_bytes};
 
 use crate::ExchangeFault;
 use crate::first_bytes::FirstBytes;
@@ -52,7 +52,7 @@ where
 {
     /// Takes the data of a frame, and tells whether no more is wanted.
     fn take_frame(&mut self, frame: Frame<B::Data>) -> Result<bool, AllocError>
-        ensures taken { OnOk result ((bytes : List ℕ) × IsDataOf B.Data.converts frame bytes × (self.new.held ≡ take most_bytes (self.old.held ++ bytes))) }
+        ensures taken { OnOk result (Takes B.Data.converts frame self.old.held self.new.held) }
         ensures full { IfOk result (λ full. full ≡ (length self.new.held == most_bytes)) }
         ensures body { self.new.body ≡ self.old.body }
     {
@@ -63,7 +63,8 @@ where
 
     /// What was collected.
     fn collected(&mut self) -> Result<Bytes, ExchangeFault>
-        ensures held { MatchResult result (λ bytes. bytes ≡ self.old.held) (λ fault. fault ≡ ExchangeFault.OutOfMemory) }
+        ensures held { MatchResult result (λ bytes. bytes ≡ self.old.held)
+            (λ fault. fault ≡ ExchangeFault.OutOfMemory) }
         ensures few { length self.old.held ≤ most_bytes }
     {
         match self.held.taken(self.alloc) {

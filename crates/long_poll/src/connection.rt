@@ -5,9 +5,6 @@ ghost use Rattle.std.specs.Arc.{arc_value};
 ghost use Rattle.call_types.specs.Within.{IsWithin};
 ghost use Rattle.futures.specs.Task.{Covers, Keeps};
 ghost use Rattle.futures.specs.Poll.{IfReady, OnPending};
-ghost use Rattle.long_poll.specs.Exchanges.{Submitted, IsBegun, HasBegun, Renders, RendersOnce, shown};
-ghost use Rattle.long_poll.specs.Attempts.{IsAttempt};
-ghost use Rattle.long_poll.specs.Outcomes.{ShowsAllOf};
 
 use crate::clock::moment;
 use crate::history_body::HistoryBody;
@@ -95,6 +92,12 @@ impl<
     K: Keep,
     L: Ledgers,
 > Connection<R, S, D, N, K, L> {
+    ghost use Rattle.long_poll.specs.Attempts.{IsAttempt};
+    ghost use Rattle.long_poll.specs.Exchanges.{SubmittedWith, IsBegun, HasBegun};
+    ghost use Rattle.long_poll.specs.Exchanges.{Renders, RendersOnce, shown};
+    ghost use Rattle.long_poll.specs.Outcomes.{ShowsAllOf};
+    ghost use Rattle.long_poll.specs.Pending.{KeepsTo};
+
     /// A connection to this account, whose requests are decided for the same configuration. For one
     /// submit at a time its tally is locked, and then the account. A call that is premature is held
     /// back for `patience` milliseconds at most, in which the connection's thread sleeps.
@@ -136,7 +139,7 @@ impl<
         bell: OneShotBell,
     ) -> Result<(Ticket, Front<L>), Refused<OneShotBell>>
         requires { IsWithin (S.serves (arc_value self.now.service)) call }
-        ensures { (submitted : Submitted S.Service N.Clock (arc_value self.now.service) (arc_value self.now.clock) call result) × (submitted.bell ≡ bell) }
+        ensures { SubmittedWith self.now N.Clock bell call result }
     {
         let mut tally = self.tally.lock(&self.rt);
         let now = moment(&*self.clock);
@@ -147,7 +150,7 @@ impl<
     /// Submits a call with its bell at the clock's reading, unless it is premature.
     fn attempt(&self, call: Call, bell: OneShotBell) -> Attempt<L>
         requires { IsWithin (S.serves (arc_value self.now.service)) call }
-        ensures { IsAttempt S.Service N.Clock (arc_value self.now.service) (arc_value self.now.clock) call bell result }
+        ensures { IsAttempt self.now N.Clock bell call result }
     {
         let mut tally = self.tally.lock(&self.rt);
         let now = moment(&*self.clock);
@@ -172,7 +175,7 @@ impl<
         bell: OneShotBell,
     ) -> Result<(Ticket, Front<L>), Refused<OneShotBell>>
         requires { IsWithin (S.serves (arc_value self.now.service)) call }
-        ensures { (submitted : Submitted S.Service N.Clock (arc_value self.now.service) (arc_value self.now.clock) call result) × (submitted.bell ≡ bell) }
+        ensures { SubmittedWith self.now N.Clock bell call result }
     {
         let mut call = call;
         let mut bell = bell;
@@ -197,7 +200,7 @@ impl<
     /// Submits a call with a bell of its own. A Next is noted as open.
     fn submit(&self, call: Call) -> Result<Begun<L>, ExchangeFault>
         requires { IsWithin (S.serves (arc_value self.now.service)) call }
-        ensures ok { IfOk result (IsBegun S.Service N.Clock (arc_value self.now.service) (arc_value self.now.clock) call) }
+        ensures ok { IfOk result (IsBegun self.now N.Clock call) }
         ensures err { IfErr result (λ fault. fault ≡ ExchangeFault.OutOfMemory) }
     {
         let (bell, heard) = OneShotBell::pair(self.alloc)?;
@@ -224,7 +227,7 @@ impl<
 
     /// Decides a request, and does what is decided.
     pub(crate) fn begin(&self, parts: &Parts, body: &Bytes) -> Result<Begun<L>, ExchangeFault>
-        ensures ok { IfOk result (HasBegun S.Service N.Clock D.Decide (arc_value self.now.service) (arc_value self.now.clock) (arc_value self.now.decider) parts.now body.now) }
+        ensures ok { IfOk result (HasBegun self.now N.Clock parts.now body.now) }
         ensures err { IfErr result (λ fault. fault ≡ ExchangeFault.OutOfMemory) }
     {
         let mut scratch = self.scratch.take();
@@ -255,7 +258,7 @@ impl<
 
     /// Renders the answer of a ticket. The note of a Next is taken back.
     fn render(&self, front: &mut Front<L>, ticket: Ticket) -> Result<Reply, ExchangeFault>
-        ensures { Renders (shown S.Service (arc_value self.now.service) front.old) ticket result }
+        ensures { Renders (shown self.now front.old) ticket result }
     {
         match self.service.render(&self.rt, front, ticket) {
             Err(AllocError) => Err(ExchangeFault::OutOfMemory),
@@ -279,9 +282,9 @@ impl<
     where
         H::Output: Drop,
         requires { H.can_poll heard.old }
-        ensures value { IfReady result (RendersOnce (H.gives heard.old) (shown S.Service (arc_value self.now.service) front.old) ticket) }
+        ensures value { IfReady result (RendersOnce (H.gives heard.old) (shown self.now front.old) ticket) }
         ensures again { OnPending result (H.can_poll heard.new) }
-        ensures same { OnPending result ((said : _) → H.gives heard.new said → H.gives heard.old said) }
+        ensures same { OnPending result (KeepsTo H.gives heard.old heard.new) }
         ensures registered { OnPending result (Covers cx.new (H.needs heard.new)) }
         ensures kept { Keeps cx.old cx.new }
         ensures front { OnPending result (front.new ≡ front.old) }

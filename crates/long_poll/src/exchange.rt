@@ -1,12 +1,11 @@
 //! One request, from its body to its reply.
 
-ghost use Rattle.std.specs.Prelude.{◌≡◌, MatchResult};
+ghost use Rattle.std.specs.Prelude.{◌≡◌, [], MatchResult};
 ghost use Rattle.std.specs.Arc.{arc_value};
 ghost use Rattle.futures.specs.Task.{Covers, Keeps};
 ghost use Rattle.futures.specs.Poll.{IfReady, OnPending};
-ghost use Rattle.std.specs.Prelude.{[]};
-ghost use Rattle.long_poll.specs.Outcomes.{ShowsAllOf, IsHistoryOf};
-ghost use Rattle.long_poll.specs.Stages.{CanGoOn, IsCollecting, IsWaiting, WaitsFor, Gives, Starts};
+ghost use Rattle.long_poll.specs.Outcomes.{IsHistoryOf};
+ghost use Rattle.long_poll.specs.Pending.{KeepsTo};
 ghost use Rattle.long_poll.specs.declared.exchange.Stage.TheVariants as stage;
 ghost use Rattle.long_poll.specs.declared.fault.ExchangeFault.TheVariants.{OutOfMemory};
 
@@ -62,6 +61,9 @@ impl<
 where
     B::Data: Into<Bytes>,
 {
+    ghost use Rattle.long_poll.specs.Stages.{IsCollecting, IsWaiting, WaitsFor};
+    ghost use Rattle.long_poll.specs.Standing.{Starts};
+
     /// The exchange of a request with this head and this body. It takes no memory.
     pub fn new(
         connection: Arc<Connection<R, S, D, N, K, L>>,
@@ -69,7 +71,8 @@ where
         body: B,
     ) -> Exchange<R, S, D, N, B, K, L>
         ensures connection { result.connection ≡ connection }
-        ensures stage { result.stage ≡ stage.Collecting parts (record { alloc = (arc_value connection).alloc; body = body; held = [] }) }
+        ensures stage { result.stage ≡ stage.Collecting parts
+            (record { alloc = (arc_value connection).alloc; body = body; held = [] }) }
     {
         let body = Collecting::new(connection.alloc(), body);
         Exchange {
@@ -81,9 +84,9 @@ where
     /// Collects the body; then the request is decided, and its call submitted.
     fn poll_start(&mut self, cx: &mut Context<'_>) -> Poll<Result<Begun<L>, ExchangeFault>>
         requires { IsCollecting B.can_poll self.old.stage }
-        ensures value { IfReady result (Starts S.Service N.Clock D.Decide B.yields B.Data.converts (arc_value (arc_value self.old.connection).service) (arc_value (arc_value self.old.connection).clock) (arc_value (arc_value self.old.connection).decider) self.old.stage) }
+        ensures value { IfReady result (Starts N.Clock B.yields B.Data.converts self.old) }
         ensures again { OnPending result (IsCollecting B.can_poll self.new.stage) }
-        ensures same { OnPending result ((x : _) → Gives S.Service N.Clock D.Decide B.yields B.Data.converts (arc_value (arc_value self.new.connection).service) (arc_value (arc_value self.new.connection).clock) (arc_value (arc_value self.new.connection).decider) (ShowsAllOf {R = R} {S = S} {K = K} {L = L} (arc_value (arc_value self.new.connection).service)) self.new.stage x → Gives S.Service N.Clock D.Decide B.yields B.Data.converts (arc_value (arc_value self.old.connection).service) (arc_value (arc_value self.old.connection).clock) (arc_value (arc_value self.old.connection).decider) (ShowsAllOf (arc_value (arc_value self.old.connection).service)) self.old.stage x) }
+        ensures same { OnPending result (KeepsTo ⟦<Self as Future>⟧.gives self.old self.new) }
         ensures registered { OnPending result (Covers cx.new (WaitsFor B.needs self.new.stage)) }
         ensures kept { Keeps cx.old cx.new }
         ensures connection { self.new.connection ≡ self.old.connection }
@@ -112,7 +115,8 @@ where
 
     /// The account's whole history.
     fn history(&self) -> Result<Outcome<HistoryBody<R, S, K, L>>, ExchangeFault>
-        ensures { MatchResult result (λ outcome. IsHistoryOf (arc_value (arc_value self.now.connection).service) outcome) (λ fault. fault ≡ OutOfMemory) }
+        ensures { MatchResult result (IsHistoryOf (arc_value (arc_value self.now.connection).service))
+            (λ fault. fault ≡ OutOfMemory) }
     {
         Ok(Outcome::History(self.connection.history()?))
     }
@@ -123,9 +127,9 @@ where
         cx: &mut Context<'_>,
     ) -> Poll<Result<Outcome<HistoryBody<R, S, K, L>>, ExchangeFault>>
         requires { IsWaiting self.old.stage }
-        ensures value { IfReady result (Gives S.Service N.Clock D.Decide B.yields B.Data.converts (arc_value (arc_value self.old.connection).service) (arc_value (arc_value self.old.connection).clock) (arc_value (arc_value self.old.connection).decider) (ShowsAllOf (arc_value (arc_value self.old.connection).service)) self.old.stage) }
+        ensures value { IfReady result (⟦<Self as Future>⟧.gives self.old) }
         ensures again { OnPending result (IsWaiting self.new.stage) }
-        ensures same { OnPending result ((x : _) → Gives S.Service N.Clock D.Decide B.yields B.Data.converts (arc_value (arc_value self.new.connection).service) (arc_value (arc_value self.new.connection).clock) (arc_value (arc_value self.new.connection).decider) (ShowsAllOf {R = R} {S = S} {K = K} {L = L} (arc_value (arc_value self.new.connection).service)) self.new.stage x → Gives S.Service N.Clock D.Decide B.yields B.Data.converts (arc_value (arc_value self.old.connection).service) (arc_value (arc_value self.old.connection).clock) (arc_value (arc_value self.old.connection).decider) (ShowsAllOf (arc_value (arc_value self.old.connection).service)) self.old.stage x) }
+        ensures same { OnPending result (KeepsTo ⟦<Self as Future>⟧.gives self.old self.new) }
         ensures registered { OnPending result (Covers cx.new (WaitsFor B.needs self.new.stage)) }
         ensures kept { Keeps cx.old cx.new }
     {
@@ -156,13 +160,16 @@ impl<
 where
     B::Data: Into<Bytes>,
 {
+    ghost use Rattle.long_poll.specs.Stages.{CanGoOn, WaitsFor};
+    ghost use Rattle.long_poll.specs.Standing.{Gives};
+
     type Output = Result<Outcome<HistoryBody<R, S, K, L>>, ExchangeFault>;
 
     ghost can_poll = { λ exchange. CanGoOn B.can_poll exchange.stage };
 
     ghost needs = { λ exchange. WaitsFor B.needs exchange.stage };
 
-    ghost gives = { λ exchange. Gives S.Service N.Clock D.Decide B.yields B.Data.converts (arc_value (arc_value exchange.connection).service) (arc_value (arc_value exchange.connection).clock) (arc_value (arc_value exchange.connection).decider) (ShowsAllOf (arc_value (arc_value exchange.connection).service)) exchange.stage };
+    ghost gives = { Gives N.Clock B.yields B.Data.converts };
 
     fn poll(&mut self, cx: &mut Context<'_>) -> Poll<Self::Output> {
         if let Stage::Waiting { .. } = &self.stage {

@@ -33,8 +33,8 @@ fn piece(bytes: Vec<u8>) -> Result<Bytes, AllocError>
 }
 
 /// The text of a history, streamed: its opening, then the text of each entry, from ticket 0 to the
-/// first that there is none of, all of one history. Each is a frame of its own, and no more than one is in memory. Want of
-/// memory ends the body with an error.
+/// first that there is none of, all of one history. Each is a frame of its own, and no more than one is
+/// in memory. Want of memory ends the body with an error.
 #[derive(Drop)]
 pub struct HistoryBody<R, S, K: Keep, L: Ledgers> {
     rt: R,
@@ -47,7 +47,8 @@ pub struct HistoryBody<R, S, K: Keep, L: Ledgers> {
 impl<R: Wait + Drop, S: Service<K, L>, K: Keep, L: Ledgers> HistoryBody<R, S, K, L> {
     /// The whole history of a service. It takes no memory.
     pub fn new(rt: R, service: Arc<S>) -> HistoryBody<R, S, K, L>
-        ensures { (result.service ≡ service) × (result.stage ≡ Stage.Opening) × S.shows (arc_value service) result.front }
+        ensures stands { (result.service ≡ service) × (result.stage ≡ Stage.Opening) }
+        ensures seen { S.shows (arc_value service) result.front }
     {
         let front = service.front(&rt);
         HistoryBody {
@@ -61,7 +62,8 @@ impl<R: Wait + Drop, S: Service<K, L>, K: Keep, L: Ledgers> HistoryBody<R, S, K,
 
     /// The text before the first entry.
     fn opening(&mut self) -> Result<Frame<Bytes>, AllocError>
-        ensures value { Answers (S.opens (arc_value self.old.service)) (S.tells (arc_value self.old.service)) self.old.front Stage.Opening (Some result) self.new.front }
+        ensures value { Answers S.Service (arc_value self.old.service) self.old.front
+            Stage.Opening (Some result) self.new.front }
         ensures stage { self.new.stage ≡ behind Stage.Opening result }
         ensures same { self.new.service ≡ self.old.service }
     {
@@ -73,8 +75,10 @@ impl<R: Wait + Drop, S: Service<K, L>, K: Keep, L: Ledgers> HistoryBody<R, S, K,
 
     /// The text of an entry, none behind the last.
     fn entry(&mut self, ticket: Ticket) -> Result<Option<Frame<Bytes>>, AllocError>
-        ensures value { Answers (S.opens (arc_value self.old.service)) (S.tells (arc_value self.old.service)) self.old.front (Stage.Entry ticket) (answer_of result) self.new.front }
-        ensures stage { IfSome (answer_of result) (λ answer. self.new.stage ≡ behind (Stage.Entry ticket) answer) }
+        ensures value { Answers S.Service (arc_value self.old.service) self.old.front
+            (Stage.Entry ticket) (answer_of result) self.new.front }
+        ensures stage { IfSome (answer_of result)
+            (λ answer. self.new.stage ≡ behind (Stage.Entry ticket) answer) }
         ensures same { self.new.service ≡ self.old.service }
     {
         self.stage = Stage::Ended;
@@ -98,7 +102,7 @@ impl<R: Wait + Drop, S: Service<K, L>, K: Keep, L: Ledgers> Body for HistoryBody
 
     type Error = AllocError;
 
-    ghost yields = { λ b. Frames (S.opens (arc_value b.service)) (S.tells (arc_value b.service)) b.front b.stage };
+    ghost yields = { λ b. Frames S.Service (arc_value b.service) b.front b.stage };
 
     fn poll_frame(
         &mut self,

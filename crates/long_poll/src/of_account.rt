@@ -1,14 +1,8 @@
 //! An account is a service.
 
-ghost use Rattle.std.specs.Prelude.{◌≡◌, ◌<◌, ◌^◌, ℕ, [], IfOk};
-ghost use Rattle.call_model.specs.Counts.{stats};
-ghost use Rattle.call_model.specs.History.{answer_of};
-ghost use Rattle.call_model.specs.Limits.{reservation};
-ghost use Rattle.call_types.specs.Within.{IsWithin, IsFunction};
-ghost use Rattle.account_book.specs.HistoryText.{opening_text};
-ghost use Rattle.account_book.specs.ReplyText.{reply_text};
-ghost use Rattle.account_lock.specs.Looks.{look_of};
-ghost use Rattle.account_lock.specs.Shown.{IsTextOf, Sees, Shown};
+ghost use Rattle.std.specs.Prelude.{[]};
+ghost use Rattle.account_lock.specs.Shown.{Sees};
+ghost use Rattle.long_poll.specs.Reads.{Looks, Renders, Tells, Opens, Counts, Reserves};
 ghost use Rattle.long_poll.specs.Submits.{Submits};
 
 use crate::{OneShotBell, Service};
@@ -26,21 +20,21 @@ use usage_ledger::{Front, Keep, Tally};
 impl<S: Identity + Drop, K: Keep> Service<K, S> for Account<S, OneShotBell> {
     ghost serves = { λ _. S.config };
 
-    ghost submits = { λ _ before now call bell result after. Submits S.config K.notes K.makes before now call bell result after };
+    ghost submits = { λ _. Submits S.config K.notes K.makes };
 
-    ghost shows = { λ _ seen. Sees S.config [] seen };
+    ghost shows = { λ _. Sees S.config [] };
 
-    ghost looks = { λ _ before ticket look seen. Sees S.config before seen × (look ≡ look_of (answer_of seen ticket)) };
+    ghost looks = { λ _. Looks S.config };
 
-    ghost renders = { λ _ before ticket reply seen. Sees S.config before seen × (reply ≡ reply_text S.config S.salt seen ticket) };
+    ghost renders = { λ _. Renders S.config S.salt };
 
-    ghost opens = { λ _ text. (most : ℕ) × (text ≡ opening_text S.config S.salt most) };
+    ghost opens = { λ _. Opens S.config S.salt };
 
-    ghost tells = { λ _ before ticket text seen. Sees S.config before seen × IsTextOf S.config S.salt ticket text seen };
+    ghost tells = { λ _. Tells S.config S.salt };
 
-    ghost counts = { λ _ counted. Shown S.config (λ h. counted ≡ stats S.config h) };
+    ghost counts = { λ _. Counts S.config };
 
-    ghost reserves = { λ _ function count. Shown S.config (λ h. count ≡ reservation S.config h function) };
+    ghost reserves = { λ _. Reserves S.config };
 
     fn submit<R: Wait>(
         &self,

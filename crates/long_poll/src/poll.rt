@@ -1,7 +1,6 @@
 //! A future for the answer of a ticket.
 
 ghost use Rattle.std.specs.Prelude.{◌≡◌};
-ghost use Rattle.std.specs.Arc.{arc_value};
 ghost use Rattle.long_poll.specs.Answers.{Answers, found};
 
 use crate::Service;
@@ -39,7 +38,8 @@ impl<R: Wait + Drop, S: Service<K, L>, H: Future, K: Keep, L: Ledgers> Poll<R, S
         heard: H,
         front: Front<L>,
     ) -> Poll<R, S, H, K, L>
-        ensures { (result.service ≡ service) × (result.ticket ≡ ticket) × (result.heard ≡ heard) × (result.front ≡ front) }
+        ensures service { result.service ≡ service }
+        ensures ticket { (result.ticket ≡ ticket) × (result.heard ≡ heard) × (result.front ≡ front) }
     {
         Poll {
             rt,
@@ -63,7 +63,7 @@ where
 
     ghost needs = { λ poll. H.needs poll.heard };
 
-    ghost gives = { λ poll. Answers (found S.Service (arc_value poll.service) poll.front poll.ticket) (H.gives poll.heard) };
+    ghost gives = { λ poll. Answers (found S.Service poll) (H.gives poll.heard) };
 
     fn poll(&mut self, cx: &mut Context<'_>) -> task::Poll<Result<Answer, BellLost>> {
         match self.heard.poll(cx) {

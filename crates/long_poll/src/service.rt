@@ -1,6 +1,6 @@
 //! What a connection asks of an account.
 
-ghost use Rattle.std.specs.Prelude.{◌≡◌, ◌<◌, ◌^◌, ℕ, List, Option, Result, IfOk, option_map};
+ghost use Rattle.std.specs.Prelude.{◌≡◌, ◌<◌, ◌^◌, ℕ, List, Option, IfOk, option_map};
 ghost use Rattle.arn_ids.specs.declared.config.Config.{Config};
 ghost use Rattle.call_types.specs.declared.call.Call.{Call as Called};
 ghost use Rattle.call_types.specs.declared.call.Entry.{Entry};
@@ -9,8 +9,7 @@ ghost use Rattle.lambda_wire.specs.declared.reply.Reply.{Reply as Replied};
 ghost use Rattle.call_types.specs.Within.{IsWithin, IsFunction};
 ghost use Rattle.usage_ledger.specs.Tallies.{Held};
 ghost use Rattle.account_lock.specs.declared.desk.Look.{Look as Seen};
-ghost use Rattle.account_lock.specs.declared.desk.Refused.{Refused as Back};
-ghost use Rattle.long_poll.specs.Offers.{Offers};
+ghost use Rattle.long_poll.specs.Offers.{CameBack, Offers};
 ghost use Rattle.long_poll.specs.declared.bell.OneShotBell.{OneShotBell as Rings};
 
 use crate::OneShotBell;
@@ -33,7 +32,7 @@ pub trait Service<K: Keep, L: Ledgers>: Drop {
 
     /// What the tally held, the moment, the call, its bell, what came back, what the tally held then. A
     /// ticket comes with the history that its front has seen.
-    ghost submits: { Self → Held → ℕ → Called → Option Rings → Result (ℕ × List Entry) (Back Rings) → Held → Type 0 };
+    ghost submits: { Self → Held → ℕ → Called → Option Rings → CameBack → Held → Type 0 };
 
     /// What is seen of the history.
     ghost shows: { Self → List Entry → Type 0 };
@@ -88,7 +87,7 @@ pub trait Service<K: Keep, L: Ledgers>: Drop {
     ) -> Result<(Ticket, Front<L>), Declined<OneShotBell>>
         requires moment { now < 2 ^ 53 }
         requires within { IsWithin (serves self.now) call }
-        ensures { Offers (submits self.now tally.old.held now call bell) tally.old.held call bell result tally.new.held };
+        ensures { Offers (submits self.now) tally.old.held now call bell result tally.new.held };
 
     /// A token that has seen the history as it is.
     fn front<R: Wait>(&self, rt: &R) -> Front<L>
@@ -121,7 +120,8 @@ pub trait Service<K: Keep, L: Ledgers>: Drop {
         front: &mut Front<L>,
         ticket: Ticket,
     ) -> Result<Option<Vec<u8>>, AllocError>
-        ensures { IfOk result (λ text. tells self.now front.old ticket (option_map (λ bytes. bytes.items) text) front.new) };
+        ensures { IfOk result (λ text.
+            tells self.now front.old ticket (option_map (λ bytes. bytes.items) text) front.new) };
 
     /// The counts.
     fn stats<R: Wait>(&self, rt: &R) -> Stats

@@ -1,9 +1,8 @@
-use Rattle.std.proofs.Common.{◌≡◌, ◌+◌, false, List, take, sym, subst, refl}
-use Rattle.std.specs.List.{All}
+use Rattle.std.proofs.Common.{◌+◌, List, take, sym, subst, refl}
 use Rattle.std.proofs.lemmas.List.{take_all}
 use Rattle.usage_ledger.specs.Tallies.{Tallied}
 use Rattle.account_lock.specs.Failing.{FirstFailure}
-use Rattle.account_lock.specs.Settlement.{Rises}
+use Rattle.account_lock.specs.Settlement.{RisesUnjoined, AllRise}
 use Rattle.account_lock.proofs.FirstFailures.{element_more}
 use Rattle.account_lock.proofs.calls.order_differs.Goals as goal
 
@@ -11,11 +10,11 @@ pub loop-tally-preserved : goal.loop-tally-preserved
 loop-tally-preserved g c =
     let tallies = c.args.tallies.now in
     let i = c.loop-tally.tally-index in
-    subst (FirstFailure (λ t. All (λ tally. tally.held.joined ≡ false → Rises tally.held.kept.calls t) (take (i + 1) tallies))) (sym c.lesser-least.ensures)
-    (element_more (λ (x : Tallied) t. x.held.joined ≡ false → Rises x.held.kept.calls t) (λ (x : Tallied). x) tallies i c.tally-item.result c.tally-item.result c.loop-tally.least c.fallen_in.result
+    subst (FirstFailure (AllRise (take (i + 1) tallies))) (sym c.lesser-least.ensures)
+    (element_more RisesUnjoined (λ (x : Tallied). x) tallies i c.tally-item.result c.tally-item.result c.loop-tally.least c.fallen_in.result
     c.loop-tally-test.true c.tally-item.is refl c.loop-tally.invariant c.fallen_in.ensures)
 
 pub returns : goal.returns
 returns g c =
-    subst (λ (ts : List Tallied). FirstFailure (λ t. All (λ tally. tally.held.joined ≡ false → Rises tally.held.kept.calls t) ts) c.loop-tally.least)
+    subst (λ (ts : List Tallied). FirstFailure (AllRise ts) c.loop-tally.least)
     (take_all c.loop-tally.tally-index c.args.tallies.now c.loop-tally-test.false) c.loop-tally.invariant

@@ -1,8 +1,7 @@
-use Rattle.std.proofs.Common.{◌≡◌, false, take}
-use Rattle.std.specs.List.{All}
+use Rattle.std.proofs.Common.{take}
 use Rattle.account_lock.specs.Failing.{FirstFailure}
-use Rattle.account_lock.specs.Settlement.{Rises}
+use Rattle.account_lock.specs.Settlement.{AllRise}
 use Rattle.account_lock.proofs.calls.order_differs.Given as goal
 
 abbrev pub invariant-loop-tally : goal.invariant-loop-tally
-invariant-loop-tally g l = FirstFailure (λ t. All (λ tally. tally.held.joined ≡ false → Rises tally.held.kept.calls t) (take l.tally-index l.tallies)) l.least
+invariant-loop-tally g l = FirstFailure (AllRise (take l.tally-index l.tallies)) l.least

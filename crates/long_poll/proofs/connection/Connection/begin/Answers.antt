@@ -5,5 +5,5 @@ use Rattle.long_poll.proofs.connection.Connection.begin.Goals as goal
 pub returns-in-Submit-clause-ok : goal.returns-in-Submit-clause-ok
 returns-in-Submit-clause-ok g c =
     if_ok c.submit.result
-    (begun_submitted g.S.Service g.N.Clock g.D.Decide _ _ _ c.args.parts.now c.args.body.now c.in-Submit.call (search rules))
+    (begun_submitted c.args.self.now g.N.Clock c.args.parts.now c.args.body.now c.in-Submit.call (search rules))
     c.submit.ensures.ok

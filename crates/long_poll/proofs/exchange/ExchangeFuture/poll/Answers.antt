@@ -1,21 +1,28 @@
 use Rattle.std.proofs.Common.{rules}
 use Rattle.std.specs.Arc.{arc_value}
 use Rattle.long_poll.specs.Outcomes.{ShowsAllOf}
+use Rattle.long_poll.specs.Stages.{GivesFrom}
+use Rattle.futures.specs.Poll.{IfReady, OnPending}
 use Rattle.long_poll.proofs.Beginnings.{gives_answer, while_pending, once_ready}
 use Rattle.long_poll.proofs.exchange.ExchangeFuture.poll.Goals as goal
 
 pub returns-in-Ok-Parked-clause-value : goal.returns-in-Ok-Parked-clause-value
 returns-in-Ok-Parked-clause-value g c =
     let shared = arc_value c.args.self.now.connection in
-    let came = rw (c.park.ensures.stage, c.park.ensures.connection, c.poll_start.ensures.connection) at c.poll_answer-in-Ok-Parked.ensures.value in
+    let came : IfReady c.poll_answer-in-Ok-Parked.result (GivesFrom (arc_value c.park.new.self.connection) g.N.Clock g.B.Body.yields g.B.Data.Into.converts (ShowsAllOf (arc_value (arc_value c.park.new.self.connection).service)) c.park.new.self.stage) =
+    c.poll_answer-in-Ok-Parked.ensures.value in
     once_ready c.poll_answer-in-Ok-Parked.result
-    (λ r h. gives_answer g.S.Service g.N.Clock g.D.Decide g.B.Body.yields g.B.Data.Into.converts (ShowsAllOf (arc_value shared.service)) (arc_value shared.service) (arc_value shared.clock)
-    (arc_value shared.decider) c.args.self.now.stage c.in-Ok-Parked.ticket c.in-Ok-Parked.heard c.in-Ok-Parked.front (search rules) r h) came
+    (λ r h. gives_answer shared g.N.Clock g.B.Body.yields g.B.Data.Into.converts (ShowsAllOf (arc_value shared.service))
+    c.args.self.now.stage c.in-Ok-Parked.ticket c.in-Ok-Parked.heard c.in-Ok-Parked.front (search rules) r h)
+    (rw (c.park.ensures.stage, c.park.ensures.connection, c.poll_start.ensures.connection) at came)
 
 pub returns-in-Ok-Parked-clause-same : goal.returns-in-Ok-Parked-clause-same
 returns-in-Ok-Parked-clause-same g c =
     let shared = arc_value c.args.self.now.connection in
-    let later = rw (c.park.ensures.stage, c.park.ensures.connection, c.poll_start.ensures.connection) at c.poll_answer-in-Ok-Parked.ensures.same in
+    let later : OnPending c.poll_answer-in-Ok-Parked.result ((x : _) → GivesFrom (arc_value c.poll_answer-in-Ok-Parked.new.self.connection) g.N.Clock g.B.Body.yields g.B.Data.Into.converts (ShowsAllOf (arc_value (arc_value c.poll_answer-in-Ok-Parked.new.self.connection).service)) c.poll_answer-in-Ok-Parked.new.self.stage x
+        → GivesFrom (arc_value c.park.new.self.connection) g.N.Clock g.B.Body.yields g.B.Data.Into.converts (ShowsAllOf (arc_value (arc_value c.park.new.self.connection).service)) c.park.new.self.stage x) =
+    c.poll_answer-in-Ok-Parked.ensures.same in
     while_pending c.poll_answer-in-Ok-Parked.result
-    (λ same x h. gives_answer g.S.Service g.N.Clock g.D.Decide g.B.Body.yields g.B.Data.Into.converts (ShowsAllOf (arc_value shared.service)) (arc_value shared.service) (arc_value shared.clock)
-    (arc_value shared.decider) c.args.self.now.stage c.in-Ok-Parked.ticket c.in-Ok-Parked.heard c.in-Ok-Parked.front (search rules) x (same x h)) later
+    (λ same x h. gives_answer shared g.N.Clock g.B.Body.yields g.B.Data.Into.converts (ShowsAllOf (arc_value shared.service))
+    c.args.self.now.stage c.in-Ok-Parked.ticket c.in-Ok-Parked.heard c.in-Ok-Parked.front (search rules) x (same x h))
+    (rw (c.park.ensures.stage, c.park.ensures.connection, c.poll_start.ensures.connection) at later)

@@ -1,0 +1,107 @@
+//! What tallies keep of tickets, against the history: the answers that were given, or the heads of the
+//! calls that were made.
+
+ghost use Rattle.std.specs.Prelude.{◌≡◌, ◌≢◌, ℕ, ◌<◌, ◌≤◌, List, Option, Some, true, false, is_some, length};
+ghost use Rattle.std.specs.Prelude.{min, vec_len};
+ghost use Rattle.call_types.specs.declared.call.Entry.{Entry};
+ghost use Rattle.usage_ledger.specs.Keeping.{Kept};
+ghost use Rattle.account_lock.specs.Failing.{FirstFailure};
+ghost use Rattle.account_lock.specs.Gathered.{times_in};
+ghost use Rattle.account_lock.specs.Marking.{marked, HasMark};
+ghost use Rattle.account_lock.specs.Settlement.{Agree, AllAgree};
+
+use crate::least::lesser;
+use crate::marks::mark_pairs;
+use account_book::Book;
+use call_model::Ticket;
+use usage_ledger::{Keep, Ledgers, Tally};
+
+/// What a tally may keep of a ticket, and the history has there.
+pub(crate) trait Claim {
+    /// What a history has at a ticket.
+    ghost wanted: { List Entry → ℕ → Option Self };
+
+    /// The part of what is kept.
+    ghost part: { Kept → List (ℕ × Self) };
+
+    /// Whether the history has this at a ticket.
+    fn stands(&self, book: &Book, ticket: Ticket) -> bool
+        ensures yes { result ≡ true → wanted book.now.history ticket ≡ Some self.now }
+        ensures no { result ≡ false → wanted book.now.history ticket ≢ Some self.now };
+
+    /// Whether the history has anything there.
+    fn is_wanted(book: &Book, ticket: Ticket) -> bool
+        ensures { result ≡ is_some (wanted book.now.history ticket) };
+
+    /// What a tally keeps, each with its ticket.
+    fn kept<K: Keep, L: Ledgers>(tally: &Tally<K, L>) -> &[(Ticket, Self)]
+        ensures { result.now ≡ part tally.now.held.kept };
+}
+
+/// A ticket at which the history does not have this.
+fn unless_stands<C: Claim>(book: &Book, ticket: Ticket, claim: &C) -> Option<Ticket>
+    ensures { FirstFailure (λ t. ticket ≡ t → C.wanted book.now.history t ≡ Some claim.now) result }
+{
+    if claim.stands(book, ticket) {
+        None
+    } else {
+        Some(ticket)
+    }
+}
+
+/// The least ticket of these at which the history has something else.
+fn wrong_pair<C: Claim>(book: &Book, pairs: &[(Ticket, C)]) -> Option<Ticket>
+    ensures { FirstFailure (Agree (C.wanted book.now.history) pairs.now) result }
+{
+    let mut wrong = None;
+    for pair in pairs {
+        wrong = lesser(wrong, unless_stands(book, pair.0, &pair.1));
+    }
+    wrong
+}
+
+/// The same of what all tallies keep.
+pub(crate) fn wrong_claim<C: Claim, K: Keep, L: Ledgers>(
+    book: &Book,
+    tallies: &[Tally<K, L>],
+) -> Option<Ticket>
+    ensures { FirstFailure (AllAgree (C.wanted book.now.history) C.part tallies.now) result }
+{
+    let mut wrong = None;
+    for tally in tallies {
+        wrong = lesser(wrong, wrong_pair(book, C::kept(tally)));
+    }
+    wrong
+}
+
+/// Sets the marks of the tickets of all that is kept; none is set before. Gives the least that stands
+/// twice.
+pub(crate) fn mark_claims<C: Claim, K: Keep, L: Ledgers>(
+    marks: &mut Vec<bool>,
+    tallies: &[Tally<K, L>],
+) -> Option<Ticket>
+    requires { (t : ℕ) → marked t marks.old.items ≡ 0 }
+    ensures len { vec_len marks.new ≡ vec_len marks.old }
+    ensures marks { (t : ℕ) → t < vec_len marks.old →
+        marked t marks.new.items ≡ min 1 (times_in C.part t tallies.now) }
+    ensures twice { FirstFailure (λ t. t < vec_len marks.old → times_in C.part t tallies.now ≤ 1) result }
+{
+    let mut twice = None;
+    for tally in tallies {
+        twice = lesser(twice, mark_pairs(marks, C::kept(tally)));
+    }
+    twice
+}
+
+/// The least ticket at which the history has something, and that has no mark.
+pub(crate) fn unmarked<C: Claim>(book: &Book, marks: &[bool]) -> Option<Ticket>
+    requires { length marks.now ≡ length book.now.history }
+    ensures { FirstFailure (HasMark (C.wanted book.now.history) (length book.now.history) marks.now) result }
+{
+    for ticket in 0..book.len() {
+        if C::is_wanted(book, ticket) && !marks[ticket as usize] {
+            return Some(ticket);
+        }
+    }
+    None
+}
