@@ -1,6 +1,6 @@
 -- What the headline (`headline/specs/Headline.antt`) rests on, in the order in which it reads: whoever believes these words
 -- believes the headline. They are under 600 lines without comments; only the second half of Next isn't among them. What a call
--- is, and which environment it names, tells the crate `calls`.
+-- is, and which environment it names, tells `call_types`.
 -- What has happened: entries, answers, what is pending.
 pub mod History
 -- An environment: its generation, its stand, the table of phases, what its parked Nexts get, its life.
