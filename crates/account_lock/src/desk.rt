@@ -242,8 +242,8 @@ impl<B: Bell, L: Ledgers> Desk<B, L> {
     pub fn history(&self, ticket: Ticket) -> Result<Option<Vec<u8>>, AllocError>
         ensures { IfOk result (λ text. MatchOption text (length self.now.book.history ≤ ticket)
             (λ bytes. (ticket < length self.now.book.history) × ((d : Entry) → bytes.items
-                ≡ entry_text self.now.book.config self.now.book.salt self.now.book.history ticket
-                (slice_index_or (reverse self.now.book.history) ticket d)))) }
+            ≡ entry_text self.now.book.config self.now.book.salt self.now.book.history ticket
+            (slice_index_or (reverse self.now.book.history) ticket d)))) }
     {
         self.book.history(ticket)
     }

@@ -60,7 +60,7 @@ impl<B: Bell, L: Ledgers> Desk<B, L> {
             IsBack call bell declined × (self.new ≡ self.old) × (tally.new.held ≡ tally.old.held)) }
         ensures full { MatchResult result (λ step. is_full self.old.book call ≡ false)
             (λ declined. IfRefused declined
-                (λ refusal. (refusal ≡ JournalFull) ↔ (is_full self.old.book call ≡ true))) }
+            (λ refusal. (refusal ≡ JournalFull) ↔ (is_full self.old.book call ≡ true))) }
     {
         if self.book.is_premature(now, &call) {
             return Err(Declined::Premature { call, bell });

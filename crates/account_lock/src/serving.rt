@@ -93,10 +93,13 @@ pub(crate) fn serve_step<B, K: Keep, L: Ledgers>(
     ensures totals { totals.new ≡ plus totals.old
         (counts 1 (admitted book.now.history - before.admitted)
         (throttled book.now.history - before.throttled) (failed book.now.history - before.failed)) }
-    ensures held { tally.new.held ≡ record tally.old.held { counts = plus tally.old.held.counts
-        (counts 1 (admitted book.now.history - before.admitted)
-        (throttled book.now.history - before.throttled)
-        (failed book.now.history - before.failed)); kept = tally.new.held.kept } }
+    ensures held { tally.new.held ≡ record tally.old.held {
+      counts = plus tally.old.held.counts
+          (counts 1 (admitted book.now.history - before.admitted)
+          (throttled book.now.history - before.throttled)
+          (failed book.now.history - before.failed));
+      kept = tally.new.held.kept;
+    } }
     ensures calls { tally.old.spare_calls ≤ tally.new.spare_calls }
 {
     serve_entries(book.entries(), start as usize, bells, rings, tally);

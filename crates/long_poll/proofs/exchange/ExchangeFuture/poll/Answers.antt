@@ -20,7 +20,7 @@ pub returns-in-Ok-Parked-clause-same : goal.returns-in-Ok-Parked-clause-same
 returns-in-Ok-Parked-clause-same g c =
     let shared = arc_value c.args.self.now.connection in
     let later : OnPending c.poll_answer-in-Ok-Parked.result ((x : _) → GivesFrom (arc_value c.poll_answer-in-Ok-Parked.new.self.connection) g.N.Clock g.B.Body.yields g.B.Data.Into.converts (ShowsAllOf (arc_value (arc_value c.poll_answer-in-Ok-Parked.new.self.connection).service)) c.poll_answer-in-Ok-Parked.new.self.stage x
-        → GivesFrom (arc_value c.park.new.self.connection) g.N.Clock g.B.Body.yields g.B.Data.Into.converts (ShowsAllOf (arc_value (arc_value c.park.new.self.connection).service)) c.park.new.self.stage x) =
+    → GivesFrom (arc_value c.park.new.self.connection) g.N.Clock g.B.Body.yields g.B.Data.Into.converts (ShowsAllOf (arc_value (arc_value c.park.new.self.connection).service)) c.park.new.self.stage x) =
     c.poll_answer-in-Ok-Parked.ensures.same in
     while_pending c.poll_answer-in-Ok-Parked.result
     (λ same x h. gives_answer shared g.N.Clock g.B.Body.yields g.B.Data.Into.converts (ShowsAllOf (arc_value shared.service))
