@@ -1,0 +1,57 @@
+//! A place of connections, as its thread has it.
+
+use crate::mailbox::Mailbox;
+use std::sync::{Arc, Mutex, Wait};
+use std::thread::{JoinHandle, Threads};
+use std::time::{Clock, Duration};
+
+/// How many seconds a thread waits for its next connection before it ends.
+const KEPT: u64 = 10;
+
+/// The places whose connections have ended.
+pub(crate) type Ended = Mutex<Vec<usize>>;
+
+/// What the thread of a place has of it: its number, the tally of its connections, the mailbox into
+/// which the next one is put, and where it is told that one has ended.
+#[derive(Drop)]
+pub(crate) struct Post<Y, V> {
+    pub(crate) at: usize,
+    pub(crate) tally: Arc<Mutex<Y>>,
+    pub(crate) mailbox: Arc<Mailbox<V>>,
+    pub(crate) ended: Arc<Ended>,
+}
+
+impl<Y, V: Drop> Post<Y, V> {
+    /// Tells that its connection has ended. (Room for it stands ready.)
+    fn tell(&self, rt: &impl Wait) {
+        let _ = self.ended.lock(rt).push(self.at);
+    }
+
+    /// Tells that its connection has ended, and waits for the next one. Where there is none the thread
+    /// has to end.
+    pub(crate) fn next<R: Wait + Clock>(&self, rt: &R) -> Option<V> {
+        self.tell(rt);
+        self.mailbox.take(rt, Duration::from_secs(KEPT))
+    }
+
+    /// Tells that its connection has ended, and that the thread does.
+    pub(crate) fn leave(&self, rt: &impl Wait) {
+        self.mailbox.close(rt);
+        self.tell(rt);
+    }
+}
+
+/// The thread of a place, and its mailbox.
+#[derive(Drop)]
+pub(crate) struct Worker<V> {
+    pub(crate) thread: JoinHandle<()>,
+    pub(crate) mailbox: Arc<Mailbox<V>>,
+}
+
+impl<V> Worker<V> {
+    /// Joins the thread.
+    pub(crate) fn join(self, rt: &impl Threads) {
+        let Worker { thread, .. } = self;
+        thread.join(rt);
+    }
+}
