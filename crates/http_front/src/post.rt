@@ -48,7 +48,7 @@ pub(crate) struct Worker<V> {
     pub(crate) mailbox: Arc<Mailbox<V>>,
 }
 
-impl<V> Worker<V> {
+impl<V: Drop> Worker<V> {
     /// Joins the thread.
     pub(crate) fn join(self, rt: &impl Threads) {
         let Worker { thread, .. } = self;
