@@ -6,7 +6,7 @@ ghost use Rattle.http_front.specs.declared.host_fault.HostFault.TheVariants.{Sti
 
 use crate::HostFault;
 use crate::mailbox::Mailbox;
-use crate::post::{Ended, Post, Worker};
+use crate::post::{End, Ended, Post, Worker};
 use crate::running::Running;
 use std::alloc::{AllocError, Global};
 use std::marker::Model;
@@ -58,9 +58,9 @@ impl<Y, V: Drop> Slot<Y, V> {
 }
 
 /// The places: by their type never more than there may be, so no more connections are open at once.
-/// Those that nobody has are `free`, the newest last; room for each stands ready there and in `ended`,
-/// and in `gathered` for the tallies of all of them and two more, so that the end of the service wants
-/// no memory.
+/// Those that nobody has are `free`, the next to be taken last; room for each stands ready there and in
+/// `ended`, and in `gathered` for the tallies of all of them and two more, so that the end of the
+/// service wants no memory.
 #[derive(Drop)]
 pub(crate) struct Slots<Y, V> {
     alloc: Global,
@@ -188,21 +188,29 @@ impl<Y: Drop, V: Drop> Slots<Y, V> {
         }
     }
 
-    /// Gives a place back.
+    /// Gives a place back that has no thread: it is taken behind those at which one waits, which want
+    /// no memory and no descriptors for another connection.
     pub(crate) fn give_back(&mut self, at: usize)
         ensures { self.new ≡ self.old }
     {
-        let _ = self.free.push(at);
+        let _ = self.free.insert(0, at);
     }
 
     /// Sees out a connection that has ended: its place is free.
-    fn see_out(&mut self, at: usize)
+    fn see_out(&mut self, end: End)
         ensures { self.new ≡ self.old }
     {
-        if let Some(slot) = self.slots.get_mut(at)
-            && slot.running.take().is_some()
-        {
+        let End { at, has_left } = end;
+        let Some(slot) = self.slots.get_mut(at) else {
+            return;
+        };
+        if slot.running.take().is_none() {
+            return;
+        }
+        if has_left {
             self.give_back(at);
+        } else {
+            let _ = self.free.push(at);
         }
     }
 
@@ -211,10 +219,10 @@ impl<Y: Drop, V: Drop> Slots<Y, V> {
         ensures { self.new ≡ self.old }
     {
         for _ in 0..self.slots.len() {
-            let Some(at) = self.ended.lock(rt).pop() else {
+            let Some(end) = self.ended.lock(rt).pop() else {
                 return;
             };
-            self.see_out(at);
+            self.see_out(end);
         }
     }
 
