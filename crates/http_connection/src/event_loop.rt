@@ -69,7 +69,8 @@ impl EventLoop {
         socket.set_nodelay(true)?;
         let stream = tokio::net::TcpStream::from_std(socket, self.runtime.handle().reactor())?;
         let (wire, peer) = Wire::pair(rt.alloc(), stream)?;
-        let ending = Ending::new(self.http.serve_connection(wire, service), signals);
+        let conn = self.http.serve_connection(wire, service);
+        let ending = Ending::boxed(rt.alloc(), conn, signals)?;
         self.runtime
             .block_on(rt, Watched::new(ending, peer, open, pulse))
     }
