@@ -1,6 +1,6 @@
 //! A connection, and the signals that end it.
 
-ghost use Rattle.std.specs.Prelude.{◌≡◌, IsFalse};
+ghost use Rattle.std.specs.Prelude.{◌≡◌, IfOk, IsFalse};
 ghost use Rattle.futures.specs.Task.{Keeps};
 
 use crate::park::Park;
@@ -10,6 +10,7 @@ use futures::Future;
 use futures::channel::oneshot::Receiver;
 use futures::task::{Context, Poll};
 use hyper::server::graceful::GracefulConnection;
+use std::alloc::{AllocError, Global};
 use std::sync::Arc;
 
 /// The two signals that end a connection.
@@ -30,19 +31,28 @@ pub(crate) struct Ending<C> {
     hard: Receiver<()>,
 }
 
-impl<C> Ending<C> {
-    /// The connection with its signals.
-    pub(crate) fn new(conn: C, signals: Signals) -> Ending<C>
-        ensures { result.conn ≡ conn }
+impl<C: Drop> Ending<C> {
+    /// The connection with its signals, on the heap: it is large, and each move of it by those who
+    /// wait for it would take as much of the stack. (Not inlined for the same reason.)
+    #[inline(never)]
+    pub(crate) fn boxed(
+        alloc: Global,
+        conn: C,
+        signals: Signals,
+    ) -> Result<Box<Ending<C>>, AllocError>
+        ensures { IfOk result (λ ending. ending.conn ≡ conn) }
     {
         let Signals { soft, hard } = signals;
-        Ending {
+        let ending = Ending {
             conn,
             soft: Some(soft),
             hard,
-        }
+        };
+        Box::new(alloc, ending).map_err(AllocError::from)
     }
+}
 
+impl<C> Ending<C> {
     /// Whether a signal has come, once the connection has ended of itself.
     fn is_told(&mut self, cx: &mut Context<'_>) -> bool
         ensures same { self.new.conn ≡ self.old.conn }
@@ -83,7 +93,7 @@ impl<C: GracefulConnection<Output = hyper::Result<()>>> Future for Ending<C> {
 /// socket is closed. It tells how it stands.
 #[derive(Drop)]
 pub(crate) struct Watched<C, O> {
-    ending: Ending<C>,
+    ending: Box<Ending<C>>,
     peer: Wire,
     open: O,
     pulse: Arc<Pulse>,
@@ -93,7 +103,12 @@ pub(crate) struct Watched<C, O> {
 impl<C, O> Watched<C, O> {
     /// The connection, its socket, where it is noted that a request is parked, and where it tells how
     /// it stands.
-    pub(crate) fn new(ending: Ending<C>, peer: Wire, open: O, pulse: Arc<Pulse>) -> Watched<C, O>
+    pub(crate) fn new(
+        ending: Box<Ending<C>>,
+        peer: Wire,
+        open: O,
+        pulse: Arc<Pulse>,
+    ) -> Watched<C, O>
         ensures ending { result.ending ≡ ending }
         ensures open { IsFalse result.has_ended }
     {

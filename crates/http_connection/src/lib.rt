@@ -3,15 +3,15 @@
 #![tactic(auto)]
 
 mod ending;
+mod event_loop;
 mod machine;
 mod park;
 mod pulse;
-mod serve;
 mod wire;
 
 pub use ending::Signals;
+pub use event_loop::EventLoop;
 pub use machine::Machine;
 pub use park::Park;
 pub use pulse::{Pulse, patience};
-pub use serve::serve_connection;
 pub use wire::Wire;

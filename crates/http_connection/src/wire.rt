@@ -132,7 +132,9 @@ impl Wire {
 
     /// Ready once the peer has ended its side, or the socket failed; or where `MOST_DRAINED` bytes
     /// came, which are thrown away. A socket that is closed with bytes unread resets the connection,
-    /// and the peer may then lose the answer that it has not read yet (RFC 9112, section 9.6).
+    /// and the peer may then lose the answer that it has not read yet (RFC 9112, section 9.6). (Not
+    /// inlined, so that no other turn of a connection takes stack for the buffer.)
+    #[inline(never)]
     pub(crate) fn poll_drained(&self, cx: &mut Context<'_>) -> Poll<()>
         ensures registered { OnPending result (IsArmed cx.new) }
         ensures kept { Keeps cx.old cx.new }

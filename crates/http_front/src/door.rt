@@ -1,6 +1,6 @@
 //! A port of the service, as the threads of its connections share it.
 
-ghost use Rattle.std.specs.Prelude.{◌≡◌, IfOk};
+ghost use Rattle.std.specs.Prelude.{◌≡◌, IfOk, IsTrue};
 ghost use Rattle.std.specs.Arc.{arc_value};
 ghost use Rattle.http_routes.specs.Decisions.{IsPortOf};
 
@@ -12,7 +12,7 @@ use std::marker::{Model, PhantomData};
 use std::sync::Arc;
 
 /// Whose port it is, in the configuration that the account's type names, and the salt of the
-/// identifiers. (A `Side` has routes, which don't cross threads; so each connection opens its own.)
+/// identifiers. (A `Side` has routes, which don't cross threads; so each thread opens its own.)
 #[derive(Drop)]
 pub(crate) struct Door<S: Identity> {
     port: Port,
@@ -53,6 +53,13 @@ impl<S: Identity> Door<S> {
         ensures { result ≡ self.now.port }
     {
         self.port
+    }
+
+    /// Whether it is that port.
+    pub(crate) fn is(&self, other: &Door<S>) -> bool
+        ensures { IsTrue result → self.now ≡ other.now }
+    {
+        self.port == other.port && self.salt == other.salt
     }
 
     /// The same port, for another thread.

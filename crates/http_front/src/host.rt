@@ -7,20 +7,14 @@ ghost use Rattle.http_front.specs.declared.host_fault.HostFault.TheVariants.{Con
 
 use crate::entrance::Entrance;
 use crate::reception::Reception;
-use crate::slots::Slots;
-use crate::ticker::tick_on;
+use crate::ticker::Ticker;
 use crate::{HostFault, Plan};
 use account_lock::{Account, Identity};
 use http_connection::Machine;
 use long_poll::{Clock, OneShotBell};
-use mio::Poll;
 use std::alloc::AllocError;
 use std::sync::Arc;
 use std::sync::atomic::AtomicBool;
-use std::sync::atomic::Ordering::SeqCst;
-use std::thread;
-use std::thread::JoinHandle;
-use std::time::Duration;
 use usage_ledger::{Blanks, Keep, Tally};
 
 /// An account that is served over HTTP/1.1 on 127.0.0.1: on the invoke port for callers, and on a
@@ -29,14 +23,9 @@ use usage_ledger::{Blanks, Keep, Tally};
 /// each tally keeps.
 #[derive(Drop)]
 pub struct Host<R, S: Identity, N, K: Keep> {
-    rt: R,
-    account: Arc<Account<S, OneShotBell>>,
-    clock: Arc<N>,
-    root: Tally<K, S>,
-    ticking: Tally<K, S>,
+    reception: Reception<R, S, N, K>,
+    ticker: Ticker<R, S, N, K>,
     entrance: Entrance<S>,
-    most: u32,
-    patience: u32,
 }
 
 /// What a host leaves: its account, and all the tallies in which its calls count.
@@ -83,23 +72,41 @@ impl<
             salt,
             max_entries,
         } = plan;
-        let (account, mut root) = match Account::open(alloc, config, salt, max_entries, blanks) {
+        let (account, root) = match Account::open(alloc, config, salt, max_entries, blanks) {
             Ok(opened) => opened,
             Err(fault) => return Err(HostFault::from(fault)),
         };
+        let entrance = Entrance::open(&rt, alloc, &shared, salt)?;
+        Ok(Host::of(rt, account, root, clock, entrance, most, patience)?)
+    }
+
+    /// The host of an account whose ports are listened on. The only error is want of memory.
+    fn of(
+        rt: R,
+        account: Account<S, OneShotBell>,
+        root: Tally<K, S>,
+        clock: N,
+        entrance: Entrance<S>,
+        most: u32,
+        patience: u32,
+    ) -> Result<Host<R, S, N, K>, AllocError> {
+        let alloc = rt.alloc();
         let account = Arc::new(alloc, account).map_err(AllocError::from)?;
         let clock = Arc::new(alloc, clock).map_err(AllocError::from)?;
-        let entrance = Entrance::open(&rt, alloc, &shared, salt)?;
-        let ticking = root.split();
-        Ok(Host {
+        let is_over = Arc::new(alloc, AtomicBool::new(false)).map_err(AllocError::from)?;
+        let mut root = root;
+        let ticker = Ticker {
             rt,
-            account,
-            clock,
-            root,
-            ticking,
+            account: Arc::try_clone(&account)?,
+            clock: Arc::try_clone(&clock)?,
+            tally: root.split(),
+            is_over: Arc::try_clone(&is_over)?,
+        };
+        let reception = Reception::new(rt, account, clock, root, is_over, most, patience)?;
+        Ok(Host {
+            reception,
+            ticker,
             entrance,
-            most,
-            patience,
         })
     }
 
@@ -112,55 +119,19 @@ impl<
     /// `StillShared`. The account and the tallies are then gone.
     pub fn run(self) -> Result<Hosted<S, K>, HostFault> {
         let Host {
-            rt,
-            account,
-            clock,
-            root,
-            ticking,
+            reception,
+            ticker,
             entrance,
-            most,
-            patience,
         } = self;
-        let alloc = rt.alloc();
-        let is_over = Arc::new(alloc, AtomicBool::new(false)).map_err(AllocError::from)?;
+        let rt = ticker.rt;
+        let mut reception = reception;
         let mut entrance = entrance;
-        let mut reception = Reception {
-            rt,
-            account: Arc::try_clone(&account)?,
-            clock: Arc::try_clone(&clock)?,
-            root,
-            slots: Slots::new(alloc, most)?,
-            spare: Poll::new(&rt).ok(),
-            patience,
-            looked: Duration::ZERO,
-        };
-        let ticker = start_ticker(rt, account, clock, ticking, Arc::try_clone(&is_over)?)?;
-        let served = reception.serve(&mut entrance, &is_over);
-        is_over.store(true, SeqCst);
+        let ticker = ticker.start()?;
+        let served = reception.serve(&mut entrance);
         drop(entrance);
         reception.finish();
         let ticked = ticker.join(&rt);
         served?;
         reception.into_hosted(ticked)
     }
-}
-
-/// Starts the ticker. Where no thread can be made its tally is lost.
-fn start_ticker<
-    R: Machine,
-    S: Identity + Drop + Send + Sync + 'static,
-    N: Clock + Drop + Send + Sync + 'static,
-    K: Keep + Send + 'static,
->(
-    rt: R,
-    account: Arc<Account<S, OneShotBell>>,
-    clock: Arc<N>,
-    tally: Tally<K, S>,
-    is_over: Arc<AtomicBool>,
-) -> Result<JoinHandle<Tally<K, S>>, AllocError> {
-    let here = rt;
-    let ticker = thread::spawn(&rt, move || {
-        tick_on(&here, &*account, &*clock, tally, &is_over)
-    })?;
-    Ok(ticker)
 }

@@ -1,20 +1,25 @@
-//! The server: a listener for each port, a thread for each connection, a ticker, and the end of
-//! them all; with it the services of `hyper` over the exchanges of `long_poll`.
+//! The server: a listener for each port, a thread for each connection, which then waits for another,
+//! a ticker, and the end of them all; with it the services of `hyper` over the exchanges of
+//! `long_poll`.
 #![tactic(auto)]
 
+mod attendant;
 mod codings;
-mod connection;
 mod copies;
 mod door;
 mod entrance;
 mod front;
 mod host;
 mod host_fault;
+mod mailbox;
 mod plan;
+mod post;
 mod reception;
 mod responding;
 mod response;
 mod response_fault;
+mod running;
+mod sides;
 mod slots;
 mod ticker;
 

@@ -3,28 +3,25 @@
 ghost use Rattle.std.specs.Prelude.{◌≡◌, IfErr};
 ghost use Rattle.http_front.specs.declared.host_fault.HostFault.TheVariants.{StillShared};
 
-use crate::connection::Accepted;
+use crate::attendant::{Attendant, Visit};
 use crate::door::Door;
 use crate::entrance::{Entrance, Gate};
-use crate::slots::{Ended, Running, Slots};
+use crate::running::Running;
+use crate::slots::Slots;
 use crate::{HostFault, Hosted};
 use account_lock::{Account, Identity};
 use futures::channel::oneshot;
 use http_connection::{Machine, Pulse, Signals};
 use long_poll::{Clock, OneShotBell};
 use mio::Poll;
-use std::alloc::AllocError;
+use std::alloc::{AllocError, Global};
 use std::net::TcpStream;
 use std::sync::Arc;
 use std::sync::atomic::AtomicBool;
 use std::sync::atomic::Ordering::SeqCst;
-use std::thread::JoinHandle;
 use std::time::Duration;
 use std::{io, thread};
 use usage_ledger::{Keep, Tally};
-
-/// The stack of a connection's thread, in bytes. The deepest chain of calls takes some 80 KB.
-const STACK: usize = 512 * 1024;
 
 /// How long the ports are waited for, in milliseconds, before it is looked whether the service is
 /// over.
@@ -51,37 +48,46 @@ fn is_of_newcomer(kind: io::ErrorKind) -> bool {
     kind == io::ErrorKind::ConnectionAborted || kind == io::ErrorKind::Interrupted
 }
 
-/// Starts the thread of a connection, which says its last at the end.
-fn start_thread<
-    R: Machine,
-    S: Identity + Drop + Send + Sync + 'static,
-    N: Clock + Drop + Send + Sync + 'static,
-    K: Keep + Send + 'static,
->(visit: Accepted<R, S, N, K>, ended: Arc<Ended>, at: usize) -> io::Result<JoinHandle<()>> {
-    let rt = visit.rt;
-    thread::Builder::new()
-        .stack_size(STACK)
-        .spawn(&rt, move || {
-            let _ = visit.run();
-            let _ = ended.lock(&rt).push(at);
-        })
+/// A connection that is to be served at a port, and what is known of it beside its thread.
+fn admit<S: Identity>(
+    alloc: Global,
+    socket: TcpStream,
+    door: &Door<S>,
+) -> Result<(Visit<S>, Running), AllocError> {
+    let (soft, soft_end) = oneshot::channel(alloc)?;
+    let (hard, hard_end) = oneshot::channel(alloc)?;
+    let pulse = Arc::new(alloc, Pulse::new()).map_err(AllocError::from)?;
+    let running = Running::new(soft, hard, Arc::try_clone(&pulse)?);
+    let signals = Signals {
+        soft: soft_end,
+        hard: hard_end,
+    };
+    let visit = Visit {
+        socket,
+        door: door.share()?,
+        signals,
+        pulse,
+    };
+    Ok((visit, running))
 }
 
 /// Takes connections in, each on a thread of its own, and sees them out: the account and the clock,
-/// the tally from which those of the connections are split, and the places of the connections.
+/// the tally from which those of the connections are split, the places of the connections, and whether
+/// the service is over.
 #[derive(Drop)]
 pub(crate) struct Reception<R, S: Identity, N, K: Keep> {
-    pub(crate) rt: R,
-    pub(crate) account: Arc<Account<S, OneShotBell>>,
-    pub(crate) clock: Arc<N>,
-    pub(crate) root: Tally<K, S>,
-    pub(crate) slots: Slots<Tally<K, S>>,
+    rt: R,
+    account: Arc<Account<S, OneShotBell>>,
+    clock: Arc<N>,
+    root: Tally<K, S>,
+    slots: Slots<Tally<K, S>, Visit<S>>,
+    is_over: Arc<AtomicBool>,
     // A descriptor that is given up where none is left, so that the newcomer can be turned away.
-    pub(crate) spare: Option<Poll>,
+    spare: Option<Poll>,
     // For how many milliseconds a premature call is held back at most.
-    pub(crate) patience: u32,
+    patience: u32,
     // What the monotonic clock said when it was last looked who stands still.
-    pub(crate) looked: Duration,
+    looked: Duration,
 }
 
 impl<
@@ -90,6 +96,31 @@ impl<
     N: Clock + Drop + Send + Sync + 'static,
     K: Keep + Send + 'static,
 > Reception<R, S, N, K> {
+    /// For so many connections at once. The only error is want of memory.
+    pub(crate) fn new(
+        rt: R,
+        account: Arc<Account<S, OneShotBell>>,
+        clock: Arc<N>,
+        root: Tally<K, S>,
+        is_over: Arc<AtomicBool>,
+        most: u32,
+        patience: u32,
+    ) -> Result<Reception<R, S, N, K>, AllocError> {
+        let slots = Slots::new(rt.alloc(), most)?;
+        let spare = Poll::new(&rt).ok();
+        Ok(Reception {
+            rt,
+            account,
+            clock,
+            root,
+            slots,
+            is_over,
+            spare,
+            patience,
+            looked: Duration::ZERO,
+        })
+    }
+
     /// A place for a newcomer: one that is free, or else another one with a tally of its own.
     fn place(&mut self) -> Option<usize> {
         if let Some(at) = self.slots.take() {
@@ -107,36 +138,28 @@ impl<
         }
     }
 
-    /// Starts the thread of a connection.
-    fn start(&self, at: usize, socket: TcpStream, door: &Door<S>) -> io::Result<Running> {
-        let alloc = self.rt.alloc();
-        let (tally, ended) = self.slots.shared(at)?;
-        let (soft, soft_end) = oneshot::channel(alloc)?;
-        let (hard, hard_end) = oneshot::channel(alloc)?;
-        let pulse = Arc::new(alloc, Pulse::new()).map_err(AllocError::from)?;
-        let visit = Accepted {
+    /// Starts the thread of a place, with its first connection.
+    fn start(&mut self, at: usize, visit: Visit<S>) -> io::Result<()> {
+        let attendant = Attendant {
             rt: self.rt,
-            socket,
-            door: door.share()?,
             account: Arc::try_clone(&self.account)?,
             clock: Arc::try_clone(&self.clock)?,
-            tally,
-            signals: Signals {
-                soft: soft_end,
-                hard: hard_end,
-            },
-            pulse: Arc::try_clone(&pulse)?,
+            post: self.slots.post(at)?,
             patience: self.patience,
         };
-        let thread = start_thread(visit, ended, at)?;
-        Ok(Running {
-            thread,
-            soft: Some(soft),
-            hard: Some(hard),
-            told: pulse.told(),
-            pulse,
-            looks: 0,
-        })
+        let worker = attendant.start(visit)?;
+        self.slots.employ(at, worker);
+        Ok(())
+    }
+
+    /// Gives a connection to the thread of a place: to the one that waits there, else to a new one.
+    fn begin(&mut self, at: usize, socket: TcpStream, door: &Door<S>) -> io::Result<()> {
+        let (visit, running) = admit(self.rt.alloc(), socket, door)?;
+        if let Err(visit) = self.slots.offer(&self.rt, at, visit) {
+            self.start(at, visit)?;
+        }
+        self.slots.fill(at, running);
+        Ok(())
     }
 
     /// Takes a newcomer in; where there is no place for it, or no thread, it is closed.
@@ -145,9 +168,8 @@ impl<
         let Some(at) = self.place() else {
             return;
         };
-        match self.start(at, socket, door) {
-            Ok(running) => self.slots.fill(at, running),
-            Err(_) => self.slots.give_back(at),
+        if self.begin(at, socket, door).is_err() {
+            self.slots.give_back(at);
         }
     }
 
@@ -186,29 +208,27 @@ impl<
         more
     }
 
-    /// Once a second, ends the connections that have stood still for too long.
+    /// Once a second, ends the connections that have stood still for too long, and joins the threads
+    /// that have waited for one in vain.
     fn look_round(&mut self) {
         if let Ok(now) = self.rt.monotonic()
             && now.saturating_sub(self.looked) >= Duration::from_secs(BETWEEN_ROUNDS)
         {
             self.looked = now;
             self.slots.end_the_idle();
+            self.slots.join_the_ended(&self.rt);
         }
     }
 
     /// Takes connections in until the service is over. A port tells once that newcomers wait at it, so
     /// `waiting` keeps which ports have not been seen empty since; they take turns, so that a crowd at
     /// one keeps nobody at another waiting.
-    pub(crate) fn serve(
-        &mut self,
-        entrance: &mut Entrance<S>,
-        is_over: &AtomicBool,
-    ) -> Result<(), HostFault> {
+    pub(crate) fn serve(&mut self, entrance: &mut Entrance<S>) -> Result<(), HostFault> {
         let rt = self.rt;
         let mut waiting = vec![in rt.alloc(); false; entrance.gates.len()]?;
         let mut more = false;
         for _ in rt.forever() {
-            if is_over.load(SeqCst) {
+            if self.is_over.load(SeqCst) {
                 return Ok(());
             }
             let round = if more { 0 } else { ROUND };
@@ -232,8 +252,8 @@ impl<
     }
 
     /// Ends every connection: those that are idle or have been answered softly, the others at once
-    /// half a second later. Joins their threads.
-    pub(crate) fn finish(&mut self) {
+    /// half a second later.
+    fn end_connections(&mut self) {
         self.slots.tell(false);
         for _ in 0..LOOKS {
             self.slots.reap(&self.rt);
@@ -251,6 +271,14 @@ impl<
             }
             thread::sleep(&self.rt, Duration::from_millis(PAUSE));
         }
+    }
+
+    /// Says that the service is over, ends every connection, and joins all threads.
+    pub(crate) fn finish(&mut self) {
+        self.is_over.store(true, SeqCst);
+        self.slots.dismiss(&self.rt);
+        self.end_connections();
+        self.slots.join_all(&self.rt);
     }
 
     /// The account, and all tallies with that of the ticker, once every thread was joined.

@@ -5,68 +5,73 @@ ghost use Rattle.http_front.specs.Places.{Places};
 ghost use Rattle.http_front.specs.declared.host_fault.HostFault.TheVariants.{StillShared};
 
 use crate::HostFault;
-use futures::channel::oneshot::Sender;
-use http_connection::{Pulse, patience};
+use crate::mailbox::Mailbox;
+use crate::post::{End, Ended, Post, Worker};
+use crate::running::Running;
 use std::alloc::{AllocError, Global};
 use std::marker::Model;
 use std::sync::{Arc, Mutex, Wait};
-use std::thread::{JoinHandle, Threads};
+use std::thread::Threads;
 
-/// A connection's thread, the signals that end it, and where it tells how it stands.
+/// A place of one connection after another, which all count in its tally: so a tally is never lost,
+/// and there are no more of them than connections that were open at once. Its thread may wait for the
+/// next connection.
 #[derive(Drop)]
-pub(crate) struct Running {
-    pub(crate) thread: JoinHandle<()>,
-    pub(crate) soft: Option<Sender<()>>,
-    pub(crate) hard: Option<Sender<()>>,
-    pub(crate) pulse: Arc<Pulse>,
-    // What it had told at the last look, and at how many looks since it had told nothing else.
-    pub(crate) told: u64,
-    pub(crate) looks: u32,
+struct Slot<Y, V> {
+    tally: Arc<Mutex<Y>>,
+    worker: Option<Worker<V>>,
+    running: Option<Running>,
 }
 
-impl Running {
-    /// Looks whether the connection has stood still for as long as it may, at one look a second.
-    fn has_stood_too_long(&mut self) -> bool {
-        let told = self.pulse.told();
-        if told != self.told {
-            self.told = told;
-            self.looks = 0;
-            return false;
+impl<Y, V: Drop> Slot<Y, V> {
+    /// Gives a connection to the thread that waits for one. Where none does it comes back, and a
+    /// thread that has ended is joined.
+    fn offer<R: Wait + Threads>(&mut self, rt: &R, visit: V) -> Result<(), V>
+        ensures { IfErr result (λ back. back ≡ visit) }
+    {
+        let Some(worker) = self.worker.take() else {
+            return Err(visit);
+        };
+        match worker.mailbox.put(rt, visit) {
+            Ok(()) => {
+                self.worker = Some(worker);
+                Ok(())
+            }
+            Err(visit) => {
+                worker.join(rt);
+                Err(visit)
+            }
         }
-        self.looks = self.looks.saturating_add(1);
-        match patience(told) {
-            Some(seconds) => self.looks >= seconds,
-            None => false,
+    }
+
+    /// Joins the thread where it has ended.
+    fn join_if_ended<R: Wait + Threads>(&mut self, rt: &R) {
+        let Some(worker) = self.worker.take() else {
+            return;
+        };
+        if worker.mailbox.is_closed(rt) {
+            worker.join(rt);
+        } else {
+            self.worker = Some(worker);
         }
     }
 }
 
-/// A place of one connection after another, which all count in its tally: so a tally is never lost,
-/// and there are no more of them than connections that were open at once.
-#[derive(Drop)]
-struct Slot<Y> {
-    tally: Arc<Mutex<Y>>,
-    running: Option<Running>,
-}
-
-/// The places whose threads have said their last.
-pub(crate) type Ended = Mutex<Vec<usize>>;
-
 /// The places: by their type never more than there may be, so no more connections are open at once.
-/// Those that nobody has are `free`; room for each stands ready there and in `ended`, and in
-/// `gathered` for the tallies of all of them and two more, so that the end of the service wants no
-/// memory.
+/// Those that nobody has are `free`, the next to be taken last; room for each stands ready there and in
+/// `ended`, and in `gathered` for the tallies of all of them and two more, so that the end of the
+/// service wants no memory.
 #[derive(Drop)]
-pub(crate) struct Slots<Y> {
+pub(crate) struct Slots<Y, V> {
     alloc: Global,
     most: usize,
-    slots: Vec<Slot<Y>>,
+    slots: Vec<Slot<Y, V>>,
     free: Vec<usize>,
     ended: Arc<Ended>,
     gathered: Vec<Y>,
 }
 
-impl<Y> Model for Slots<Y> {
+impl<Y, V> Model for Slots<Y, V> {
     ghost use Rattle.std.specs.Prelude.{◌≡◌, ◌+◌, ◌≤◌, length, vec_len, vec_capacity};
     ghost use Rattle.http_front.specs.Places.{Places};
 
@@ -77,9 +82,9 @@ impl<Y> Model for Slots<Y> {
     ghost invariant = { λ s. (length s.slots.items ≤ s.most) × (vec_len s.gathered ≡ 0) × (length s.slots.items + 2 ≤ vec_capacity s.gathered) };
 }
 
-impl<Y: Drop> Slots<Y> {
+impl<Y: Drop, V: Drop> Slots<Y, V> {
     /// No places yet, of which there may be `most`. The only error is want of memory.
-    pub(crate) fn new(alloc: Global, most: u32) -> Result<Slots<Y>, AllocError>
+    pub(crate) fn new(alloc: Global, most: u32) -> Result<Slots<Y, V>, AllocError>
         ensures { IfOk result (λ slots. slots ≡ record { most = most; made = 0 }) }
     {
         Ok(Slots {
@@ -92,7 +97,8 @@ impl<Y: Drop> Slots<Y> {
         })
     }
 
-    /// Takes a place that is free.
+    /// Takes a place that is free: the one that was given back last, whose thread is the likeliest to
+    /// wait yet.
     pub(crate) fn take(&mut self) -> Option<usize>
         ensures { self.new ≡ self.old }
     {
@@ -131,6 +137,7 @@ impl<Y: Drop> Slots<Y> {
             Ok(tally) => {
                 self.slots.push_reserved(Slot {
                     tally,
+                    worker: None,
                     running: None,
                 });
                 Ok(at)
@@ -139,15 +146,40 @@ impl<Y: Drop> Slots<Y> {
         }
     }
 
-    /// The tally of a place, and where its thread says its last.
-    pub(crate) fn shared(&self, at: usize) -> Result<(Arc<Mutex<Y>>, Arc<Ended>), AllocError> {
+    /// A place, as a new thread has it.
+    pub(crate) fn post(&self, at: usize) -> Result<Post<Y, V>, AllocError> {
         let Some(slot) = self.slots.get(at) else {
             return Err(AllocError);
         };
-        Ok((Arc::try_clone(&slot.tally)?, Arc::try_clone(&self.ended)?))
+        Ok(Post {
+            at,
+            tally: Arc::try_clone(&slot.tally)?,
+            mailbox: Arc::new(self.alloc, Mailbox::new()).map_err(AllocError::from)?,
+            ended: Arc::try_clone(&self.ended)?,
+        })
     }
 
-    /// Gives a place that was taken to a thread.
+    /// Gives a connection to the thread that waits for one at a place. Where none does it comes back.
+    pub(crate) fn offer<R: Wait + Threads>(&mut self, rt: &R, at: usize, visit: V) -> Result<(), V>
+        ensures same { self.new ≡ self.old }
+        ensures back { IfErr result (λ back. back ≡ visit) }
+    {
+        match self.slots.get_mut(at) {
+            Some(slot) => slot.offer(rt, visit),
+            None => Err(visit),
+        }
+    }
+
+    /// Gives a place to a thread.
+    pub(crate) fn employ(&mut self, at: usize, worker: Worker<V>)
+        ensures { self.new ≡ self.old }
+    {
+        if let Some(slot) = self.slots.get_mut(at) {
+            slot.worker = Some(worker);
+        }
+    }
+
+    /// Notes the connection that a place which was taken now has.
     pub(crate) fn fill(&mut self, at: usize, running: Running)
         ensures { self.new ≡ self.old }
     {
@@ -156,35 +188,70 @@ impl<Y: Drop> Slots<Y> {
         }
     }
 
-    /// Gives a place back.
+    /// Gives a place back that has no thread: it is taken behind those at which one waits, which want
+    /// no memory and no descriptors for another connection.
     pub(crate) fn give_back(&mut self, at: usize)
         ensures { self.new ≡ self.old }
     {
-        let _ = self.free.push(at);
+        let _ = self.free.insert(0, at);
     }
 
-    /// Joins a thread that has said its last.
-    fn join(&mut self, rt: &impl Threads, at: usize)
+    /// Sees out a connection that has ended: its place is free.
+    fn see_out(&mut self, end: End)
         ensures { self.new ≡ self.old }
     {
-        if let Some(slot) = self.slots.get_mut(at)
-            && let Some(running) = slot.running.take()
-        {
-            let Running { thread, .. } = running;
-            thread.join(rt);
+        let End { at, has_left } = end;
+        let Some(slot) = self.slots.get_mut(at) else {
+            return;
+        };
+        if slot.running.take().is_none() {
+            return;
+        }
+        if has_left {
             self.give_back(at);
+        } else {
+            let _ = self.free.push(at);
         }
     }
 
-    /// Joins the threads that have said their last.
-    pub(crate) fn reap<R: Wait + Threads>(&mut self, rt: &R)
+    /// Sees out the connections that have ended.
+    pub(crate) fn reap(&mut self, rt: &impl Wait)
         ensures { self.new ≡ self.old }
     {
         for _ in 0..self.slots.len() {
-            let Some(at) = self.ended.lock(rt).pop() else {
+            let Some(end) = self.ended.lock(rt).pop() else {
                 return;
             };
-            self.join(rt, at);
+            self.see_out(end);
+        }
+    }
+
+    /// Joins the threads that have waited in vain.
+    pub(crate) fn join_the_ended<R: Wait + Threads>(&mut self, rt: &R)
+        ensures { self.new ≡ self.old }
+    {
+        for slot in self.slots.iter_mut() {
+            slot.join_if_ended(rt);
+        }
+    }
+
+    /// Tells each thread to end: at once if it waits, else behind its connection.
+    pub(crate) fn dismiss(&self, rt: &impl Wait) {
+        for slot in &self.slots {
+            if let Some(worker) = &slot.worker {
+                worker.mailbox.close(rt);
+            }
+        }
+    }
+
+    /// Joins all threads, which were told to end.
+    pub(crate) fn join_all(&mut self, rt: &impl Threads)
+        ensures { self.new ≡ self.old }
+    {
+        for slot in self.slots.iter_mut() {
+            if let Some(worker) = slot.worker.take() {
+                worker.join(rt);
+            }
         }
     }
 
@@ -198,16 +265,8 @@ impl<Y: Drop> Slots<Y> {
         ensures { self.new ≡ self.old }
     {
         for slot in self.slots.iter_mut() {
-            let Some(running) = &mut slot.running else {
-                continue;
-            };
-            let sender = if at_once {
-                running.hard.take()
-            } else {
-                running.soft.take()
-            };
-            if let Some(sender) = sender {
-                let _ = sender.send(());
+            if let Some(running) = &mut slot.running {
+                running.tell(at_once);
             }
         }
     }
@@ -218,13 +277,10 @@ impl<Y: Drop> Slots<Y> {
         ensures { self.new ≡ self.old }
     {
         for slot in self.slots.iter_mut() {
-            let Some(running) = &mut slot.running else {
-                continue;
-            };
-            if running.has_stood_too_long()
-                && let Some(hard) = running.hard.take()
+            if let Some(running) = &mut slot.running
+                && running.has_stood_too_long()
             {
-                let _ = hard.send(());
+                running.tell(true);
             }
         }
     }

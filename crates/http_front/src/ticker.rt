@@ -6,10 +6,13 @@ use account_book::{Life, Refusal};
 use account_lock::{Account, Identity};
 use arn_ids::GREATEST_MOMENT;
 use call_model::Call;
+use http_connection::Machine;
 use long_poll::{Clock, OneShotBell};
-use std::sync::Wait;
+use std::alloc::AllocError;
 use std::sync::atomic::AtomicBool;
 use std::sync::atomic::Ordering::SeqCst;
+use std::sync::{Arc, Wait};
+use std::thread::JoinHandle;
 use std::time::Duration;
 use std::{thread, time};
 use usage_ledger::{Keep, Tally};
@@ -45,7 +48,7 @@ fn tick<S: Identity, N: Clock, K: Keep>(
 /// Ticks until the service has come to its end, and then says so, or until it is told that it has.
 /// After a Stop the end is there once every environment is off, or where a full journal lets no
 /// more time pass. Gives the tally back.
-pub(crate) fn tick_on<R: Wait + time::Clock, S: Identity, N: Clock, K: Keep>(
+fn tick_on<R: Wait + time::Clock, S: Identity, N: Clock, K: Keep>(
     rt: &R,
     account: &Account<S, OneShotBell>,
     clock: &N,
@@ -70,4 +73,40 @@ pub(crate) fn tick_on<R: Wait + time::Clock, S: Identity, N: Clock, K: Keep>(
         thread::sleep(rt, Duration::from_millis(BEAT));
     }
     unreachable!()
+}
+
+/// What the ticker's thread has: the account and the clock, the tally in which its calls count, and
+/// where it says, or is told, that the service is over.
+#[derive(Drop)]
+pub(crate) struct Ticker<R, S: Identity, N, K: Keep> {
+    pub(crate) rt: R,
+    pub(crate) account: Arc<Account<S, OneShotBell>>,
+    pub(crate) clock: Arc<N>,
+    pub(crate) tally: Tally<K, S>,
+    pub(crate) is_over: Arc<AtomicBool>,
+}
+
+impl<
+    R: Machine,
+    S: Identity + Drop + Send + Sync + 'static,
+    N: Clock + Drop + Send + Sync + 'static,
+    K: Keep + Send + 'static,
+> Ticker<R, S, N, K> {
+    /// Ticks until the service is over.
+    fn run(self) -> Tally<K, S> {
+        let Ticker {
+            rt,
+            account,
+            clock,
+            tally,
+            is_over,
+        } = self;
+        tick_on(&rt, &*account, &*clock, tally, &is_over)
+    }
+
+    /// Starts the thread. Where none can be made the tally is lost.
+    pub(crate) fn start(self) -> Result<JoinHandle<Tally<K, S>>, AllocError> {
+        let rt = self.rt;
+        Ok(thread::spawn(&rt, move || self.run())?)
+    }
 }

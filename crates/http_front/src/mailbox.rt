@@ -1,0 +1,80 @@
+//! Where a thread waits for what it is to do next.
+
+ghost use Rattle.std.specs.Prelude.{◌≡◌, IfErr};
+
+use std::sync::{Condvar, Mutex, Wait};
+use std::time::{Clock, Duration};
+
+/// What comes next, if it is there yet, and whether anything more may come.
+#[derive(Drop)]
+struct Letter<V> {
+    next: Option<V>,
+    is_closed: bool,
+}
+
+/// The mailbox of a thread, into which another puts what comes next. Once it is closed it stays so:
+/// what is put in then comes back, so that nothing lies in the mailbox of a thread that has ended. What
+/// lay there before is still taken out.
+#[derive(Drop)]
+pub(crate) struct Mailbox<V> {
+    letter: Mutex<Letter<V>>,
+    changed: Condvar,
+}
+
+impl<V: Drop> Mailbox<V> {
+    /// An empty one, of a thread that is about to begin.
+    pub(crate) fn new() -> Mailbox<V> {
+        let letter = Letter {
+            next: None,
+            is_closed: false,
+        };
+        Mailbox {
+            letter: Mutex::new(letter),
+            changed: Condvar::new(),
+        }
+    }
+
+    /// Puts this in.
+    ///
+    /// # Errors
+    /// Where the mailbox is closed, or full, it comes back.
+    pub(crate) fn put(&self, rt: &impl Wait, next: V) -> Result<(), V>
+        ensures { IfErr result (λ back. back ≡ next) }
+    {
+        let mut letter = self.letter.lock(rt);
+        if letter.is_closed || letter.next.is_some() {
+            return Err(next);
+        }
+        letter.next = Some(next);
+        drop(letter);
+        self.changed.notify_one();
+        Ok(())
+    }
+
+    /// Takes out what comes next. Where nothing does for so long, or nothing is there and the mailbox
+    /// is closed, there is nothing, and it is closed from then on.
+    pub(crate) fn take<R: Wait + Clock>(&self, rt: &R, patience: Duration) -> Option<V> {
+        let letter = self.letter.lock(rt);
+        let (mut letter, _) = self
+            .changed
+            .wait_timeout_while(rt, letter, patience, |letter| {
+                letter.next.is_none() && !letter.is_closed
+            });
+        let next = letter.next.take();
+        if next.is_none() {
+            letter.is_closed = true;
+        }
+        next
+    }
+
+    /// Closes it. A thread that waits finds nothing, at once.
+    pub(crate) fn close(&self, rt: &impl Wait) {
+        self.letter.lock(rt).is_closed = true;
+        self.changed.notify_one();
+    }
+
+    /// Whether it is closed.
+    pub(crate) fn is_closed(&self, rt: &impl Wait) -> bool {
+        self.letter.lock(rt).is_closed
+    }
+}

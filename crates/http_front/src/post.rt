@@ -1,0 +1,68 @@
+//! A place of connections, as its thread has it.
+
+use crate::mailbox::Mailbox;
+use std::sync::{Arc, Mutex, Wait};
+use std::thread::{JoinHandle, Threads};
+use std::time::{Clock, Duration};
+
+/// How many seconds a thread waits for its next connection before it ends.
+const KEPT: u64 = 10;
+
+/// That the connection of a place has ended, and whether its thread has left the place.
+#[derive(Clone, Copy, Drop)]
+pub(crate) struct End {
+    pub(crate) at: usize,
+    pub(crate) has_left: bool,
+}
+
+/// The connections that have ended.
+pub(crate) type Ended = Mutex<Vec<End>>;
+
+/// What the thread of a place has of it: its number, the tally of its connections, the mailbox into
+/// which the next one is put, and where it is told that one has ended.
+#[derive(Drop)]
+pub(crate) struct Post<Y, V> {
+    pub(crate) at: usize,
+    pub(crate) tally: Arc<Mutex<Y>>,
+    pub(crate) mailbox: Arc<Mailbox<V>>,
+    pub(crate) ended: Arc<Ended>,
+}
+
+impl<Y, V: Drop> Post<Y, V> {
+    /// Tells that its connection has ended, and whether the thread leaves. (Room for it stands ready.)
+    fn tell(&self, rt: &impl Wait, has_left: bool) {
+        let end = End {
+            at: self.at,
+            has_left,
+        };
+        let _ = self.ended.lock(rt).push(end);
+    }
+
+    /// Tells that its connection has ended, and waits for the next one. Where there is none the thread
+    /// has to end.
+    pub(crate) fn next<R: Wait + Clock>(&self, rt: &R) -> Option<V> {
+        self.tell(rt, false);
+        self.mailbox.take(rt, Duration::from_secs(KEPT))
+    }
+
+    /// Tells that its connection has ended, and that the thread leaves.
+    pub(crate) fn leave(&self, rt: &impl Wait) {
+        self.mailbox.close(rt);
+        self.tell(rt, true);
+    }
+}
+
+/// The thread of a place, and its mailbox.
+#[derive(Drop)]
+pub(crate) struct Worker<V> {
+    pub(crate) thread: JoinHandle<()>,
+    pub(crate) mailbox: Arc<Mailbox<V>>,
+}
+
+impl<V: Drop> Worker<V> {
+    /// Joins the thread.
+    pub(crate) fn join(self, rt: &impl Threads) {
+        let Worker { thread, .. } = self;
+        thread.join(rt);
+    }
+}

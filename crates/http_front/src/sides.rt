@@ -1,0 +1,55 @@
+//! Who decides the requests of the connections of one thread.
+
+ghost use Rattle.std.specs.Prelude.{◌≡◌, IfOk, IfSome};
+ghost use Rattle.std.specs.Arc.{arc_value};
+
+use crate::Side;
+use crate::door::Door;
+use account_lock::Identity;
+use std::alloc::{AllocError, Global};
+use std::sync::Arc;
+
+/// A port, and who decides its requests.
+#[derive(Drop)]
+struct Opened<S: Identity> {
+    door: Door<S>,
+    side: Arc<Side>,
+    ghost same: { arc_value side ≡ door },
+}
+
+/// Who decided the requests of the last connection: the next one of the same port has no routes to
+/// make.
+#[derive(Drop)]
+pub(crate) struct Sides<S: Identity> {
+    last: Option<Opened<S>>,
+}
+
+impl<S: Identity> Sides<S> {
+    /// There was no connection yet.
+    pub(crate) fn new() -> Sides<S> {
+        Sides { last: None }
+    }
+
+    /// Who decided the requests of the last connection, if it was of this port.
+    fn known(&self, door: &Door<S>) -> Option<&Arc<Side>>
+        ensures { IfSome result (λ side. (arc_value side.now ≡ door.now) × ((arc_value side.now).config ≡ S.config)) }
+    {
+        match &self.last {
+            Some(opened) if opened.door.is(door) => Some(&opened.side),
+            _ => None,
+        }
+    }
+
+    /// Who decides the requests of a port. The only error is want of memory.
+    pub(crate) fn of(&mut self, alloc: Global, door: Door<S>) -> Result<Arc<Side>, AllocError>
+        ensures { IfOk result (λ side. (arc_value side ≡ door) × ((arc_value side).config ≡ S.config)) }
+    {
+        if let Some(side) = self.known(&door) {
+            return Arc::try_clone(side);
+        }
+        let side = Arc::new(alloc, door.side(alloc)?).map_err(AllocError::from)?;
+        let kept = Arc::try_clone(&side)?;
+        self.last = Some(Opened { door, side: kept });
+        Ok(side)
+    }
+}
