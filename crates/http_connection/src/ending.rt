@@ -40,7 +40,7 @@ impl<C: Drop> Ending<C> {
         conn: C,
         signals: Signals,
     ) -> Result<Box<Ending<C>>, AllocError>
-        ensures { IfOk result (λ ending. ending.conn ≡ conn) }
+        ensures { IfOk result (λ ending. ending.value.conn ≡ conn) }
     {
         let Signals { soft, hard } = signals;
         let ending = Ending {
@@ -127,7 +127,7 @@ impl<C: GracefulConnection<Output = hyper::Result<()>>, O: Park> Future for Watc
 
     type Output = ();
 
-    ghost can_poll = { λ w. IsFalse w.has_ended → C.can_poll w.ending.conn };
+    ghost can_poll = { λ w. IsFalse w.has_ended → C.can_poll w.ending.value.conn };
 
     fn poll(&mut self, cx: &mut Context<'_>) -> Poll<()> {
         if !self.has_ended {
