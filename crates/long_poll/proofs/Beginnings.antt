@@ -25,6 +25,7 @@ use Rattle.long_poll.specs.declared.fault.ExchangeFault.TheVariants.{BodyFailed,
 use Rattle.long_poll.specs.declared.outcome.Outcome.{Outcome}
 use Rattle.long_poll.specs.declared.outcome.Outcome.TheVariants as outcome
 use Rattle.long_poll.specs.declared.service.Service as Service
+use Rattle.usage_ledger.specs.declared.keep.Keep as Keep
 
 -- what holds while it is pending gives what else holds then
 pub while_pending : {O X Y : Type 0} (r : Poll O) → (X → Y) → OnPending r X → OnPending r Y
@@ -41,8 +42,8 @@ pub if_ok : {X Y : Type 0} {P Q : X → Type 0} (r : Result X Y) → ((x : X) �
 if_ok (Ok x) f h = f x h
 if_ok (Err e) f h = tt
 
-module _ {R S D N K L : Type 0} {service : Service.Ghosts S K L} {decider : Decide.Ghosts D}
-    (connection : Connection R S D N K L service decider) (clock : Clock.Ghosts N) where
+module _ {R S D N K L : Type 0} {service : Service.Ghosts S K L} {decider : Decide.Ghosts D} {keep : Keep.Ghosts K}
+    (connection : Connection R S D N K L service decider keep) (clock : Clock.Ghosts N) where
   -- a call was submitted, as was decided
   pub begun_submitted : (head : Parts) (body : List ℕ) (call : Call)
       → Decides connection head body (decision.Submit call)

@@ -9,9 +9,11 @@ use Rattle.long_poll.specs.declared.connection.Attempt.{Attempt}
 use Rattle.long_poll.specs.declared.connection.Attempt.TheVariants.{Made, HeldBack}
 use Rattle.long_poll.specs.declared.connection.Connection.{Connection}
 use Rattle.long_poll.specs.declared.service.Service as Service
+use Rattle.usage_ledger.specs.declared.keep.Keep as Keep
 
 module _ {R S D N K L : Type 0} {service : Service.Ghosts S K L} {decider : Decide.Ghosts D}
-    (connection : Connection R S D N K L service decider) (clock : Clock.Ghosts N) where
+    {keep : Keep.Ghosts K} (connection : Connection R S D N K L service decider keep)
+    (clock : Clock.Ghosts N) where
   -- It was submitted with this bell, or it comes back with it.
   abbrev pub IsAttempt : OneShotBell → Call → Attempt L → Type 0
   IsAttempt bell call (Made back) = SubmittedWith connection clock bell call back

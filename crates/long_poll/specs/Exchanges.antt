@@ -32,6 +32,7 @@ use Rattle.long_poll.specs.declared.fault.ExchangeFault.TheVariants.{BodyFailed,
 use Rattle.long_poll.specs.declared.outcome.Outcome.{Outcome}
 use Rattle.long_poll.specs.declared.outcome.Outcome.TheVariants as outcome
 use Rattle.long_poll.specs.declared.service.Service as Service
+use Rattle.usage_ledger.specs.declared.keep.Keep as Keep
 
 -- What is rendered at a ticket; the fault is that of a lost bell where nothing is.
 abbrev pub Renders : (ℕ → Option Reply → Type 0) → ℕ → Result Reply ExchangeFault → Type 0
@@ -54,7 +55,7 @@ Awaits renders ticket (Err fault) = Renders renders ticket (Err fault)
 
 -- Of a connection: its account, its clock and who decides its requests, each by the relations of its trait.
 module _ {R S D N K L : Type 0} {service : Service.Ghosts S K L} {decider : Decide.Ghosts D}
-    (connection : Connection R S D N K L service decider) where
+    {keep : Keep.Ghosts K} (connection : Connection R S D N K L service decider keep) where
   -- What its account renders at a ticket, to who had seen so much of the history.
   abbrev pub shown : List Entry → ℕ → Option Reply → Type 0
   shown seen ticket reply =

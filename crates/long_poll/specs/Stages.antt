@@ -15,6 +15,7 @@ use Rattle.long_poll.specs.declared.fault.ExchangeFault.{ExchangeFault}
 use Rattle.long_poll.specs.declared.fault.ExchangeFault.TheVariants.{BodyFailed, OutOfMemory, BellLost}
 use Rattle.long_poll.specs.declared.outcome.Outcome.{Outcome}
 use Rattle.long_poll.specs.declared.service.Service as Service
+use Rattle.usage_ledger.specs.declared.keep.Keep as Keep
 
 -- its body is being collected, and can be polled
 abbrev pub IsCollecting : {B L : Type 0} → (B → Type 0) → Stage B L → Type 0
@@ -37,7 +38,8 @@ WaitsFor needs (Collecting parts collecting) source = needs collecting.body sour
 WaitsFor needs (Waiting ticket heard front) source = source ≡ hears_at heard
 
 module _ {R S D N K L : Type 0} {service : Service.Ghosts S K L} {decider : Decide.Ghosts D}
-    (connection : Connection R S D N K L service decider) (clock : Clock.Ghosts N) {B P E : Type 0}
+    {keep : Keep.Ghosts K} (connection : Connection R S D N K L service decider keep)
+    (clock : Clock.Ghosts N) {B P E : Type 0}
     (yields : B → Runs (Result (Frame P) E)) (reads : P → List ℕ → Type 0) where
   -- What it may give, where these bodies show the history.
   abbrev pub GivesFrom : {H : Type 0} → (H → Type 0) → Stage B L → Result (Outcome H) ExchangeFault → Type 0

@@ -13,10 +13,11 @@ use Rattle.long_poll.specs.declared.fault.ExchangeFault.{ExchangeFault}
 use Rattle.long_poll.specs.declared.history_body.HistoryBody.{HistoryBody}
 use Rattle.long_poll.specs.declared.outcome.Outcome.{Outcome}
 use Rattle.long_poll.specs.declared.service.Service as Service
+use Rattle.usage_ledger.specs.declared.keep.Keep as Keep
 
 module _ {R S D N B K L P E : Type 0} {service : Service.Ghosts S K L} {decider : Decide.Ghosts D}
-    (clock : Clock.Ghosts N) (yields : B → Runs (Result (Frame P) E)) (reads : P → List ℕ → Type 0)
-    (exchange : Exchange R S D N B K L service decider) where
+    {keep : Keep.Ghosts K} (clock : Clock.Ghosts N) (yields : B → Runs (Result (Frame P) E))
+    (reads : P → List ℕ → Type 0) (exchange : Exchange R S D N B K L service decider keep) where
   -- What it may give: a reply, a body that shows its account's whole history, or a fault.
   abbrev pub Gives : Result (Outcome (HistoryBody R S K L)) ExchangeFault → Type 0
   Gives = GivesFrom (arc_value exchange.connection) clock yields reads
