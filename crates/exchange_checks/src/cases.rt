@@ -4,7 +4,8 @@ ghost use Rattle.std.specs.Prelude.{◌≡◌};
 
 use crate::board::{Board, Mood};
 use crate::lines::{malformed, number_of};
-use crate::scene;
+use crate::rows::Rows;
+use crate::scene::{self, Scene, Shared};
 use account_book::OpenFault;
 use account_lock::{Account, Identity};
 use arn_ids::Checked;
@@ -17,7 +18,7 @@ use std::random::RandomSource;
 use std::sync::{Arc, Wait};
 use std::thread::Threads;
 use std::time::Clock;
-use usage_ledger::{Blanks, KeepNone};
+use usage_ledger::{Blanks, KeepNone, Tally};
 
 /// One function `f` on environment 1.
 const ONE: &str =
@@ -46,13 +47,100 @@ fn mood_in(part: &Part) -> Result<Mood, CaseFault> {
     }
 }
 
+/// What a case says of its service and of its connections.
+#[derive(Drop)]
+struct Terms {
+    /// What becomes of the calls of its board, if it has one.
+    mood: Option<Mood>,
+    /// For how many milliseconds a connection holds a premature call back.
+    patience: u32,
+}
+
+/// The terms of a case.
+fn terms_of(case: &Case) -> Result<Terms, CaseFault> {
+    let patience = match case.part("patience") {
+        None => 0,
+        Some(part) => number_of(part.line(), part.arguments())?.min(1000) as u32,
+    };
+    let mood = match case.part("board") {
+        None => None,
+        Some(part) => Some(mood_in(part)?),
+    };
+    Ok(Terms { mood, patience })
+}
+
+/// Who decides for a configuration, which is to have an environment and a function.
+fn rows_of<S: Identity>(
+    alloc: Global,
+    line: u64,
+    config: &Checked,
+) -> Result<Arc<Rows<S>>, CaseFault>
+    requires { config.now ≡ S.config }
+{
+    if config.environments() < 1 || config.functions().len() < 1 {
+        return Err(malformed(line, "a function with an environment is wanted"));
+    }
+    Ok(Arc::new(alloc, Rows::new())?)
+}
+
+/// Why a case has no account.
+fn not_opened(line: u64, fault: OpenFault) -> CaseFault {
+    match fault {
+        OpenFault::OutOfMemory => CaseFault::Memory,
+        _ => malformed(line, "other entries are wanted"),
+    }
+}
+
+/// A new account, and its tally.
+type Opened<S> = (Account<S, OneShotBell>, Tally<KeepNone, S>);
+
+/// Runs a case over an account.
+fn play_over_account<
+    R: Wait + Threads + Clock + RandomSource + AllocGlobal + Copy + Send + Sync + Drop,
+    S: Identity + Drop + Send + Sync,
+>(
+    rt: R,
+    patience: u32,
+    rows: Arc<Rows<S>>,
+    opened: Opened<S>,
+    case: &Case,
+    given: &mut String,
+) -> Result<(), CaseFault> {
+    let alloc = rt.alloc();
+    let (account, tally) = opened;
+    let service = Arc::new(alloc, account)?;
+    let shared = Shared::new(alloc, service, rows, tally)?;
+    scene::play(&Scene::new(rt, alloc, shared, patience), case, given)
+}
+
+/// Runs a case over a board.
+fn play_over_board<
+    R: Wait + Threads + Clock + RandomSource + AllocGlobal + Copy + Send + Sync + Drop,
+    S: Identity + Drop + Send + Sync,
+>(
+    rt: R,
+    patience: u32,
+    rows: Arc<Rows<S>>,
+    opened: Opened<S>,
+    mood: Mood,
+    case: &Case,
+    given: &mut String,
+) -> Result<(), CaseFault> {
+    let alloc = rt.alloc();
+    let (account, tally) = opened;
+    let board = Arc::new(alloc, Board::new(alloc, mood, account))?;
+    let shared = Shared::new(alloc, Arc::try_clone(&board)?, rows, tally)?;
+    scene::play(&Scene::new(rt, alloc, shared, patience), case, given)?;
+    Ok(given.push_str(board.noted()?.as_str())?)
+}
+
 /// Runs a case with a new account, over it or over a board.
 fn play<
     R: Wait + Threads + Clock + RandomSource + AllocGlobal + Copy + Send + Sync + Drop,
     S: Identity + Drop + Send + Sync,
 >(
     rt: R,
-    alloc: Global,
+    terms: Terms,
     case: &Case,
     config: Checked,
     max_entries: u64,
@@ -63,23 +151,22 @@ fn play<
     requires salted { S.salt ≡ 0 }
     requires named { blanks ≡ S.names }
 {
-    if config.environments() < 1 || config.functions().len() < 1 {
-        return Err(malformed(case.line(), "a function with an environment is wanted"));
+    let Terms { mood, patience } = terms;
+    let rows = rows_of::<S>(rt.alloc(), case.line(), &config)?;
+    let opened = Account::<S, OneShotBell>::open::<KeepNone>(
+        rt.alloc(),
+        config,
+        0,
+        max_entries,
+        blanks,
+    );
+    match opened {
+        Err(fault) => Err(not_opened(case.line(), fault)),
+        Ok(opened) => match mood {
+            None => play_over_account(rt, patience, rows, opened, case, given),
+            Some(mood) => play_over_board(rt, patience, rows, opened, mood, case, given),
+        },
     }
-    let opened = Account::<S, OneShotBell>::open::<KeepNone>(alloc, config, 0, max_entries, blanks);
-    let (account, tally) = match opened {
-        Ok(opened) => opened,
-        Err(OpenFault::OutOfMemory) => return Err(CaseFault::Memory),
-        Err(_) => return Err(malformed(case.line(), "other entries are wanted")),
-    };
-    let Some(part) = case.part("board") else {
-        let account = Arc::new(alloc, account)?;
-        return scene::play::<R, _, S>(rt, alloc, account, tally, case, given);
-    };
-    let board = Arc::new(alloc, Board::<S>::new(alloc, mood_in(part)?, account))?;
-    let service = Arc::try_clone(&board)?;
-    scene::play::<R, _, S>(rt, alloc, service, tally, case, given)?;
-    Ok(given.push_str(board.noted()?.as_str())?)
 }
 
 /// What a case of the tables gives. It has these parts; but for the first three, in the order in which
@@ -110,17 +197,11 @@ pub fn give<R: Wait + Threads + Clock + RandomSource + AllocGlobal + Copy + Send
     case: &Case,
     given: &mut String,
 ) -> Result<(), CaseFault> {
+    let terms = terms_of(case)?;
     let setup = setup_of(alloc, case)?;
+    let blanks = Blanks::new(alloc)?;
     let Ok(config) = setup.config.check() else {
         return Err(malformed(case.line(), "a sound configuration is wanted"));
     };
-    play::<R, Brand>(
-        rt,
-        alloc,
-        case,
-        config,
-        setup.max_entries,
-        Blanks::new(alloc)?,
-        given,
-    )
+    play::<R, Brand>(rt, terms, case, config, setup.max_entries, blanks, given)
 }

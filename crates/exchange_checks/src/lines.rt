@@ -63,8 +63,20 @@ pub fn number_of(line: u64, text: &str) -> Result<u64, CaseFault> {
         .map_err(|_| malformed(line, "a number is wanted"))
 }
 
-/// A body: a piece, or so many of them behind `pieces N` or `broken N`. A piece is `=TEXT` or
-/// `letters N`.
+/// A piece of a body: `=TEXT` or `letters N`.
+fn piece_in(alloc: Global, line: u64, text: &str) -> Result<Bytes, CaseFault> {
+    let mut piece = Vec::new(alloc);
+    if let Some(count) = text.strip_prefix("letters ") {
+        let count = number_of(line, count)?.min(MOST_LETTERS);
+        piece.resize(count as usize, b'x')?;
+    } else {
+        let text = text.strip_prefix('=').unwrap_or(text);
+        piece.extend_from_slice(text.as_bytes())?;
+    }
+    Ok(Bytes::from_vec(piece)?)
+}
+
+/// A body: a piece, or so many of them behind `pieces N` or `broken N`.
 fn body_in(alloc: Global, line: u64, text: &str) -> Result<Pieces, CaseFault> {
     let (word, rest) = text.split_once(' ').unwrap_or((text, ""));
     let is_broken = word == "broken";
@@ -74,34 +86,31 @@ fn body_in(alloc: Global, line: u64, text: &str) -> Result<Pieces, CaseFault> {
         ("1", text)
     };
     let left = number_of(line, count)?;
-    let mut piece = Vec::new(alloc);
-    if let Some(count) = text.strip_prefix("letters ") {
-        let count = number_of(line, count)?.min(MOST_LETTERS);
-        piece.resize(count as usize, b'x')?;
-    } else {
-        let text = text.strip_prefix('=').unwrap_or(text);
-        piece.extend_from_slice(text.as_bytes())?;
-    }
     Ok(Pieces {
-        piece: Bytes::from_vec(piece)?,
+        piece: piece_in(alloc, line, text)?,
         left,
         is_broken,
     })
+}
+
+/// The head of a request with this path.
+fn head_in(alloc: Global, line: u64, path: &str) -> Result<Parts, CaseFault> {
+    let uri = match Uri::from_str(alloc, path) {
+        Ok(uri) => uri,
+        Err(UriError::OutOfMemory) => return Err(CaseFault::Memory),
+        Err(_) => return Err(malformed(line, "a path is wanted")),
+    };
+    let mut parts = Parts::new(alloc);
+    parts.uri = uri;
+    Ok(parts)
 }
 
 /// What a line asks: a moment, a path and a body.
 pub fn ask_in(alloc: Global, line: u64, text: &str) -> Result<Ask, CaseFault> {
     let (moment, rest) = text.split_once(' ').unwrap_or((text, ""));
     let (path, body) = rest.split_once(' ').unwrap_or((rest, ""));
-    let mut parts = Parts::new(alloc);
-    parts.uri = match Uri::from_str(alloc, path) {
-        Ok(uri) => uri,
-        Err(UriError::OutOfMemory) => return Err(CaseFault::Memory),
-        Err(_) => return Err(malformed(line, "a path is wanted")),
-    };
-    Ok(Ask {
-        at: At(number_of(line, moment)?),
-        parts,
-        body: body_in(alloc, line, body)?,
-    })
+    let at = At(number_of(line, moment)?);
+    let body = body_in(alloc, line, body)?;
+    let parts = head_in(alloc, line, path)?;
+    Ok(Ask { at, parts, body })
 }

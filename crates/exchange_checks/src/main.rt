@@ -5,6 +5,7 @@
 mod board;
 mod cases;
 mod lines;
+mod outcomes;
 mod rows;
 mod scene;
 

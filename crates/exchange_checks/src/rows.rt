@@ -46,6 +46,35 @@ fn payload(body: &Bytes) -> Result<Option<Bytes>, AllocError>
     Ok(Some(body.clone()?))
 }
 
+/// What a path asks for.
+#[derive(Clone, Copy)]
+enum Asked {
+    Next,
+    Invoke,
+    Response,
+    Withdraw,
+    Stats,
+    History,
+    Reservation,
+    Echo,
+    Length,
+}
+
+/// What a path asks for; any other path, how long the body is.
+fn asked_by(path: &str) -> Asked {
+    match path {
+        "/next" => Asked::Next,
+        "/invoke" => Asked::Invoke,
+        "/response" => Asked::Response,
+        "/withdraw" => Asked::Withdraw,
+        "/stats" => Asked::Stats,
+        "/history" => Asked::History,
+        "/reservation" => Asked::Reservation,
+        "/echo" => Asked::Echo,
+        _ => Asked::Length,
+    }
+}
+
 /// Gives a text.
 fn shown(alloc: Global, body: Bytes) -> Result<Reply, AllocError> {
     Ok(Reply {
@@ -125,16 +154,16 @@ impl<S: Identity> Decide for Rows<S> {
         body: &Bytes,
     ) -> Result<Decision, AllocError> {
         let _of = &self.of;
-        match parts.uri.path() {
-            "/next" => Ok(Decision::Submit(Call::RuntimeNext { env: 1 })),
-            "/invoke" => self.call(alloc, body, false),
-            "/response" => self.call(alloc, body, true),
-            "/withdraw" => Ok(Decision::Submit(Call::Withdraw { ticket: 0 })),
-            "/stats" => Ok(Decision::Show(Shown::Stats)),
-            "/history" => Ok(Decision::Show(Shown::History)),
-            "/reservation" => Ok(Decision::Show(Shown::Reservation { function: 1 })),
-            "/echo" => Ok(Decision::Reply(shown(alloc, body.clone()?)?)),
-            _ => Ok(Decision::Reply(length_of(alloc, body)?)),
+        match asked_by(parts.uri.path()) {
+            Asked::Next => Ok(Decision::Submit(Call::RuntimeNext { env: 1 })),
+            Asked::Invoke => self.call(alloc, body, false),
+            Asked::Response => self.call(alloc, body, true),
+            Asked::Withdraw => Ok(Decision::Submit(Call::Withdraw { ticket: 0 })),
+            Asked::Stats => Ok(Decision::Show(Shown::Stats)),
+            Asked::History => Ok(Decision::Show(Shown::History)),
+            Asked::Reservation => Ok(Decision::Show(Shown::Reservation { function: 1 })),
+            Asked::Echo => Ok(Decision::Reply(shown(alloc, body.clone()?)?)),
+            Asked::Length => Ok(Decision::Reply(length_of(alloc, body)?)),
         }
     }
 }

@@ -2,16 +2,17 @@
 
 ghost use Rattle.std.specs.Prelude.{◌≡◌, ⊤, IfOk};
 ghost use Rattle.std.specs.Arc.{arc_value};
-ghost use Rattle.call_types.specs.Within.{IsEnv, IsFunction};
 ghost use Rattle.long_poll.specs.Stages.{CanGoOn};
 
 use crate::lines::{Ask, Pieces, ask_in, lines_in, malformed, number_of};
+use crate::outcomes::{
+    finished, made, made_at_once, push_all, push_answer, push_fault, push_open, push_text,
+    push_told, told_poll,
+};
 use crate::rows::{At, Rows};
 use account_lock::Identity;
 use call_model::Ticket;
 use case_tables::{Case, CaseFault, Part};
-use futures::executor::block_on;
-use futures::future::{FutureExt, poll_immediate, try_join3};
 use http_body_util::BodyExt;
 use lambda_wire::Reply;
 use long_poll::{
@@ -23,65 +24,61 @@ use std::random::RandomSource;
 use std::sync::{Arc, Mutex, Wait};
 use std::thread::{self, Threads};
 use std::time::Clock;
-use std::{io, str};
 use usage_ledger::{Front, KeepNone, Tally};
 
 /// How often a call is withdrawn that another thread waits for, since memory may be refused.
 const TRIES: u32 = 2;
 
-/// A service, who decides for it, a tally, and for how many milliseconds a connection holds a premature
-/// call back.
+/// What the connections of a case share: a service, who decides for it, and a tally.
 #[derive(Drop)]
-struct Scene<R, X: Service<KeepNone, S>, S: Identity> {
-    rt: R,
-    alloc: Global,
+pub struct Shared<X: Service<KeepNone, S>, S: Identity> {
     service: Arc<X>,
     rows: Arc<Rows<S>>,
     tally: Arc<Mutex<Tally<KeepNone, S>>>,
-    patience: u32,
     ghost agree: { X.serves (arc_value service) ≡ S.config },
+}
+
+/// What is asked, and for how many milliseconds a connection holds a premature call back.
+#[derive(Drop)]
+pub struct Scene<R, X: Service<KeepNone, S>, S: Identity> {
+    rt: R,
+    alloc: Global,
+    shared: Shared<X, S>,
+    patience: u32,
 }
 
 /// What came of an exchange.
 type Came<R, X, S> = Result<Outcome<HistoryBody<R, X, KeepNone, S>>, ExchangeFault>;
 
-/// What an executor gave, which fails for want of memory alone.
-fn ran<O>(came: io::Result<O>) -> Result<O, CaseFault> {
-    came.map_err(|_| CaseFault::Memory)
-}
-
-/// What came of an exchange, with a fault in place of the reply that a call was refused for want of
-/// memory, so that no other exchange waits for that call.
-fn with_memory<H: Drop>(
-    came: Result<Outcome<H>, ExchangeFault>,
-) -> Result<Outcome<H>, ExchangeFault> {
-    if let Ok(Outcome::Reply(reply)) = &came
-        && reply.status == 500
-        && str::from_utf8(reply.body.as_slice()).is_ok_and(|text| text.contains("Out of memory"))
+impl<X: Service<KeepNone, S>, S: Identity> Shared<X, S> {
+    /// What the connections to this service share.
+    pub fn new(
+        alloc: Global,
+        service: Arc<X>,
+        rows: Arc<Rows<S>>,
+        tally: Tally<KeepNone, S>,
+    ) -> Result<Shared<X, S>, AllocError>
+        requires { X.serves (arc_value service) ≡ S.config }
     {
-        return Err(ExchangeFault::OutOfMemory);
+        let tally = Arc::new(alloc, Mutex::new(tally))?;
+        Ok(Shared {
+            service,
+            rows,
+            tally,
+        })
     }
-    came
-}
 
-/// Adds bytes of text.
-fn push_text(given: &mut String, bytes: &[u8]) -> Result<(), AllocError> {
-    given.push_str(str::from_utf8(bytes).unwrap_or("(bytes that are no text)"))
-}
-
-/// Adds a reply: its status, its headers, and its body if it has one.
-fn push_reply(alloc: Global, given: &mut String, reply: &Reply) -> Result<(), AllocError> {
-    given.push_str(format!(in alloc; "  {}\n", reply.status)?.as_str())?;
-    for header in reply.headers.as_slice() {
-        given.push_str("  ")?;
-        given.push_str(header.0.as_str())?;
-        given.push_str(": ")?;
-        push_text(given, header.1.as_bytes())?;
-        given.push('\n')?;
+    /// The same for one more connection.
+    fn again(&self) -> Result<Shared<X, S>, AllocError> {
+        let service = Arc::try_clone(&self.service)?;
+        let rows = Arc::try_clone(&self.rows)?;
+        let tally = Arc::try_clone(&self.tally)?;
+        Ok(Shared {
+            service,
+            rows,
+            tally,
+        })
     }
-    given.push_str("  =")?;
-    push_text(given, reply.body.as_slice())?;
-    given.push('\n')
 }
 
 impl<
@@ -89,23 +86,49 @@ impl<
     X: Service<KeepNone, S>,
     S: Identity + Drop,
 > Scene<R, X, S> {
+    /// What is asked of this service.
+    pub fn new(rt: R, alloc: Global, shared: Shared<X, S>, patience: u32) -> Scene<R, X, S> {
+        Scene {
+            rt,
+            alloc,
+            shared,
+            patience,
+        }
+    }
+
+    /// A connection with this clock and this note of its open Next.
+    fn connected(
+        &self,
+        clock: Arc<At>,
+        open: Arc<OpenPoll>,
+    ) -> Result<Arc<Connection<R, X, Rows<S>, At, KeepNone, S>>, AllocError> {
+        let Shared {
+            service,
+            rows,
+            tally,
+        } = self.shared.again()?;
+        let connection = Connection::new(
+            self.rt,
+            self.alloc,
+            service,
+            rows,
+            clock,
+            tally,
+            open,
+            self.patience,
+        );
+        Ok(Arc::new(self.alloc, connection)?)
+    }
+
     /// A new connection, whose clock stands at a moment, with the note of its open Next.
     fn connection(
         &self,
         at: At,
         open: &Arc<OpenPoll>,
     ) -> Result<Arc<Connection<R, X, Rows<S>, At, KeepNone, S>>, AllocError> {
-        let connection = Connection::new(
-            self.rt,
-            self.alloc,
-            Arc::try_clone(&self.service)?,
-            Arc::try_clone(&self.rows)?,
-            Arc::new(self.alloc, at)?,
-            Arc::try_clone(&self.tally)?,
-            Arc::try_clone(open)?,
-            self.patience,
-        );
-        Ok(Arc::new(self.alloc, connection)?)
+        let clock = Arc::new(self.alloc, at)?;
+        let open = Arc::try_clone(open)?;
+        self.connected(clock, open)
     }
 
     /// The exchange of a line, over a new connection.
@@ -121,43 +144,47 @@ impl<
         Ok(Exchange::new(self.connection(at, open)?, parts, body))
     }
 
-    /// Adds the line of a request, what came of it, and the Next that its connection has open then.
-    fn tell(
+    /// Adds the history.
+    fn push_history(
         &self,
         given: &mut String,
-        text: &str,
-        came: Option<Came<R, X, S>>,
-        open: &OpenPoll,
+        body: HistoryBody<R, X, KeepNone, S>,
     ) -> Result<(), CaseFault> {
-        given.push_str(text)?;
-        given.push('\n')?;
-        match came.map(with_memory) {
-            None => given.push_str("  waits\n")?,
-            Some(Ok(Outcome::Reply(reply))) => push_reply(self.alloc, given, &reply)?,
-            Some(Ok(Outcome::History(body))) => {
-                let text = ran(block_on(&self.rt, body.collect(self.alloc)))??;
-                push_text(given, text.to_bytes()?.as_slice())?;
-            }
-            Some(Err(ExchangeFault::OutOfMemory)) => return Err(CaseFault::Memory),
-            Some(Err(ExchangeFault::BodyFailed)) => given.push_str("  BodyFailed\n")?,
-            Some(Err(ExchangeFault::BellLost)) => given.push_str("  BellLost\n")?,
-        }
-        if let Some(ticket) = open.ticket() {
-            given.push_str(format!(in self.alloc; "  open {ticket}\n")?.as_str())?;
-        }
-        Ok(())
+        let text = finished(&self.rt, body.collect(self.alloc))??;
+        Ok(push_text(given, text.to_bytes()?.as_slice())?)
     }
 
-    /// Makes the request of a line, or lets it go once it waits.
+    /// Adds what came of an exchange.
+    fn push_came(&self, given: &mut String, came: Came<R, X, S>) -> Result<(), CaseFault> {
+        match came {
+            Ok(Outcome::Reply(reply)) => push_answer(self.alloc, given, &reply),
+            Ok(Outcome::History(body)) => self.push_history(given, body),
+            Err(fault) => push_fault(given, fault),
+        }
+    }
+
+    /// Makes the request of a line, or lets it go once it waits, and adds what came of it.
+    fn make(
+        &self,
+        line: u64,
+        text: &str,
+        drops: bool,
+        open: &Arc<OpenPoll>,
+        given: &mut String,
+    ) -> Result<(), CaseFault> {
+        let exchange = self.exchange(line, text, open)?;
+        match made(&self.rt, exchange, drops)? {
+            None => Ok(given.push_str("  waits\n")?),
+            Some(came) => self.push_came(given, came),
+        }
+    }
+
+    /// Adds the line of a request, what comes of it, and the Next that its connection has open then.
     fn ask(&self, line: u64, text: &str, drops: bool, given: &mut String) -> Result<(), CaseFault> {
+        push_all(given, &[text, "\n"])?;
         let open = Arc::new(self.alloc, OpenPoll::new())?;
-        let exchange = self.exchange(line, text, &open)?;
-        let came = if drops {
-            ran(block_on(&self.rt, poll_immediate(exchange)))?
-        } else {
-            Some(ran(block_on(&self.rt, exchange))?)
-        };
-        self.tell(given, text, came, &open)
+        self.make(line, text, drops, &open, given)?;
+        Ok(push_open(self.alloc, given, &open)?)
     }
 
     /// Makes the requests of a part's lines one after another.
@@ -169,50 +196,55 @@ impl<
     }
 
     /// Makes the requests of three lines at once, each over a connection of its own.
+    fn make_three(
+        &self,
+        line: u64,
+        first: &str,
+        second: &str,
+        third: &str,
+        open: &Arc<OpenPoll>,
+    ) -> Result<(Reply, Reply, Reply), CaseFault> {
+        let first = self.exchange(line, first, open)?;
+        let second = self.exchange(line, second, open)?;
+        let third = self.exchange(line, third, open)?;
+        made_at_once(&self.rt, line, first, second, third)
+    }
+
+    /// Makes the requests of a part's three lines at once.
     fn ask_three(&self, part: &Part, given: &mut String) -> Result<(), CaseFault> {
-        let line = part.line();
         let (first, rest) = lines_in(part).split_once('\n').unwrap_or(("", ""));
         let (second, third) = rest.split_once('\n').unwrap_or((rest, ""));
         let open = Arc::new(self.alloc, OpenPoll::new())?;
-        let three = try_join3(
-            self.exchange(line, first, &open)?.map(with_memory),
-            self.exchange(line, second, &open)?.map(with_memory),
-            self.exchange(line, third, &open)?.map(with_memory),
-        );
-        let (one, other, last) = match ran(block_on(&self.rt, three))? {
-            Ok(replies) => replies,
-            Err(ExchangeFault::OutOfMemory) => return Err(CaseFault::Memory),
-            Err(_) => return Err(malformed(line, "three that are answered are wanted")),
-        };
-        self.tell(given, first, Some(Ok(one)), &open)?;
-        self.tell(given, second, Some(Ok(other)), &open)?;
-        self.tell(given, third, Some(Ok(last)), &open)
+        let (one, other, last) = self.make_three(part.line(), first, second, third, &open)?;
+        push_told(self.alloc, given, first, &one, &open)?;
+        push_told(self.alloc, given, second, &other, &open)?;
+        Ok(push_told(self.alloc, given, third, &last, &open)?)
     }
 
     /// Polls for the answer of a ticket; what came of that, as a line.
     fn poll(&self, ticket: Ticket, heard: Heard, front: Front<S>) -> Result<String, CaseFault> {
-        let service = Arc::try_clone(&self.service)?;
+        let service = Arc::try_clone(&self.shared.service)?;
         let poll: Poll<R, X, Heard, KeepNone, S> = Poll::new(
             self.rt, service, ticket, heard, front,
         );
-        let came = ran(block_on(&self.rt, poll))?;
-        Ok(format!(in self.alloc; "poll {ticket}: {came:?}\n")?)
+        Ok(told_poll(self.alloc, ticket, finished(&self.rt, poll)?)?)
     }
 
     /// Polls for the answer of a ticket, whose bell was dropped.
     fn poll_lost(&self, part: &Part, given: &mut String) -> Result<(), CaseFault> {
+        let ticket = number_of(part.line(), part.arguments())?;
         let (bell, heard) = OneShotBell::pair(self.alloc)?;
         drop(bell);
-        let ticket = number_of(part.line(), part.arguments())?;
-        let told = self.poll(ticket, heard, self.service.front(&self.rt))?;
+        let told = self.poll(ticket, heard, self.shared.service.front(&self.rt))?;
         Ok(given.push_str(told.as_str())?)
     }
 
     /// Submits a runtime's Next with a bell.
     fn park(&self) -> Result<(Ticket, Heard, Front<S>), CaseFault> {
-        let mut tally = self.tally.lock(&self.rt);
-        self.rows
-            .park(&self.rt, self.alloc, &*self.service, &mut tally)
+        let mut tally = self.shared.tally.lock(&self.rt);
+        self.shared
+            .rows
+            .park(&self.rt, self.alloc, &*self.shared.service, &mut tally)
     }
 
     /// Begins the request of a part while another thread polls for ticket 0: if that has no answer then,
@@ -244,47 +276,30 @@ fn poll_across<
     Ok(given.push_str(told?.as_str())?)
 }
 
-/// Does what the parts of a case say, in their order, with a service of a configuration that has an
-/// environment and a function.
+/// Does what a part of a case says.
+fn act<
+    R: Wait + Threads + Clock + RandomSource + AllocGlobal + Copy + Send + Sync + Drop,
+    X: Service<KeepNone, S> + Send + Sync,
+    S: Identity + Drop + Send + Sync,
+>(scene: &Scene<R, X, S>, part: &Part, given: &mut String) -> Result<(), CaseFault> {
+    match part.word() {
+        "open" | "board" | "patience" => Ok(()),
+        "asks" | "drops" => scene.ask_all(part, given),
+        "at-once" => scene.ask_three(part, given),
+        "lost" => scene.poll_lost(part, given),
+        "across" => poll_across(scene, part, given),
+        _ => Err(malformed(part.line(), "no part that is known here")),
+    }
+}
+
+/// Does what the parts of a case say, in their order.
 pub fn play<
     R: Wait + Threads + Clock + RandomSource + AllocGlobal + Copy + Send + Sync + Drop,
     X: Service<KeepNone, S> + Send + Sync,
     S: Identity + Drop + Send + Sync,
->(
-    rt: R,
-    alloc: Global,
-    service: Arc<X>,
-    tally: Tally<KeepNone, S>,
-    case: &Case,
-    given: &mut String,
-) -> Result<(), CaseFault>
-    requires agree { X.serves (arc_value service) ≡ S.config }
-    requires environment { IsEnv S.config 1 }
-    requires function { IsFunction S.config 1 }
-{
-    let patience = match case.part("patience") {
-        None => 0,
-        Some(part) => number_of(part.line(), part.arguments())?.min(1000) as u32,
-    };
-    let rows: Arc<Rows<S>> = Arc::new(alloc, Rows::new())?;
-    let tally = Arc::new(alloc, Mutex::new(tally))?;
-    let scene: Scene<R, X, S> = Scene {
-        rt,
-        alloc,
-        service,
-        rows,
-        tally,
-        patience,
-    };
+>(scene: &Scene<R, X, S>, case: &Case, given: &mut String) -> Result<(), CaseFault> {
     for part in case.parts() {
-        match part.word() {
-            "open" | "board" | "patience" => {}
-            "asks" | "drops" => scene.ask_all(part, given)?,
-            "at-once" => scene.ask_three(part, given)?,
-            "lost" => scene.poll_lost(part, given)?,
-            "across" => poll_across(&scene, part, given)?,
-            _ => return Err(malformed(part.line(), "no part that is known here")),
-        }
+        act(scene, part, given)?;
     }
     Ok(())
 }

@@ -1,20 +1,16 @@
 //! The steps of a check.
 
-use crate::answers::{View, push_heard, push_line};
 use crate::flood::is_answered_meanwhile;
 use crate::peer::{Heard, Peer, exchange};
-use crate::stage::{Named, Progress, Stage};
-use crate::steps::{bytes_of, entries_in, malformed, number, request_of, split_word};
+use crate::stage::Stage;
+use crate::steps::{
+    Progress, bytes_of, entries_in, malformed, number, push_line, request_of, split_word,
+};
 use case_tables::{Case, CaseFault, Part};
 use http_front::Machine;
+use std::alloc::{AllocError, Global};
 use std::str;
 use std::time::Duration;
-
-/// How many turns are a second.
-const TURNS_A_SECOND: u32 = 100;
-
-/// How many turns a peer listens to hear that nothing comes.
-const MOMENT: u32 = 5;
 
 /// How often a crowd is tried: an answer may come late too where the machine had other things to do.
 const CROWDS: u32 = 5;
@@ -27,6 +23,37 @@ fn entries_of(heard: &Heard) -> Option<u64> {
 /// Whether a step takes lines.
 fn takes_lines(word: &str) -> bool {
     matches!(word, "serves" | "opens" | "asks" | "sends" | "repeats")
+}
+
+/// Adds how many entries were seen last, where they are not as many as are wanted.
+fn tell_entries(
+    alloc: Global,
+    given: &mut String,
+    seen: Option<u64>,
+    wanted: u64,
+) -> Result<Progress, AllocError> {
+    if seen == Some(wanted) {
+        return Ok(Progress::On);
+    }
+    let seen = format!(in alloc; "{seen:?}")?;
+    push_line(given, "entries", seen.as_str())?;
+    Ok(Progress::Stuck)
+}
+
+/// Adds how many seconds a check has taken, where they are out of a range.
+fn tell_seconds(
+    alloc: Global,
+    part: &Part,
+    given: &mut String,
+    taken: u64,
+) -> Result<Progress, CaseFault> {
+    let (least, most) = split_word(part.arguments());
+    let least = u64::from(number(part, least)?);
+    let most = u64::from(number(part, most)?);
+    if taken < least || taken > most {
+        given.push_str(format!(in alloc; "it took {taken} seconds\n")?.as_str())?;
+    }
+    Ok(Progress::On)
 }
 
 impl<R: Machine> Stage<R> {
@@ -46,35 +73,17 @@ impl<R: Machine> Stage<R> {
             return Err(malformed(part, "no lines are wanted here"));
         }
         match part.word() {
-            "places" => self.set_places(part),
-            "patience" => self.set_patience(part),
-            "holds-back" => self.hold_back(part),
+            "places" | "patience" | "holds-back" => self.set_terms(part),
+            "moment" => self.set_moment(part),
             "serves" => self.serve(part, given),
-            "moment" => Ok(self.set_moment(number(part, part.arguments())?)),
-            "waits" => self.wait_longer(part),
             "opens" => self.open(part, given),
-            "sends" => self.send(part, given),
-            "repeats" => self.repeat(part, given),
-            "fills" => self.fill(part, given),
             "asks" => self.ask(part, given),
-            "ends-side" => self.end_side(part, given),
-            "closes" => self.close(part),
-            "hears" => self.hear(part, given),
-            "awaits" => self.wait_for_bytes(part, given),
-            "stays" => self.stay(part, given),
             "entries" => self.wait_for_entries(part, given),
             "crowds" => self.crowd(part, given),
             "stops" => self.stop_by_step(part, given),
             "takes" => self.compare_seconds(part, given),
-            _ => Err(CaseFault::Unknown { line: part.line() }),
+            _ => self.peers.perform(part, &self.ports, given),
         }
-    }
-
-    /// From now on a step waits longer.
-    fn wait_longer(&mut self, part: &Part) -> Result<Progress, CaseFault> {
-        let seconds = number(part, part.arguments())?;
-        self.turns = seconds.saturating_mul(TURNS_A_SECOND);
-        Ok(Progress::On)
     }
 
     /// The number of the port that a word of a part names.
@@ -82,20 +91,6 @@ impl<R: Machine> Stage<R> {
         match self.ports.number(name) {
             Some(port) => Ok(port),
             None => Err(malformed(part, "a port is invoke or 1 to 4")),
-        }
-    }
-
-    /// The place of the peer that is called so.
-    fn place(&self, part: &Part, name: &str) -> Result<usize, CaseFault> {
-        let named = self.peers.iter().position(|it| it.name.as_str() == name);
-        named.ok_or(malformed(part, "no peer of this name is connected"))
-    }
-
-    /// That nobody who is connected is called so.
-    fn expect_newcomer(&self, part: &Part, name: &str) -> Result<(), CaseFault> {
-        match self.place(part, name) {
-            Ok(_) => Err(malformed(part, "a peer of this name is connected")),
-            Err(_) => Ok(()),
         }
     }
 
@@ -107,22 +102,19 @@ impl<R: Machine> Stage<R> {
         port: u16,
         bytes: &[u8],
     ) -> Result<Progress, CaseFault> {
-        let Ok(mut peer) = Peer::connect(&self.rt, port) else {
-            push_line(self.alloc, given, name, "not connected")?;
-            return Ok(Progress::Stuck);
-        };
-        if peer.send(bytes).is_err() {
-            push_line(self.alloc, given, name, "not sent")?;
+        match Peer::connect(&self.rt, port) {
+            Ok(peer) => self.peers.welcome(given, name, peer, bytes),
+            Err(_) => {
+                push_line(given, name, "not connected")?;
+                Ok(Progress::Stuck)
+            }
         }
-        let name = String::from_str(self.alloc, name)?;
-        self.peers.push(Named { name, peer })?;
-        Ok(Progress::On)
     }
 
     /// A peer connects, and sends the lines of the part.
     fn open(&mut self, part: &Part, given: &mut String) -> Result<Progress, CaseFault> {
         let (name, port) = split_word(part.arguments());
-        self.expect_newcomer(part, name)?;
+        self.peers.expect_newcomer(part, name)?;
         let port = self.port(part, port)?;
         let bytes = bytes_of(self.alloc, part)?;
         self.connect(given, name, port, bytes.as_slice())
@@ -133,137 +125,17 @@ impl<R: Machine> Stage<R> {
         let (name, words) = split_word(part.arguments());
         let (port, words) = split_word(words);
         let (method, path) = split_word(words);
-        self.expect_newcomer(part, name)?;
+        self.peers.expect_newcomer(part, name)?;
         let port = self.port(part, port)?;
         let request = request_of(self.alloc, method, path, part.text())?;
         self.connect(given, name, port, request.as_bytes())
     }
 
-    /// A peer sends these bytes so many times.
-    fn send_times(
-        &mut self,
-        place: usize,
-        given: &mut String,
-        bytes: &[u8],
-        times: u32,
-    ) -> Result<Progress, CaseFault> {
-        for _ in 0..times {
-            if let Some(named) = self.peers.get_mut(place)
-                && named.peer.send(bytes).is_err()
-            {
-                push_line(self.alloc, given, named.name.as_str(), "not sent")?;
-                break;
-            }
-        }
-        Ok(Progress::On)
-    }
-
-    /// A peer sends the lines of the part.
-    fn send(&mut self, part: &Part, given: &mut String) -> Result<Progress, CaseFault> {
-        let place = self.place(part, part.arguments())?;
-        let bytes = bytes_of(self.alloc, part)?;
-        self.send_times(place, given, bytes.as_slice(), 1)
-    }
-
-    /// A peer sends the lines of the part so many times.
-    fn repeat(&mut self, part: &Part, given: &mut String) -> Result<Progress, CaseFault> {
-        let (name, times) = split_word(part.arguments());
-        let place = self.place(part, name)?;
-        let bytes = bytes_of(self.alloc, part)?;
-        let times = number(part, times)?;
-        self.send_times(place, given, bytes.as_slice(), times)
-    }
-
-    /// A peer sends so many letters.
-    fn fill(&mut self, part: &Part, given: &mut String) -> Result<Progress, CaseFault> {
-        let (name, count) = split_word(part.arguments());
-        let place = self.place(part, name)?;
-        let count = number(part, count)?;
-        if let Some(named) = self.peers.get_mut(place)
-            && named.peer.fill(count as usize).is_err()
-        {
-            push_line(self.alloc, given, name, "not filled")?;
-        }
-        Ok(Progress::On)
-    }
-
-    /// A peer ends its own side.
-    fn end_side(&mut self, part: &Part, given: &mut String) -> Result<Progress, CaseFault> {
-        let place = self.place(part, part.arguments())?;
-        if let Some(named) = self.peers.get(place)
-            && named.peer.end_side().is_err()
-        {
-            push_line(self.alloc, given, part.arguments(), "no end of its side")?;
-        }
-        Ok(Progress::On)
-    }
-
-    /// A peer closes its connection.
-    fn close(&mut self, part: &Part) -> Result<Progress, CaseFault> {
-        let place = self.place(part, part.arguments())?;
-        if place < self.peers.len() {
-            let _closed = self.peers.swap_remove(place);
-        }
-        Ok(Progress::On)
-    }
-
-    /// A peer hears all that comes.
-    fn hear(&mut self, part: &Part, given: &mut String) -> Result<Progress, CaseFault> {
-        let (name, fields) = split_word(part.arguments());
-        let place = self.place(part, name)?;
-        let Some(named) = self.peers.get_mut(place) else {
-            return Ok(Progress::Stuck);
-        };
-        let Ok(heard) = named.peer.hear(self.alloc, self.turns) else {
-            push_line(self.alloc, given, name, "not heard")?;
-            return Ok(Progress::Stuck);
-        };
-        let mut lines = String::new(self.alloc);
-        push_heard(self.alloc, &mut lines, &View { name, fields }, &heard)?;
-        given.push_str(self.ports.named(self.alloc, lines.as_str())?.as_str())?;
-        match heard.has_ended {
-            true => Ok(Progress::On),
-            false => Ok(Progress::Stuck),
-        }
-    }
-
-    /// A peer waits until bytes have come.
-    fn wait_for_bytes(&self, part: &Part, given: &mut String) -> Result<Progress, CaseFault> {
-        let name = part.arguments();
-        let place = self.place(part, name)?;
-        let has_come = self
-            .peers
-            .get(place)
-            .is_some_and(|named| named.peer.await_bytes(self.turns));
-        if has_come {
-            return Ok(Progress::On);
-        }
-        push_line(self.alloc, given, name, "nothing came")?;
-        Ok(Progress::Stuck)
-    }
-
-    /// A peer hears nothing for a moment.
-    fn stay(&mut self, part: &Part, given: &mut String) -> Result<Progress, CaseFault> {
-        let name = part.arguments();
-        let place = self.place(part, name)?;
-        let Some(named) = self.peers.get_mut(place) else {
-            return Ok(Progress::Stuck);
-        };
-        let heard = named.peer.hear(self.alloc, MOMENT);
-        let what = match &heard {
-            Ok(heard) if heard.bytes.is_empty() && !heard.has_ended => "nothing yet",
-            Ok(_) => "something came, or the end",
-            Err(_) => "not heard",
-        };
-        push_line(self.alloc, given, name, what)?;
-        Ok(Progress::On)
-    }
-
     /// How many entries the history has, once it has so many; or what was said last.
     fn entries(&self, port: u16, request: &str, wanted: u64) -> Option<u64> {
         let mut seen = None;
-        for _ in 0..self.turns {
-            match exchange(&self.rt, port, request, self.turns) {
+        for _ in 0..self.peers.turns {
+            match exchange(&self.rt, port, request, self.peers.turns) {
                 Ok(heard) if !heard.has_ended => return None,
                 Ok(heard) => seen = entries_of(&heard),
                 Err(_) => {}
@@ -282,12 +154,17 @@ impl<R: Machine> Stage<R> {
         let port = self.port(part, "invoke")?;
         let request = request_of(self.alloc, "GET", "/_local/stats", "")?;
         let seen = self.entries(port, request.as_str(), wanted);
-        if seen == Some(wanted) {
-            return Ok(Progress::On);
+        Ok(tell_entries(self.alloc, given, seen, wanted)?)
+    }
+
+    /// Whether a request to a port is answered while two others crowd another one.
+    fn is_answered_in_a_crowd(&self, crowded: u16, port: u16, request: &str) -> bool {
+        for _ in 0..CROWDS {
+            if is_answered_meanwhile(&self.rt, crowded, port, request, self.peers.turns) {
+                return true;
+            }
         }
-        let seen = format!(in self.alloc; "{seen:?}")?;
-        push_line(self.alloc, given, "entries", seen.as_str())?;
-        Ok(Progress::Stuck)
+        false
     }
 
     /// Two others crowd a port while the service's counts are asked for.
@@ -295,18 +172,11 @@ impl<R: Machine> Stage<R> {
         let crowded = self.port(part, part.arguments())?;
         let port = self.port(part, "invoke")?;
         let request = request_of(self.alloc, "GET", "/_local/stats", "")?;
-        for _ in 0..CROWDS {
-            if is_answered_meanwhile(&self.rt, crowded, port, request.as_str(), self.turns) {
-                push_line(self.alloc, given, "crowd", "the counts came meanwhile")?;
-                return Ok(Progress::On);
-            }
-        }
-        push_line(
-            self.alloc,
-            given,
-            "crowd",
-            "the counts didn't come before its end",
-        )?;
+        let what = match self.is_answered_in_a_crowd(crowded, port, request.as_str()) {
+            true => "the counts came meanwhile",
+            false => "the counts didn't come before its end",
+        };
+        push_line(given, "crowd", what)?;
         Ok(Progress::On)
     }
 
@@ -320,20 +190,18 @@ impl<R: Machine> Stage<R> {
             Progress::On => "202",
             Progress::Stuck => "no answer",
         };
-        push_line(self.alloc, given, "stop", what)?;
+        push_line(given, "stop", what)?;
         Ok(progress)
     }
 
     /// Adds how many seconds the check has taken, where they are out of a range.
     fn compare_seconds(&self, part: &Part, given: &mut String) -> Result<Progress, CaseFault> {
-        let (least, most) = split_word(part.arguments());
-        let least = u64::from(number(part, least)?);
-        let most = u64::from(number(part, most)?);
         let now = self.rt.monotonic().unwrap_or(Duration::ZERO);
-        let taken = now.saturating_sub(self.begun).as_secs();
-        if taken < least || taken > most {
-            given.push_str(format!(in self.alloc; "it took {taken} seconds\n")?.as_str())?;
-        }
-        Ok(Progress::On)
+        tell_seconds(
+            self.alloc,
+            part,
+            given,
+            now.saturating_sub(self.begun).as_secs(),
+        )
     }
 }

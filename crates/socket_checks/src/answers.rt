@@ -1,6 +1,7 @@
 //! Responses as lines: each its status and its body, and of its head what is asked for.
 
 use crate::peer::Heard;
+use crate::steps::{push_all, push_line};
 use std::alloc::{AllocError, Global};
 use std::str;
 
@@ -139,6 +140,11 @@ fn push_body(alloc: Global, text: &mut String, body: &str) -> Result<(), AllocEr
     text.push_str(body)
 }
 
+/// Adds a field of a head, below what stands there.
+fn push_field<'a>(text: &mut String, name: &'a str, value: &'a str) -> Result<(), AllocError> {
+    push_all(text, &["\n  ", name, ": ", value])
+}
+
 /// Adds the fields of the head that are shown.
 fn push_fields(
     alloc: Global,
@@ -152,7 +158,7 @@ fn push_fields(
             text.push_str(format!(in alloc; "\n  chunks: {count}")?.as_str())?;
         } else if !name.is_empty() {
             let value = field(answer.head.as_str(), name).unwrap_or("-");
-            text.push_str(format!(in alloc; "\n  {name}: {value}")?.as_str())?;
+            push_field(text, name, value)?;
         }
     }
     Ok(())
@@ -180,14 +186,12 @@ fn push_run(
     view: &View<'_>,
     run: &Run,
 ) -> Result<(), AllocError> {
-    let Run { text, times } = run;
-    let name = view.name;
-    let line = match times {
-        0 => return Ok(()),
-        1 => format!(in alloc; "{name}: {text}\n")?,
-        _ => format!(in alloc; "{name}: {times} times {text}\n")?,
-    };
-    given.push_str(line.as_str())
+    let (name, text) = (view.name, run.text.as_str());
+    match run.times {
+        0 => Ok(()),
+        1 => push_line(given, name, text),
+        times => given.push_str(format!(in alloc; "{name}: {times} times {text}\n")?.as_str()),
+    }
 }
 
 /// Adds the lines of all responses in a text.
@@ -226,23 +230,13 @@ pub fn push_heard(
 ) -> Result<(), AllocError> {
     match str::from_utf8(heard.bytes.as_slice()) {
         Ok(text) => push_answers(alloc, given, view, text)?,
-        Err(_) => push_line(alloc, given, view.name, "bytes that are no text")?,
+        Err(_) => push_line(given, view.name, "bytes that are no text")?,
     }
     if !heard.has_ended {
-        return push_line(alloc, given, view.name, "no end");
+        return push_line(given, view.name, "no end");
     }
     if heard.bytes.is_empty() {
-        return push_line(alloc, given, view.name, "closed");
+        return push_line(given, view.name, "closed");
     }
     Ok(())
-}
-
-/// Adds a line of something that has a name.
-pub fn push_line(
-    alloc: Global,
-    given: &mut String,
-    name: &str,
-    what: &str,
-) -> Result<(), AllocError> {
-    given.push_str(format!(in alloc; "{name}: {what}\n")?.as_str())
 }

@@ -1,6 +1,7 @@
 //! A check is a case whose parts are steps.
 
-use crate::stage::{Progress, Stage};
+use crate::stage::Stage;
+use crate::steps::Progress;
 use case_tables::{Case, CaseFault};
 use http_front::Machine;
 use std::alloc::Global;

@@ -30,6 +30,31 @@ where
     false
 }
 
+/// Two crowd a port until they are told to end. Gives whether both were told before they had done so as
+/// often as they may.
+fn crowd<R: Machine>(rt: &R, port: u16, is_over: &AtomicBool) -> bool {
+    let (one, other) = thread::join(
+        rt,
+        || connect_on(rt, port, is_over),
+        || connect_on(rt, port, is_over),
+    );
+    one && other
+}
+
+/// Whether a request to a port is answered with 200, behind which the crowd is told to end.
+fn is_answered<R: Machine>(
+    rt: &R,
+    port: u16,
+    request: &str,
+    turns: u32,
+    is_over: &AtomicBool,
+) -> bool {
+    thread::sleep(rt, Duration::from_millis(AHEAD_MS));
+    let heard = exchange(rt, port, request, turns);
+    is_over.store(true, SeqCst);
+    heard.is_ok_and(|heard| heard.bytes.as_slice().starts_with(b"HTTP/1.1 200 "))
+}
+
 /// Whether a request to a port is answered with 200 while two others crowd another port.
 pub fn is_answered_meanwhile<R: Machine>(
     rt: &R,
@@ -39,15 +64,10 @@ pub fn is_answered_meanwhile<R: Machine>(
     turns: u32,
 ) -> bool {
     let is_over = AtomicBool::new(false);
-    let one = || connect_on(rt, crowded, &is_over);
-    let other = || connect_on(rt, crowded, &is_over);
-    let crowd = || thread::join(rt, one, other);
-    let asking = || {
-        thread::sleep(rt, Duration::from_millis(AHEAD_MS));
-        let heard = exchange(rt, port, request, turns);
-        is_over.store(true, SeqCst);
-        heard.is_ok_and(|heard| heard.bytes.as_slice().starts_with(b"HTTP/1.1 200 "))
-    };
-    let ((one, other), is_answered) = thread::join(rt, crowd, asking);
-    one && other && is_answered
+    let (is_crowded, is_answered) = thread::join(
+        rt,
+        || crowd(rt, crowded, &is_over),
+        || is_answered(rt, port, request, turns, &is_over),
+    );
+    is_crowded && is_answered
 }

@@ -8,6 +8,7 @@ mod answers;
 mod checks;
 mod flood;
 mod peer;
+mod peers;
 mod ports;
 mod readings;
 mod server;

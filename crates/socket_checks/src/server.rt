@@ -2,12 +2,14 @@
 
 ghost use Rattle.std.specs.Prelude.{◌≡◌, ◌^◌};
 
+use crate::steps::{Progress, number};
 use account_lock::{Identity, SettleFault};
 use call_model::Stats;
+use case_tables::{CaseFault, Part};
 use http_front::{Host, HostFault, Hosted, Machine, Plan};
 use lambda_wire::read_config;
 use long_poll::Clock;
-use std::alloc::AllocError;
+use std::alloc::{AllocError, Global};
 use std::marker::Brand;
 use std::sync::Arc;
 use std::sync::atomic::Ordering::SeqCst;
@@ -15,6 +17,9 @@ use std::sync::atomic::{AtomicBool, AtomicU64};
 use std::thread;
 use std::thread::JoinHandle;
 use usage_ledger::{Blanks, Keep, KeepAll, Ledgers, Tally};
+
+/// How many connections a service has at once, unless a step says otherwise.
+const PLACES: u32 = 64;
 
 /// A clock that a check sets, in milliseconds.
 #[derive(Drop)]
@@ -36,17 +41,45 @@ pub struct Board {
     has_ended: AtomicBool,
 }
 
+/// How a service is opened, and settled.
+#[derive(Clone, Copy)]
+pub struct Terms {
+    /// How many connections there may be at once.
+    places: u32,
+    /// For how many milliseconds an Invoke is held back that comes too early.
+    patience: u32,
+    /// Whether a tally is missing when the account is settled.
+    holds_back: bool,
+}
+
+impl Terms {
+    /// What holds unless a step says otherwise.
+    pub fn new() -> Terms {
+        Terms {
+            places: PLACES,
+            patience: 0,
+            holds_back: false,
+        }
+    }
+
+    /// What a step says holds from now on.
+    pub fn set(&mut self, part: &Part) -> Result<Progress, CaseFault> {
+        match part.word() {
+            "places" => self.places = number(part, part.arguments())?,
+            "patience" => self.patience = number(part, part.arguments())?,
+            _ => self.holds_back = true,
+        }
+        Ok(Progress::On)
+    }
+}
+
 /// What is served.
 #[derive(Drop)]
 pub struct Order {
     /// The text of the configuration.
     pub config: String,
-    /// How many connections there may be at once.
-    pub places: u32,
-    /// For how many milliseconds an Invoke is held back that comes too early.
-    pub patience: u32,
-    /// Whether a tally is missing when the account is settled.
-    pub holds_back: bool,
+    /// How the service is opened.
+    pub terms: Terms,
 }
 
 /// What a service left: how many entries, how many calls and receipts its tallies keep, and what its
@@ -80,57 +113,71 @@ fn count<K: Keep, L: Ledgers>(tallies: &[Tally<K, L>]) -> (u64, u64) {
     (calls, receipts)
 }
 
+/// What a host left that ran to its end.
+fn left_by<R: Machine, S: Identity + Drop>(
+    rt: &R,
+    hosted: Hosted<S, KeepAll>,
+    holds_back: bool,
+) -> Left {
+    let Hosted {
+        account,
+        mut tallies,
+    } = hosted;
+    let entries = account.stats(rt).entries;
+    if holds_back {
+        hold_one_back(&mut tallies);
+    }
+    let (calls, receipts) = count(tallies.as_slice());
+    let settled = account.settle(tallies).map(|settled| settled.stats);
+    Left {
+        entries,
+        calls,
+        receipts,
+        settled,
+    }
+}
+
 /// Opens a host, runs it to its end, and settles its account.
 fn run<R: Machine, S: Identity + Drop + Send + Sync + 'static>(
     rt: R,
     plan: Plan,
-    order: &Order,
-    board: Arc<Board>,
+    terms: Terms,
+    clock: SetClock,
+    board: &Board,
     blanks: Blanks,
 ) -> Result<Left, HostFault>
     requires configured { plan.config ≡ S.config }
     requires salted { plan.salt ≡ S.salt }
     requires named { blanks ≡ S.names }
 {
-    let clock = SetClock {
-        board: Arc::try_clone(&board)?,
-    };
     let host: Host<R, S, SetClock, KeepAll> = Host::open(
         rt,
         plan,
         clock,
-        order.places,
-        order.patience,
+        terms.places,
+        terms.patience,
         blanks,
     )?;
     board.listens.store(true, SeqCst);
-    let Hosted {
-        account,
-        mut tallies,
-    } = host.run()?;
-    if order.holds_back {
-        hold_one_back(&mut tallies);
+    Ok(left_by(&rt, host.run()?, terms.holds_back))
+}
+
+/// What a text says is to be served.
+fn plan_of(alloc: Global, text: &str) -> Result<Plan, HostFault> {
+    match read_config(alloc, text.as_bytes()) {
+        Ok(setup) => Plan::check(alloc, setup),
+        Err(_) => Err(HostFault::OutOfMemory),
     }
-    let entries = account.stats(&rt).entries;
-    let (calls, receipts) = count(tallies.as_slice());
-    let settled = account.settle(tallies).map(|settled| settled.stats);
-    Ok(Left {
-        entries,
-        calls,
-        receipts,
-        settled,
-    })
 }
 
 /// Serves until it is stopped, and settles.
 fn serve<R: Machine>(rt: R, order: &Order, board: Arc<Board>) -> Result<Left, HostFault> {
-    let setup = match read_config(rt.alloc(), order.config.as_bytes()) {
-        Ok(setup) => setup,
-        Err(_) => return Err(HostFault::OutOfMemory),
+    let clock = SetClock {
+        board: Arc::try_clone(&board)?,
     };
-    let plan = Plan::check(rt.alloc(), setup)?;
     let blanks = Blanks::new(rt.alloc())?;
-    run::<R, Brand>(rt, plan, order, board, blanks)
+    let plan = plan_of(rt.alloc(), order.config.as_str())?;
+    run::<R, Brand>(rt, plan, order.terms, clock, &board, blanks)
 }
 
 /// A service on a thread of its own.

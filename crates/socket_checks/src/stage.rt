@@ -1,10 +1,10 @@
 //! What a check works with, and how its service begins and ends.
 
-use crate::answers::push_line;
-use crate::peer::{Peer, TURN_MS, exchange};
+use crate::peer::{TURN_MS, exchange};
+use crate::peers::Peers;
 use crate::ports::Ports;
-use crate::server::{Left, Order, Server};
-use crate::steps::{malformed, number, request_of};
+use crate::server::{Left, Order, Server, Terms};
+use crate::steps::{Progress, malformed, number, push_line, request_of};
 use case_tables::{Case, CaseFault, Part};
 use http_front::{HostFault, Machine};
 use std::alloc::{AllocError, Global};
@@ -14,31 +14,11 @@ use std::sync::atomic::Ordering::SeqCst;
 use std::thread;
 use std::time::Duration;
 
-/// How many turns something is waited for: ten seconds. A step may say otherwise for the steps behind
-/// it.
+/// How many turns a service is waited for that begins or ends: ten seconds.
 const TURNS: u32 = 1_000;
-
-/// How many connections a service has at once, unless a step says otherwise.
-const PLACES: u32 = 64;
 
 /// How often ports are looked for at most, where another program was faster to take one.
 const TRIES: u32 = 5;
-
-/// How a step went.
-#[derive(Clone, Copy, PartialEq, Eq)]
-pub enum Progress {
-    /// The next one may follow.
-    On,
-    /// What it waited for did not come, so nothing follows.
-    Stuck,
-}
-
-/// A connection with its name.
-#[derive(Drop)]
-pub struct Named {
-    pub name: String,
-    pub peer: Peer,
-}
 
 /// What a check works with: a service, its ports and its clock, and the peers that have names.
 #[derive(Drop)]
@@ -46,14 +26,10 @@ pub struct Stage<R> {
     pub rt: R,
     pub alloc: Global,
     pub ports: Ports,
-    pub peers: Vec<Named>,
-    /// How many turns of ten milliseconds something is waited for.
-    pub turns: u32,
+    pub peers: Peers,
     /// What the monotonic clock said when the check began.
     pub begun: Duration,
-    places: u32,
-    patience: u32,
-    holds_back: bool,
+    terms: Terms,
     moment: u64,
     server: Option<Server>,
     is_stopping: bool,
@@ -95,12 +71,9 @@ impl<R: Machine> Stage<R> {
             rt,
             alloc,
             ports,
-            peers: Vec::new(alloc),
-            turns: TURNS,
+            peers: Peers::new(alloc),
             begun: rt.monotonic().unwrap_or(Duration::ZERO),
-            places: PLACES,
-            patience: 0,
-            holds_back: false,
+            terms: Terms::new(),
             moment: 0,
             server: None,
             is_stopping: false,
@@ -121,43 +94,26 @@ impl<R: Machine> Stage<R> {
         }
     }
 
-    /// The service will have so many places for connections.
-    pub fn set_places(&mut self, part: &Part) -> Result<Progress, CaseFault> {
+    /// Says how the service is opened that is to begin.
+    pub fn set_terms(&mut self, part: &Part) -> Result<Progress, CaseFault> {
         self.expect_no_service(part)?;
-        self.places = number(part, part.arguments())?;
-        Ok(Progress::On)
-    }
-
-    /// The service will hold an Invoke back that comes too early.
-    pub fn set_patience(&mut self, part: &Part) -> Result<Progress, CaseFault> {
-        self.expect_no_service(part)?;
-        self.patience = number(part, part.arguments())?;
-        Ok(Progress::On)
-    }
-
-    /// A tally will be missing at the settlement.
-    pub fn hold_back(&mut self, part: &Part) -> Result<Progress, CaseFault> {
-        self.expect_no_service(part)?;
-        self.holds_back = true;
-        Ok(Progress::On)
+        self.terms.set(part)
     }
 
     /// Sets the service's clock.
-    pub fn set_moment(&mut self, moment: u32) -> Progress {
-        self.moment = u64::from(moment);
+    pub fn set_moment(&mut self, part: &Part) -> Result<Progress, CaseFault> {
+        self.moment = u64::from(number(part, part.arguments())?);
         if let Some(server) = &self.server {
             server.board.moment.store(self.moment, SeqCst);
         }
-        Progress::On
+        Ok(Progress::On)
     }
 
     /// Starts a service on the ports of this stage, and waits until it listens or has come to its end.
     fn start(&mut self, text: &str, taken: Option<&str>) -> Result<Server, CaseFault> {
         let order = Order {
             config: self.ports.filled(self.alloc, text)?,
-            places: self.places,
-            patience: self.patience,
-            holds_back: self.holds_back,
+            terms: self.terms,
         };
         self.ports.release(taken);
         let server = Server::start(self.rt, order, self.moment)?;
@@ -246,7 +202,7 @@ impl<R: Machine> Stage<R> {
             }
             self.pause();
         }
-        push_line(self.alloc, given, "ended", "not yet")?;
+        push_line(given, "ended", "not yet")?;
         Ok(Progress::Stuck)
     }
 
@@ -256,7 +212,7 @@ impl<R: Machine> Stage<R> {
             return Ok(Progress::On);
         };
         if !self.is_stopping && self.stop()? == Progress::Stuck {
-            push_line(self.alloc, given, "stop", "no answer")?;
+            push_line(given, "stop", "no answer")?;
         }
         self.see_out(server, given)
     }

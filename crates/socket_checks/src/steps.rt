@@ -3,6 +3,15 @@
 use case_tables::{CaseFault, Part};
 use std::alloc::{AllocError, Global};
 
+/// How a step went.
+#[derive(Clone, Copy, PartialEq, Eq)]
+pub enum Progress {
+    /// The next one may follow.
+    On,
+    /// What it waited for did not come, so nothing follows.
+    Stuck,
+}
+
 /// That a part doesn't hold what it is to hold.
 pub fn malformed(part: &Part, what: &'static str) -> CaseFault {
     CaseFault::Malformed {
@@ -57,4 +66,17 @@ pub fn request_of(
 pub fn entries_in(shown: &str) -> Option<u64> {
     let (_, behind) = shown.split_once("\"entries\":")?;
     behind.split(',').next()?.parse::<u64>().ok()
+}
+
+/// Adds pieces of text.
+pub fn push_all(given: &mut String, pieces: &[&str]) -> Result<(), AllocError> {
+    for piece in pieces {
+        given.push_str(piece)?;
+    }
+    Ok(())
+}
+
+/// Adds a line of something that has a name.
+pub fn push_line<'a>(given: &mut String, name: &'a str, what: &'a str) -> Result<(), AllocError> {
+    push_all(given, &[name, ": ", what, "\n"])
 }

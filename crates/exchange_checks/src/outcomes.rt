@@ -1,0 +1,174 @@
+//! What futures come to, and what comes of requests, as lines.
+
+use crate::lines::malformed;
+use call_model::{Answer, Ticket};
+use case_tables::CaseFault;
+use futures::executor::block_on;
+use futures::future::{Future, FutureExt, poll_immediate, try_join3};
+use lambda_wire::Reply;
+use long_poll::{BellLost, ExchangeFault, OpenPoll, Outcome};
+use std::alloc::{AllocError, AllocGlobal, Global};
+use std::random::RandomSource;
+use std::str;
+use std::sync::Wait;
+
+/// Runs a future to its end. An executor fails for want of memory alone.
+pub fn finished<R: Wait + RandomSource + AllocGlobal, F: Future>(
+    rt: &R,
+    future: F,
+) -> Result<F::Output, CaseFault>
+    requires { F.can_poll future }
+{
+    match block_on(rt, future) {
+        Ok(output) => Ok(output),
+        Err(_) => Err(CaseFault::Memory),
+    }
+}
+
+/// Runs a future to its end, or lets it go once it waits: none where it does.
+pub fn made<R: Wait + RandomSource + AllocGlobal, F: Future>(
+    rt: &R,
+    future: F,
+    drops: bool,
+) -> Result<Option<F::Output>, CaseFault>
+    requires { F.can_poll future }
+{
+    if drops {
+        return finished(rt, poll_immediate(future));
+    }
+    Ok(Some(finished(rt, future)?))
+}
+
+/// Whether a reply says that its call was refused for want of memory.
+fn lacks_memory(reply: &Reply) -> bool {
+    reply.status == 500
+        && str::from_utf8(reply.body.as_slice()).is_ok_and(|text| text.contains("Out of memory"))
+}
+
+/// What came of an exchange, with a fault in place of the reply that a call was refused for want of
+/// memory, so that no other exchange waits for that call.
+fn with_memory<H: Drop>(
+    came: Result<Outcome<H>, ExchangeFault>,
+) -> Result<Outcome<H>, ExchangeFault> {
+    if let Ok(Outcome::Reply(reply)) = &came
+        && lacks_memory(reply)
+    {
+        return Err(ExchangeFault::OutOfMemory);
+    }
+    came
+}
+
+/// The reply of a request of a part that begins at this line.
+fn reply_of<H: Drop>(line: u64, outcome: Outcome<H>) -> Result<Reply, CaseFault> {
+    match outcome {
+        Outcome::Reply(reply) => Ok(reply),
+        Outcome::History(_) => Err(malformed(line, "three that have a reply are wanted")),
+    }
+}
+
+/// Makes three exchanges of a part that begins at this line, at once.
+pub fn made_at_once<
+    R: Wait + RandomSource + AllocGlobal,
+    H: Drop,
+    F: Future<Output = Result<Outcome<H>, ExchangeFault>>,
+>(rt: &R, line: u64, first: F, second: F, third: F) -> Result<(Reply, Reply, Reply), CaseFault>
+    requires first { F.can_poll first }
+    requires second { F.can_poll second }
+    requires third { F.can_poll third }
+{
+    let three = try_join3(
+        first.map(with_memory),
+        second.map(with_memory),
+        third.map(with_memory),
+    );
+    let (one, other, last) = match finished(rt, three)? {
+        Ok(outcomes) => outcomes,
+        Err(ExchangeFault::OutOfMemory) => return Err(CaseFault::Memory),
+        Err(_) => return Err(malformed(line, "three that are answered are wanted")),
+    };
+    let one = reply_of(line, one)?;
+    let other = reply_of(line, other)?;
+    Ok((one, other, reply_of(line, last)?))
+}
+
+/// Adds pieces of text.
+pub fn push_all(given: &mut String, pieces: &[&str]) -> Result<(), AllocError> {
+    for piece in pieces {
+        given.push_str(piece)?;
+    }
+    Ok(())
+}
+
+/// The text that bytes are.
+fn text_of(bytes: &[u8]) -> &str {
+    str::from_utf8(bytes).unwrap_or("(bytes that are no text)")
+}
+
+/// Adds bytes of text.
+pub fn push_text(given: &mut String, bytes: &[u8]) -> Result<(), AllocError> {
+    given.push_str(text_of(bytes))
+}
+
+/// Adds the headers of a reply.
+fn push_headers(given: &mut String, reply: &Reply) -> Result<(), AllocError> {
+    for header in reply.headers.as_slice() {
+        let value = text_of(header.1.as_bytes());
+        push_all(given, &["  ", header.0.as_str(), ": ", value, "\n"])?;
+    }
+    Ok(())
+}
+
+/// Adds a reply: its status, its headers, and its body if it has one.
+fn push_reply(alloc: Global, given: &mut String, reply: &Reply) -> Result<(), AllocError> {
+    given.push_str(format!(in alloc; "  {}\n", reply.status)?.as_str())?;
+    push_headers(given, reply)?;
+    push_all(given, &["  =", text_of(reply.body.as_slice()), "\n"])
+}
+
+/// Adds the reply of a request.
+pub fn push_answer(alloc: Global, given: &mut String, reply: &Reply) -> Result<(), CaseFault> {
+    if lacks_memory(reply) {
+        return Err(CaseFault::Memory);
+    }
+    Ok(push_reply(alloc, given, reply)?)
+}
+
+/// Adds why a request has no reply.
+pub fn push_fault(given: &mut String, fault: ExchangeFault) -> Result<(), CaseFault> {
+    let line = match fault {
+        ExchangeFault::OutOfMemory => return Err(CaseFault::Memory),
+        ExchangeFault::BodyFailed => "  BodyFailed\n",
+        ExchangeFault::BellLost => "  BellLost\n",
+    };
+    Ok(given.push_str(line)?)
+}
+
+/// Adds the Next that the connection of a request has open.
+pub fn push_open(alloc: Global, given: &mut String, open: &OpenPoll) -> Result<(), AllocError> {
+    let Some(ticket) = open.ticket() else {
+        return Ok(());
+    };
+    given.push_str(format!(in alloc; "  open {ticket}\n")?.as_str())
+}
+
+/// Adds the line of a request, its reply, and the Next that its connection has open then.
+pub fn push_told(
+    alloc: Global,
+    given: &mut String,
+    text: &str,
+    reply: &Reply,
+    open: &OpenPoll,
+) -> Result<(), AllocError> {
+    push_all(given, &[text, "\n"])?;
+    push_reply(alloc, given, reply)?;
+    push_open(alloc, given, open)
+}
+
+/// What came of a poll for the answer of a ticket, as a line.
+pub fn told_poll(
+    alloc: Global,
+    ticket: Ticket,
+    came: Result<Answer, BellLost>,
+) -> Result<String, AllocError> {
+    format!(in alloc; "poll {ticket}: {came:?}\n")
+}

@@ -1,0 +1,229 @@
+//! The peers of a check, by their names, and the steps that are theirs alone.
+
+use crate::answers::{View, push_heard};
+use crate::peer::Peer;
+use crate::ports::Ports;
+use crate::steps::{Progress, bytes_of, malformed, number, push_line, split_word};
+use case_tables::{CaseFault, Part};
+use std::alloc::Global;
+
+/// How many turns something is waited for: ten seconds. A step may say otherwise for the steps behind
+/// it.
+const TURNS: u32 = 1_000;
+
+/// How many turns are a second.
+const TURNS_A_SECOND: u32 = 100;
+
+/// How many turns a peer listens to hear that nothing comes.
+const MOMENT: u32 = 5;
+
+/// A connection with its name.
+#[derive(Drop)]
+struct Named {
+    name: String,
+    peer: Peer,
+}
+
+/// The peers that are connected.
+#[derive(Drop)]
+pub struct Peers {
+    alloc: Global,
+    named: Vec<Named>,
+    /// How many turns of ten milliseconds something is waited for.
+    pub turns: u32,
+}
+
+impl Peers {
+    /// None is connected.
+    pub fn new(alloc: Global) -> Peers {
+        Peers {
+            alloc,
+            named: Vec::new(alloc),
+            turns: TURNS,
+        }
+    }
+
+    /// The place of the peer that is called so.
+    fn place(&self, part: &Part, name: &str) -> Result<usize, CaseFault> {
+        let named = self.named.iter().position(|it| it.name.as_str() == name);
+        named.ok_or(malformed(part, "no peer of this name is connected"))
+    }
+
+    /// That nobody who is connected is called so.
+    pub fn expect_newcomer(&self, part: &Part, name: &str) -> Result<(), CaseFault> {
+        match self.place(part, name) {
+            Ok(_) => Err(malformed(part, "a peer of this name is connected")),
+            Err(_) => Ok(()),
+        }
+    }
+
+    /// A peer has connected, which is called so from now on, and sends these bytes.
+    pub fn welcome(
+        &mut self,
+        given: &mut String,
+        name: &str,
+        peer: Peer,
+        bytes: &[u8],
+    ) -> Result<Progress, CaseFault> {
+        let place = self.named.len();
+        let own_name = String::from_str(self.alloc, name)?;
+        self.named.push(Named {
+            name: own_name,
+            peer,
+        })?;
+        self.send_times(place, given, bytes, 1)
+    }
+
+    /// From now on a step waits longer.
+    fn wait_longer(&mut self, part: &Part) -> Result<Progress, CaseFault> {
+        let seconds = number(part, part.arguments())?;
+        self.turns = seconds.saturating_mul(TURNS_A_SECOND);
+        Ok(Progress::On)
+    }
+
+    /// Performs a step of a peer that is connected, or says how long steps wait.
+    pub fn perform(
+        &mut self,
+        part: &Part,
+        ports: &Ports,
+        given: &mut String,
+    ) -> Result<Progress, CaseFault> {
+        match part.word() {
+            "waits" => self.wait_longer(part),
+            "sends" => self.send(part, given),
+            "repeats" => self.repeat(part, given),
+            "fills" => self.fill(part, given),
+            "ends-side" => self.end_side(part, given),
+            "closes" => self.close(part),
+            "hears" => self.hear(part, ports, given),
+            "awaits" => self.wait_for_bytes(part, given),
+            "stays" => self.stay(part, given),
+            _ => Err(CaseFault::Unknown { line: part.line() }),
+        }
+    }
+
+    /// A peer sends these bytes so many times.
+    fn send_times(
+        &mut self,
+        place: usize,
+        given: &mut String,
+        bytes: &[u8],
+        times: u32,
+    ) -> Result<Progress, CaseFault> {
+        for _ in 0..times {
+            if let Some(named) = self.named.get_mut(place)
+                && named.peer.send(bytes).is_err()
+            {
+                push_line(given, named.name.as_str(), "not sent")?;
+                break;
+            }
+        }
+        Ok(Progress::On)
+    }
+
+    /// A peer sends the lines of the part.
+    fn send(&mut self, part: &Part, given: &mut String) -> Result<Progress, CaseFault> {
+        let place = self.place(part, part.arguments())?;
+        let bytes = bytes_of(self.alloc, part)?;
+        self.send_times(place, given, bytes.as_slice(), 1)
+    }
+
+    /// A peer sends the lines of the part so many times.
+    fn repeat(&mut self, part: &Part, given: &mut String) -> Result<Progress, CaseFault> {
+        let (name, times) = split_word(part.arguments());
+        let place = self.place(part, name)?;
+        let bytes = bytes_of(self.alloc, part)?;
+        let times = number(part, times)?;
+        self.send_times(place, given, bytes.as_slice(), times)
+    }
+
+    /// A peer sends so many letters.
+    fn fill(&mut self, part: &Part, given: &mut String) -> Result<Progress, CaseFault> {
+        let (name, count) = split_word(part.arguments());
+        let place = self.place(part, name)?;
+        let count = number(part, count)?;
+        if let Some(named) = self.named.get_mut(place)
+            && named.peer.fill(count as usize).is_err()
+        {
+            push_line(given, name, "not filled")?;
+        }
+        Ok(Progress::On)
+    }
+
+    /// A peer ends its own side.
+    fn end_side(&mut self, part: &Part, given: &mut String) -> Result<Progress, CaseFault> {
+        let place = self.place(part, part.arguments())?;
+        if let Some(named) = self.named.get(place)
+            && named.peer.end_side().is_err()
+        {
+            push_line(given, part.arguments(), "no end of its side")?;
+        }
+        Ok(Progress::On)
+    }
+
+    /// A peer closes its connection.
+    fn close(&mut self, part: &Part) -> Result<Progress, CaseFault> {
+        let place = self.place(part, part.arguments())?;
+        if place < self.named.len() {
+            let _closed = self.named.swap_remove(place);
+        }
+        Ok(Progress::On)
+    }
+
+    /// A peer hears all that comes.
+    fn hear(
+        &mut self,
+        part: &Part,
+        ports: &Ports,
+        given: &mut String,
+    ) -> Result<Progress, CaseFault> {
+        let (name, fields) = split_word(part.arguments());
+        let place = self.place(part, name)?;
+        let Some(named) = self.named.get_mut(place) else {
+            return Ok(Progress::Stuck);
+        };
+        let Ok(heard) = named.peer.hear(self.alloc, self.turns) else {
+            push_line(given, name, "not heard")?;
+            return Ok(Progress::Stuck);
+        };
+        let mut lines = String::new(self.alloc);
+        push_heard(self.alloc, &mut lines, &View { name, fields }, &heard)?;
+        given.push_str(ports.named(self.alloc, lines.as_str())?.as_str())?;
+        match heard.has_ended {
+            true => Ok(Progress::On),
+            false => Ok(Progress::Stuck),
+        }
+    }
+
+    /// A peer waits until bytes have come.
+    fn wait_for_bytes(&self, part: &Part, given: &mut String) -> Result<Progress, CaseFault> {
+        let name = part.arguments();
+        let place = self.place(part, name)?;
+        let has_come = self
+            .named
+            .get(place)
+            .is_some_and(|named| named.peer.await_bytes(self.turns));
+        if has_come {
+            return Ok(Progress::On);
+        }
+        push_line(given, name, "nothing came")?;
+        Ok(Progress::Stuck)
+    }
+
+    /// A peer hears nothing for a moment.
+    fn stay(&mut self, part: &Part, given: &mut String) -> Result<Progress, CaseFault> {
+        let name = part.arguments();
+        let place = self.place(part, name)?;
+        let Some(named) = self.named.get_mut(place) else {
+            return Ok(Progress::Stuck);
+        };
+        let heard = named.peer.hear(self.alloc, MOMENT);
+        let what = match &heard {
+            Ok(heard) if heard.bytes.is_empty() && !heard.has_ended => "nothing yet",
+            Ok(_) => "something came, or the end",
+            Err(_) => "not heard",
+        };
+        push_line(given, name, what)?;
+        Ok(Progress::On)
+    }
+}
