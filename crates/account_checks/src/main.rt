@@ -15,7 +15,7 @@ mod stand;
 mod texts;
 
 use crate::accounts::give;
-use case_tables::{TableFault, end, judge_case, read_file, tell_count};
+use case_tables::{Given, TableFault, end, judge_case, read_file, tell_count};
 use std::io::Read;
 use std::process::ExitCode;
 use std::rt::Files;
@@ -41,8 +41,8 @@ where
     let cases = read_file(&rt, file)?;
     let mut agree = true;
     for case in cases.iter() {
-        let mut given = String::new(rt.alloc());
-        let came = give(rt, rt.alloc(), case, &mut given);
+        let mut given = Given::new(rt.alloc());
+        let came = give(rt, case, &mut given);
         if !judge_case(&rt, file, case, came, given.as_str())? {
             agree = false;
         }
