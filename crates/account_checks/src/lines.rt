@@ -9,8 +9,10 @@ pub fn malformed(line: u64, what: &'static str) -> CaseFault {
 
 /// The number that a text of a line says.
 pub fn number_of(line: u64, text: &str) -> Result<u64, CaseFault> {
-    text.parse::<u64>()
-        .map_err(|_| malformed(line, "a number is wanted"))
+    match text.parse::<u64>() {
+        Ok(number) => Ok(number),
+        Err(_) => Err(malformed(line, "a number is wanted")),
+    }
 }
 
 /// The number of a tally behind the word of a part; 0 where none stands there.

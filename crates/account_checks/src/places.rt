@@ -156,7 +156,7 @@ pub struct Opened<R, S: Identity, K: Keep> {
 }
 
 /// Whether a case is run by an account or by a desk.
-#[derive(Clone, Copy, PartialEq, Eq)]
+#[derive(Clone, Copy)]
 pub enum Way {
     Account,
     Desk,

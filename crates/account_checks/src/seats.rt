@@ -88,6 +88,14 @@ fn counted(settled: Result<Settled, SettleFault>) -> Result<(Stats, u64), Settle
     }
 }
 
+/// The parts of a tally, where there is one.
+fn parts_in<K: Keep, L: Ledgers>(tally: &Option<Tally<K, L>>) -> Option<u64> {
+    match tally {
+        Some(tally) => Some(tally.parts()),
+        None => None,
+    }
+}
+
 /// Settles an account, or its desk.
 fn settle_account<S: Identity, K: Keep>(
     account: Account<S, Numbered>,
@@ -191,7 +199,7 @@ impl<R: Wait + Drop, S: Identity + Drop, K: Keep> Stand for Seats<R, S, K> {
         } = self;
         Ending {
             settled: counted(settle_account(place.account, way, tallies)),
-            held_back: held_back.map(|tally| tally.parts()),
+            held_back: parts_in(&held_back),
         }
     }
 }

@@ -10,7 +10,7 @@ use case_tables::CaseFault;
 use std::alloc::{AllocError, AllocFailed};
 
 /// Why something was not done to tallies.
-#[derive(Clone, Copy, Debug, PartialEq, Eq)]
+#[derive(Clone, Copy)]
 pub enum SeatFault {
     /// There is no such tally.
     NoTally,

@@ -6,7 +6,10 @@ use std::alloc::AllocError;
 
 /// The byte that a hexadecimal number says.
 fn byte_in(part: &Part, text: &str) -> Result<u8, CaseFault> {
-    u8::from_str_radix(text, 16).map_err(|_| part.malformed("a byte is wanted"))
+    match u8::from_str_radix(text, 16) {
+        Ok(byte) => Ok(byte),
+        Err(_) => Err(part.malformed("a byte is wanted")),
+    }
 }
 
 /// Adds the bytes of hexadecimal numbers.

@@ -88,7 +88,12 @@ impl Case {
 
     /// The first part that is called so.
     pub fn part(&self, word: &str) -> Option<&Part> {
-        self.parts.iter().find(|part| part.word.as_str() == word)
+        for part in self.parts.iter() {
+            if part.word() == word {
+                return Some(part);
+            }
+        }
+        None
     }
 
     /// The text of the part `gives`.

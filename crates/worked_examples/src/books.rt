@@ -124,7 +124,7 @@ fn push_unopened(
     behind: Lines<'_>,
     parts: &[Part],
 ) -> Result<(), CaseFault> {
-    if why == Unopened::Memory {
+    if matches!(why, Unopened::Memory) {
         return Err(CaseFault::Memory);
     }
     if !behind.text.is_empty() || !parts.is_empty() {
