@@ -48,11 +48,11 @@ fn register(set: &mut ExtensionSet, words: Words<'_>, given: &mut Given) -> Resu
     let mut words = words;
     let name = words.next();
     let events = words.next();
-    if name.len() > 128 {
-        return Err(LineFault::Malformed);
-    }
     let count = words.last_number()?;
     let name = text(given.alloc(), name)?;
+    if name.as_str().len() > 128 {
+        return Err(LineFault::Malformed);
+    }
     match value_of(&EVENTS, events) {
         Some((invoke, shutdown)) => {
             say_verdict(set.register(&name, invoke, shutdown, count), given);

@@ -31,24 +31,31 @@ fn say_entry(
     number: u64,
     given: &mut Given,
 ) -> Result<(), LineFault> {
-    let (entries, counts) = (past.entries(), past.counts());
+    let entries = past.entries();
     if entries.len() as u64 <= number {
         return Err(LineFault::Malformed);
     }
     let mut written = Vec::new(given.alloc());
-    push_entry(&mut written, config, salt, entries, counts, number as usize)?;
+    push_entry(
+        &mut written,
+        config,
+        salt,
+        entries,
+        past.counts(),
+        number as usize,
+    )?;
     given.push_bytes(written.as_slice());
     Ok(())
 }
 
 /// Says the answers of the entry with a number.
 fn say_answers(salt: u64, past: &Past, number: u64, given: &mut Given) -> Result<(), LineFault> {
-    let (entries, counts) = (past.entries(), past.counts());
+    let entries = past.entries();
     if entries.len() as u64 <= number {
         return Err(LineFault::Malformed);
     }
     let mut written = Vec::new(given.alloc());
-    push_answers(&mut written, salt, entries, counts, number as usize)?;
+    push_answers(&mut written, salt, entries, past.counts(), number as usize)?;
     given.push_bytes(written.as_slice());
     Ok(())
 }

@@ -71,15 +71,6 @@ fn call_of(alloc: Global, config: &Checked, part: &Part) -> Result<Call, CaseFau
     }
 }
 
-/// The call of a part, with the count in its request identifier.
-fn counted_of(alloc: Global, config: &Checked, part: &Part) -> Result<(Call, u64), CaseFault>
-    ensures { IfOk result (λ counted. IsTraced counted.0) }
-{
-    let count = count_of(part)?;
-    let call = call_of(alloc, config, part)?;
-    Ok((call, count))
-}
-
 /// Adds the reply to a call.
 fn push_rendered(
     account: &Account,
@@ -111,9 +102,11 @@ fn push_answered(
     given: &mut Given,
 ) -> Result<(), CaseFault> {
     let part = part_of(case, "call")?;
-    let (call, count) = counted_of(given.alloc(), config, part)?;
-    let part = case.part("source").unwrap_or(part);
-    let (source, source_count) = counted_of(given.alloc(), config, part)?;
+    let named = case.part("source").unwrap_or(part);
+    let count = count_of(part)?;
+    let source_count = count_of(named)?;
+    let call = call_of(given.alloc(), config, part)?;
+    let source = call_of(given.alloc(), config, named)?;
     push_rendered(
         account,
         answer,
