@@ -5,23 +5,49 @@ ghost use Rattle.std.specs.Prelude.{◌≡◌, ◌^◌};
 use crate::bells::Bells;
 use crate::lines::malformed;
 use crate::opening::{Opening, opening_of};
-use crate::places::{Opened, open_account, open_desk};
+use crate::places::{Way, open};
 use crate::running::{end_case, one_part, turns_of};
 use crate::seats::{Seats, crowd};
 use account_book::OpenFault;
 use account_lock::Identity;
-use case_tables::{Case, CaseFault};
-use std::alloc::Global;
+use case_tables::{Case, CaseFault, Given, Part};
 use std::marker::Brand;
 use std::sync::Wait;
 use std::thread::Threads;
 use usage_ledger::{Blanks, Keep, KeepAll, KeepNone};
 
-/// Whether a case is run by an account or by a desk.
-#[derive(Clone, Copy)]
-enum Way {
-    Account,
-    Desk,
+/// Makes what a part says happen.
+fn play_part<
+    R: Wait + Threads + Copy + Send + Sync + Drop + 'static,
+    S: Identity + Send + Sync + Drop,
+    K: Keep + Send + Sync,
+>(
+    seats: &mut Seats<R, S, K>,
+    bells: &mut Bells,
+    part: &Part,
+    given: &mut Given,
+) -> Result<(), CaseFault> {
+    match part.word() {
+        "crowd" => crowd(seats, bells, turns_of(part)?),
+        _ => one_part(seats, bells, part, given),
+    }
+}
+
+/// Makes what the parts of a case say happen, in their order.
+fn play_parts<
+    R: Wait + Threads + Copy + Send + Sync + Drop + 'static,
+    S: Identity + Send + Sync + Drop,
+    K: Keep + Send + Sync,
+>(
+    seats: &mut Seats<R, S, K>,
+    bells: &mut Bells,
+    case: &Case,
+    given: &mut Given,
+) -> Result<(), CaseFault> {
+    for part in case.parts() {
+        play_part(seats, bells, part, given)?;
+    }
+    Ok(())
 }
 
 /// Runs the parts of a case in their order, and then the settlement.
@@ -29,38 +55,21 @@ fn run_case<
     R: Wait + Threads + Copy + Send + Sync + Drop + 'static,
     S: Identity + Send + Sync + Drop,
     K: Keep + Send + Sync,
->(alloc: Global, case: &Case, seats: Seats<R, S, K>, given: &mut String) -> Result<(), CaseFault> {
+>(case: &Case, seats: Seats<R, S, K>, given: &mut Given) -> Result<(), CaseFault> {
     let mut seats = seats;
-    let mut bells = Bells::new(alloc)?;
-    for part in case.parts() {
-        if part.word() == "crowd" {
-            crowd(&mut seats, &bells, turns_of(part)?)?;
-        } else {
-            one_part(alloc, &mut seats, &mut bells, part, given)?;
-        }
-    }
-    end_case(alloc, case, seats, given)
+    let mut bells = Bells::new(given.alloc())?;
+    play_parts(&mut seats, &mut bells, case, given)?;
+    end_case(case, seats, given)
 }
 
-/// Runs a case that was opened.
-fn play_opened<
-    R: Wait + Threads + Copy + Send + Sync + Drop + 'static,
-    S: Identity + Send + Sync + Drop,
-    K: Keep + Send + Sync,
->(
-    alloc: Global,
-    case: &Case,
-    way: Way,
-    opened: Result<Opened<R, S, K>, OpenFault>,
-    given: &mut String,
-) -> Result<(), CaseFault> {
-    match opened {
-        Ok(opened) => {
-            let seats = Seats::new(opened, matches!(way, Way::Desk))?;
-            run_case(alloc, case, seats, given)
+/// Tells why nothing was opened.
+fn push_unopened(fault: OpenFault, given: &mut Given) -> Result<(), CaseFault> {
+    match fault {
+        OpenFault::OutOfMemory => Err(CaseFault::Memory),
+        OpenFault::EntriesOutOfRange => {
+            given.push("EntriesOutOfRange\n");
+            Ok(())
         }
-        Err(OpenFault::OutOfMemory) => Err(CaseFault::Memory),
-        Err(OpenFault::EntriesOutOfRange) => Ok(given.push_str("EntriesOutOfRange\n")?),
     }
 }
 
@@ -71,35 +80,32 @@ fn play<
     K: Keep + Send + Sync,
 >(
     rt: R,
-    alloc: Global,
     case: &Case,
     way: Way,
     opening: Opening,
     blanks: Blanks,
-    given: &mut String,
+    given: &mut Given,
 ) -> Result<(), CaseFault>
     requires configured { opening.config ≡ S.config }
     requires salted { opening.salt ≡ S.salt }
     requires named { blanks ≡ S.names }
 {
-    let opened: Result<Opened<R, S, K>, OpenFault> = match way {
-        Way::Account => open_account(rt, alloc, opening, blanks),
-        Way::Desk => open_desk(rt, alloc, opening, blanks),
-    };
-    play_opened(alloc, case, way, opened, given)
+    match open::<R, S, K>(rt, given.alloc(), way, opening, blanks) {
+        Ok(opened) => run_case(case, Seats::new(opened, way)?, given),
+        Err(fault) => push_unopened(fault, given),
+    }
 }
 
 /// Names the configuration, the salt, the ledgers and the history of a case.
 fn play_by_brand<R: Wait + Threads + Copy + Send + Sync + Drop + 'static, K: Keep + Send + Sync>(
     rt: R,
-    alloc: Global,
     case: &Case,
     way: Way,
     opening: Opening,
-    given: &mut String,
+    given: &mut Given,
 ) -> Result<(), CaseFault> {
-    let blanks = Blanks::new(alloc)?;
-    play::<R, Brand, K>(rt, alloc, case, way, opening, blanks, given)
+    let blanks = Blanks::new(given.alloc())?;
+    play::<R, Brand, K>(rt, case, way, opening, blanks, given)
 }
 
 /// Whether the tallies of a case keep everything.
@@ -111,21 +117,30 @@ fn keeps_all(case: &Case) -> Result<bool, CaseFault> {
     }
 }
 
-/// What a case gives that is run in a way.
-fn text_of<R: Wait + Threads + Copy + Send + Sync + Drop + 'static>(
+/// Runs a case in a way.
+fn run_in<R: Wait + Threads + Copy + Send + Sync + Drop + 'static>(
     rt: R,
-    alloc: Global,
     case: &Case,
     way: Way,
-) -> Result<String, CaseFault> {
-    let mut text = String::new(alloc);
-    let opening = opening_of(alloc, case)?;
-    if keeps_all(case)? {
-        play_by_brand::<R, KeepAll>(rt, alloc, case, way, opening, &mut text)?;
+    given: &mut Given,
+) -> Result<(), CaseFault> {
+    let keeps_all = keeps_all(case)?;
+    let opening = opening_of(given.alloc(), case)?;
+    if keeps_all {
+        play_by_brand::<R, KeepAll>(rt, case, way, opening, given)
     } else {
-        play_by_brand::<R, KeepNone>(rt, alloc, case, way, opening, &mut text)?;
+        play_by_brand::<R, KeepNone>(rt, case, way, opening, given)
     }
-    Ok(text)
+}
+
+/// Adds what a desk gave, where that is something else than an account gave.
+fn push_other(given: &mut Given, other: &Given) -> Result<(), CaseFault> {
+    other.end()?;
+    if given.as_str() != other.as_str() {
+        given.push("by a desk:\n");
+        given.push(other.as_str());
+    }
+    given.end()
 }
 
 /// What a case of the tables gives. It has these parts, in the order in which they are to happen:
@@ -146,16 +161,11 @@ fn text_of<R: Wait + Threads + Copy + Send + Sync + Drop + 'static>(
 /// the answers that were given. Behind the parts the account is settled.
 pub fn give<R: Wait + Threads + Copy + Send + Sync + Drop + 'static>(
     rt: R,
-    alloc: Global,
     case: &Case,
-    given: &mut String,
+    given: &mut Given,
 ) -> Result<(), CaseFault> {
-    let text = text_of(rt, alloc, case, Way::Account)?;
-    let other = text_of(rt, alloc, case, Way::Desk)?;
-    given.push_str(text.as_str())?;
-    if text != other {
-        given.push_str("by a desk:\n")?;
-        given.push_str(other.as_str())?;
-    }
-    Ok(())
+    let mut other = Given::new(given.alloc());
+    run_in(rt, case, Way::Account, given)?;
+    run_in(rt, case, Way::Desk, &mut other)?;
+    push_other(given, &other)
 }

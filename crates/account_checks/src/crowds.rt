@@ -8,8 +8,8 @@ use crate::seats::part_of;
 use crate::stand::Turns;
 use account_lock::Identity;
 use call_model::Ticket;
-use case_tables::CaseFault;
-use std::alloc::{AllocError, Global};
+use case_tables::{CaseFault, Given};
+use std::alloc::Global;
 use std::sync::Wait;
 use std::thread::{self, Threads};
 use usage_ledger::{Front, Keep, Ledgers, Tally};
@@ -32,22 +32,27 @@ struct Words {
     parked: Ticket,
 }
 
-/// A line with its words: NOW is the moment of the turn, ENV the environment of the thread, and PARKED
-/// the ticket of its last Next.
-fn line_with(alloc: Global, line: &str, words: Words) -> Result<String, AllocError> {
-    let mut text = String::new(alloc);
-    for word in line.split(' ') {
-        if !text.is_empty() {
-            text.push(' ')?;
-        }
-        match word {
-            "NOW" => text.push_str(format!(in alloc; "{}", words.now)?.as_str())?,
-            "ENV" => text.push_str(format!(in alloc; "{}", words.env)?.as_str())?,
-            "PARKED" => text.push_str(format!(in alloc; "{}", words.parked)?.as_str())?,
-            _ => text.push_str(word)?,
-        }
+/// Adds a word: NOW is the moment of the turn, ENV the environment of the thread, and PARKED the
+/// ticket of its last Next.
+fn push_word(text: &mut Given, word: &str, words: Words) {
+    match word {
+        "NOW" => text.print(&words.now),
+        "ENV" => text.print(&words.env),
+        "PARKED" => text.print(&words.parked),
+        _ => text.push(word),
     }
-    Ok(text)
+}
+
+/// A line with its words.
+fn line_with(alloc: Global, line: &str, words: Words) -> Given {
+    let mut text = Given::new(alloc);
+    for word in line.split(' ') {
+        if !text.as_str().is_empty() {
+            text.push(" ");
+        }
+        push_word(&mut text, word, words);
+    }
+    text
 }
 
 /// Makes the call of a line; its ticket.
@@ -57,10 +62,11 @@ fn one_call<R: Wait, S: Identity, K: Keep>(
     front: &mut Front<S>,
     bells: &Bells,
     number: u64,
-    line: &str,
+    line: &Given,
 ) -> Result<Ticket, CaseFault> {
+    line.end()?;
     let bell = bells.unnumbered(0)?;
-    match place.submit(tally, front, line.as_bytes(), bell)? {
+    match place.submit(tally, front, line.as_str().as_bytes(), bell)? {
         Taken::At(ticket) => Ok(ticket),
         _ => Err(malformed(number, "a call that is taken is wanted")),
     }
@@ -78,8 +84,8 @@ fn one_turn<R: Wait, S: Identity, K: Keep>(
     let mut words = words;
     let mut number = turns.first;
     for line in turns.lines.split('\n') {
-        let text = line_with(place.alloc, line, words)?;
-        let ticket = one_call(place, tally, front, bells, number, text.as_str())?;
+        let text = line_with(place.alloc, line, words);
+        let ticket = one_call(place, tally, front, bells, number, &text)?;
         if line.contains(" next ") {
             words.parked = ticket;
         }

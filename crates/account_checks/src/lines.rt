@@ -7,16 +7,12 @@ pub fn malformed(line: u64, what: &'static str) -> CaseFault {
     CaseFault::Malformed { line, what }
 }
 
-/// The text of a part without its last line feed.
-pub fn lines_in(part: &Part) -> &str {
-    let text = part.text();
-    text.strip_suffix('\n').unwrap_or(text)
-}
-
 /// The number that a text of a line says.
 pub fn number_of(line: u64, text: &str) -> Result<u64, CaseFault> {
-    text.parse::<u64>()
-        .map_err(|_| malformed(line, "a number is wanted"))
+    match text.parse::<u64>() {
+        Ok(number) => Ok(number),
+        Err(_) => Err(malformed(line, "a number is wanted")),
+    }
 }
 
 /// The number of a tally behind the word of a part; 0 where none stands there.

@@ -15,7 +15,7 @@ mod stand;
 mod texts;
 
 use crate::accounts::give;
-use case_tables::{TableFault, end, judge_case, read_file, tell_count};
+use case_tables::{Case, Given, TableFault, end, judge_case, read_file, tell_count};
 use std::io::Read;
 use std::process::ExitCode;
 use std::rt::Files;
@@ -30,7 +30,36 @@ const TABLES: [&str; 4] = [
     "threads.txt",
 ];
 
+/// Runs a case of a table, and says whether it agrees.
+fn run_case<R: Wait + Threads + Print + AllocGlobal + Copy + Send + Sync + Drop + 'static>(
+    rt: R,
+    file: &'static str,
+    case: &Case,
+) -> Result<bool, TableFault> {
+    let mut given = Given::new(rt.alloc());
+    let came = give(rt, case, &mut given);
+    judge_case(&rt, file, case, came, given.as_str())
+}
+
 /// Runs the cases of a table, and says whether all agree.
+fn run_cases<R: Wait + Threads + Print + AllocGlobal + Copy + Send + Sync + Drop + 'static>(
+    rt: R,
+    file: &'static str,
+    cases: &[Case],
+) -> Result<bool, TableFault> {
+    let mut agree = true;
+    for case in cases {
+        if !run_case(rt, file, case)? {
+            agree = false;
+        }
+    }
+    if agree {
+        tell_count(&rt, file, cases)?;
+    }
+    Ok(agree)
+}
+
+/// Runs a table, and says whether all of its cases agree.
 fn run_table<R: Wait + Threads + Files + Print + AllocGlobal + Copy + Send + Sync + Drop + 'static>(
     rt: R,
     file: &'static str,
@@ -39,18 +68,7 @@ where
     R::File: Read + Drop,
 {
     let cases = read_file(&rt, file)?;
-    let mut agree = true;
-    for case in cases.iter() {
-        let mut given = String::new(rt.alloc());
-        let came = give(rt, rt.alloc(), case, &mut given);
-        if !judge_case(&rt, file, case, came, given.as_str())? {
-            agree = false;
-        }
-    }
-    if agree {
-        tell_count(&rt, file, cases.as_slice())?;
-    }
-    Ok(agree)
+    run_cases(rt, file, cases.as_slice())
 }
 
 fn run<R: Wait + Threads + Files + Print + AllocGlobal + Copy + Send + Sync + Drop + 'static>(

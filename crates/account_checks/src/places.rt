@@ -155,55 +155,28 @@ pub struct Opened<R, S: Identity, K: Keep> {
     pub root: Tally<K, S>,
 }
 
-/// Opens an account.
-pub fn open_account<R: Drop, S: Identity, K: Keep>(
-    rt: R,
-    alloc: Global,
-    opening: Opening,
-    blanks: Blanks,
-) -> Result<Opened<R, S, K>, OpenFault>
-    requires configured { opening.config ≡ S.config }
-    requires salted { opening.salt ≡ S.salt }
-    requires named { blanks ≡ S.names }
-{
-    let Opening {
-        config,
-        beside,
-        salt,
-        max_entries,
-    } = opening;
-    let (account, root) = match Account::open(alloc, config, salt, max_entries, blanks) {
-        Ok(opened) => opened,
-        Err(fault) => return Err(fault),
-    };
-    Ok(Opened {
-        place: Place {
-            rt,
-            alloc,
-            config: beside,
-            account,
-        },
-        root,
-    })
+/// Whether a case is run by an account or by a desk.
+#[derive(Clone, Copy)]
+pub enum Way {
+    Account,
+    Desk,
 }
 
+/// An account, and its first tally.
+type Begun<S, K> = (Account<S, Numbered>, Tally<K, S>);
+
 /// Opens a desk, and puts it behind a lock.
-pub fn open_desk<R: Drop, S: Identity, K: Keep>(
-    rt: R,
+fn open_desk<S: Identity, K: Keep>(
     alloc: Global,
-    opening: Opening,
+    config: Checked,
+    salt: u64,
+    max_entries: u64,
     blanks: Blanks,
-) -> Result<Opened<R, S, K>, OpenFault>
-    requires configured { opening.config ≡ S.config }
-    requires salted { opening.salt ≡ S.salt }
+) -> Result<Begun<S, K>, OpenFault>
+    requires configured { config ≡ S.config }
+    requires salted { salt ≡ S.salt }
     requires named { blanks ≡ S.names }
 {
-    let Opening {
-        config,
-        beside,
-        salt,
-        max_entries,
-    } = opening;
     let book = match Book::open(alloc, config, salt, max_entries) {
         Ok(book) => book,
         Err(fault) => return Err(fault),
@@ -214,13 +187,43 @@ pub fn open_desk<R: Drop, S: Identity, K: Keep>(
         line,
         pen,
     } = root(alloc, blanks);
+    let desk = Desk::open(alloc, book, totals);
+    Ok((Account::share(desk, line, pen), tally))
+}
+
+/// Opens an account in a way.
+pub fn open<R: Drop, S: Identity, K: Keep>(
+    rt: R,
+    alloc: Global,
+    way: Way,
+    opening: Opening,
+    blanks: Blanks,
+) -> Result<Opened<R, S, K>, OpenFault>
+    requires configured { opening.config ≡ S.config }
+    requires salted { opening.salt ≡ S.salt }
+    requires named { blanks ≡ S.names }
+{
+    let Opening {
+        config,
+        beside,
+        salt,
+        max_entries,
+    } = opening;
+    let begun = match way {
+        Way::Account => Account::open(alloc, config, salt, max_entries, blanks),
+        Way::Desk => open_desk(alloc, config, salt, max_entries, blanks),
+    };
+    let (account, root) = match begun {
+        Ok(begun) => begun,
+        Err(fault) => return Err(fault),
+    };
     Ok(Opened {
         place: Place {
             rt,
             alloc,
             config: beside,
-            account: Account::share(Desk::open(alloc, book, totals), line, pen),
+            account,
         },
-        root: tally,
+        root,
     })
 }

@@ -3,7 +3,7 @@
 use crate::bells::{Bells, Numbered};
 use crate::crowds::crowd_of;
 use crate::forging::{Forgery, Kept};
-use crate::places::{Opened, Place, Question, Said, Taken};
+use crate::places::{Opened, Place, Question, Said, Taken, Way};
 use crate::stand::{Ending, Seat, SeatFault, Stand, Turns};
 use account_lock::{Account, Identity, SettleFault, Settled};
 use call_model::Stats;
@@ -21,7 +21,7 @@ pub struct Seats<R, S: Identity, K: Keep> {
     front: Front<S>,
     tallies: Vec<Tally<K, S>>,
     held_back: Option<Tally<K, S>>,
-    settles_desk: bool,
+    way: Way,
 }
 
 /// A new tally with a part of another one.
@@ -88,22 +88,29 @@ fn counted(settled: Result<Settled, SettleFault>) -> Result<(Stats, u64), Settle
     }
 }
 
+/// The parts of a tally, where there is one.
+fn parts_in<K: Keep, L: Ledgers>(tally: &Option<Tally<K, L>>) -> Option<u64> {
+    match tally {
+        Some(tally) => Some(tally.parts()),
+        None => None,
+    }
+}
+
 /// Settles an account, or its desk.
 fn settle_account<S: Identity, K: Keep>(
     account: Account<S, Numbered>,
-    settles_desk: bool,
+    way: Way,
     tallies: Vec<Tally<K, S>>,
 ) -> Result<Settled, SettleFault> {
-    if settles_desk {
-        account.into_desk().settle(tallies)
-    } else {
-        account.settle(tallies)
+    match way {
+        Way::Account => account.settle(tallies),
+        Way::Desk => account.into_desk().settle(tallies),
     }
 }
 
 impl<R: Wait + Drop, S: Identity + Drop, K: Keep> Seats<R, S, K> {
     /// An account with its first tally.
-    pub fn new(opened: Opened<R, S, K>, settles_desk: bool) -> Result<Seats<R, S, K>, AllocError> {
+    pub fn new(opened: Opened<R, S, K>, way: Way) -> Result<Seats<R, S, K>, AllocError> {
         let Opened { place, root } = opened;
         let mut tallies = Vec::with_capacity(place.alloc, 1)?;
         tallies.push(root)?;
@@ -112,7 +119,7 @@ impl<R: Wait + Drop, S: Identity + Drop, K: Keep> Seats<R, S, K> {
             place,
             tallies,
             held_back: None,
-            settles_desk,
+            way,
         })
     }
 }
@@ -187,12 +194,12 @@ impl<R: Wait + Drop, S: Identity + Drop, K: Keep> Stand for Seats<R, S, K> {
             place,
             tallies,
             held_back,
-            settles_desk,
+            way,
             ..
         } = self;
         Ending {
-            settled: counted(settle_account(place.account, settles_desk, tallies)),
-            held_back: held_back.map(|tally| tally.parts()),
+            settled: counted(settle_account(place.account, way, tallies)),
+            held_back: parts_in(&held_back),
         }
     }
 }

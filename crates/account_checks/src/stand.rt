@@ -10,12 +10,14 @@ use case_tables::CaseFault;
 use std::alloc::{AllocError, AllocFailed};
 
 /// Why something was not done to tallies.
-#[derive(Clone, Copy, Debug, PartialEq, Eq)]
+#[derive(Clone, Copy)]
 pub enum SeatFault {
     /// There is no such tally.
     NoTally,
     /// The tally with number 0 has one part left.
     NoParts,
+    /// There is no such way to forge.
+    NoForgery,
     /// There was no memory.
     Memory,
 }
@@ -39,6 +41,7 @@ impl SeatFault {
             SeatFault::Memory => CaseFault::Memory,
             SeatFault::NoTally => malformed(line, "a tally that is there is wanted"),
             SeatFault::NoParts => malformed(line, "fewer tallies are wanted"),
+            SeatFault::NoForgery => malformed(line, "a forgery is wanted"),
         }
     }
 }

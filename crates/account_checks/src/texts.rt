@@ -5,137 +5,161 @@ use crate::places::Said;
 use crate::stand::{Ending, Seat};
 use account_lock::Look;
 use call_model::{Answer, Head, Stats, Ticket};
-use std::alloc::{AllocError, Global};
-use std::str;
-
-/// Adds bytes of text.
-fn push_bytes(given: &mut String, bytes: &[u8]) -> Result<(), AllocError> {
-    match str::from_utf8(bytes) {
-        Ok(text) => given.push_str(text),
-        Err(_) => given.push_str("(bytes that are no text)\n"),
-    }
-}
+use case_tables::Given;
+use lambda_wire::Reply;
+use std::fmt::Debug;
 
 /// Adds the bells that rang in this step.
-pub fn push_rings(alloc: Global, given: &mut String, bells: &Bells) -> Result<(), AllocError> {
+pub fn push_rings(given: &mut Given, bells: &Bells) {
     let count = bells.rings();
     if count > 0 {
-        given.push_str(", rings")?;
+        given.push(", rings");
     }
     for before in 0..count {
-        let number = bells.rang(before);
-        given.push_str(format!(in alloc; " {number}")?.as_str())?;
+        given.push(" ");
+        given.print(&bells.rang(before));
     }
-    given.push('\n')
+    given.push("\n");
+}
+
+/// Adds the line of what a ticket was answered.
+fn push_answered(given: &mut Given, ticket: Ticket, answer: Answer) {
+    given.push("  ");
+    given.print(&ticket);
+    given.push(": ");
+    given.show(&answer);
+    given.push("\n");
 }
 
 /// Adds receipts, but for so many of the first.
-pub fn push_receipts(
-    alloc: Global,
-    given: &mut String,
-    receipts: &[(Ticket, Answer)],
-    but: usize,
-) -> Result<(), AllocError> {
+pub fn push_receipts(given: &mut Given, receipts: &[(Ticket, Answer)], but: usize) {
     for receipt in receipts.iter().skip(but) {
-        let (ticket, answer) = (receipt.0, receipt.1);
-        given.push_str(format!(in alloc; "  {ticket}: {answer:?}\n")?.as_str())?;
+        push_answered(given, receipt.0, receipt.1);
     }
-    Ok(())
 }
 
 /// Adds the head of a call.
-fn push_head(
-    alloc: Global,
-    given: &mut String,
-    ticket: Ticket,
-    head: Head,
-) -> Result<(), AllocError> {
-    let (kind, number) = (head.kind, head.number);
-    given.push_str(format!(in alloc; "  {ticket}: {kind:?} {number}")?.as_str())?;
+fn push_head(given: &mut Given, ticket: Ticket, head: Head) {
+    given.push("  ");
+    given.print(&ticket);
+    given.push(": ");
+    given.show(&head.kind);
+    given.push(" ");
+    given.print(&head.number);
     if let Some(count) = head.count {
-        given.push_str(format!(in alloc; " {count}")?.as_str())?;
+        given.push(" ");
+        given.print(&count);
     }
-    given.push('\n')
+    given.push("\n");
 }
 
 /// Adds what is seen of a tally.
-pub fn push_seat(alloc: Global, given: &mut String, seat: Seat<'_>) -> Result<(), AllocError> {
-    let joined = if seat.joined { ", joined" } else { "" };
-    let (parts, receipts) = (seat.parts, seat.receipts.len());
-    given.push_str(format!(in alloc; " {parts} parts{joined}, {receipts} receipts\n")?.as_str())?;
+pub fn push_seat(given: &mut Given, seat: Seat<'_>) {
+    given.push(" ");
+    given.print(&seat.parts);
+    given.push(if seat.joined {
+        " parts, joined, "
+    } else {
+        " parts, "
+    });
+    given.print(&seat.receipts.len());
+    given.push(" receipts\n");
     for call in seat.calls {
-        push_head(alloc, given, call.0, call.1)?;
+        push_head(given, call.0, call.1);
     }
-    Ok(())
 }
 
-/// Adds what a ticket was answered.
-pub fn push_look(
-    alloc: Global,
-    given: &mut String,
-    ticket: Ticket,
-    look: Look,
-) -> Result<(), AllocError> {
-    let text = match look {
-        Look::Given(answer) => format!(in alloc; "  {ticket}: {answer:?}\n")?,
-        Look::Waiting => format!(in alloc; "  {ticket} waits\n")?,
-    };
-    given.push_str(text.as_str())
+/// Adds what a ticket was answered, or that it waits.
+pub fn push_look(given: &mut Given, ticket: Ticket, look: Look) {
+    match look {
+        Look::Given(answer) => push_answered(given, ticket, answer),
+        Look::Waiting => {
+            given.push("  ");
+            given.print(&ticket);
+            given.push(" waits\n");
+        }
+    }
 }
 
-/// The counts as text.
-fn stats_text(alloc: Global, stats: Stats) -> Result<String, AllocError> {
-    let (admitted, throttled, failed) = (stats.admitted, stats.throttled, stats.failed);
-    format!(in alloc; "{admitted} admitted, {throttled} throttled, {failed} failed")
+/// Adds counts, and ends the line.
+fn push_counts(given: &mut Given, entries: u64, stats: Stats) {
+    given.print(&entries);
+    given.push(" entries, ");
+    given.print(&stats.admitted);
+    given.push(" admitted, ");
+    given.print(&stats.throttled);
+    given.push(" throttled, ");
+    given.print(&stats.failed);
+    given.push(" failed\n");
 }
 
-/// What an account says, as the rest of a line or as lines.
-pub fn said_text(alloc: Global, said: Said) -> Result<String, AllocError> {
+/// Adds a value as the rest of a line.
+fn push_shown<T: Debug>(given: &mut Given, value: &T) {
+    given.push(" ");
+    given.show(value);
+    given.push("\n");
+}
+
+/// Adds what is told of a reply.
+fn push_reply(given: &mut Given, reply: &Option<Reply>) {
+    match reply {
+        Some(reply) => {
+            given.push(" a reply of status ");
+            given.print(&reply.status);
+            given.push("\n");
+        }
+        None => given.push(" no reply\n"),
+    }
+}
+
+/// Adds a text as lines.
+fn push_text(given: &mut Given, text: &Option<Vec<u8>>) {
+    match text {
+        Some(bytes) => {
+            given.push("\n");
+            given.push_bytes(bytes.as_slice());
+        }
+        None => given.push(" no entry\n"),
+    }
+}
+
+/// Adds what an account says, as the rest of a line or as lines.
+pub fn push_said(given: &mut Given, said: &Said) {
     match said {
-        Said::Look(look) => format!(in alloc; " {look:?}\n"),
-        Said::Due(due) => format!(in alloc; " {due}\n"),
-        Said::Life(life) => format!(in alloc; " {life:?}\n"),
+        Said::Look(look) => push_shown(given, look),
+        Said::Due(due) => push_shown(given, due),
+        Said::Life(life) => push_shown(given, life),
         Said::Stats(stats) => {
-            let (entries, text) = (stats.entries, stats_text(alloc, stats)?);
-            format!(in alloc; " {entries} entries, {text}\n")
+            given.push(" ");
+            push_counts(given, stats.entries, *stats);
         }
-        Said::Reservation(count) => format!(in alloc; " {count:?}\n"),
-        Said::Reply(Some(reply)) => {
-            let status = reply.status;
-            format!(in alloc; " a reply of status {status}\n")
-        }
-        Said::Reply(None) => String::from_str(alloc, " no reply\n"),
-        Said::Text(Some(bytes)) => {
-            let mut text = String::from_str(alloc, "\n")?;
-            push_bytes(&mut text, bytes.as_slice())?;
-            Ok(text)
-        }
-        Said::Text(None) => String::from_str(alloc, " no entry\n"),
-        Said::NoFunction => String::from_str(alloc, " no function\n"),
+        Said::Reservation(count) => push_shown(given, count),
+        Said::Reply(reply) => push_reply(given, reply),
+        Said::Text(text) => push_text(given, text),
+        Said::NoFunction => given.push(" no function\n"),
     }
 }
 
 /// Adds what a settlement came to; of a crowd only what no schedule changes.
-pub fn push_ending(
-    alloc: Global,
-    given: &mut String,
-    ending: Ending,
-    crowded: bool,
-) -> Result<(), AllocError> {
-    let text = match ending.settled {
-        Err(fault) => format!(in alloc; "not settled: {fault:?}\n")?,
+pub fn push_ending(given: &mut Given, ending: Ending, crowded: bool) {
+    match ending.settled {
+        Err(fault) => {
+            given.push("not settled:");
+            push_shown(given, &fault);
+        }
         Ok((stats, _)) if crowded => {
-            let in_flight = stats.in_flight;
-            format!(in alloc; "settled: {in_flight} in flight\n")?
+            given.push("settled: ");
+            given.print(&stats.in_flight);
+            given.push(" in flight\n");
         }
         Ok((stats, entries)) => {
-            let text = stats_text(alloc, stats)?;
-            format!(in alloc; "settled: {entries} entries, {text}\n")?
+            given.push("settled: ");
+            push_counts(given, entries, stats);
         }
-    };
-    given.push_str(text.as_str())?;
-    if let Some(parts) = ending.held_back {
-        given.push_str(format!(in alloc; "held back: {parts} parts\n")?.as_str())?;
     }
-    Ok(())
+    if let Some(parts) = ending.held_back {
+        given.push("held back: ");
+        given.print(&parts);
+        given.push(" parts\n");
+    }
 }

@@ -4,16 +4,12 @@ use crate::case::Part;
 use crate::fault::CaseFault;
 use std::alloc::AllocError;
 
-fn malformed(part: &Part, what: &'static str) -> CaseFault {
-    CaseFault::Malformed {
-        line: part.line(),
-        what,
-    }
-}
-
 /// The byte that a hexadecimal number says.
 fn byte_in(part: &Part, text: &str) -> Result<u8, CaseFault> {
-    u8::from_str_radix(text, 16).map_err(|_| malformed(part, "a byte is wanted"))
+    match u8::from_str_radix(text, 16) {
+        Ok(byte) => Ok(byte),
+        Err(_) => Err(part.malformed("a byte is wanted")),
+    }
 }
 
 /// Adds the bytes of hexadecimal numbers.
@@ -33,10 +29,10 @@ fn fill(bytes: &mut Vec<u8>, count: usize, byte: u8) -> Result<(), AllocError> {
 /// Adds a byte as often as a part says.
 fn push_times(bytes: &mut Vec<u8>, part: &Part) -> Result<(), CaseFault> {
     let Some((count, byte)) = part.arguments().split_once(' ') else {
-        return Err(malformed(part, "a number and a byte are wanted"));
+        return Err(part.malformed("a number and a byte are wanted"));
     };
     let Ok(count) = count.parse::<usize>() else {
-        return Err(malformed(part, "a number is wanted"));
+        return Err(part.malformed("a number is wanted"));
     };
     fill(bytes, count, byte_in(part, byte)?)?;
     Ok(())
@@ -55,9 +51,7 @@ fn push_times(bytes: &mut Vec<u8>, part: &Part) -> Result<(), CaseFault> {
 pub fn push_bytes(bytes: &mut Vec<u8>, part: &Part) -> Result<(), CaseFault> {
     match part.word() {
         "body" => {
-            let lines = part.text();
-            let text = lines.strip_suffix('\n').unwrap_or(lines);
-            bytes.extend_from_slice(text.as_bytes())?;
+            bytes.extend_from_slice(part.lines().as_bytes())?;
             Ok(())
         }
         "bytes" => push_hex(bytes, part),

@@ -1,5 +1,7 @@
 //! A case of a table, and its parts.
 
+use crate::fault::CaseFault;
+
 /// A named text of a case.
 #[derive(Drop)]
 pub struct Part {
@@ -35,9 +37,23 @@ impl Part {
         self.text.as_str()
     }
 
+    /// The lines of the part, the last one without its line feed.
+    pub fn lines(&self) -> &str {
+        let text = self.text.as_str();
+        text.strip_suffix('\n').unwrap_or(text)
+    }
+
     /// The number of the line that begins the part; the first line of a file is 1.
     pub fn line(&self) -> u64 {
         self.line
+    }
+
+    /// That the part does not hold what it is to hold.
+    pub fn malformed(&self, what: &'static str) -> CaseFault {
+        CaseFault::Malformed {
+            line: self.line,
+            what,
+        }
     }
 }
 
@@ -72,7 +88,12 @@ impl Case {
 
     /// The first part that is called so.
     pub fn part(&self, word: &str) -> Option<&Part> {
-        self.parts.iter().find(|part| part.word.as_str() == word)
+        for part in self.parts.iter() {
+            if part.word() == word {
+                return Some(part);
+            }
+        }
+        None
     }
 
     /// The text of the part `gives`.

@@ -5,7 +5,7 @@ use std::io;
 use thiserror::Error;
 
 /// What a case that cannot be run suffers from.
-#[derive(Clone, Copy, Debug, PartialEq, Eq)]
+#[derive(Clone, Copy)]
 pub enum CaseFault {
     /// There was no memory.
     Memory,
@@ -31,7 +31,7 @@ impl<T: Drop> From<AllocFailed<T>> for CaseFault {
 
 /// Why a table was not run to its end. Printed, it is the line that a program writes on standard
 /// error.
-#[derive(Clone, Copy, Debug, PartialEq, Eq, Error)]
+#[derive(Clone, Copy, Debug, Error)]
 pub enum TableFault {
     /// The file says at this line what no table can say, or what its subject does not take.
     #[error("{file}:{line}: {what}")]

@@ -95,8 +95,14 @@ pub fn read_file<R: Files + AllocGlobal>(
 where
     R::File: Read + Drop,
 {
-    let text = fs::read_to_string(rt, file).map_err(|fault| TableFault::at_input(file, &fault))?;
-    read_cases(rt.alloc(), text.as_str()).map_err(|fault| TableFault::of_case(file, 1, fault))
+    let text = match fs::read_to_string(rt, file) {
+        Ok(text) => text,
+        Err(fault) => return Err(TableFault::at_input(file, &fault)),
+    };
+    match read_cases(rt.alloc(), text.as_str()) {
+        Ok(cases) => Ok(cases),
+        Err(fault) => Err(TableFault::of_case(file, 1, fault)),
+    }
 }
 
 /// Tells that all these cases of a file agree.
@@ -106,6 +112,37 @@ where
 pub fn tell_count(rt: &impl Print, file: &'static str, cases: &[Case]) -> Result<(), TableFault> {
     let count = cases.len();
     println!(rt; "{file}: {count} cases").map_err(|fault| TableFault::at_output(&fault))
+}
+
+/// Runs a case, and says whether it agrees.
+fn run_case<R: Print + AllocGlobal, S: Subject>(
+    rt: &R,
+    file: &'static str,
+    subject: &S,
+    case: &Case,
+) -> Result<bool, TableFault> {
+    let mut given = String::new(rt.alloc());
+    let came = subject.give(rt.alloc(), case, &mut given);
+    judge_case(rt, file, case, came, given.as_str())
+}
+
+/// Runs the cases of a file, and says whether all agree.
+fn run_cases<R: Print + AllocGlobal, S: Subject>(
+    rt: &R,
+    file: &'static str,
+    subject: &S,
+    cases: &[Case],
+) -> Result<bool, TableFault> {
+    let mut agree = true;
+    for case in cases {
+        if !run_case(rt, file, subject, case)? {
+            agree = false;
+        }
+    }
+    if agree {
+        tell_count(rt, file, cases)?;
+    }
+    Ok(agree)
 }
 
 /// Reads the file of that name in the current folder, runs each case, prints a line for each that
@@ -124,18 +161,7 @@ where
     R::File: Read + Drop,
 {
     let cases = read_file(rt, file)?;
-    let mut agree = true;
-    for case in cases.iter() {
-        let mut given = String::new(rt.alloc());
-        let came = subject.give(rt.alloc(), case, &mut given);
-        if !judge_case(rt, file, case, came, given.as_str())? {
-            agree = false;
-        }
-    }
-    if agree {
-        tell_count(rt, file, cases.as_slice())?;
-    }
-    Ok(agree)
+    run_cases(rt, file, subject, cases.as_slice())
 }
 
 /// Runs files one after the other, each with what its cases are about, and says whether all agree.

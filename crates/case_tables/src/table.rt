@@ -29,12 +29,22 @@ fn malformed(line: u64, what: &'static str) -> CaseFault {
     CaseFault::Malformed { line, what }
 }
 
+/// Whether one of these cases is called so.
+fn is_there(cases: &[Case], name: &str) -> bool {
+    for case in cases {
+        if case.name() == name {
+            return true;
+        }
+    }
+    false
+}
+
 /// A case of this name without parts.
 fn open_case(alloc: Global, cases: &[Case], name: &str, line: u64) -> Result<OpenCase, CaseFault> {
     if name.is_empty() {
         return Err(malformed(line, "a case without a name"));
     }
-    if cases.iter().any(|case| case.name() == name) {
+    if is_there(cases, name) {
         return Err(malformed(line, "a name that stands twice"));
     }
     Ok(OpenCase {

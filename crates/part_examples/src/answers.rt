@@ -1,8 +1,8 @@
 //! Answers, as lines have them.
 
-use crate::lines::{LineFault, say};
+use crate::lines::{LineFault, tell};
 use call_model::{Answer, Reason, Rejection, Ticket};
-use std::alloc::Global;
+use case_tables::{Given, value_of};
 
 /// The answers that a table can name. An event has no number yet.
 const ANSWERS: [(&str, Answer); 7] = [
@@ -48,22 +48,18 @@ pub fn answer_of(word: &str) -> Result<Option<Answer>, LineFault> {
     if word == "-" {
         return Ok(None);
     }
-    for (name, answer) in ANSWERS {
-        if name == word {
-            return Ok(Some(answer));
-        }
+    match value_of(&ANSWERS, word) {
+        Some(answer) => Ok(Some(answer)),
+        None => Err(LineFault::Malformed),
     }
-    Err(LineFault::Malformed)
 }
 
 /// Adds a line for each answer, with the ticket that gets it.
-pub fn say_answers(
-    alloc: Global,
-    given: &mut String,
-    answers: &[(Ticket, Answer)],
-) -> Result<(), LineFault> {
+pub fn say_answers(given: &mut Given, answers: &[(Ticket, Answer)]) {
     for (ticket, answer) in answers {
-        say(given, format!(in alloc; "  {ticket} {answer:?}")?.as_str())?;
+        given.push("  ");
+        given.print(ticket);
+        given.push(" ");
+        tell(given, answer);
     }
-    Ok(())
 }

@@ -1,10 +1,10 @@
 //! Configurations, and the first fault of each.
 
-use crate::lines::{Calls, LineFault, Words, make_calls, say, short, tell};
-use arn_ids::{Checked, ConfigFault};
-use case_tables::{Case, CaseFault};
+use crate::lines::{Calls, LineFault, Words, make_calls, short, tell};
+use arn_ids::{Checked, Config, ConfigFault};
+use case_tables::{Case, CaseFault, Given};
 use lambda_wire::{Setup, WireFault, read_config};
-use std::alloc::Global;
+use std::alloc::{AllocError, Global};
 
 /// What was read.
 #[derive(Drop)]
@@ -31,12 +31,13 @@ pub fn configuration_of(alloc: Global, line: &str) -> Result<Checked, LineFault>
     }
 }
 
-fn say_fault(alloc: Global, fault: ConfigFault, given: &mut String) -> Result<(), LineFault> {
-    say(given, format!(in alloc; "{fault}")?.as_str())
+fn say_fault(fault: ConfigFault, given: &mut Given) {
+    given.print(&fault);
+    given.push("\n");
 }
 
 /// A text so many times, with commas between.
-fn many_of(alloc: Global, count: u64, text: &str) -> Result<String, LineFault> {
+fn many_of(alloc: Global, count: u64, text: &str) -> Result<String, AllocError> {
     let mut many = String::from_str(alloc, text)?;
     for _ in 1..count {
         many.push(',')?;
@@ -58,52 +59,65 @@ fn number(checked: &Checked, word: &str) -> Option<u64> {
 }
 
 /// The name of the function with a number.
-fn name_of(checked: &Checked, number: u32, given: &mut String) -> Result<(), LineFault> {
+fn name_of(checked: &Checked, number: u32, given: &mut Given) -> Result<(), LineFault> {
     if number < 1 || checked.functions().len() < number as usize {
         return Err(LineFault::Malformed);
     }
-    say(given, checked.function(number).name.as_str())
+    given.line(checked.function(number).name.as_str());
+    Ok(())
 }
 
 /// The function of an environment.
-fn owner(alloc: Global, checked: &Checked, env: u32, given: &mut String) -> Result<(), LineFault> {
+fn owner(checked: &Checked, env: u32, given: &mut Given) -> Result<(), LineFault> {
     if env < 1 || checked.environments() < env {
         return Err(LineFault::Malformed);
     }
-    tell(alloc, given, &checked.function_of(env))
+    tell(given, &checked.function_of(env));
+    Ok(())
+}
+
+/// Asks a configuration for what a word and what stands behind it say.
+fn ask_words(checked: &Checked, line: &str, given: &mut Given) -> Result<(), LineFault> {
+    let mut words = Words::of(line);
+    match words.next() {
+        "region" => given.line(checked.home().region.as_str()),
+        "number-of" => tell(given, &checked.function_named(words.rest().as_bytes())),
+        "name-of" => return name_of(checked, words.last_short()?, given),
+        "function-of" => return owner(checked, words.last_short()?, given),
+        _ => return Err(LineFault::Malformed),
+    }
+    Ok(())
 }
 
 /// Asks a configuration for what it has.
-fn ask(alloc: Global, checked: &Checked, line: &str, given: &mut String) -> Result<(), LineFault> {
-    if let Some(number) = number(checked, line) {
-        return tell(alloc, given, &number);
-    }
-    let mut words = Words::of(line);
-    match words.next() {
-        "region" => say(given, checked.home().region.as_str()),
-        "number-of" => tell(
-            alloc,
-            given,
-            &checked.function_named(words.rest().as_bytes()),
-        ),
-        "name-of" => name_of(checked, short(words.last_number()?)?, given),
-        "function-of" => owner(alloc, checked, short(words.last_number()?)?, given),
-        _ => Err(LineFault::Malformed),
+fn ask(checked: &Checked, line: &str, given: &mut Given) -> Result<(), LineFault> {
+    match number(checked, line) {
+        Some(number) => {
+            tell(given, &number);
+            Ok(())
+        }
+        None => ask_words(checked, line, given),
     }
 }
 
 impl Read {
-    /// Reads a configuration, and says its fault.
-    fn read(&mut self, alloc: Global, line: &str, given: &mut String) -> Result<(), LineFault> {
-        let whole = line.replace(alloc, "MANY", self.many.as_str())?;
-        let setup = setup_of(alloc, whole.as_str())?;
-        match setup.config.check() {
+    /// Takes a configuration that was read, and says its fault.
+    fn take(&mut self, config: Config, given: &mut Given) {
+        match config.check() {
             Ok(checked) => {
                 self.checked = Some(checked);
-                say(given, "no fault")
+                given.line("no fault");
             }
-            Err(fault) => say_fault(alloc, fault, given),
+            Err(fault) => say_fault(fault, given),
         }
+    }
+
+    /// Reads a configuration, and says its fault.
+    fn read(&mut self, line: &str, given: &mut Given) -> Result<(), LineFault> {
+        let whole = line.replace(given.alloc(), "MANY", self.many.as_str())?;
+        let setup = setup_of(given.alloc(), whole.as_str())?;
+        self.take(setup.config, given);
+        Ok(())
     }
 
     /// Keeps what `MANY` stands for.
@@ -113,23 +127,28 @@ impl Read {
         self.many = many_of(alloc, count, words.rest())?;
         Ok(())
     }
+
+    /// Asks the configuration that was read last.
+    fn ask(&self, line: &str, given: &mut Given) -> Result<(), LineFault> {
+        match &self.checked {
+            Some(checked) => ask(checked, line, given),
+            None => Err(LineFault::Malformed),
+        }
+    }
 }
 
 impl Calls for Read {
-    fn call(&mut self, alloc: Global, line: &str, given: &mut String) -> Result<(), LineFault> {
+    fn call(&mut self, line: &str, given: &mut Given) -> Result<(), LineFault> {
         if line.starts_with('{') {
-            return self.read(alloc, line, given);
+            return self.read(line, given);
         }
         if line == "entries-fault" {
-            return say_fault(alloc, ConfigFault::BadEntries, given);
+            say_fault(ConfigFault::BadEntries, given);
+            return Ok(());
         }
-        let mut words = Words::of(line);
-        if words.next() == "many" {
-            return self.keep(alloc, words);
-        }
-        match &self.checked {
-            Some(checked) => ask(alloc, checked, line, given),
-            None => Err(LineFault::Malformed),
+        match line.strip_prefix("many ") {
+            Some(words) => self.keep(given.alloc(), Words::of(words)),
+            None => self.ask(line, given),
         }
     }
 }
@@ -142,10 +161,10 @@ impl Calls for Read {
 /// | `many N TEXT` | nothing; `MANY` stands for N times the text in the configurations behind it |
 /// | `region`, `functions` .. | what the configuration that was read last has |
 /// | `entries-fault` | the fault of the program's own |
-pub fn give(alloc: Global, case: &Case, given: &mut String) -> Result<(), CaseFault> {
+pub fn give(case: &Case, given: &mut Given) -> Result<(), CaseFault> {
     let mut read = Read {
-        many: String::new(alloc),
+        many: String::new(given.alloc()),
         checked: None,
     };
-    make_calls(alloc, case, &mut read, given)
+    make_calls(case, &mut read, given)
 }

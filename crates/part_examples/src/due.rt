@@ -1,10 +1,9 @@
 //! Deadlines of environments, and which of them is due first.
 
-use crate::lines::{Calls, LineFault, Words, make_calls, short, tell};
+use crate::lines::{Calls, LineFault, Words, make_calls, number_of, short, tell};
 use arn_ids::EnvNo;
-use case_tables::{Case, CaseFault};
+use case_tables::{Case, CaseFault, Given};
 use deadlines::Due;
-use std::alloc::Global;
 
 /// Environments with their deadlines.
 #[derive(Drop)]
@@ -38,19 +37,26 @@ fn set_all(due: &mut Due, divisor: u64) -> Result<(), LineFault> {
     Ok(())
 }
 
+fn call_due(due: &mut Due, line: &str, given: &mut Given) -> Result<(), LineFault> {
+    let mut words = Words::of(line);
+    match words.next() {
+        "set" => set_one(due, words)?,
+        "set-all" => set_all(due, words.last_number()?)?,
+        "first-due" => tell(given, &due.first_due(words.last_number()?)),
+        "environments" => tell(given, &due.environments()),
+        _ => return Err(LineFault::Malformed),
+    }
+    Ok(())
+}
+
 impl Calls for Environments {
-    fn call(&mut self, alloc: Global, line: &str, given: &mut String) -> Result<(), LineFault> {
-        let mut words = Words::of(line);
-        match words.next() {
-            "open" => {
-                self.due = Due::open(alloc, short(words.last_number()?)?)?;
+    fn call(&mut self, line: &str, given: &mut Given) -> Result<(), LineFault> {
+        match line.strip_prefix("open ") {
+            Some(count) => {
+                self.due = Due::open(given.alloc(), short(number_of(count)?)?)?;
                 Ok(())
             }
-            "set" => set_one(&mut self.due, words),
-            "set-all" => set_all(&mut self.due, words.last_number()?),
-            "first-due" => tell(alloc, given, &self.due.first_due(words.last_number()?)),
-            "environments" => tell(alloc, given, &self.due.environments()),
-            _ => Err(LineFault::Malformed),
+            None => call_due(&mut self.due, line, given),
         }
     }
 }
@@ -64,9 +70,9 @@ impl Calls for Environments {
 /// | `set-all N` | nothing; each environment's deadline is its number's remainder by N |
 /// | `first-due MOMENT` | the environment that is due then |
 /// | `environments` | how many there are |
-pub fn give(alloc: Global, case: &Case, given: &mut String) -> Result<(), CaseFault> {
+pub fn give(case: &Case, given: &mut Given) -> Result<(), CaseFault> {
     let mut environments = Environments {
-        due: Due::open(alloc, 0)?,
+        due: Due::open(given.alloc(), 0)?,
     };
-    make_calls(alloc, case, &mut environments, given)
+    make_calls(case, &mut environments, given)
 }

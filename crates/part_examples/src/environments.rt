@@ -4,12 +4,11 @@ ghost use Rattle.std.specs.Prelude.{◌≡◌, ◌<◌, ◌^◌, true};
 ghost use Rattle.env_phase.specs.Taking.{registered_name, IsShort};
 
 use crate::answers::say_answers;
-use crate::configurations::configuration_of;
-use crate::lines::{Calls, LineFault, Words, make_calls, tell};
+use crate::lines::{Calls, LineFault, Opens, Words, call_opened, tell};
 use crate::script_calls::call_of;
 use arn_ids::Checked;
 use call_model::Call;
-use case_tables::{Case, CaseFault};
+use case_tables::{Case, CaseFault, Given};
 use env_phase::{Environment, Step};
 use extension_set::Moves;
 use std::alloc::Global;
@@ -76,31 +75,22 @@ impl Driven {
     }
 }
 
-fn say_phase(
-    alloc: Global,
-    environment: &Environment,
-    moves: &Moves,
-    given: &mut String,
-) -> Result<(), LineFault> {
-    tell(alloc, given, &environment.phase())?;
-    say_answers(alloc, given, moves.as_slice())
+fn say_phase(environment: &Environment, moves: &Moves, given: &mut Given) {
+    tell(given, &environment.phase());
+    say_answers(given, moves.as_slice());
 }
 
-/// Asks an environment for what it has; whether there is such a question.
-fn ask(
-    alloc: Global,
-    environment: &Environment,
-    line: &str,
-    given: &mut String,
-) -> Result<(), LineFault> {
+/// Asks an environment for what it has.
+fn ask(environment: &Environment, line: &str, given: &mut Given) -> Result<(), LineFault> {
     match line {
-        "members" => tell(alloc, given, &environment.members()),
-        "is-taken" => tell(alloc, given, &environment.is_taken()),
-        "is-off" => tell(alloc, given, &environment.is_off()),
-        "bound" => tell(alloc, given, &environment.bound()),
-        "deadline" => tell(alloc, given, &environment.deadline()),
-        _ => Err(LineFault::Malformed),
+        "members" => tell(given, &environment.members()),
+        "is-taken" => tell(given, &environment.is_taken()),
+        "is-off" => tell(given, &environment.is_off()),
+        "bound" => tell(given, &environment.bound()),
+        "deadline" => tell(given, &environment.deadline()),
+        _ => return Err(LineFault::Malformed),
     }
+    Ok(())
 }
 
 /// An account with an environment of its first function.
@@ -122,51 +112,37 @@ impl Account {
         Step { ticket, now, count }
     }
 
-    fn take(
-        &mut self,
-        alloc: Global,
-        words: Words<'_>,
-        given: &mut String,
-    ) -> Result<(), LineFault> {
+    fn take(&mut self, words: Words<'_>, given: &mut Given) -> Result<(), LineFault> {
         let mut words = words;
         let ticket = words.number()?;
-        let (now, call) = call_of(alloc, &self.config, words.rest())?;
+        let (now, call) = call_of(given.alloc(), &self.config, words.rest())?;
         let step = self.step(ticket, now, &call);
         if step.now >= 1 << 53 {
             return Err(LineFault::Malformed);
         }
         let moves = self.driven.take(step, &call)?;
-        say_phase(alloc, &self.driven.environment, &moves, given)
+        say_phase(&self.driven.environment, &moves, given);
+        Ok(())
     }
 }
 
-fn begin(alloc: Global, line: &str) -> Result<Account, LineFault> {
-    let config = configuration_of(alloc, line)?;
-    let driven = open(alloc, &config)?;
-    Ok(Account {
-        config,
-        driven,
-        invokes: 0,
-    })
+impl Calls for Account {
+    fn call(&mut self, line: &str, given: &mut Given) -> Result<(), LineFault> {
+        if line.contains(' ') {
+            return self.take(Words::of(line), given);
+        }
+        ask(&self.driven.environment, line, given)
+    }
 }
 
-/// The account that was read last.
-#[derive(Drop)]
-struct Stage {
-    account: Option<Account>,
-}
-
-impl Calls for Stage {
-    fn call(&mut self, alloc: Global, line: &str, given: &mut String) -> Result<(), LineFault> {
-        if line.starts_with('{') {
-            self.account = Some(begin(alloc, line)?);
-            return Ok(());
-        }
-        match &mut self.account {
-            Some(account) if line.contains(' ') => account.take(alloc, Words::of(line), given),
-            Some(account) => ask(alloc, &account.driven.environment, line, given),
-            None => Err(LineFault::Malformed),
-        }
+impl Opens for Account {
+    fn open(alloc: Global, config: Checked) -> Result<Account, LineFault> {
+        let driven = open(alloc, &config)?;
+        Ok(Account {
+            config,
+            driven,
+            invokes: 0,
+        })
     }
 }
 
@@ -177,6 +153,6 @@ impl Calls for Stage {
 /// | `{..}` | nothing; the lines behind it call a new environment of its first function |
 /// | `TICKET CALL` | the phase after this call of a script, and below it the call's answers |
 /// | `members`, `is-taken`, `is-off`, `bound`, `deadline` | what is asked of the environment |
-pub fn give(alloc: Global, case: &Case, given: &mut String) -> Result<(), CaseFault> {
-    make_calls(alloc, case, &mut Stage { account: None }, given)
+pub fn give(case: &Case, given: &mut Given) -> Result<(), CaseFault> {
+    call_opened::<Account>(case, given)
 }

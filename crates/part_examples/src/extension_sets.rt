@@ -1,111 +1,110 @@
 //! Extensions of an environment, from their registering to their end.
 
 use crate::answers::{answer_of, say_answers};
-use crate::configurations::configuration_of;
-use crate::lines::{Calls, LineFault, Words, make_calls, say, tell};
+use crate::lines::{Calls, LineFault, Opens, Words, call_opened, tell};
 use crate::script_calls::call_of;
 use arn_ids::{Checked, Text};
 use call_model::{Call, Reason};
-use case_tables::{Case, CaseFault};
+use case_tables::{Case, CaseFault, Given, value_of};
 use extension_set::{CLOSING_LIMIT, ExtensionSet, Moves, RegisterFault, Turn};
 use std::alloc::{AllocError, Global};
 
-/// The extensions of one environment.
+/// The extensions of one environment, and the account whose calls are made.
 #[derive(Drop)]
 struct Environment {
-    config: Option<Checked>,
+    config: Checked,
     set: ExtensionSet,
 }
+
+/// The reasons of an end, and that there is none.
+const REASONS: [(&str, Option<Reason>); 4] = [
+    ("-", None),
+    ("TIMEOUT", Some(Reason::Timeout)),
+    ("FAILURE", Some(Reason::Failure)),
+    ("SPINDOWN", Some(Reason::Spindown)),
+];
+
+/// The events that an extension can ask for: those of invocations, and of the end.
+const EVENTS: [(&str, (bool, bool)); 4] = [
+    ("i", (true, false)),
+    ("s", (false, true)),
+    ("is", (true, true)),
+    ("-", (false, false)),
+];
 
 fn text(alloc: Global, text: &str) -> Result<Text, AllocError> {
     Ok(Text::new(String::from_str(alloc, text)?))
 }
 
-fn say_verdict(
-    alloc: Global,
-    verdict: Result<(), RegisterFault>,
-    given: &mut String,
-) -> Result<(), LineFault> {
+fn say_verdict(verdict: Result<(), RegisterFault>, given: &mut Given) {
     match verdict {
-        Ok(()) => say(given, "registered"),
-        Err(fault) => say(given, format!(in alloc; "{fault}")?.as_str()),
+        Ok(()) => given.push("registered"),
+        Err(fault) => given.print(&fault),
     }
+    given.push("\n");
 }
 
-fn register(
-    alloc: Global,
-    set: &mut ExtensionSet,
-    words: Words<'_>,
-    given: &mut String,
-) -> Result<(), LineFault> {
+fn register(set: &mut ExtensionSet, words: Words<'_>, given: &mut Given) -> Result<(), LineFault> {
     let mut words = words;
-    let name = text(alloc, words.next())?;
+    let name = words.next();
     let events = words.next();
-    if !["i", "s", "is", "-"].contains(&events) {
-        return Err(LineFault::Malformed);
-    }
-    let invoke = events.contains('i');
-    let shutdown = events.contains('s');
+    let count = words.last_number()?;
+    let name = text(given.alloc(), name)?;
     if name.as_str().len() > 128 {
         return Err(LineFault::Malformed);
     }
-    let verdict = set.register(&name, invoke, shutdown, words.last_number()?);
-    say_verdict(alloc, verdict, given)
+    match value_of(&EVENTS, events) {
+        Some((invoke, shutdown)) => {
+            say_verdict(set.register(&name, invoke, shutdown, count), given);
+            Ok(())
+        }
+        None => Err(LineFault::Malformed),
+    }
 }
 
 fn reason_of(word: &str) -> Result<Option<Reason>, LineFault> {
-    match word {
-        "-" => Ok(None),
-        "TIMEOUT" => Ok(Some(Reason::Timeout)),
-        "FAILURE" => Ok(Some(Reason::Failure)),
-        "SPINDOWN" => Ok(Some(Reason::Spindown)),
-        _ => Err(LineFault::Malformed),
+    match value_of(&REASONS, word) {
+        Some(reason) => Ok(reason),
+        None => Err(LineFault::Malformed),
     }
 }
 
 /// Has the extensions take a call, and says what it answers.
 fn take_call(
-    alloc: Global,
     set: &mut ExtensionSet,
     turn: Turn,
     call: &Call,
-    given: &mut String,
+    given: &mut Given,
 ) -> Result<(), LineFault> {
     if turn.now >= 1 << 53 || set.len() > 10 {
         return Err(LineFault::Malformed);
     }
     let mut moves = Moves::new();
     set.take(turn, call, &mut moves);
-    say_answers(alloc, given, moves.as_slice())
+    say_answers(given, moves.as_slice());
+    Ok(())
 }
 
 fn take(
-    alloc: Global,
-    config: &Checked,
-    set: &mut ExtensionSet,
+    environment: &mut Environment,
     words: Words<'_>,
-    given: &mut String,
+    given: &mut Given,
 ) -> Result<(), LineFault> {
     let mut words = words;
     let ticket = words.number()?;
     let own = answer_of(words.next())?;
     let closes = reason_of(words.next())?;
-    let (now, call) = call_of(alloc, config, words.rest())?;
+    let (now, call) = call_of(given.alloc(), &environment.config, words.rest())?;
     let turn = Turn {
         ticket,
         now,
         own,
         closes,
     };
-    take_call(alloc, set, turn, &call, given)
+    take_call(&mut environment.set, turn, &call, given)
 }
 
-fn invoke(
-    alloc: Global,
-    set: &mut ExtensionSet,
-    words: Words<'_>,
-    given: &mut String,
-) -> Result<(), LineFault> {
+fn invoke(set: &mut ExtensionSet, words: Words<'_>, given: &mut Given) -> Result<(), LineFault> {
     let mut words = words;
     let ticket = words.number()?;
     let deadline = words.last_number()?;
@@ -114,7 +113,8 @@ fn invoke(
     }
     let mut moves = Moves::new();
     set.take_invoke(ticket, deadline, &mut moves);
-    say_answers(alloc, given, moves.as_slice())
+    say_answers(given, moves.as_slice());
+    Ok(())
 }
 
 /// How many of the names that these words say are free.
@@ -128,22 +128,37 @@ fn unregistered(alloc: Global, set: &ExtensionSet, words: &str) -> Result<u64, A
     Ok(set.unregistered(names.as_slice()))
 }
 
+/// Asks about a name.
+fn ask_name(
+    set: &ExtensionSet,
+    admits: bool,
+    name: &str,
+    given: &mut Given,
+) -> Result<(), LineFault> {
+    let name = text(given.alloc(), name)?;
+    match admits {
+        true => say_verdict(set.admits(&name), given),
+        false => tell(given, &set.lacks(&name)),
+    }
+    Ok(())
+}
+
 /// Asks about one extension or a name.
 fn ask(
-    alloc: Global,
     set: &ExtensionSet,
     word: &str,
     words: Words<'_>,
-    given: &mut String,
+    given: &mut Given,
 ) -> Result<(), LineFault> {
     match word {
-        "admits" => say_verdict(alloc, set.admits(&text(alloc, words.rest())?), given),
-        "lacks" => tell(alloc, given, &set.lacks(&text(alloc, words.rest())?)),
-        "unregistered" => tell(alloc, given, &unregistered(alloc, set, words.rest())?),
-        "is-known" => tell(alloc, given, &set.is_known(words.last_number()?)),
-        "owes-end" => tell(alloc, given, &set.owes_end(words.last_number()?)),
-        _ => Err(LineFault::Malformed),
+        "admits" => ask_name(set, true, words.rest(), given)?,
+        "lacks" => ask_name(set, false, words.rest(), given)?,
+        "unregistered" => tell(given, &unregistered(given.alloc(), set, words.rest())?),
+        "is-known" => tell(given, &set.is_known(words.last_number()?)),
+        "owes-end" => tell(given, &set.owes_end(words.last_number()?)),
+        _ => return Err(LineFault::Malformed),
     }
+    Ok(())
 }
 
 /// Asks for one of the set's numbers.
@@ -157,35 +172,36 @@ fn number(set: &ExtensionSet, line: &str) -> Option<u64> {
     }
 }
 
-fn call_set(
-    alloc: Global,
-    environment: &mut Environment,
-    line: &str,
-    given: &mut String,
-) -> Result<(), LineFault> {
+fn call_set(environment: &mut Environment, line: &str, given: &mut Given) -> Result<(), LineFault> {
     let mut words = Words::of(line);
-    match (words.next(), &environment.config) {
-        ("register", _) => register(alloc, &mut environment.set, words, given),
-        ("invoke", _) => invoke(alloc, &mut environment.set, words, given),
-        ("take", Some(config)) => take(alloc, config, &mut environment.set, words, given),
-        (word, _) => ask(alloc, &environment.set, word, words, given),
+    match words.next() {
+        "register" => register(&mut environment.set, words, given),
+        "invoke" => invoke(&mut environment.set, words, given),
+        "take" => take(environment, words, given),
+        word => ask(&environment.set, word, words, given),
     }
 }
 
 impl Calls for Environment {
-    fn call(&mut self, alloc: Global, line: &str, given: &mut String) -> Result<(), LineFault> {
-        if line.starts_with('{') {
-            self.config = Some(configuration_of(alloc, line)?);
-            return Ok(());
-        }
+    fn call(&mut self, line: &str, given: &mut Given) -> Result<(), LineFault> {
         if line == "clear" {
             self.set.clear();
             return Ok(());
         }
         match number(&self.set, line) {
-            Some(number) => tell(alloc, given, &number),
-            None => call_set(alloc, self, line, given),
+            Some(number) => {
+                tell(given, &number);
+                Ok(())
+            }
+            None => call_set(self, line, given),
         }
+    }
+}
+
+impl Opens for Environment {
+    fn open(alloc: Global, config: Checked) -> Result<Environment, LineFault> {
+        let set = ExtensionSet::open(alloc)?;
+        Ok(Environment { config, set })
     }
 }
 
@@ -193,7 +209,7 @@ impl Calls for Environment {
 ///
 /// | Line | What it gives |
 /// |---|---|
-/// | `{..}` | nothing; the account whose calls are made |
+/// | `{..}` | nothing; the account whose calls are made, and no extensions |
 /// | `register NAME EVENTS COUNT` | `registered`, or why not; the events are `i`, `s`, `is` or `-` |
 /// | `take TICKET ANSWER REASON CALL` | the answers to parked Nexts at a script's call, which has this ticket and answer, and closes the environment for this reason |
 /// | `invoke TICKET DEADLINE` | the answers where an invocation begins |
@@ -202,10 +218,6 @@ impl Calls for Environment {
 /// | `is-known COUNT`, `owes-end COUNT` | what is asked of one extension |
 /// | `len`, `waiting`, `silent`, `closing-limit` | numbers |
 /// | `clear` | nothing; all are forgotten |
-pub fn give(alloc: Global, case: &Case, given: &mut String) -> Result<(), CaseFault> {
-    let mut environment = Environment {
-        config: None,
-        set: ExtensionSet::open(alloc)?,
-    };
-    make_calls(alloc, case, &mut environment, given)
+pub fn give(case: &Case, given: &mut Given) -> Result<(), CaseFault> {
+    call_opened::<Environment>(case, given)
 }

@@ -4,15 +4,15 @@ mod past;
 
 use crate::configurations::setup_of;
 use crate::histories::past::Past;
-use crate::lines::{Calls, LineFault, Words, make_calls, say};
+use crate::lines::{Calls, LineFault, Words, make_calls};
 use crate::script_calls::call_of;
 use crate::written_answers::answer_of;
 use arn_ids::Checked;
 use call_model::{Answer, Answers, Entry, Ticket};
-use case_tables::{Case, CaseFault};
+use case_tables::{Case, CaseFault, Given};
 use script::{push_answers, push_entry};
 use std::alloc::Global;
-use std::{mem, str};
+use std::mem;
 
 /// An account, its entries, and the answers of the next one.
 #[derive(Drop)]
@@ -23,27 +23,19 @@ struct Account {
     answers: Vec<(Ticket, Answer)>,
 }
 
-fn say_bytes(bytes: &[u8], given: &mut String) -> Result<(), LineFault> {
-    match str::from_utf8(bytes) {
-        Ok(text) => Ok(given.push_str(text)?),
-        Err(_) => say(given, "bytes that are no text"),
-    }
-}
-
 /// Says the entry with a number as a history has it.
 fn say_entry(
-    alloc: Global,
     config: &Checked,
     salt: u64,
     past: &Past,
     number: u64,
-    given: &mut String,
+    given: &mut Given,
 ) -> Result<(), LineFault> {
     let entries = past.entries();
     if entries.len() as u64 <= number {
         return Err(LineFault::Malformed);
     }
-    let mut written = Vec::new(alloc);
+    let mut written = Vec::new(given.alloc());
     push_entry(
         &mut written,
         config,
@@ -52,24 +44,20 @@ fn say_entry(
         past.counts(),
         number as usize,
     )?;
-    say_bytes(written.as_slice(), given)
+    given.push_bytes(written.as_slice());
+    Ok(())
 }
 
 /// Says the answers of the entry with a number.
-fn say_answers(
-    alloc: Global,
-    salt: u64,
-    past: &Past,
-    number: u64,
-    given: &mut String,
-) -> Result<(), LineFault> {
+fn say_answers(salt: u64, past: &Past, number: u64, given: &mut Given) -> Result<(), LineFault> {
     let entries = past.entries();
     if entries.len() as u64 <= number {
         return Err(LineFault::Malformed);
     }
-    let mut written = Vec::new(alloc);
+    let mut written = Vec::new(given.alloc());
     push_answers(&mut written, salt, entries, past.counts(), number as usize)?;
-    say_bytes(written.as_slice(), given)
+    given.push_bytes(written.as_slice());
+    Ok(())
 }
 
 impl Account {
@@ -109,12 +97,7 @@ fn add(
     Ok(())
 }
 
-fn call_account(
-    alloc: Global,
-    account: &mut Account,
-    line: &str,
-    given: &mut String,
-) -> Result<(), LineFault> {
+fn call_account(account: &mut Account, line: &str, given: &mut Given) -> Result<(), LineFault> {
     let mut words = Words::of(line);
     let word = words.next();
     let Some(config) = &account.config else {
@@ -123,31 +106,24 @@ fn call_account(
     let salt = account.salt;
     match word {
         "entry" => {
+            let alloc = given.alloc();
             let answers = mem::replace(&mut account.answers, Vec::new(alloc));
             add(alloc, config, &mut account.past, answers, words.rest())
         }
-        "text" => say_entry(
-            alloc,
-            config,
-            salt,
-            &account.past,
-            words.last_number()?,
-            given,
-        ),
-        "answers" => say_answers(alloc, salt, &account.past, words.last_number()?, given),
+        "text" => say_entry(config, salt, &account.past, words.last_number()?, given),
+        "answers" => say_answers(salt, &account.past, words.last_number()?, given),
         _ => Err(LineFault::Malformed),
     }
 }
 
 impl Calls for Account {
-    fn call(&mut self, alloc: Global, line: &str, given: &mut String) -> Result<(), LineFault> {
+    fn call(&mut self, line: &str, given: &mut Given) -> Result<(), LineFault> {
         if line.starts_with('{') {
-            return self.open(alloc, line);
+            return self.open(given.alloc(), line);
         }
-        let mut words = Words::of(line);
-        match words.next() {
-            "answer" => self.answer(words),
-            _ => call_account(alloc, self, line, given),
+        match line.strip_prefix("answer ") {
+            Some(words) => self.answer(Words::of(words)),
+            None => call_account(self, line, given),
         }
     }
 }
@@ -161,12 +137,13 @@ impl Calls for Account {
 /// | `entry CALL` | nothing; an entry of this call of a script, behind those before it |
 /// | `text N` | the entry with this number as a history has it |
 /// | `answers N` | the answers of the entry with this number |
-pub fn give(alloc: Global, case: &Case, given: &mut String) -> Result<(), CaseFault> {
+pub fn give(case: &Case, given: &mut Given) -> Result<(), CaseFault> {
+    let alloc = given.alloc();
     let mut account = Account {
         config: None,
         salt: 0,
         past: Past::new(alloc),
         answers: Vec::new(alloc),
     };
-    make_calls(alloc, case, &mut account, given)
+    make_calls(case, &mut account, given)
 }

@@ -1,9 +1,8 @@
 //! Identifiers of requests, extensions and events.
 
-use crate::lines::{Calls, LineFault, Words, make_calls, say, short};
+use crate::lines::{Calls, LineFault, Words, make_calls, short};
 use arn_ids::{IdParts, event_id, extension_id, id_parts, request_id, salt_word};
-use case_tables::{Case, CaseFault};
-use std::alloc::Global;
+use case_tables::{Case, CaseFault, Given};
 use uuid::Uuid;
 
 /// Each call stands for itself.
@@ -23,53 +22,55 @@ fn identifier(kind: &str, salt: u64, number: u32, count: u64) -> Result<Uuid, Li
     }
 }
 
-fn make(
-    alloc: Global,
-    kind: &str,
-    numbers: Words<'_>,
-    given: &mut String,
-) -> Result<(), LineFault> {
+/// Adds the identifier of a kind, whose salt, number and count are said.
+fn make(kind: &str, numbers: Words<'_>, given: &mut Given) -> Result<(), LineFault> {
     let mut words = numbers;
     let salt = words.number()?;
-    let number = short(words.number()?)?;
-    let id = identifier(kind, salt, number, words.last_number()?)?;
-    say(given, format!(in alloc; "{id}")?.as_str())
+    let number = words.number()?;
+    given.print(&identifier(kind, salt, short(number)?, words.last_number()?)?);
+    given.push("\n");
+    Ok(())
 }
 
-fn say_salt(alloc: Global, salt: u64, given: &mut String) -> Result<(), LineFault> {
-    let word = salt_word(salt);
-    say(given, format!(in alloc; "{word:016x}")?.as_str())
+/// Adds a line of sixteen hexadecimal digits.
+fn say_word(word: u64, given: &mut Given) {
+    match format!(in given.alloc(); "{word:016x}") {
+        Ok(text) => given.push(text.as_str()),
+        Err(_) => given.cut(),
+    }
+    given.push("\n");
 }
 
-fn say_parts(alloc: Global, given: &mut String, parts: &IdParts) -> Result<(), LineFault> {
-    let kind = parts.kind;
-    let number = parts.number;
-    let count = parts.count;
-    let word = parts.salt_word;
-    say(
-        given,
-        format!(in alloc; "{kind:?} {number} {count} {word:016x}")?.as_str(),
-    )
+fn say_parts(given: &mut Given, parts: &IdParts) {
+    given.show(&parts.kind);
+    given.push(" ");
+    given.print(&parts.number);
+    given.push(" ");
+    given.print(&parts.count);
+    given.push(" ");
+    say_word(parts.salt_word, given);
 }
 
-fn take_apart(alloc: Global, text: &str, given: &mut String) -> Result<(), LineFault> {
+fn take_apart(text: &str, given: &mut Given) -> Result<(), LineFault> {
     let Ok(id) = Uuid::parse_str(text) else {
         return Err(LineFault::Malformed);
     };
     match id_parts(&id) {
-        Some(parts) => say_parts(alloc, given, &parts),
-        None => say(given, "none"),
+        Some(parts) => say_parts(given, &parts),
+        None => given.line("none"),
     }
+    Ok(())
 }
 
 impl Calls for Alone {
-    fn call(&mut self, alloc: Global, line: &str, given: &mut String) -> Result<(), LineFault> {
+    fn call(&mut self, line: &str, given: &mut Given) -> Result<(), LineFault> {
         let mut words = Words::of(line);
         match words.next() {
-            "salt" => say_salt(alloc, words.last_number()?, given),
-            "parts" => take_apart(alloc, words.rest(), given),
-            kind => make(alloc, kind, words, given),
+            "salt" => say_word(salt_word(words.last_number()?), given),
+            "parts" => return take_apart(words.rest(), given),
+            kind => return make(kind, words, given),
         }
+        Ok(())
     }
 }
 
@@ -80,6 +81,6 @@ impl Calls for Alone {
 /// | `request SALT N COUNT`, `extension ..`, `event ..` | the identifier of this number and count |
 /// | `salt N` | the first sixteen hexadecimal digits of what is made with this salt |
 /// | `parts UUID` | what the identifier says, if it is one |
-pub fn give(alloc: Global, case: &Case, given: &mut String) -> Result<(), CaseFault> {
-    make_calls(alloc, case, &mut Alone, given)
+pub fn give(case: &Case, given: &mut Given) -> Result<(), CaseFault> {
+    make_calls(case, &mut Alone, given)
 }

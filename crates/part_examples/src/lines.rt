@@ -1,11 +1,13 @@
 //! The lines of a case: each is words, and says one call that is made.
 
-use case_tables::{Case, CaseFault};
+use crate::configurations::configuration_of;
+use arn_ids::Checked;
+use case_tables::{Case, CaseFault, Given, Part};
 use std::alloc::{AllocError, AllocFailed, Global};
 use std::fmt::Debug;
 
 /// Why a line was not taken.
-#[derive(Clone, Copy, Debug)]
+#[derive(Clone, Copy)]
 pub enum LineFault {
     /// There was no memory.
     Memory,
@@ -28,7 +30,33 @@ impl<T: Drop> From<AllocFailed<T>> for LineFault {
 /// What a case's lines are told to, one after the other.
 pub trait Calls {
     /// Makes the call of a line, and adds what it gives.
-    fn call(&mut self, alloc: Global, line: &str, given: &mut String) -> Result<(), LineFault>;
+    fn call(&mut self, line: &str, given: &mut Given) -> Result<(), LineFault>;
+}
+
+/// What a configuration opens, and the lines behind it call.
+pub trait Opens: Calls + Drop {
+    /// Opens what a configuration says.
+    fn open(alloc: Global, config: Checked) -> Result<Self, LineFault>;
+}
+
+/// What the configuration opened that was read last.
+#[derive(Drop)]
+struct Opened<T> {
+    last: Option<T>,
+}
+
+impl<T: Opens> Calls for Opened<T> {
+    fn call(&mut self, line: &str, given: &mut Given) -> Result<(), LineFault> {
+        if line.starts_with('{') {
+            let config = configuration_of(given.alloc(), line)?;
+            self.last = Some(T::open(given.alloc(), config)?);
+            return Ok(());
+        }
+        match &mut self.last {
+            Some(opened) => opened.call(line, given),
+            None => Err(LineFault::Malformed),
+        }
+    }
 }
 
 /// The words of a line.
@@ -60,6 +88,11 @@ impl<'a> Words<'a> {
         number_of(self.rest)
     }
 
+    /// The number of 32 bits that all other words say.
+    pub fn last_short(self) -> Result<u32, LineFault> {
+        short(self.last_number()?)
+    }
+
     /// The other words, as they stand.
     pub fn rest(self) -> &'a str {
         self.rest
@@ -82,40 +115,40 @@ pub fn short(number: u64) -> Result<u32, LineFault> {
     }
 }
 
-/// Adds a line.
-pub fn say(given: &mut String, line: &str) -> Result<(), LineFault> {
-    given.push_str(line)?;
-    given.push('\n')?;
-    Ok(())
+/// Adds the line of a value.
+pub fn tell<T: Debug>(given: &mut Given, value: &T) {
+    given.show(value);
+    given.push("\n");
 }
 
-/// Adds the line of a value.
-pub fn tell<T: Debug>(alloc: Global, given: &mut String, value: &T) -> Result<(), LineFault> {
-    say(given, format!(in alloc; "{value:?}")?.as_str())
+/// The only part of a case, which is `calls`.
+fn calls_of(case: &Case) -> Result<&Part, CaseFault> {
+    match case.part("calls") {
+        Some(part) if case.parts().len() == 1 => Ok(part),
+        _ => Err(CaseFault::Missing { part: "calls" }),
+    }
 }
 
 /// Makes the calls of a case, which has one part `calls`.
 pub fn make_calls<C: Calls>(
-    alloc: Global,
     case: &Case,
     calls: &mut C,
-    given: &mut String,
+    given: &mut Given,
 ) -> Result<(), CaseFault> {
-    let [part] = case.parts() else {
-        return Err(CaseFault::Missing { part: "calls" });
-    };
+    let part = calls_of(case)?;
     let mut number = part.line();
-    if part.word() != "calls" {
-        return Err(CaseFault::Unknown { line: number });
-    }
-    let text = part.text();
-    for line in text.strip_suffix('\n').unwrap_or(text).split('\n') {
+    for line in part.lines().split('\n') {
         number = number.saturating_add(1);
-        if let Err(fault) = calls.call(alloc, line, given) {
+        if let Err(fault) = calls.call(line, given) {
             return Err(fault_at(number, fault));
         }
     }
     Ok(())
+}
+
+/// Makes the calls of a case. A line that is a configuration opens what those behind it call.
+pub fn call_opened<T: Opens>(case: &Case, given: &mut Given) -> Result<(), CaseFault> {
+    make_calls(case, &mut Opened::<T> { last: None }, given)
 }
 
 fn fault_at(line: u64, fault: LineFault) -> CaseFault {

@@ -19,7 +19,7 @@ mod script_calls;
 mod scripts;
 mod written_answers;
 
-use case_tables::{Case, CaseFault, Subject, end, run_files};
+use case_tables::{Case, CaseFault, Given, Subject, end, run_files};
 use std::alloc::Global;
 use std::process::ExitCode;
 
@@ -57,22 +57,31 @@ const TABLES: [(&str, Table); 13] = [
     ("long_lines.txt", Table::Scripts),
 ];
 
+impl Table {
+    /// Tells what a case gives.
+    fn tell(self, case: &Case, given: &mut Given) -> Result<(), CaseFault> {
+        match self {
+            Table::Names => names::give(case, given),
+            Table::Identifiers => identifiers::give(case, given),
+            Table::Configurations => configurations::give(case, given),
+            Table::Scripts => scripts::give(case, given),
+            Table::Histories => histories::give(case, given),
+            Table::Heads => heads::give(case, given),
+            Table::Pools => pools::give(case, given),
+            Table::Deadlines => due::give(case, given),
+            Table::Places => places::give(case, given),
+            Table::Moves => moves::give(case, given),
+            Table::Extensions => extension_sets::give(case, given),
+            Table::Environments => environments::give(case, given),
+        }
+    }
+}
+
 impl Subject for Table {
     fn give(&self, alloc: Global, case: &Case, given: &mut String) -> Result<(), CaseFault> {
-        match self {
-            Table::Names => names::give(alloc, case, given),
-            Table::Identifiers => identifiers::give(alloc, case, given),
-            Table::Configurations => configurations::give(alloc, case, given),
-            Table::Scripts => scripts::give(alloc, case, given),
-            Table::Histories => histories::give(alloc, case, given),
-            Table::Heads => heads::give(alloc, case, given),
-            Table::Pools => pools::give(alloc, case, given),
-            Table::Deadlines => due::give(alloc, case, given),
-            Table::Places => places::give(alloc, case, given),
-            Table::Moves => moves::give(alloc, case, given),
-            Table::Extensions => extension_sets::give(alloc, case, given),
-            Table::Environments => environments::give(alloc, case, given),
-        }
+        let mut told = Given::new(alloc);
+        self.tell(case, &mut told)?;
+        told.hand_over(given)
     }
 }
 

@@ -3,9 +3,8 @@
 use crate::answers::{answer_of, say_answers};
 use crate::lines::{Calls, LineFault, Words, make_calls, number_of, tell};
 use call_model::Ticket;
-use case_tables::{Case, CaseFault};
+use case_tables::{Case, CaseFault, Given};
 use extension_set::Moves;
-use std::alloc::Global;
 
 /// The answers so far.
 #[derive(Drop)]
@@ -31,25 +30,24 @@ fn put(moves: &mut Moves, words: Words<'_>) -> Result<(), LineFault> {
     Ok(())
 }
 
-fn number(
-    alloc: Global,
-    moves: &mut Moves,
-    events: u64,
-    given: &mut String,
-) -> Result<(), LineFault> {
+fn number(moves: &mut Moves, events: u64, given: &mut Given) -> Result<(), LineFault> {
     if events >= 1 << 63 {
         return Err(LineFault::Malformed);
     }
-    tell(alloc, given, &moves.number(events))
+    tell(given, &moves.number(events));
+    Ok(())
 }
 
 impl Calls for Entry {
-    fn call(&mut self, alloc: Global, line: &str, given: &mut String) -> Result<(), LineFault> {
+    fn call(&mut self, line: &str, given: &mut Given) -> Result<(), LineFault> {
         let mut words = Words::of(line);
         match words.next() {
             "give" => put(&mut self.moves, words),
-            "number" => number(alloc, &mut self.moves, words.last_number()?, given),
-            "answers" => say_answers(alloc, given, self.moves.as_slice()),
+            "number" => number(&mut self.moves, words.last_number()?, given),
+            "answers" => {
+                say_answers(given, self.moves.as_slice());
+                Ok(())
+            }
             _ => Err(LineFault::Malformed),
         }
     }
@@ -62,9 +60,9 @@ impl Calls for Entry {
 /// | `give TICKET ANSWER` | nothing; a dash stands for no ticket or no answer |
 /// | `number N` | the number of the last event, when those before the entry were so many |
 /// | `answers` | the answers |
-pub fn give(alloc: Global, case: &Case, given: &mut String) -> Result<(), CaseFault> {
+pub fn give(case: &Case, given: &mut Given) -> Result<(), CaseFault> {
     let mut entry = Entry {
         moves: Moves::new(),
     };
-    make_calls(alloc, case, &mut entry, given)
+    make_calls(case, &mut entry, given)
 }

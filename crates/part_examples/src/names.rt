@@ -1,8 +1,8 @@
 //! Names of functions, read and written at a home.
 
-use crate::lines::{Calls, LineFault, Words, make_calls, say, tell};
+use crate::lines::{Calls, LineFault, Words, make_calls, tell};
 use arn_ids::{FunctionName, Home, NameFault, Named, Text, arn_text};
-use case_tables::{Case, CaseFault};
+use case_tables::{Case, CaseFault, Given};
 use std::alloc::{AllocError, Global};
 
 /// The home where names stand.
@@ -22,43 +22,50 @@ fn home(alloc: Global, account: &str, region: &str) -> Result<Home, AllocError> 
     })
 }
 
-fn say_named(alloc: Global, given: &mut String, named: &Named) -> Result<(), LineFault> {
-    let name = named.name.as_str();
-    let behind = if named.qualified { " at $LATEST" } else { "" };
-    say(given, format!(in alloc; "{name}{behind}")?.as_str())
+fn say_named(given: &mut Given, named: &Named) {
+    given.push(named.name.as_str());
+    given.push(if named.qualified {
+        " at $LATEST\n"
+    } else {
+        "\n"
+    });
 }
 
-fn read(alloc: Global, home: &Home, name: &str, given: &mut String) -> Result<(), LineFault> {
-    match FunctionName::parse(alloc, home, name) {
-        Ok(named) => say_named(alloc, given, &named),
-        Err(NameFault::OutOfMemory) => Err(LineFault::Memory),
-        Err(fault) => tell(alloc, given, &fault),
+fn read(home: &Home, name: &str, given: &mut Given) {
+    match FunctionName::parse(given.alloc(), home, name) {
+        Ok(named) => say_named(given, &named),
+        Err(NameFault::OutOfMemory) => given.cut(),
+        Err(fault) => tell(given, &fault),
     }
 }
 
-fn write(
-    alloc: Global,
-    home: &Home,
-    name: &str,
-    qualified: bool,
-    given: &mut String,
-) -> Result<(), LineFault> {
-    say(given, arn_text(alloc, home, name, qualified)?.as_str())
+fn write(home: &Home, name: &str, qualified: bool, given: &mut Given) {
+    match arn_text(given.alloc(), home, name, qualified) {
+        Ok(arn) => given.line(arn.as_str()),
+        Err(_) => given.cut(),
+    }
+}
+
+/// What a line that is no home says at a home.
+fn say_name(home: &Home, line: &str, given: &mut Given) -> Result<(), LineFault> {
+    let mut words = Words::of(line);
+    match words.next() {
+        "name" => read(home, words.rest(), given),
+        "arn" => write(home, words.rest(), false, given),
+        "qualified-arn" => write(home, words.rest(), true, given),
+        _ => return Err(LineFault::Malformed),
+    }
+    Ok(())
 }
 
 impl Calls for Place {
-    fn call(&mut self, alloc: Global, line: &str, given: &mut String) -> Result<(), LineFault> {
-        let mut words = Words::of(line);
-        match words.next() {
-            "home" => {
-                self.home = home(alloc, words.next(), words.rest())?;
-                Ok(())
-            }
-            "name" => read(alloc, &self.home, words.rest(), given),
-            "arn" => write(alloc, &self.home, words.rest(), false, given),
-            "qualified-arn" => write(alloc, &self.home, words.rest(), true, given),
-            _ => Err(LineFault::Malformed),
-        }
+    fn call(&mut self, line: &str, given: &mut Given) -> Result<(), LineFault> {
+        let Some(place) = line.strip_prefix("home ") else {
+            return say_name(&self.home, line, given);
+        };
+        let mut words = Words::of(place);
+        self.home = home(given.alloc(), words.next(), words.rest())?;
+        Ok(())
     }
 }
 
@@ -69,9 +76,9 @@ impl Calls for Place {
 /// | `home ACCOUNT REGION` | nothing; the names behind it stand there |
 /// | `name TEXT` | the function that the text names, or why it names none |
 /// | `arn NAME`, `qualified-arn NAME` | the function's ARN, without and with `$LATEST` |
-pub fn give(alloc: Global, case: &Case, given: &mut String) -> Result<(), CaseFault> {
+pub fn give(case: &Case, given: &mut Given) -> Result<(), CaseFault> {
     let mut place = Place {
-        home: home(alloc, "", "")?,
+        home: home(given.alloc(), "", "")?,
     };
-    make_calls(alloc, case, &mut place, given)
+    make_calls(case, &mut place, given)
 }

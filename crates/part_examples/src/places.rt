@@ -1,23 +1,11 @@
 //! Places: which environment takes the next invocation.
 
-use crate::configurations::configuration_of;
-use crate::lines::{Calls, LineFault, Words, make_calls, short, tell};
-use arn_ids::EnvNo;
+use crate::lines::{Calls, LineFault, Opens, Words, call_opened, short, tell};
+use arn_ids::{Checked, EnvNo};
 use call_model::{Phase, Reason};
-use case_tables::{Case, CaseFault};
+use case_tables::{Case, CaseFault, Given, value_of};
 use placement::{Class, Places};
 use std::alloc::Global;
-
-/// The environments of the account that was read last.
-#[derive(Drop)]
-struct Account {
-    places: Option<Places>,
-}
-
-fn open(alloc: Global, line: &str) -> Result<Places, LineFault> {
-    let config = configuration_of(alloc, line)?;
-    Ok(Places::open(alloc, &config)?)
-}
 
 /// The phases that a table can name, with a deadline and an invocation of their own.
 const PHASES: [(&str, Phase); 7] = [
@@ -62,22 +50,25 @@ const PHASES: [(&str, Phase); 7] = [
     ),
 ];
 
+/// The classes of environments.
+const CLASSES: [(&str, Class); 4] = [
+    ("idle", Class::Idle),
+    ("starting-free", Class::StartingFree),
+    ("closing-free", Class::ClosingFree),
+    ("taken", Class::Taken),
+];
+
 fn phase_of(words: &str) -> Result<Phase, LineFault> {
-    for (name, phase) in PHASES {
-        if name == words {
-            return Ok(phase);
-        }
+    match value_of(&PHASES, words) {
+        Some(phase) => Ok(phase),
+        None => Err(LineFault::Malformed),
     }
-    Err(LineFault::Malformed)
 }
 
 fn class_of(word: &str) -> Result<Class, LineFault> {
-    match word {
-        "idle" => Ok(Class::Idle),
-        "starting-free" => Ok(Class::StartingFree),
-        "closing-free" => Ok(Class::ClosingFree),
-        "taken" => Ok(Class::Taken),
-        _ => Err(LineFault::Malformed),
+    match value_of(&CLASSES, word) {
+        Some(class) => Ok(class),
+        None => Err(LineFault::Malformed),
     }
 }
 
@@ -102,35 +93,24 @@ fn note_all(places: &mut Places, class: Class) -> Result<(), LineFault> {
     Ok(())
 }
 
-fn call_places(
-    alloc: Global,
-    places: &mut Places,
-    line: &str,
-    given: &mut String,
-) -> Result<(), LineFault> {
-    let mut words = Words::of(line);
-    match words.next() {
-        "note" => note_one(places, words),
-        "note-all" => note_all(places, class_of(words.rest())?),
-        "choose" => tell(alloc, given, &places.choose(short(words.last_number()?)?)),
-        "environments" => tell(alloc, given, &places.environments()),
-        _ => Err(LineFault::Malformed),
+impl Calls for Places {
+    fn call(&mut self, line: &str, given: &mut Given) -> Result<(), LineFault> {
+        let mut words = Words::of(line);
+        match words.next() {
+            "note" => note_one(self, words)?,
+            "note-all" => note_all(self, class_of(words.rest())?)?,
+            "choose" => tell(given, &self.choose(words.last_short()?)),
+            "class" => tell(given, &Class::of(phase_of(words.rest())?)),
+            "environments" => tell(given, &self.environments()),
+            _ => return Err(LineFault::Malformed),
+        }
+        Ok(())
     }
 }
 
-impl Calls for Account {
-    fn call(&mut self, alloc: Global, line: &str, given: &mut String) -> Result<(), LineFault> {
-        if line.starts_with('{') {
-            self.places = Some(open(alloc, line)?);
-            return Ok(());
-        }
-        if let Some(phase) = line.strip_prefix("class ") {
-            return tell(alloc, given, &Class::of(phase_of(phase)?));
-        }
-        match &mut self.places {
-            Some(places) => call_places(alloc, places, line, given),
-            None => Err(LineFault::Malformed),
-        }
+impl Opens for Places {
+    fn open(alloc: Global, config: Checked) -> Result<Places, LineFault> {
+        Ok(Places::open(alloc, &config)?)
     }
 }
 
@@ -143,6 +123,6 @@ impl Calls for Account {
 /// | `choose F` | the environment that the function's next invocation goes to |
 /// | `environments` | how many there are |
 /// | `class PHASE` | the class of an environment in this phase |
-pub fn give(alloc: Global, case: &Case, given: &mut String) -> Result<(), CaseFault> {
-    make_calls(alloc, case, &mut Account { places: None }, given)
+pub fn give(case: &Case, given: &mut Given) -> Result<(), CaseFault> {
+    call_opened::<Places>(case, given)
 }

@@ -2,38 +2,23 @@
 
 ghost use Rattle.std.specs.Prelude.{◌≤◌, length};
 
-use crate::configurations::configuration_of;
-use crate::lines::{Calls, LineFault, Words, make_calls, say, short, tell};
-use arn_ids::FnNo;
-use case_tables::{Case, CaseFault};
+use crate::lines::{Calls, LineFault, Opens, Words, call_opened, short, tell};
+use arn_ids::{Checked, FnNo};
+use case_tables::{Case, CaseFault, Given};
 use concurrency_pool::Pool;
 use std::alloc::Global;
 
-/// The pool of the account that was read last.
-#[derive(Drop)]
-struct Account {
-    pool: Option<Pool>,
-}
-
-fn open(alloc: Global, line: &str) -> Result<Pool, LineFault> {
-    let config = configuration_of(alloc, line)?;
-    Ok(Pool::open(alloc, &config)?)
-}
-
-fn invoke(
-    alloc: Global,
-    pool: &mut Pool,
-    function: FnNo,
-    given: &mut String,
-) -> Result<(), LineFault>
+fn invoke(pool: &mut Pool, function: FnNo, given: &mut Given)
     requires from_one { 1 ≤ function }
     requires there { function ≤ length pool.old.functions }
 {
-    if let Err(reason) = pool.may_admit(function) {
-        return tell(alloc, given, &reason);
+    match pool.may_admit(function) {
+        Ok(()) => {
+            pool.charge(function);
+            given.push("admitted\n");
+        }
+        Err(reason) => tell(given, &reason),
     }
-    pool.charge(function);
-    say(given, "admitted")
 }
 
 fn release(pool: &mut Pool, function: FnNo) -> Result<(), LineFault>
@@ -51,33 +36,28 @@ fn release(pool: &mut Pool, function: FnNo) -> Result<(), LineFault>
 fn count_of(words: Words<'_>) -> Result<Option<u32>, LineFault> {
     match words.rest() {
         "-" => Ok(None),
-        _ => Ok(Some(short(words.last_number()?)?)),
+        _ => Ok(Some(words.last_short()?)),
     }
 }
 
-fn reserve(
-    pool: &mut Pool,
-    function: FnNo,
-    count: Option<u32>,
-    given: &mut String,
-) -> Result<(), LineFault>
+fn reserve(pool: &mut Pool, function: FnNo, count: Option<u32>, given: &mut Given)
     requires from_one { 1 ≤ function }
     requires there { function ≤ length pool.old.functions }
 {
     if !pool.may_reserve(function, count) {
-        return say(given, "refused");
+        given.push("refused\n");
+        return;
     }
     pool.reserve(function, count);
-    say(given, "reserved")
+    given.push("reserved\n");
 }
 
 /// Makes a call about a function.
 fn call_function(
-    alloc: Global,
     pool: &mut Pool,
     word: &str,
     words: Words<'_>,
-    given: &mut String,
+    given: &mut Given,
 ) -> Result<(), LineFault> {
     let mut words = words;
     let function = short(words.number()?)?;
@@ -85,39 +65,31 @@ fn call_function(
         return Err(LineFault::Malformed);
     }
     match word {
-        "invoke" => invoke(alloc, pool, function, given),
-        "release" => release(pool, function),
+        "invoke" => invoke(pool, function, given),
+        "release" => release(pool, function)?,
         "reserve" => reserve(pool, function, count_of(words)?, given),
-        "in-flight" => tell(alloc, given, &pool.in_flight(function)),
-        "reservation" => tell(alloc, given, &pool.reservation(function)),
-        _ => Err(LineFault::Malformed),
+        "in-flight" => tell(given, &pool.in_flight(function)),
+        "reservation" => tell(given, &pool.reservation(function)),
+        _ => return Err(LineFault::Malformed),
+    }
+    Ok(())
+}
+
+impl Calls for Pool {
+    fn call(&mut self, line: &str, given: &mut Given) -> Result<(), LineFault> {
+        let mut words = Words::of(line);
+        match words.next() {
+            "functions" => tell(given, &self.functions()),
+            "in-flight-in-all" => tell(given, &self.in_flight_in_all()),
+            word => return call_function(self, word, words, given),
+        }
+        Ok(())
     }
 }
 
-fn call_pool(
-    alloc: Global,
-    pool: &mut Pool,
-    line: &str,
-    given: &mut String,
-) -> Result<(), LineFault> {
-    let mut words = Words::of(line);
-    match words.next() {
-        "functions" => tell(alloc, given, &pool.functions()),
-        "in-flight-in-all" => tell(alloc, given, &pool.in_flight_in_all()),
-        word => call_function(alloc, pool, word, words, given),
-    }
-}
-
-impl Calls for Account {
-    fn call(&mut self, alloc: Global, line: &str, given: &mut String) -> Result<(), LineFault> {
-        if line.starts_with('{') {
-            self.pool = Some(open(alloc, line)?);
-            return Ok(());
-        }
-        match &mut self.pool {
-            Some(pool) => call_pool(alloc, pool, line, given),
-            None => Err(LineFault::Malformed),
-        }
+impl Opens for Pool {
+    fn open(alloc: Global, config: Checked) -> Result<Pool, LineFault> {
+        Ok(Pool::open(alloc, &config)?)
     }
 }
 
@@ -130,6 +102,6 @@ impl Calls for Account {
 /// | `release F` | nothing; one less is in flight |
 /// | `reserve F N`, `reserve F -` | whether the reservation is taken |
 /// | `in-flight F`, `reservation F`, `functions`, `in-flight-in-all` | what the pool has |
-pub fn give(alloc: Global, case: &Case, given: &mut String) -> Result<(), CaseFault> {
-    make_calls(alloc, case, &mut Account { pool: None }, given)
+pub fn give(case: &Case, given: &mut Given) -> Result<(), CaseFault> {
+    call_opened::<Pool>(case, given)
 }

@@ -1,16 +1,15 @@
 //! Lines of scripts, and the calls that they stand for.
 
-use crate::configurations::configuration_of;
-use crate::lines::{Calls, LineFault, Words, make_calls, say, short, tell};
+use crate::lines::{Calls, LineFault, Opens, Words, call_opened, short, tell};
 use arn_ids::Checked;
 use call_model::Call;
-use case_tables::{Case, CaseFault};
+use case_tables::{Case, CaseFault, Given};
 use std::alloc::Global;
 
-/// The account that was read last.
+/// The account whose scripts are read.
 #[derive(Drop)]
 struct Account {
-    config: Option<Checked>,
+    config: Checked,
 }
 
 /// The line between the bars.
@@ -35,20 +34,19 @@ fn read(
     Ok(script::read_call(alloc, config, reserves, line.as_bytes())?)
 }
 
-fn say_whether(call: &Option<(u64, Call)>, given: &mut String) -> Result<(), LineFault> {
-    say(given, if call.is_some() { "a call" } else { "no call" })
+fn say_whether(call: &Option<(u64, Call)>, given: &mut Given) {
+    given.push(if call.is_some() {
+        "a call\n"
+    } else {
+        "no call\n"
+    });
 }
 
 /// Says what a line is; where that is no call, what stands for that.
-fn say_call(
-    alloc: Global,
-    call: &Option<(u64, Call)>,
-    otherwise: &str,
-    given: &mut String,
-) -> Result<(), LineFault> {
+fn say_call(call: &Option<(u64, Call)>, otherwise: &str, given: &mut Given) {
     match call {
-        Some(call) => tell(alloc, given, call),
-        None => Ok(given.push_str(otherwise)?),
+        Some(call) => tell(given, call),
+        None => given.push(otherwise),
     }
 }
 
@@ -61,37 +59,33 @@ fn with_letters(alloc: Global, words: Words<'_>) -> Result<String, LineFault> {
     Ok(line.as_str().replace(alloc, "<letters>", letters.as_str())?)
 }
 
-fn read_script(
-    alloc: Global,
-    config: &Checked,
-    line: &str,
-    given: &mut String,
-) -> Result<(), LineFault> {
-    let mut words = Words::of(line);
-    let word = words.next();
-    let text = match word {
-        "letters" => with_letters(alloc, words)?,
-        _ => line_of(alloc, words.rest())?,
-    };
-    let call = read(alloc, config, word != "form-1", text.as_str())?;
+/// What a line says, in its bars.
+fn text_of(alloc: Global, word: &str, words: Words<'_>) -> Result<String, LineFault> {
     match word {
-        "call" => say_call(alloc, &call, "no call\n", given),
-        "no-call" => say_call(alloc, &call, "", given),
-        "form-1" | "letters" => say_whether(&call, given),
-        _ => Err(LineFault::Malformed),
+        "letters" => with_letters(alloc, words),
+        _ => line_of(alloc, words.rest()),
     }
 }
 
 impl Calls for Account {
-    fn call(&mut self, alloc: Global, line: &str, given: &mut String) -> Result<(), LineFault> {
-        if line.starts_with('{') {
-            self.config = Some(configuration_of(alloc, line)?);
-            return Ok(());
+    fn call(&mut self, line: &str, given: &mut Given) -> Result<(), LineFault> {
+        let mut words = Words::of(line);
+        let word = words.next();
+        let text = text_of(given.alloc(), word, words)?;
+        let call = read(given.alloc(), &self.config, word != "form-1", text.as_str())?;
+        match word {
+            "call" => say_call(&call, "no call\n", given),
+            "no-call" => say_call(&call, "", given),
+            "form-1" | "letters" => say_whether(&call, given),
+            _ => return Err(LineFault::Malformed),
         }
-        match &self.config {
-            Some(config) => read_script(alloc, config, line, given),
-            None => Err(LineFault::Malformed),
-        }
+        Ok(())
+    }
+}
+
+impl Opens for Account {
+    fn open(_alloc: Global, config: Checked) -> Result<Account, LineFault> {
+        Ok(Account { config })
     }
 }
 
@@ -105,6 +99,6 @@ impl Calls for Account {
 /// | `no-call 'LINE'` | nothing where the line stands for no call |
 /// | `form-1 'LINE'` | whether it stands for a call in a script of the first form |
 /// | `letters N 'LINE'` | whether it does, with N letters in place of `<letters>` |
-pub fn give(alloc: Global, case: &Case, given: &mut String) -> Result<(), CaseFault> {
-    make_calls(alloc, case, &mut Account { config: None }, given)
+pub fn give(case: &Case, given: &mut Given) -> Result<(), CaseFault> {
+    call_opened::<Account>(case, given)
 }

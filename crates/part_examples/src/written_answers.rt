@@ -2,6 +2,7 @@
 
 use crate::lines::{LineFault, Words, short};
 use call_model::{Answer, Reason, Rejection, Throttle};
+use case_tables::value_of;
 
 /// The answers that are one word.
 const PLAIN: [(&str, Answer); 21] = [
@@ -35,12 +36,10 @@ const PLAIN: [(&str, Answer); 21] = [
 ];
 
 fn plain(word: &str) -> Result<Answer, LineFault> {
-    for (name, answer) in PLAIN {
-        if name == word {
-            return Ok(answer);
-        }
+    match value_of(&PLAIN, word) {
+        Some(answer) => Ok(answer),
+        None => Err(LineFault::Malformed),
     }
-    Err(LineFault::Malformed)
 }
 
 /// An event of the end: the moment and the event's number follow.
@@ -72,27 +71,44 @@ fn told(words: Words<'_>) -> Result<Answer, LineFault> {
     })
 }
 
+/// The answer of a word and one number.
+fn numbered(word: &str, number: u64) -> Result<Answer, LineFault> {
+    match word {
+        "registered" => Ok(Answer::Registered { count: number }),
+        "output" => Ok(Answer::Output { source: number }),
+        "error" => Ok(Answer::Error { source: number }),
+        "reserved" => Ok(Answer::Reserved {
+            count: short(number)?,
+        }),
+        _ => Err(LineFault::Malformed),
+    }
+}
+
+/// The ends, by their words.
+const ENDS: [(&str, Reason); 3] = [
+    ("ending-timeout", Reason::Timeout),
+    ("ending-failure", Reason::Failure),
+    ("ending-spindown", Reason::Spindown),
+];
+
+/// The answer of a word with numbers behind it.
+fn longer(word: &str, words: Words<'_>) -> Result<Answer, LineFault> {
+    if let Some(reason) = value_of(&ENDS, word) {
+        return ending(reason, words);
+    }
+    match word {
+        "delivered" => delivered(words),
+        "told" => told(words),
+        _ => numbered(word, words.last_number()?),
+    }
+}
+
 /// The answer that words say.
 pub fn answer_of(words: Words<'_>) -> Result<Answer, LineFault> {
     let mut words = words;
-    match words.next() {
-        "delivered" => delivered(words),
-        "told" => told(words),
-        "ending-timeout" => ending(Reason::Timeout, words),
-        "ending-failure" => ending(Reason::Failure, words),
-        "ending-spindown" => ending(Reason::Spindown, words),
-        "registered" => Ok(Answer::Registered {
-            count: words.last_number()?,
-        }),
-        "output" => Ok(Answer::Output {
-            source: words.last_number()?,
-        }),
-        "error" => Ok(Answer::Error {
-            source: words.last_number()?,
-        }),
-        "reserved" => Ok(Answer::Reserved {
-            count: short(words.last_number()?)?,
-        }),
-        word => plain(word),
+    let word = words.next();
+    match words.rest() {
+        "" => plain(word),
+        _ => longer(word, words),
     }
 }

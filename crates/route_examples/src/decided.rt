@@ -7,14 +7,13 @@ use crate::port::Door;
 use arn_ids::Checked;
 use bytes::Bytes;
 use call_model::{Answers, Call, Entry};
-use case_tables::CaseFault;
+use case_tables::{CaseFault, Given};
 use entry_blocks::Blocks;
 use http::request::Parts;
 use http_routes::{Decision, Shown};
 use lambda_wire::{PayloadScratch, Reply};
 use script::push_entry;
 use std::alloc::{AllocError, Global};
-use std::str;
 
 /// How many bytes of a body a line shows.
 const LONGEST_SHOWN: usize = 1000;
@@ -28,14 +27,6 @@ pub fn decided(
 ) -> Result<Decision, AllocError> {
     let mut scratch = PayloadScratch::new();
     door.side.decide(alloc, &mut scratch, head, body)
-}
-
-/// Adds bytes as text.
-fn push_text(given: &mut String, bytes: &[u8]) -> Result<(), AllocError> {
-    match str::from_utf8(bytes) {
-        Ok(text) => given.push_str(text),
-        Err(_) => given.push_str("(bytes that are no text)"),
-    }
 }
 
 /// The count in the request identifier of the only call of a history.
@@ -74,77 +65,68 @@ fn line_of(alloc: Global, config: &Checked, call: Call) -> Result<Vec<u8>, Alloc
     Ok(line)
 }
 
-/// Adds the line of a call. Where it ends with the request's body, and that is long, it is told how
+/// Adds a script's line. Where it ends with the request's body, and that is long, it is told how
 /// many bytes those are.
-fn push_call(
-    alloc: Global,
-    config: &Checked,
-    call: Call,
-    body: &Bytes,
-    given: &mut String,
-) -> Result<(), AllocError> {
-    let line = line_of(alloc, config, call)?;
-    let line = line.strip_suffix(b"\n").unwrap_or(line.as_slice());
-    given.push_str("submit ")?;
-    match line.strip_suffix(body.as_slice()) {
+fn push_line(line: &[u8], body: &[u8], given: &mut Given) {
+    let line = line.strip_suffix(b"\n").unwrap_or(line);
+    match line.strip_suffix(body) {
         Some(front) if body.len() > LONGEST_SHOWN => {
-            let count = body.len();
-            push_text(given, front)?;
-            given.push_str(format!(in alloc; "(the {count} bytes of the body)")?.as_str())
+            given.push_bytes(front);
+            given.push("(the ");
+            given.print(&body.len());
+            given.push(" bytes of the body)");
         }
-        _ => push_text(given, line),
+        _ => given.push_bytes(line),
+    }
+}
+
+/// Adds the line of a call.
+fn push_call(config: &Checked, call: Call, body: &[u8], given: &mut Given) {
+    given.push("submit ");
+    match line_of(given.alloc(), config, call) {
+        Ok(line) => push_line(line.as_slice(), body, given),
+        Err(_) => given.cut(),
     }
 }
 
 /// Adds a refusal: its status, the type that the Lambda API gives it, and its body.
-fn push_refusal(alloc: Global, reply: &Reply, given: &mut String) -> Result<(), AllocError> {
-    let status = reply.status;
-    given.push_str(format!(in alloc; "refuse {status} ")?.as_str())?;
+fn push_refusal(reply: &Reply, given: &mut Given) {
+    given.push("refuse ");
+    given.print(&reply.status);
+    given.push(" ");
     for (name, value) in reply.headers.as_slice() {
         if name.as_str() == "x-amzn-errortype" {
-            push_text(given, value.as_bytes())?;
-            given.push(' ')?;
+            given.push_bytes(value.as_bytes());
+            given.push(" ");
         }
     }
-    push_text(given, reply.body.as_slice())
+    given.push_bytes(reply.body.as_slice());
 }
 
 /// Adds what is shown.
-fn push_shown(alloc: Global, shown: Shown, given: &mut String) -> Result<(), AllocError> {
+fn push_shown(shown: Shown, given: &mut Given) {
     match shown {
-        Shown::Stats => given.push_str("show stats"),
-        Shown::History => given.push_str("show history"),
+        Shown::Stats => given.push("show stats"),
+        Shown::History => given.push("show history"),
         Shown::Reservation { function } => {
-            given.push_str(format!(in alloc; "show reservation {function}")?.as_str())
+            given.push("show reservation ");
+            given.print(&function);
         }
-    }
-}
-
-/// Adds what is done with a request.
-fn push_decision(
-    alloc: Global,
-    config: &Checked,
-    decision: Decision,
-    body: &Bytes,
-    given: &mut String,
-) -> Result<(), AllocError> {
-    match decision {
-        Decision::Submit(call) => push_call(alloc, config, call, body, given),
-        Decision::Reply(reply) => push_refusal(alloc, &reply, given),
-        Decision::Show(shown) => push_shown(alloc, shown, given),
     }
 }
 
 /// Adds the line of what a port does with a request.
 pub fn push_decided(
-    alloc: Global,
     door: &Door,
     head: &Parts,
     body: &Bytes,
-    given: &mut String,
+    given: &mut Given,
 ) -> Result<(), CaseFault> {
-    let decision = decided(alloc, door, head, body)?;
-    push_decision(alloc, &door.config, decision, body, given)?;
-    given.push('\n')?;
+    match decided(given.alloc(), door, head, body)? {
+        Decision::Submit(call) => push_call(&door.config, call, body.as_slice(), given),
+        Decision::Reply(reply) => push_refusal(&reply, given),
+        Decision::Show(shown) => push_shown(shown, given),
+    }
+    given.push("\n");
     Ok(())
 }

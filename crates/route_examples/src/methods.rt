@@ -4,9 +4,8 @@ use crate::decided::decided;
 use crate::port::Door;
 use crate::request::head_of;
 use bytes::Bytes;
-use case_tables::{CaseFault, Part};
+use case_tables::{CaseFault, Given, Part};
 use http_routes::Decision;
-use std::alloc::Global;
 
 /// The word for what is done with a request: 404 where there is no such path, 405 where it takes
 /// other methods, and `yes` where it takes this one.
@@ -26,49 +25,34 @@ fn word_of(decision: &Decision) -> &'static str {
 
 /// Adds the word of a method.
 fn push_method(
-    alloc: Global,
     door: &Door,
     part: &Part,
     method: &str,
     target: &str,
-    given: &mut String,
+    given: &mut Given,
 ) -> Result<(), CaseFault> {
-    let head = head_of(alloc, part, method, target)?;
-    let decision = decided(alloc, door, &head, &Bytes::new())?;
-    given.push_str(word_of(&decision))?;
+    let head = head_of(given.alloc(), part, method, target)?;
+    let decision = decided(given.alloc(), door, &head, &Bytes::new())?;
+    given.push(word_of(&decision));
     Ok(())
 }
 
 /// Adds the line of a target: a word for each method.
-fn push_target(
-    alloc: Global,
-    door: &Door,
-    part: &Part,
-    target: &str,
-    given: &mut String,
-) -> Result<(), CaseFault> {
-    let mut is_first = true;
+fn push_target(door: &Door, part: &Part, target: &str, given: &mut Given) -> Result<(), CaseFault> {
+    let mut between = "";
     for method in part.arguments().split(' ') {
-        if !is_first {
-            given.push(' ')?;
-        }
-        push_method(alloc, door, part, method, target, given)?;
-        is_first = false;
+        given.push(between);
+        push_method(door, part, method, target, given)?;
+        between = " ";
     }
-    given.push('\n')?;
+    given.push("\n");
     Ok(())
 }
 
 /// Adds the lines of a part's targets.
-pub fn push_methods(
-    alloc: Global,
-    door: &Door,
-    part: &Part,
-    given: &mut String,
-) -> Result<(), CaseFault> {
-    let lines = part.text();
-    for target in lines.strip_suffix('\n').unwrap_or(lines).split('\n') {
-        push_target(alloc, door, part, target, given)?;
+pub fn push_methods(door: &Door, part: &Part, given: &mut Given) -> Result<(), CaseFault> {
+    for target in part.lines().split('\n') {
+        push_target(door, part, target, given)?;
     }
     Ok(())
 }

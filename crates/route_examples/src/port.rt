@@ -14,21 +14,12 @@ pub struct Door {
     pub side: Side,
 }
 
-fn malformed(part: &Part, what: &'static str) -> CaseFault {
-    CaseFault::Malformed {
-        line: part.line(),
-        what,
-    }
-}
-
 /// What a part's configuration says.
 fn setup_of(alloc: Global, part: &Part) -> Result<Setup, CaseFault> {
-    let text = part.text();
-    let line = text.strip_suffix('\n').unwrap_or(text);
-    match read_config(alloc, line.as_bytes()) {
+    match read_config(alloc, part.lines().as_bytes()) {
         Ok(setup) => Ok(setup),
         Err(WireFault::OutOfMemory) => Err(CaseFault::Memory),
-        Err(_) => Err(malformed(part, "a configuration is wanted")),
+        Err(_) => Err(part.malformed("a configuration is wanted")),
     }
 }
 
@@ -39,11 +30,11 @@ fn port_of(part: &Part) -> Result<Port, CaseFault> {
         return Ok(Port::Account);
     }
     let Some(number) = words.strip_prefix("environment ") else {
-        return Err(malformed(part, "account or environment E is wanted"));
+        return Err(part.malformed("account or environment E is wanted"));
     };
     match number.parse::<u32>() {
         Ok(env) => Ok(Port::Environment(env)),
-        Err(_) => Err(malformed(part, "the number of an environment is wanted")),
+        Err(_) => Err(part.malformed("the number of an environment is wanted")),
     }
 }
 
@@ -57,7 +48,7 @@ fn open(
 ) -> Result<Side, CaseFault> {
     if let Port::Environment(env) = port {
         if env == 0 || env > config.environments() {
-            return Err(malformed(part, "there is no such environment"));
+            return Err(part.malformed("there is no such environment"));
         }
     }
     Ok(Side::open(alloc, Arc::try_clone(config)?, salt, port)?)
@@ -67,7 +58,7 @@ fn open(
 pub fn door_of(alloc: Global, config_part: &Part, port_part: &Part) -> Result<Door, CaseFault> {
     let Setup { config, salt, .. } = setup_of(alloc, config_part)?;
     let Ok(config) = config.check() else {
-        return Err(malformed(config_part, "a configuration without a fault is wanted"));
+        return Err(config_part.malformed("a configuration without a fault is wanted"));
     };
     let config = Arc::new(alloc, config)?;
     let side = open(alloc, &config, salt, port_of(port_part)?, port_part)?;

@@ -16,18 +16,11 @@ pub struct Request {
     pub body: Vec<u8>,
 }
 
-fn malformed(part: &Part, what: &'static str) -> CaseFault {
-    CaseFault::Malformed {
-        line: part.line(),
-        what,
-    }
-}
-
 fn method_of(alloc: Global, part: &Part, text: &str) -> Result<Method, CaseFault> {
     match Method::from_bytes(alloc, text.as_bytes()) {
         Ok(method) => Ok(method),
         Err(MethodError::OutOfMemory) => Err(CaseFault::Memory),
-        Err(_) => Err(malformed(part, "a method is wanted")),
+        Err(_) => Err(part.malformed("a method is wanted")),
     }
 }
 
@@ -35,7 +28,7 @@ fn target_of(alloc: Global, part: &Part, text: &str) -> Result<Uri, CaseFault> {
     match Uri::from_str(alloc, text) {
         Ok(uri) => Ok(uri),
         Err(UriError::OutOfMemory) => Err(CaseFault::Memory),
-        Err(_) => Err(malformed(part, "a target is wanted")),
+        Err(_) => Err(part.malformed("a target is wanted")),
     }
 }
 
@@ -43,7 +36,7 @@ fn name_of(alloc: Global, part: &Part, text: &str) -> Result<HeaderName, CaseFau
     match HeaderName::from_bytes(alloc, text.as_bytes()) {
         Ok(name) => Ok(name),
         Err(HeaderNameError::OutOfMemory) => Err(CaseFault::Memory),
-        Err(_) => Err(malformed(part, "a header's name is wanted")),
+        Err(_) => Err(part.malformed("a header's name is wanted")),
     }
 }
 
@@ -51,7 +44,7 @@ fn value_of(alloc: Global, part: &Part, text: &str) -> Result<HeaderValue, CaseF
     match HeaderValue::from_str(alloc, text) {
         Ok(value) => Ok(value),
         Err(HeaderValueError::OutOfMemory) => Err(CaseFault::Memory),
-        Err(HeaderValueError::Invalid) => Err(malformed(part, "a header's value is wanted")),
+        Err(HeaderValueError::Invalid) => Err(part.malformed("a header's value is wanted")),
     }
 }
 
@@ -66,7 +59,7 @@ pub fn head_of(alloc: Global, part: &Part, method: &str, target: &str) -> Result
 /// Adds the header of a line. Its value is all that stands behind the colon and one space.
 fn add_header(alloc: Global, part: &Part, head: &mut Parts, line: &str) -> Result<(), CaseFault> {
     let Some((name, value)) = line.split_once(": ") else {
-        return Err(malformed(part, "a header is wanted"));
+        return Err(part.malformed("a header is wanted"));
     };
     let name = name_of(alloc, part, name)?;
     let value = value_of(alloc, part, value)?;
@@ -81,10 +74,10 @@ fn read_head(alloc: Global, part: &Part, text: &str) -> Result<Parts, CaseFault>
     let mut lines = text.split('\n');
     let first = lines.next().unwrap_or("");
     let Some((method, rest)) = first.split_once(' ') else {
-        return Err(malformed(part, "a request is wanted"));
+        return Err(part.malformed("a request is wanted"));
     };
     let Some(target) = rest.strip_suffix(" HTTP/1.1") else {
-        return Err(malformed(part, "a request of HTTP/1.1 is wanted"));
+        return Err(part.malformed("a request of HTTP/1.1 is wanted"));
     };
     let mut head = head_of(alloc, part, method, target)?;
     for line in lines {
@@ -95,8 +88,7 @@ fn read_head(alloc: Global, part: &Part, text: &str) -> Result<Parts, CaseFault>
 
 /// The request that a part says.
 pub fn read_request(alloc: Global, part: &Part) -> Result<Request, CaseFault> {
-    let text = part.text();
-    let text = text.strip_suffix('\n').unwrap_or(text);
+    let text = part.lines();
     let (lines, body) = text.split_once("\n\n").unwrap_or((text, ""));
     let head = read_head(alloc, part, lines)?;
     let body = Vec::from_slice(alloc, body.as_bytes())?;

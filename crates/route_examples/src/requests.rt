@@ -5,7 +5,7 @@ use crate::methods::push_methods;
 use crate::port::{Door, door_of};
 use crate::request::{Request, read_request};
 use bytes::Bytes;
-use case_tables::{Case, CaseFault, Part, Subject, push_bytes};
+use case_tables::{Case, CaseFault, Given, Part, Subject, push_bytes};
 use std::alloc::Global;
 
 /// What is done with requests.
@@ -21,55 +21,46 @@ use std::alloc::Global;
 pub struct Requests;
 
 /// Adds what is done with the request that has been read, if there is one.
-fn finish(
-    alloc: Global,
-    door: &Door,
-    open: Option<Request>,
-    given: &mut String,
-) -> Result<(), CaseFault> {
+fn finish(door: &Door, open: Option<Request>, given: &mut Given) -> Result<(), CaseFault> {
     let Some(Request { head, body }) = open else {
         return Ok(());
     };
-    push_decided(alloc, door, &head, &Bytes::from_vec(body)?, given)
+    push_decided(door, &head, &Bytes::from_vec(body)?, given)
 }
 
-/// Takes a part of a case.
-fn take_part(
-    alloc: Global,
+/// Adds bytes to the request that has been read.
+fn add_bytes(open: &mut Option<Request>, part: &Part) -> Result<(), CaseFault> {
+    match open {
+        Some(request) => push_bytes(&mut request.body, part),
+        None => Err(CaseFault::Unknown { line: part.line() }),
+    }
+}
+
+/// Takes a part of a case that does not belong to the request before it.
+fn begin(
     door: &Door,
     open: &mut Option<Request>,
     part: &Part,
-    given: &mut String,
+    given: &mut Given,
 ) -> Result<(), CaseFault> {
-    match part.word() {
-        "request" => {
-            finish(alloc, door, open.take(), given)?;
-            *open = Some(read_request(alloc, part)?);
-            Ok(())
-        }
-        "methods" => {
-            finish(alloc, door, open.take(), given)?;
-            push_methods(alloc, door, part, given)
-        }
-        _ => match open {
-            Some(request) => push_bytes(&mut request.body, part),
-            None => Err(CaseFault::Unknown { line: part.line() }),
-        },
+    finish(door, open.take(), given)?;
+    if part.word() == "methods" {
+        return push_methods(door, part, given);
     }
+    *open = Some(read_request(given.alloc(), part)?);
+    Ok(())
 }
 
 /// Adds what is done with the requests of a case.
-fn push_requests(
-    alloc: Global,
-    door: &Door,
-    parts: &[Part],
-    given: &mut String,
-) -> Result<(), CaseFault> {
+fn push_requests(door: &Door, parts: &[Part], given: &mut Given) -> Result<(), CaseFault> {
     let mut open = None;
     for part in parts {
-        take_part(alloc, door, &mut open, part, given)?;
+        match part.word() {
+            "request" | "methods" => begin(door, &mut open, part, given)?,
+            _ => add_bytes(&mut open, part)?,
+        }
     }
-    finish(alloc, door, open, given)
+    finish(door, open, given)
 }
 
 /// The first of the parts, which is to be called so, and the others.
@@ -83,11 +74,18 @@ fn cut_part<'c>(
     }
 }
 
+/// Tells what is done with the requests of a case.
+fn tell(case: &Case, given: &mut Given) -> Result<(), CaseFault> {
+    let (config, parts) = cut_part(case.parts(), "config")?;
+    let (port, parts) = cut_part(parts, "port")?;
+    let door = door_of(given.alloc(), config, port)?;
+    push_requests(&door, parts, given)
+}
+
 impl Subject for Requests {
     fn give(&self, alloc: Global, case: &Case, given: &mut String) -> Result<(), CaseFault> {
-        let (config, parts) = cut_part(case.parts(), "config")?;
-        let (port, parts) = cut_part(parts, "port")?;
-        let door = door_of(alloc, config, port)?;
-        push_requests(alloc, &door, parts, given)
+        let mut told = Given::new(alloc);
+        tell(case, &mut told)?;
+        told.hand_over(given)
     }
 }

@@ -1,59 +1,48 @@
 //! Answers by their words.
 
 use call_model::{Answer, Reason, Rejection, Throttle};
-use case_tables::{CaseFault, Part};
+use case_tables::{CaseFault, Part, value_of};
+
+/// The answers without a number.
+const PLAIN: [(&str, Answer); 21] = [
+    ("accepted", Answer::Accepted),
+    ("done", Answer::Done),
+    ("timeout", Answer::TimedOut),
+    ("init-timeout", Answer::InitTimedOut),
+    ("too-large-output", Answer::OutputTooLarge),
+    ("stopped", Answer::Stopped),
+    ("withdrawn", Answer::Withdrawn),
+    ("unreserved", Answer::Unreserved),
+    ("throttled Function", Answer::Throttled(Throttle::Function)),
+    ("throttled Account", Answer::Throttled(Throttle::Account)),
+    (
+        "throttled Environments",
+        Answer::Throttled(Throttle::Environments),
+    ),
+    ("refused State", Answer::Refused(Rejection::State)),
+    ("refused Replaced", Answer::Refused(Rejection::Replaced)),
+    ("refused BadId", Answer::Refused(Rejection::BadId)),
+    ("refused Unknown", Answer::Refused(Rejection::Unknown)),
+    ("refused TooLarge", Answer::Refused(Rejection::TooLarge)),
+    ("refused Container", Answer::Refused(Rejection::Container)),
+    ("refused NameInUse", Answer::Refused(Rejection::NameInUse)),
+    ("refused TooMany", Answer::Refused(Rejection::TooMany)),
+    ("refused NotIdle", Answer::Refused(Rejection::NotIdle)),
+    (
+        "refused BadReservation",
+        Answer::Refused(Rejection::BadReservation),
+    ),
+];
+
+/// The reasons of an end.
+const REASONS: [(&str, Reason); 3] = [
+    ("TIMEOUT", Reason::Timeout),
+    ("FAILURE", Reason::Failure),
+    ("SPINDOWN", Reason::Spindown),
+];
 
 fn number_in(text: &str) -> Option<u64> {
     text.parse::<u64>().ok()
-}
-
-fn reason_in(word: &str) -> Option<Reason> {
-    match word {
-        "TIMEOUT" => Some(Reason::Timeout),
-        "FAILURE" => Some(Reason::Failure),
-        "SPINDOWN" => Some(Reason::Spindown),
-        _ => None,
-    }
-}
-
-fn throttle_in(word: &str) -> Option<Throttle> {
-    match word {
-        "Function" => Some(Throttle::Function),
-        "Account" => Some(Throttle::Account),
-        "Environments" => Some(Throttle::Environments),
-        _ => None,
-    }
-}
-
-fn refusal_in(word: &str) -> Option<Rejection> {
-    match word {
-        "State" => Some(Rejection::State),
-        "Replaced" => Some(Rejection::Replaced),
-        "BadId" => Some(Rejection::BadId),
-        "Unknown" => Some(Rejection::Unknown),
-        "TooLarge" => Some(Rejection::TooLarge),
-        "Container" => Some(Rejection::Container),
-        "NameInUse" => Some(Rejection::NameInUse),
-        "TooMany" => Some(Rejection::TooMany),
-        "NotIdle" => Some(Rejection::NotIdle),
-        "BadReservation" => Some(Rejection::BadReservation),
-        _ => None,
-    }
-}
-
-/// The answer of a word alone.
-fn plain_answer(word: &str) -> Option<Answer> {
-    match word {
-        "accepted" => Some(Answer::Accepted),
-        "done" => Some(Answer::Done),
-        "timeout" => Some(Answer::TimedOut),
-        "init-timeout" => Some(Answer::InitTimedOut),
-        "too-large-output" => Some(Answer::OutputTooLarge),
-        "stopped" => Some(Answer::Stopped),
-        "withdrawn" => Some(Answer::Withdrawn),
-        "unreserved" => Some(Answer::Unreserved),
-        _ => None,
-    }
 }
 
 /// A delivery: the Invoke's ticket and the deadline.
@@ -81,10 +70,23 @@ fn ending(rest: &str) -> Option<Answer> {
     let (event, rest) = rest.split_once(' ')?;
     let (reason, until) = rest.split_once(' ')?;
     Some(Answer::Ending {
-        reason: reason_in(reason)?,
+        reason: value_of(&REASONS, reason)?,
         until: number_in(until)?,
         event: number_in(event)?,
     })
+}
+
+/// The answer of a word and one number.
+fn numbered_answer(word: &str, number: u64) -> Option<Answer> {
+    match word {
+        "registered" => Some(Answer::Registered { count: number }),
+        "output" => Some(Answer::Output { source: number }),
+        "error" => Some(Answer::Error { source: number }),
+        "reserved" => Some(Answer::Reserved {
+            count: u32::try_from(number).ok()?,
+        }),
+        _ => None,
+    }
 }
 
 /// The answer of a word and what stands behind it.
@@ -93,28 +95,17 @@ fn longer_answer(word: &str, rest: &str) -> Option<Answer> {
         "deliver" => delivery(rest),
         "tell" => told(rest),
         "shutdown" => ending(rest),
-        "registered" => Some(Answer::Registered {
-            count: number_in(rest)?,
-        }),
-        "output" => Some(Answer::Output {
-            source: number_in(rest)?,
-        }),
-        "error" => Some(Answer::Error {
-            source: number_in(rest)?,
-        }),
-        "throttled" => Some(Answer::Throttled(throttle_in(rest)?)),
-        "refused" => Some(Answer::Refused(refusal_in(rest)?)),
-        "reserved" => Some(Answer::Reserved {
-            count: rest.parse::<u32>().ok()?,
-        }),
-        _ => None,
+        _ => numbered_answer(word, number_in(rest)?),
     }
 }
 
 fn answer_in(text: &str) -> Option<Answer> {
-    match text.split_once(' ') {
-        None => plain_answer(text),
-        Some((word, rest)) => longer_answer(word, rest),
+    match value_of(&PLAIN, text) {
+        Some(answer) => Some(answer),
+        None => {
+            let (word, rest) = text.split_once(' ')?;
+            longer_answer(word, rest)
+        }
     }
 }
 
@@ -131,8 +122,8 @@ fn answer_in(text: &str) -> Option<Answer> {
 /// | `reserved N`, `unreserved` | a reservation is set or removed |
 /// | `accepted`, `done`, `timeout`, `init-timeout`, `too-large-output`, `stopped`, `withdrawn` | |
 pub fn answer_of(part: &Part) -> Result<Answer, CaseFault> {
-    answer_in(part.arguments()).ok_or(CaseFault::Malformed {
-        line: part.line(),
-        what: "an answer is wanted",
-    })
+    match answer_in(part.arguments()) {
+        Some(answer) => Ok(answer),
+        None => Err(part.malformed("an answer is wanted")),
+    }
 }

@@ -1,14 +1,31 @@
 //! The arguments of a call: a JSON object on a line of its own.
 
-use case_tables::CaseFault;
+use case_tables::{CaseFault, value_of};
+use lambda_wire::InvokeFault;
 use serde_json::Value;
 use std::alloc::Global;
+
+/// Whose fault it is, by its name.
+const FORMS: [(&str, InvokeFault); 3] = [
+    ("User", InvokeFault::User),
+    ("NotFound", InvokeFault::NotFound),
+    ("Service", InvokeFault::Service),
+];
 
 /// The arguments of a call, and the line that has them.
 #[derive(Drop)]
 pub struct Arguments {
     fields: Value,
     line: u64,
+}
+
+/// Whether a value is one that an argument of this name can have: a text, but for a few.
+fn fits(name: &str, value: &Value) -> bool {
+    match name {
+        "deadline" | "status" => value.as_u64().is_some(),
+        "failed" => value.as_bool().is_some(),
+        _ => value.as_str().is_some(),
+    }
 }
 
 impl Arguments {
@@ -24,15 +41,25 @@ impl Arguments {
         }
     }
 
+    /// Looks whether the arguments are there that a call wants.
+    pub fn check(&self, wanted: &[&str]) -> Result<(), CaseFault> {
+        for name in wanted {
+            match self.fields.get(*name) {
+                Some(value) if fits(*name, value) => {}
+                _ => return Err(self.fault("an argument is missing")),
+            }
+        }
+        Ok(())
+    }
+
     /// The text of an argument, where it is given.
     pub fn text_if_given(&self, name: &str) -> Option<&str> {
         self.fields.get(name)?.as_str()
     }
 
-    /// The text of an argument.
-    pub fn text(&self, name: &str) -> Result<&str, CaseFault> {
-        self.text_if_given(name)
-            .ok_or(self.fault("a text is missing"))
+    /// The text of an argument that was looked for.
+    pub fn text(&self, name: &str) -> &str {
+        self.text_if_given(name).unwrap_or("")
     }
 
     /// The number of an argument, where it is given.
@@ -40,17 +67,24 @@ impl Arguments {
         self.fields.get(name)?.as_u64()
     }
 
-    /// The number of an argument.
-    pub fn number(&self, name: &str) -> Result<u64, CaseFault> {
-        self.number_if_given(name)
-            .ok_or(self.fault("a number is missing"))
+    /// The number of an argument that was looked for.
+    pub fn number(&self, name: &str) -> u64 {
+        self.number_if_given(name).unwrap_or(0)
     }
 
-    /// The truth of an argument.
-    pub fn truth(&self, name: &str) -> Result<bool, CaseFault> {
-        match self.fields.get(name).and_then(Value::as_bool) {
-            Some(truth) => Ok(truth),
-            None => Err(self.fault("true or false is missing")),
+    /// Whether an argument that was looked for says `true`.
+    pub fn is_true(&self, name: &str) -> bool {
+        match self.fields.get(name) {
+            Some(value) => value.as_bool() == Some(true),
+            None => false,
+        }
+    }
+
+    /// Whose fault it is.
+    pub fn form(&self) -> Result<InvokeFault, CaseFault> {
+        match value_of(&FORMS, self.text("form")) {
+            Some(form) => Ok(form),
+            None => Err(self.fault("User, NotFound or Service is wanted")),
         }
     }
 

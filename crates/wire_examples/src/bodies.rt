@@ -2,22 +2,24 @@
 
 use crate::arguments::Arguments;
 use crate::reply_text::push_line;
-use case_tables::CaseFault;
+use case_tables::{CaseFault, Given, value_of};
 use lambda_wire::{
-    InvokeFault, status_body, write_fault, write_invoke_event, write_invoke_fault,
-    write_registered, write_reservation, write_shutdown_event, write_throttle,
+    status_body, write_fault, write_invoke_event, write_invoke_fault, write_registered,
+    write_reservation, write_shutdown_event, write_throttle,
 };
 use std::alloc::Global;
 
-/// Whose fault it is.
-pub fn form_of(arguments: &Arguments) -> Result<InvokeFault, CaseFault> {
-    match arguments.text("form")? {
-        "User" => Ok(InvokeFault::User),
-        "NotFound" => Ok(InvokeFault::NotFound),
-        "Service" => Ok(InvokeFault::Service),
-        _ => Err(arguments.fault("User, NotFound or Service is wanted")),
-    }
-}
+/// The calls, and the arguments that each wants.
+const CALLS: [(&str, &[&str]); 8] = [
+    ("status", &[]),
+    ("reservation", &[]),
+    ("throttle", &["reason"]),
+    ("invoke-event", &["deadline", "arn", "request", "trace"]),
+    ("shutdown-event", &["deadline", "reason"]),
+    ("registered", &["function", "handler"]),
+    ("fault", &["type", "message"]),
+    ("invoke-fault", &["form", "message"]),
+];
 
 fn status(alloc: Global) -> Result<Vec<u8>, CaseFault> {
     Ok(status_body().as_slice().to_vec(alloc)?)
@@ -32,43 +34,45 @@ fn reservation(alloc: Global, arguments: &Arguments) -> Result<Vec<u8>, CaseFaul
 }
 
 fn count_in(arguments: &Arguments, count: u64) -> Result<u32, CaseFault> {
-    u32::try_from(count).map_err(|_| arguments.fault("a count is too large"))
+    match u32::try_from(count) {
+        Ok(count) => Ok(count),
+        Err(_) => Err(arguments.fault("a count is too large")),
+    }
 }
 
 fn throttle(alloc: Global, arguments: &Arguments) -> Result<Vec<u8>, CaseFault> {
-    Ok(write_throttle(alloc, arguments.text("reason")?)?)
+    Ok(write_throttle(alloc, arguments.text("reason"))?)
 }
 
 fn invoke_event(alloc: Global, arguments: &Arguments) -> Result<Vec<u8>, CaseFault> {
-    let deadline = arguments.number("deadline")?;
-    let arn = arguments.text("arn")?;
-    let request = arguments.text("request")?;
-    let trace = arguments.text("trace")?;
+    let deadline = arguments.number("deadline");
+    let arn = arguments.text("arn");
+    let request = arguments.text("request");
+    let trace = arguments.text("trace");
     Ok(write_invoke_event(alloc, deadline, arn, request, trace)?)
 }
 
 fn shutdown_event(alloc: Global, arguments: &Arguments) -> Result<Vec<u8>, CaseFault> {
-    let deadline = arguments.number("deadline")?;
-    Ok(write_shutdown_event(alloc, deadline, arguments.text("reason")?)?)
+    let deadline = arguments.number("deadline");
+    Ok(write_shutdown_event(alloc, deadline, arguments.text("reason"))?)
 }
 
 fn registered(alloc: Global, arguments: &Arguments) -> Result<Vec<u8>, CaseFault> {
     let account = arguments.text_if_given("account");
-    let function = arguments.text("function")?;
-    Ok(write_registered(alloc, account, function, arguments.text("handler")?)?)
+    let function = arguments.text("function");
+    Ok(write_registered(alloc, account, function, arguments.text("handler"))?)
 }
 
 fn fault(alloc: Global, arguments: &Arguments) -> Result<Vec<u8>, CaseFault> {
-    let message = arguments.text("message")?;
-    Ok(write_fault(alloc, message, arguments.text("type")?)?)
+    Ok(write_fault(alloc, arguments.text("message"), arguments.text("type"))?)
 }
 
 fn invoke_fault(alloc: Global, arguments: &Arguments) -> Result<Vec<u8>, CaseFault> {
-    let form = form_of(arguments)?;
-    Ok(write_invoke_fault(alloc, form, arguments.text("message")?)?)
+    let form = arguments.form()?;
+    Ok(write_invoke_fault(alloc, form, arguments.text("message"))?)
 }
 
-/// The body that a call writes.
+/// The body that a call writes, whose arguments are there.
 fn body(alloc: Global, word: &str, arguments: &Arguments) -> Result<Vec<u8>, CaseFault> {
     match word {
         "status" => status(alloc),
@@ -78,8 +82,7 @@ fn body(alloc: Global, word: &str, arguments: &Arguments) -> Result<Vec<u8>, Cas
         "shutdown-event" => shutdown_event(alloc, arguments),
         "registered" => registered(alloc, arguments),
         "fault" => fault(alloc, arguments),
-        "invoke-fault" => invoke_fault(alloc, arguments),
-        _ => Err(arguments.unknown()),
+        _ => invoke_fault(alloc, arguments),
     }
 }
 
@@ -95,12 +98,12 @@ fn body(alloc: Global, word: &str, arguments: &Arguments) -> Result<Vec<u8>, Cas
 /// | `registered` | `account` where it was asked for, `function`, `handler` |
 /// | `fault` | `type`, `message` |
 /// | `invoke-fault` | `form`, which is `User`, `NotFound` or `Service`, and `message` |
-pub fn push_body(
-    alloc: Global,
-    word: &str,
-    arguments: &Arguments,
-    given: &mut String,
-) -> Result<(), CaseFault> {
-    let body = body(alloc, word, arguments)?;
-    Ok(push_line(given, body.as_slice())?)
+pub fn push_body(word: &str, arguments: &Arguments, given: &mut Given) -> Result<(), CaseFault> {
+    match value_of(&CALLS, word) {
+        Some(wanted) => arguments.check(wanted)?,
+        None => return Err(arguments.unknown()),
+    }
+    let body = body(given.alloc(), word, arguments)?;
+    push_line(given, body.as_slice());
+    Ok(())
 }

@@ -15,7 +15,7 @@ mod written;
 
 use crate::readings::Reading;
 use crate::written::Written;
-use case_tables::{Case, CaseFault, Subject, end, run_files};
+use case_tables::{Case, CaseFault, Given, Subject, end, run_files};
 use std::alloc::Global;
 use std::process::ExitCode;
 
@@ -30,13 +30,22 @@ enum Table {
     Rendered,
 }
 
+impl Table {
+    /// Tells what a case gives.
+    fn tell(self, case: &Case, given: &mut Given) -> Result<(), CaseFault> {
+        match self {
+            Table::Written(written) => written::give(written, case, given),
+            Table::Read(reading) => readings::give(reading, case, given),
+            Table::Rendered => rendered::give(case, given),
+        }
+    }
+}
+
 impl Subject for Table {
     fn give(&self, alloc: Global, case: &Case, given: &mut String) -> Result<(), CaseFault> {
-        match *self {
-            Table::Written(written) => written::give(alloc, written, case, given),
-            Table::Read(reading) => readings::give(alloc, reading, case, given),
-            Table::Rendered => rendered::give(alloc, case, given),
-        }
+        let mut told = Given::new(alloc);
+        self.tell(case, &mut told)?;
+        told.hand_over(given)
     }
 }
 

@@ -3,7 +3,7 @@
 
 use crate::reply_text::push_line;
 use bytes::Bytes;
-use case_tables::{Case, CaseFault, Part, push_bytes};
+use case_tables::{Case, CaseFault, Given, Part, push_bytes};
 use lambda_wire::{
     Events, PayloadScratch, Setup, WireFault, read_config, read_invoke_body, read_register,
     read_reservation, write_config,
@@ -24,24 +24,26 @@ pub enum Reading {
 }
 
 /// Adds the fault of a body that is not read.
-fn push_fault(alloc: Global, fault: WireFault, given: &mut String) -> Result<(), CaseFault> {
+fn push_fault(fault: WireFault, given: &mut Given) {
     if fault == WireFault::OutOfMemory {
-        return Err(CaseFault::Memory);
+        given.cut();
     }
-    Ok(given.push_str(format!(in alloc; "{fault:?}\n")?.as_str())?)
+    given.show(&fault);
+    given.push("\n");
 }
 
-fn push_payload(
-    alloc: Global,
-    scratch: &mut PayloadScratch,
-    bytes: &[u8],
-    given: &mut String,
-) -> Result<(), CaseFault> {
-    let body = Bytes::copy_from_slice(alloc, bytes)?;
-    match read_invoke_body(alloc, scratch, &body) {
-        Ok(payload) if payload.as_slice() == bytes => Ok(given.push_str("as it stands\n")?),
-        Ok(payload) => Ok(push_line(given, payload.as_slice())?),
-        Err(fault) => push_fault(alloc, fault, given),
+fn push_read(scratch: &mut PayloadScratch, body: &Bytes, given: &mut Given) {
+    match read_invoke_body(given.alloc(), scratch, body) {
+        Ok(payload) if payload.as_slice() == body.as_slice() => given.push("as it stands\n"),
+        Ok(payload) => push_line(given, payload.as_slice()),
+        Err(fault) => push_fault(fault, given),
+    }
+}
+
+fn push_payload(scratch: &mut PayloadScratch, bytes: &[u8], given: &mut Given) {
+    match Bytes::copy_from_slice(given.alloc(), bytes) {
+        Ok(body) => push_read(scratch, &body, given),
+        Err(_) => given.cut(),
     }
 }
 
@@ -55,61 +57,52 @@ fn events_text(events: Events) -> &'static str {
     }
 }
 
-fn push_registration(alloc: Global, bytes: &[u8], given: &mut String) -> Result<(), CaseFault> {
-    match read_register(alloc, bytes) {
-        Ok(events) => Ok(given.push_str(events_text(events))?),
-        Err(fault) => push_fault(alloc, fault, given),
+fn push_registration(bytes: &[u8], given: &mut Given) {
+    match read_register(given.alloc(), bytes) {
+        Ok(events) => given.push(events_text(events)),
+        Err(fault) => push_fault(fault, given),
     }
 }
 
-fn push_reservation(alloc: Global, bytes: &[u8], given: &mut String) -> Result<(), CaseFault> {
-    match read_reservation(alloc, bytes) {
-        Ok(count) => Ok(given.push_str(format!(in alloc; "{count}\n")?.as_str())?),
-        Err(fault) => push_fault(alloc, fault, given),
+fn push_reservation(bytes: &[u8], given: &mut Given) {
+    match read_reservation(given.alloc(), bytes) {
+        Ok(count) => {
+            given.print(&count);
+            given.push("\n");
+        }
+        Err(fault) => push_fault(fault, given),
     }
 }
 
-fn push_setup(alloc: Global, setup: &Setup, given: &mut String) -> Result<(), CaseFault> {
-    let text = write_config(alloc, &setup.config, setup.salt, setup.max_entries)?;
-    Ok(push_line(given, text.as_slice())?)
+fn push_setup(setup: &Setup, given: &mut Given) {
+    match write_config(given.alloc(), &setup.config, setup.salt, setup.max_entries) {
+        Ok(text) => push_line(given, text.as_slice()),
+        Err(_) => given.cut(),
+    }
 }
 
-fn push_configuration(alloc: Global, bytes: &[u8], given: &mut String) -> Result<(), CaseFault> {
-    match read_config(alloc, bytes) {
-        Ok(setup) => push_setup(alloc, &setup, given),
-        Err(fault) => push_fault(alloc, fault, given),
+fn push_configuration(bytes: &[u8], given: &mut Given) {
+    match read_config(given.alloc(), bytes) {
+        Ok(setup) => push_setup(&setup, given),
+        Err(fault) => push_fault(fault, given),
     }
 }
 
 /// Adds what a body says.
-fn push_reading(
-    alloc: Global,
-    scratch: &mut PayloadScratch,
-    reading: Reading,
-    bytes: &[u8],
-    given: &mut String,
-) -> Result<(), CaseFault> {
+fn push_reading(scratch: &mut PayloadScratch, reading: Reading, bytes: &[u8], given: &mut Given) {
     match reading {
-        Reading::Payloads => push_payload(alloc, scratch, bytes, given),
-        Reading::Registrations => push_registration(alloc, bytes, given),
-        Reading::Reservations => push_reservation(alloc, bytes, given),
-        Reading::Configurations => push_configuration(alloc, bytes, given),
+        Reading::Payloads => push_payload(scratch, bytes, given),
+        Reading::Registrations => push_registration(bytes, given),
+        Reading::Reservations => push_reservation(bytes, given),
+        Reading::Configurations => push_configuration(bytes, given),
     }
 }
 
 /// Adds what each line of a part says. One scratch serves them all.
-fn push_each(
-    alloc: Global,
-    scratch: &mut PayloadScratch,
-    reading: Reading,
-    part: &Part,
-    given: &mut String,
-) -> Result<(), CaseFault> {
-    let lines = part.text();
-    for line in lines.strip_suffix('\n').unwrap_or(lines).split('\n') {
-        push_reading(alloc, scratch, reading, line.as_bytes(), given)?;
+fn push_each(scratch: &mut PayloadScratch, reading: Reading, part: &Part, given: &mut Given) {
+    for line in part.lines().split('\n') {
+        push_reading(scratch, reading, line.as_bytes(), given);
     }
-    Ok(())
 }
 
 /// The bytes that parts say, one behind the other.
@@ -121,19 +114,20 @@ fn bytes_of(alloc: Global, parts: &[Part]) -> Result<Vec<u8>, CaseFault> {
     Ok(bytes)
 }
 
+/// Adds what the body says that parts say.
+fn push_whole(reading: Reading, parts: &[Part], given: &mut Given) -> Result<(), CaseFault> {
+    let bytes = bytes_of(given.alloc(), parts)?;
+    push_reading(&mut PayloadScratch::new(), reading, bytes.as_slice(), given);
+    Ok(())
+}
+
 /// Adds what a case gives.
-pub fn give(
-    alloc: Global,
-    reading: Reading,
-    case: &Case,
-    given: &mut String,
-) -> Result<(), CaseFault> {
-    let mut scratch = PayloadScratch::new();
-    match case.parts() {
-        [part] if part.word() == "each" => push_each(alloc, &mut scratch, reading, part, given),
-        parts => {
-            let bytes = bytes_of(alloc, parts)?;
-            push_reading(alloc, &mut scratch, reading, bytes.as_slice(), given)
+pub fn give(reading: Reading, case: &Case, given: &mut Given) -> Result<(), CaseFault> {
+    match case.part("each") {
+        Some(part) if case.parts().len() == 1 => {
+            push_each(&mut PayloadScratch::new(), reading, part, given);
+            Ok(())
         }
+        _ => push_whole(reading, case.parts(), given),
     }
 }

@@ -1,37 +1,38 @@
 //! Whole replies that refuse.
 
 use crate::arguments::Arguments;
-use crate::bodies::form_of;
-use crate::headers::{text_of, value_of};
+use crate::headers::{text_of, value_in};
 use crate::reply_text::push_reply;
-use case_tables::CaseFault;
+use case_tables::{CaseFault, Given};
 use lambda_wire::{Reply, fault_reply, invoke_fault_reply};
 use std::alloc::Global;
 
 fn status_of(arguments: &Arguments) -> Result<u16, CaseFault> {
-    u16::try_from(arguments.number("status")?).map_err(|_| arguments.fault("no status"))
+    match u16::try_from(arguments.number("status")) {
+        Ok(status) => Ok(status),
+        Err(_) => Err(arguments.fault("no status")),
+    }
 }
 
-fn fault(alloc: Global, arguments: &Arguments) -> Result<Reply, CaseFault> {
-    let status = status_of(arguments)?;
-    let message = arguments.text("message")?;
-    Ok(fault_reply(alloc, status, message, arguments.text("type")?)?)
+fn fault(alloc: Global, status: u16, arguments: &Arguments) -> Result<Reply, CaseFault> {
+    let message = arguments.text("message");
+    Ok(fault_reply(alloc, status, message, arguments.text("type"))?)
 }
 
-fn invoke_fault(alloc: Global, arguments: &Arguments) -> Result<Reply, CaseFault> {
-    let status = status_of(arguments)?;
-    let form = form_of(arguments)?;
-    let message = arguments.text("message")?;
-    let kind = value_of(alloc, arguments, "type")?;
+fn invoke_fault(alloc: Global, status: u16, arguments: &Arguments) -> Result<Reply, CaseFault> {
+    let form = arguments.form()?;
+    let kind = value_in(alloc, arguments, "type")?;
     let kind = text_of(arguments, &kind)?;
-    Ok(invoke_fault_reply(alloc, status, kind, form, message)?)
+    Ok(invoke_fault_reply(alloc, status, kind, form, arguments.text("message"))?)
 }
 
 /// The reply that a call makes.
 fn refusal(alloc: Global, word: &str, arguments: &Arguments) -> Result<Reply, CaseFault> {
+    arguments.check(&["status", "type", "message"])?;
+    let status = status_of(arguments)?;
     match word {
-        "fault" => fault(alloc, arguments),
-        "invoke-fault" => invoke_fault(alloc, arguments),
+        "fault" => fault(alloc, status, arguments),
+        "invoke-fault" => invoke_fault(alloc, status, arguments),
         _ => Err(arguments.unknown()),
     }
 }
@@ -42,12 +43,8 @@ fn refusal(alloc: Global, word: &str, arguments: &Arguments) -> Result<Reply, Ca
 /// |---|---|
 /// | `fault`, on an environment's port | `status`, `type`, `message` |
 /// | `invoke-fault`, on the account's | `status`, `type`, `form` as for the body, `message` |
-pub fn push_refusal(
-    alloc: Global,
-    word: &str,
-    arguments: &Arguments,
-    given: &mut String,
-) -> Result<(), CaseFault> {
-    let reply = refusal(alloc, word, arguments)?;
-    Ok(push_reply(alloc, given, &reply)?)
+pub fn push_refusal(word: &str, arguments: &Arguments, given: &mut Given) -> Result<(), CaseFault> {
+    let reply = refusal(given.alloc(), word, arguments)?;
+    push_reply(given, &reply);
+    Ok(())
 }

@@ -7,7 +7,7 @@ use crate::answers::answer_of;
 use crate::reply_text::push_reply;
 use arn_ids::Checked;
 use call_model::{Answer, Call};
-use case_tables::{Case, CaseFault, Part};
+use case_tables::{Case, CaseFault, Given, Part};
 use lambda_wire::{Setup, WireFault, read_config};
 use replies::{Gist, reply};
 use script::read_call;
@@ -23,34 +23,29 @@ struct Account {
     salt: u64,
 }
 
-fn malformed(part: &Part, what: &'static str) -> CaseFault {
-    CaseFault::Malformed {
-        line: part.line(),
-        what,
+/// The part of a case that is called so.
+fn part_of<'c>(case: &'c Case, part: &'static str) -> Result<&'c Part, CaseFault> {
+    match case.part(part) {
+        Some(part) => Ok(part),
+        None => Err(CaseFault::Missing { part }),
     }
 }
 
-/// The part of a case that is called so.
-fn part_of<'c>(case: &'c Case, part: &'static str) -> Result<&'c Part, CaseFault> {
-    case.part(part).ok_or(CaseFault::Missing { part })
-}
-
-/// The line that a part has.
-fn line_of(part: &Part) -> &[u8] {
-    let text = part.text();
-    text.strip_suffix('\n').unwrap_or(text).as_bytes()
+/// What a part's text configures.
+fn setup_of(alloc: Global, part: &Part) -> Result<Setup, CaseFault> {
+    match read_config(alloc, part.lines().as_bytes()) {
+        Ok(setup) => Ok(setup),
+        Err(WireFault::OutOfMemory) => Err(CaseFault::Memory),
+        Err(_) => Err(part.malformed("a configuration is wanted")),
+    }
 }
 
 /// The configuration that a part says.
 fn account_of(alloc: Global, part: &Part) -> Result<Account, CaseFault> {
-    let Setup { config, salt, .. } = match read_config(alloc, line_of(part)) {
-        Ok(setup) => setup,
-        Err(WireFault::OutOfMemory) => return Err(CaseFault::Memory),
-        Err(_) => return Err(malformed(part, "a configuration is wanted")),
-    };
+    let Setup { config, salt, .. } = setup_of(alloc, part)?;
     match config.check() {
         Ok(config) => Ok(Account { config, salt }),
-        Err(_) => Err(malformed(part, "a configuration without a fault is wanted")),
+        Err(_) => Err(part.malformed("a configuration without a fault is wanted")),
     }
 }
 
@@ -59,9 +54,10 @@ fn count_of(part: &Part) -> Result<u64, CaseFault> {
     if part.arguments().is_empty() {
         return Ok(0);
     }
-    part.arguments()
-        .parse::<u64>()
-        .map_err(|_| malformed(part, "a count is wanted"))
+    match part.arguments().parse::<u64>() {
+        Ok(count) => Ok(count),
+        Err(_) => Err(part.malformed("a count is wanted")),
+    }
 }
 
 /// The call of a part's line.
@@ -69,20 +65,19 @@ fn count_of(part: &Part) -> Result<u64, CaseFault> {
 fn call_of(alloc: Global, config: &Checked, part: &Part) -> Result<Call, CaseFault>
     ensures { IfOk result IsTraced }
 {
-    match read_call(alloc, config, true, line_of(part))? {
+    match read_call(alloc, config, true, part.lines().as_bytes())? {
         Some((_, call)) => Ok(call),
-        None => Err(malformed(part, "the line of a call is wanted")),
+        None => Err(part.malformed("the line of a call is wanted")),
     }
 }
 
 /// Adds the reply to a call.
 fn push_rendered(
-    alloc: Global,
     account: &Account,
     answer: Answer,
     call: (&Call, u64),
     source: (&Call, u64),
-    given: &mut String,
+    given: &mut Given,
 ) -> Result<(), CaseFault>
     requires { IsTraced source.0.now }
 {
@@ -93,8 +88,40 @@ fn push_rendered(
         source: source.0,
         source_count: source.1,
     };
-    let reply = reply(alloc, &account.config, account.salt, &gist)?;
-    Ok(push_reply(alloc, given, &reply)?)
+    let reply = reply(given.alloc(), &account.config, account.salt, &gist)?;
+    push_reply(given, &reply);
+    Ok(())
+}
+
+/// Adds the reply to the call of a case, whose lines are read by a configuration.
+fn push_answered(
+    case: &Case,
+    account: &Account,
+    config: &Checked,
+    answer: Answer,
+    given: &mut Given,
+) -> Result<(), CaseFault> {
+    let part = part_of(case, "call")?;
+    let named = case.part("source").unwrap_or(part);
+    let count = count_of(part)?;
+    let source_count = count_of(named)?;
+    let call = call_of(given.alloc(), config, part)?;
+    let source = call_of(given.alloc(), config, named)?;
+    push_rendered(
+        account,
+        answer,
+        (&call, count),
+        (&source, source_count),
+        given,
+    )
+}
+
+/// Whether no part of a case before this one is called as it is.
+fn is_first(case: &Case, part: &Part) -> bool {
+    match case.part(part.word()) {
+        Some(first) => first.line() == part.line(),
+        None => false,
+    }
 }
 
 /// Looks whether a case has a part that is not known, or one that stands twice.
@@ -103,8 +130,8 @@ fn check_parts(case: &Case) -> Result<(), CaseFault> {
         if !PARTS.contains(&part.word()) {
             return Err(CaseFault::Unknown { line: part.line() });
         }
-        if case.part(part.word()).map(Part::line) != Some(part.line()) {
-            return Err(malformed(part, "a part that stands twice"));
+        if !is_first(case, part) {
+            return Err(part.malformed("a part that stands twice"));
         }
     }
     Ok(())
@@ -119,24 +146,11 @@ fn check_parts(case: &Case) -> Result<(), CaseFault> {
 /// | `call N` | the line of a call, and the count in its request identifier, where it is an Invoke |
 /// | `source N` | the call that the answer names, where it is another |
 /// | `answer WORDS` | the answer |
-pub fn give(alloc: Global, case: &Case, given: &mut String) -> Result<(), CaseFault> {
+pub fn give(case: &Case, given: &mut Given) -> Result<(), CaseFault> {
     check_parts(case)?;
     let config = part_of(case, "config")?;
-    let account = account_of(alloc, config)?;
-    let reader = account_of(alloc, case.part("lines-of").unwrap_or(config))?;
     let answer = answer_of(part_of(case, "answer")?)?;
-    let part = part_of(case, "call")?;
-    let call = call_of(alloc, &reader.config, part)?;
-    let count = count_of(part)?;
-    let part = case.part("source").unwrap_or(part);
-    let source = call_of(alloc, &reader.config, part)?;
-    let source_count = count_of(part)?;
-    push_rendered(
-        alloc,
-        &account,
-        answer,
-        (&call, count),
-        (&source, source_count),
-        given,
-    )
+    let account = account_of(given.alloc(), config)?;
+    let reader = account_of(given.alloc(), case.part("lines-of").unwrap_or(config))?;
+    push_answered(case, &account, &reader.config, answer, given)
 }

@@ -5,8 +5,7 @@ use crate::arguments::Arguments;
 use crate::bodies::push_body;
 use crate::headers::push_headers;
 use crate::refusals::push_refusal;
-use case_tables::{Case, CaseFault, Part};
-use std::alloc::Global;
+use case_tables::{Case, CaseFault, Given, Part};
 
 /// What is written.
 #[derive(Clone, Copy)]
@@ -21,45 +20,34 @@ pub enum Written {
 
 /// Adds what is written for the arguments of a line.
 fn push_written(
-    alloc: Global,
     written: Written,
     word: &str,
-    arguments: &Arguments,
-    given: &mut String,
+    text: &str,
+    line: u64,
+    given: &mut Given,
 ) -> Result<(), CaseFault> {
+    let arguments = Arguments::read(given.alloc(), text, line)?;
     match written {
-        Written::Bodies => push_body(alloc, word, arguments, given),
-        Written::Headers => push_headers(alloc, word, arguments, given),
-        Written::Refusals => push_refusal(alloc, word, arguments, given),
+        Written::Bodies => push_body(word, &arguments, given),
+        Written::Headers => push_headers(word, &arguments, given),
+        Written::Refusals => push_refusal(word, &arguments, given),
     }
 }
 
 /// Adds what is written for each line of a part.
-fn push_lines(
-    alloc: Global,
-    written: Written,
-    part: &Part,
-    given: &mut String,
-) -> Result<(), CaseFault> {
+fn push_lines(written: Written, part: &Part, given: &mut Given) -> Result<(), CaseFault> {
     let mut line = part.line();
-    let lines = part.text();
-    for text in lines.strip_suffix('\n').unwrap_or(lines).split('\n') {
+    for text in part.lines().split('\n') {
         line = line.saturating_add(1);
-        let arguments = Arguments::read(alloc, text, line)?;
-        push_written(alloc, written, part.word(), &arguments, given)?;
+        push_written(written, part.word(), text, line, given)?;
     }
     Ok(())
 }
 
 /// Adds what a case gives.
-pub fn give(
-    alloc: Global,
-    written: Written,
-    case: &Case,
-    given: &mut String,
-) -> Result<(), CaseFault> {
+pub fn give(written: Written, case: &Case, given: &mut Given) -> Result<(), CaseFault> {
     for part in case.parts() {
-        push_lines(alloc, written, part, given)?;
+        push_lines(written, part, given)?;
     }
     Ok(())
 }

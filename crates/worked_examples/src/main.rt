@@ -11,7 +11,7 @@ mod scripts;
 mod taking;
 mod texts;
 
-use case_tables::{Case, CaseFault, Subject, end, run_files};
+use case_tables::{Case, CaseFault, Given, Subject, end, run_files};
 use std::alloc::Global;
 use std::process::ExitCode;
 
@@ -44,13 +44,22 @@ const TABLES: [(&str, Table); 13] = [
     ("long_lines.txt", Table::LongLines),
 ];
 
+impl Table {
+    /// Tells what a case gives.
+    fn tell(self, case: &Case, given: &mut Given) -> Result<(), CaseFault> {
+        match self {
+            Table::Scripts => scripts::give(case, true, given),
+            Table::LongLines => scripts::give(case, false, given),
+            Table::Books => books::give(case, given),
+        }
+    }
+}
+
 impl Subject for Table {
     fn give(&self, alloc: Global, case: &Case, given: &mut String) -> Result<(), CaseFault> {
-        match self {
-            Table::Scripts => scripts::give(alloc, case, true, given),
-            Table::LongLines => scripts::give(alloc, case, false, given),
-            Table::Books => books::give(alloc, case, given),
-        }
+        let mut told = Given::new(alloc);
+        self.tell(case, &mut told)?;
+        told.hand_over(given)
     }
 }
 

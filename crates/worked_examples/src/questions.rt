@@ -2,6 +2,7 @@
 
 use arn_ids::FnNo;
 use call_model::Ticket;
+use case_tables::value_of;
 
 /// A question.
 ///
@@ -32,18 +33,15 @@ pub enum Question {
     Config,
 }
 
-/// The question of a word alone.
-fn plain_question(word: &str) -> Option<Question> {
-    match word {
-        "entries" => Some(Question::Entries),
-        "opening" => Some(Question::Opening),
-        "stats" => Some(Question::Stats),
-        "life" => Some(Question::Life),
-        "salt" => Some(Question::Salt),
-        "config" => Some(Question::Config),
-        _ => None,
-    }
-}
+/// The questions of a word alone.
+const PLAIN: [(&str, Question); 6] = [
+    ("entries", Question::Entries),
+    ("opening", Question::Opening),
+    ("stats", Question::Stats),
+    ("life", Question::Life),
+    ("salt", Question::Salt),
+    ("config", Question::Config),
+];
 
 /// The question of a word and a number.
 fn numbered_question(word: &str, number: u64) -> Option<Question> {
@@ -60,6 +58,6 @@ fn numbered_question(word: &str, number: u64) -> Option<Question> {
 pub fn question_of(line: &str) -> Option<Question> {
     match line.split_once(' ') {
         Some((word, number)) => numbered_question(word, number.parse::<u64>().ok()?),
-        None => plain_question(line),
+        None => value_of(&PLAIN, line),
     }
 }

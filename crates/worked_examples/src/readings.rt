@@ -5,144 +5,130 @@ use crate::texts::{push_bytes, push_line};
 use account_book::Book;
 use arn_ids::FnNo;
 use call_model::{Answer, Ticket};
+use case_tables::Given;
 use lambda_wire::Reply;
-use std::alloc::{AllocError, Global};
+use std::alloc::AllocError;
 use std::fmt::Debug;
 
 /// Adds a line.
-fn push_shown(alloc: Global, given: &mut String, shown: &impl Debug) -> Result<(), AllocError> {
-    given.push_str(format!(in alloc; "{shown:?}\n")?.as_str())
+fn push_shown<T: Debug>(given: &mut Given, shown: &T) {
+    given.show(shown);
+    given.push("\n");
 }
 
-/// Adds a number and a sign behind it; where there is none, `-`.
-fn push_number(
-    alloc: Global,
-    given: &mut String,
-    number: Option<u64>,
-    behind: char,
-) -> Result<(), AllocError> {
+/// Adds a number and what stands behind it; where there is none, `-`.
+fn push_number(given: &mut Given, number: Option<u64>, behind: &str) {
     match number {
-        Some(number) => given.push_str(format!(in alloc; "{number}{behind}")?.as_str()),
-        None => given.push_str(format!(in alloc; "-{behind}")?.as_str()),
+        Some(number) => given.print(&number),
+        None => given.push("-"),
     }
+    given.push(behind);
 }
 
 /// Adds bytes as lines; where there are none, `-`.
-fn push_text(given: &mut String, text: &Option<Vec<u8>>) -> Result<(), AllocError> {
+fn push_text(given: &mut Given, text: &Option<Vec<u8>>) {
     match text {
         Some(bytes) => push_bytes(given, bytes.as_slice()),
-        None => given.push_str("-\n"),
+        None => given.push("-\n"),
     }
 }
 
 /// Adds an answer as a line; where there is none, `-`.
-fn push_answer(
-    alloc: Global,
-    given: &mut String,
-    answer: Option<Answer>,
-) -> Result<(), AllocError> {
+fn push_answer(given: &mut Given, answer: Option<Answer>) {
     match answer {
-        Some(answer) => push_shown(alloc, given, &answer),
-        None => given.push_str("-\n"),
+        Some(answer) => push_shown(given, &answer),
+        None => given.push("-\n"),
+    }
+}
+
+/// The place of an entry as a number.
+fn number_of(place: Option<u32>) -> Option<u64> {
+    match place {
+        Some(place) => Some(u64::from(place)),
+        None => None,
     }
 }
 
 /// The moment and the place of the entry with a ticket.
 fn moment_and_place(book: &Book, ticket: Ticket) -> (Option<u64>, Option<u64>) {
     match book.entry(ticket) {
-        Some(entry) => (Some(entry.moment), entry.place.map(u64::from)),
+        Some(entry) => (Some(entry.moment), number_of(entry.place)),
         None => (None, None),
     }
 }
 
 /// Adds the line of a ticket.
-fn push_entry(
-    alloc: Global,
-    book: &Book,
-    ticket: Ticket,
-    given: &mut String,
-) -> Result<(), AllocError> {
+fn push_entry(book: &Book, ticket: Ticket, given: &mut Given) {
     let (moment, place) = moment_and_place(book, ticket);
-    let count = book.counts().get(ticket as usize).copied();
-    push_number(alloc, given, Some(ticket), ' ')?;
-    push_number(alloc, given, moment, ' ')?;
-    push_number(alloc, given, place, ' ')?;
-    push_number(alloc, given, count, ' ')?;
-    push_answer(alloc, given, book.answer(ticket))
+    push_number(given, Some(ticket), " ");
+    push_number(given, moment, " ");
+    push_number(given, place, " ");
+    push_number(given, book.counts().get(ticket as usize).copied(), " ");
+    push_answer(given, book.answer(ticket));
 }
 
 /// Adds the line of each ticket, and of the one past the end.
-fn push_entries(alloc: Global, book: &Book, given: &mut String) -> Result<(), AllocError> {
+fn push_entries(book: &Book, given: &mut Given) {
     for ticket in 0..=book.len() {
-        push_entry(alloc, book, ticket, given)?;
+        push_entry(book, ticket, given);
     }
-    Ok(())
 }
 
 /// Adds the reservation in force of a function; where there is no such function, that.
-fn push_reservation(
-    alloc: Global,
-    book: &Book,
-    function: FnNo,
-    given: &mut String,
-) -> Result<(), AllocError> {
+fn push_reservation(book: &Book, function: FnNo, given: &mut Given) {
     if function == 0 || book.config().functions().len() < function as usize {
-        return given.push_str("no such function\n");
+        given.push("no such function\n");
+        return;
     }
-    let reserved = book.reservation(function).map(u64::from);
-    push_number(alloc, given, reserved, '\n')
+    push_number(given, number_of(book.reservation(function)), "\n");
 }
 
 /// Adds what the configuration says.
-fn push_config(alloc: Global, book: &Book, given: &mut String) -> Result<(), AllocError> {
+fn push_config(book: &Book, given: &mut Given) {
     let config = book.config();
-    let environments = config.environments();
-    let functions = config.functions().len();
-    let limit = config.account_limit();
-    let line = format!(in alloc;
-        "environments {environments}, functions {functions}, limit {limit}\n"
-    )?;
-    given.push_str(line.as_str())
+    given.push("environments ");
+    given.print(&config.environments());
+    given.push(", functions ");
+    given.print(&config.functions().len());
+    given.push(", limit ");
+    given.print(&config.account_limit());
+    given.push("\n");
 }
 
 /// Adds the lines of a reply's headers.
-fn push_headers(given: &mut String, reply: &Reply) -> Result<(), AllocError> {
+fn push_headers(given: &mut Given, reply: &Reply) {
     for (name, value) in reply.headers.as_slice() {
-        given.push_str(name.as_str())?;
-        given.push_str(": ")?;
-        push_line(given, value.as_bytes())?;
+        given.push(name.as_str());
+        given.push(": ");
+        push_line(given, value.as_bytes());
     }
-    Ok(())
 }
 
 /// Adds a reply; where there is none, `-`.
-fn push_reply(alloc: Global, given: &mut String, reply: &Option<Reply>) -> Result<(), AllocError> {
+fn push_reply(given: &mut Given, reply: &Option<Reply>) {
     let Some(reply) = reply else {
-        return given.push_str("-\n");
+        given.push("-\n");
+        return;
     };
-    push_number(alloc, given, Some(u64::from(reply.status)), '\n')?;
-    push_headers(given, reply)?;
-    given.push('=')?;
-    push_line(given, reply.body.as_slice())
+    push_number(given, Some(u64::from(reply.status)), "\n");
+    push_headers(given, reply);
+    given.push("=");
+    push_line(given, reply.body.as_slice());
 }
 
 /// Adds what a book says to a question.
-pub fn push_reading(
-    alloc: Global,
-    book: &Book,
-    question: Question,
-    given: &mut String,
-) -> Result<(), AllocError> {
+pub fn push_reading(book: &Book, question: Question, given: &mut Given) -> Result<(), AllocError> {
     match question {
-        Question::Entries => push_entries(alloc, book, given),
+        Question::Entries => push_entries(book, given),
         Question::Opening => push_bytes(given, book.opening()?.as_slice()),
         Question::History(ticket) => push_text(given, &book.history(ticket)?),
-        Question::Render(ticket) => push_reply(alloc, given, &book.render(ticket)?),
-        Question::Stats => push_shown(alloc, given, &book.stats()),
-        Question::Due(moment) => push_shown(alloc, given, &book.due(moment)),
-        Question::Life => push_shown(alloc, given, &book.life()),
-        Question::Reservation(function) => push_reservation(alloc, book, function, given),
-        Question::Salt => push_number(alloc, given, Some(book.salt()), '\n'),
-        Question::Config => push_config(alloc, book, given),
+        Question::Render(ticket) => push_reply(given, &book.render(ticket)?),
+        Question::Stats => push_shown(given, &book.stats()),
+        Question::Due(moment) => push_shown(given, &book.due(moment)),
+        Question::Life => push_shown(given, &book.life()),
+        Question::Reservation(function) => push_reservation(book, function, given),
+        Question::Salt => push_number(given, Some(book.salt()), "\n"),
+        Question::Config => push_config(book, given),
     }
+    Ok(())
 }

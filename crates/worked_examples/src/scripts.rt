@@ -3,7 +3,7 @@
 use crate::histories::{entries_answers, history_behind, shown_answers};
 use crate::pieces::{Page, Pieces};
 use crate::texts::{number_of, push_bytes, script_of};
-use case_tables::{Case, CaseFault};
+use case_tables::{Case, CaseFault, Given};
 use script_replay::{ReplayFault, replay};
 use std::alloc::{AllocError, Global};
 
@@ -37,67 +37,109 @@ fn play(alloc: Global, way: &Way<'_>) -> Result<Played, AllocError> {
     Ok(Played { ended, page })
 }
 
+/// Whether what was written where memory ran out is lines from the front of what is wanted.
+fn is_front(case: &Case, written: &[u8]) -> bool {
+    matches!(written.last(), None | Some(b'\n')) && case.wanted().as_bytes().starts_with(written)
+}
+
+/// Adds the line of a fault.
+fn push_fault(text: &mut Given, fault: ReplayFault) {
+    text.print(&fault);
+    text.push(", status ");
+    text.print(&fault.status());
+    text.push("\n");
+}
+
 /// The text of a replay: what it wrote, and at a fault the line of the fault. Where memory ran out,
 /// what was written has to be lines from the front of what is wanted.
-fn text_of(alloc: Global, case: &Case, way: &Way<'_>) -> Result<String, CaseFault> {
+fn text_of(alloc: Global, case: &Case, way: &Way<'_>) -> Result<Given, CaseFault> {
     let Played { ended, page } = play(alloc, way)?;
-    let written = page.written();
-    let mut text = String::new(alloc);
+    let mut text = Given::new(alloc);
     if ended == Err(ReplayFault::OutOfMemory) {
-        let is_front = case.wanted().as_bytes().starts_with(written);
-        if is_front && matches!(written.last(), None | Some(b'\n')) {
+        if is_front(case, page.written()) {
             return Err(CaseFault::Memory);
         }
-        text.push_str("(memory ran out behind other lines)\n")?;
+        text.push("(memory ran out behind other lines)\n");
     }
-    push_bytes(&mut text, written)?;
+    push_bytes(&mut text, page.written());
     if let Err(fault) = ended {
-        let status = fault.status();
-        text.push_str(format!(in alloc; "{fault}, status {status}\n")?.as_str())?;
+        push_fault(&mut text, fault);
     }
     Ok(text)
 }
 
-/// Adds what a way gives, where it is something else than the whole replay gave.
-fn push_other(given: &mut String, title: &str, whole: &str, other: &str) -> Result<(), AllocError> {
-    if whole == other {
-        return Ok(());
+/// Adds what a way gives, where it is something else than is wanted.
+fn push_other(
+    given: &mut Given,
+    title: &str,
+    wanted: &Given,
+    other: &Given,
+) -> Result<(), CaseFault> {
+    wanted.end()?;
+    other.end()?;
+    if wanted.as_str() != other.as_str() {
+        given.push(title);
+        given.push(":\n");
+        given.push(other.as_str());
     }
-    given.push_str(title)?;
-    given.push_str(":\n")?;
-    given.push_str(other)
+    Ok(())
+}
+
+/// Adds what a way of a script gives, where it is something else than the whole replay gave.
+fn push_way(
+    case: &Case,
+    title: &str,
+    way: &Way<'_>,
+    whole: &Given,
+    given: &mut Given,
+) -> Result<(), CaseFault> {
+    let text = text_of(given.alloc(), case, way)?;
+    push_other(given, title, whole, &text)
+}
+
+/// Adds what a history shows, where that is not what the script's entries were answered.
+fn push_shown(history: &[u8], kept: &[u8], given: &mut Given) -> Result<(), AllocError> {
+    if shown_answers(given.alloc(), history)?.as_slice() != kept {
+        given.push("the history shows other answers:\n");
+        push_bytes(given, history);
+    }
+    Ok(())
+}
+
+/// Adds what the replay of a history gives, where it is something else than its answers.
+fn push_again(
+    case: &Case,
+    history: &[u8],
+    kept: &[u8],
+    given: &mut Given,
+) -> Result<(), CaseFault> {
+    let way = Way {
+        first: b"",
+        script: history,
+        at_once: usize::MAX,
+        fails: false,
+        room: usize::MAX,
+    };
+    let mut wanted = Given::new(given.alloc());
+    push_bytes(&mut wanted, kept);
+    push_way(case, "from its history", &way, &wanted, given)
 }
 
 /// Adds what a script's history shows, where that is not what the script's entries were answered,
 /// and what the replay of its text gives, where that is something else.
 fn push_history(
-    alloc: Global,
     case: &Case,
     script: &[u8],
-    whole: &str,
-    given: &mut String,
+    whole: &Given,
+    given: &mut Given,
 ) -> Result<(), CaseFault> {
-    let Some(history) = history_behind(alloc, script)? else {
-        given.push_str("no history\n")?;
+    let Some(history) = history_behind(given.alloc(), script)? else {
+        given.push("no history\n");
         return Ok(());
     };
-    let kept = entries_answers(alloc, whole.as_bytes())?;
-    if shown_answers(alloc, history.as_slice())? != kept {
-        given.push_str("the history shows other answers:\n")?;
-        push_bytes(given, history.as_slice())?;
-    }
-    let way = Way {
-        first: b"",
-        script: history.as_slice(),
-        at_once: usize::MAX,
-        fails: false,
-        room: usize::MAX,
-    };
-    let mut wanted = String::new(alloc);
-    push_bytes(&mut wanted, kept.as_slice())?;
-    let again = text_of(alloc, case, &way)?;
-    push_other(given, "from its history", wanted.as_str(), again.as_str())?;
-    Ok(())
+    let kept = entries_answers(given.alloc(), whole.as_str().as_bytes())?;
+    push_shown(history.as_slice(), kept.as_slice(), given)?;
+    push_again(case, history.as_slice(), kept.as_slice(), given)
 }
 
 /// How a case's script is replayed whole.
@@ -115,47 +157,51 @@ fn whole_way<'a>(case: &Case, script: &'a [u8]) -> Result<Way<'a>, CaseFault> {
     })
 }
 
-/// Adds what the other ways give.
-fn push_others(
-    alloc: Global,
+/// Adds what a script gives in form 2, where it is not in that form.
+fn push_later(
     case: &Case,
     way: &Way<'_>,
-    whole: &str,
-    given: &mut String,
+    whole: &Given,
+    given: &mut Given,
 ) -> Result<(), CaseFault> {
-    let slow = Way { at_once: 1, ..*way };
-    let slow_text = text_of(alloc, case, &slow)?;
-    push_other(given, "byte by byte", whole, slow_text.as_str())?;
-    if whole.contains(", status ") {
+    if way.script.starts_with(b"form 2") {
         return Ok(());
     }
-    if !way.script.starts_with(b"form 2") {
-        let later = Way {
-            first: b"form 2\n",
-            ..*way
-        };
-        let later_text = text_of(alloc, case, &later)?;
-        push_other(given, "in form 2", whole, later_text.as_str())?;
+    let later = Way {
+        first: b"form 2\n",
+        ..*way
+    };
+    push_way(case, "in form 2", &later, whole, given)
+}
+
+/// Adds what the other ways give.
+fn push_others(
+    case: &Case,
+    way: &Way<'_>,
+    whole: &Given,
+    given: &mut Given,
+) -> Result<(), CaseFault> {
+    let slow = Way { at_once: 1, ..*way };
+    push_way(case, "byte by byte", &slow, whole, given)?;
+    if whole.as_str().contains(", status ") {
+        return Ok(());
     }
-    push_history(alloc, case, way.script, whole, given)
+    push_later(case, way, whole, given)?;
+    push_history(case, way.script, whole, given)
 }
 
 /// What a script is answered, replayed whole, and in every way byte by byte, in form 2 and from its
 /// history too. Its parts are those of a script; with `reader-fails` the reader fails behind it, with
 /// `room N` the writer takes N bytes. A case gives the answers, and at a fault the program's line on
 /// standard error and its status.
-pub fn give(
-    alloc: Global,
-    case: &Case,
-    in_every_way: bool,
-    given: &mut String,
-) -> Result<(), CaseFault> {
-    let script = script_of(alloc, case, &["reader-fails", "room"])?;
+pub fn give(case: &Case, in_every_way: bool, given: &mut Given) -> Result<(), CaseFault> {
+    let script = script_of(given.alloc(), case, &["reader-fails", "room"])?;
     let way = whole_way(case, script.as_slice())?;
-    let whole = text_of(alloc, case, &way)?;
-    given.push_str(whole.as_str())?;
-    if in_every_way {
-        push_others(alloc, case, &way, whole.as_str(), given)?;
+    let whole = text_of(given.alloc(), case, &way)?;
+    whole.end()?;
+    given.push(whole.as_str());
+    match in_every_way {
+        true => push_others(case, &way, &whole, given),
+        false => Ok(()),
     }
-    Ok(())
 }

@@ -6,7 +6,7 @@ use lambda_wire::{Setup, WireFault, read_config};
 use std::alloc::{AllocError, Global};
 
 /// Why no book was opened.
-#[derive(Clone, Copy, Debug, PartialEq, Eq)]
+#[derive(Clone, Copy, Debug)]
 pub enum Unopened {
     /// The configuration's line is not read.
     Wire(WireFault),
@@ -40,7 +40,7 @@ pub fn open_book(alloc: Global, line: &[u8]) -> Result<Book, Unopened> {
 }
 
 /// What a book did with a line.
-#[derive(Clone, Copy, Debug, PartialEq, Eq)]
+#[derive(Clone, Copy)]
 pub enum Taken {
     /// It stands for no call.
     NoCall,
