@@ -15,6 +15,7 @@ struct Opened<S: Identity> {
     door: Door<S>,
     side: Arc<Side>,
     ghost same: { arc_value side ≡ door },
+    ghost configured: { (arc_value side).config ≡ S.config },
 }
 
 /// Who decided the requests of the last connection: the next one of the same port has no routes to
@@ -32,7 +33,8 @@ impl<S: Identity> Sides<S> {
 
     /// Who decided the requests of the last connection, if it was of this port.
     fn known(&self, door: &Door<S>) -> Option<&Arc<Side>>
-        ensures { IfSome result (λ side. (arc_value side.now ≡ door.now) × ((arc_value side.now).config ≡ S.config)) }
+        ensures same { IfSome result (λ side. arc_value side.now ≡ door.now) }
+        ensures configured { IfSome result (λ side. (arc_value side.now).config ≡ S.config) }
     {
         match &self.last {
             Some(opened) if opened.door.is(door) => Some(&opened.side),
@@ -42,7 +44,8 @@ impl<S: Identity> Sides<S> {
 
     /// Who decides the requests of a port. The only error is want of memory.
     pub(crate) fn of(&mut self, alloc: Global, door: Door<S>) -> Result<Arc<Side>, AllocError>
-        ensures { IfOk result (λ side. (arc_value side ≡ door) × ((arc_value side).config ≡ S.config)) }
+        ensures same { IfOk result (λ side. arc_value side ≡ door) }
+        ensures configured { IfOk result (λ side. (arc_value side).config ≡ S.config) }
     {
         if let Some(side) = self.known(&door) {
             return Arc::try_clone(side);
