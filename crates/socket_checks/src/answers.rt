@@ -1,7 +1,7 @@
 //! Responses as lines: each its status and its body, and of its head what is asked for.
 
 use crate::peer::Heard;
-use crate::steps::{push_all, push_line};
+use crate::steps::push_line;
 use std::alloc::{AllocError, Global};
 use std::str;
 
@@ -140,11 +140,6 @@ fn push_body(alloc: Global, text: &mut String, body: &str) -> Result<(), AllocEr
     text.push_str(body)
 }
 
-/// Adds a field of a head, below what stands there.
-fn push_field<'a>(text: &mut String, name: &'a str, value: &'a str) -> Result<(), AllocError> {
-    push_all(text, &["\n  ", name, ": ", value])
-}
-
 /// Adds the fields of the head that are shown.
 fn push_fields(
     alloc: Global,
@@ -158,7 +153,7 @@ fn push_fields(
             text.push_str(format!(in alloc; "\n  chunks: {count}")?.as_str())?;
         } else if !name.is_empty() {
             let value = field(answer.head.as_str(), name).unwrap_or("-");
-            push_field(text, name, value)?;
+            text.push_str(format!(in alloc; "\n  {name}: {value}")?.as_str())?;
         }
     }
     Ok(())

@@ -69,7 +69,7 @@ pub fn entries_in(shown: &str) -> Option<u64> {
 }
 
 /// Adds pieces of text.
-pub fn push_all(given: &mut String, pieces: &[&str]) -> Result<(), AllocError> {
+fn push_all(given: &mut String, pieces: &[&str]) -> Result<(), AllocError> {
     for piece in pieces {
         given.push_str(piece)?;
     }
