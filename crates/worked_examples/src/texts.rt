@@ -49,7 +49,7 @@ fn push_part(script: &mut Vec<u8>, part: &Part) -> Result<(), CaseFault> {
 pub fn script_of(alloc: Global, case: &Case, others: &[&str]) -> Result<Vec<u8>, CaseFault> {
     let mut script = Vec::new(alloc);
     for part in case.parts() {
-        if !others.contains(&part.word()) {
+        if !(&*others).contains(&part.word()) {
             push_part(&mut script, part)?;
         }
     }
