@@ -72,19 +72,22 @@ impl<
             salt,
             max_entries,
         } = plan;
-        let (account, root) = match Account::open(alloc, config, salt, max_entries, blanks) {
+        let (account, mut root) = match Account::open(alloc, config, salt, max_entries, blanks) {
             Ok(opened) => opened,
             Err(fault) => return Err(HostFault::from(fault)),
         };
         let entrance = Entrance::open(&rt, alloc, &shared, salt)?;
-        Ok(Host::of(rt, account, root, clock, entrance, most, patience)?)
+        let ticking = root.split();
+        Ok(Host::of(rt, account, root, ticking, clock, entrance, most, patience)?)
     }
 
-    /// The host of an account whose ports are listened on. The only error is want of memory.
+    /// The host of an account whose ports are listened on, with the tally from which those of the
+    /// connections are split, and the ticker's. The only error is want of memory.
     fn of(
         rt: R,
         account: Account<S, OneShotBell>,
         root: Tally<K, S>,
+        ticking: Tally<K, S>,
         clock: N,
         entrance: Entrance<S>,
         most: u32,
@@ -94,12 +97,11 @@ impl<
         let account = Arc::new(alloc, account).map_err(AllocError::from)?;
         let clock = Arc::new(alloc, clock).map_err(AllocError::from)?;
         let is_over = Arc::new(alloc, AtomicBool::new(false)).map_err(AllocError::from)?;
-        let mut root = root;
         let ticker = Ticker {
             rt,
             account: Arc::try_clone(&account)?,
             clock: Arc::try_clone(&clock)?,
-            tally: root.split(),
+            tally: ticking,
             is_over: Arc::try_clone(&is_over)?,
         };
         let reception = Reception::new(rt, account, clock, root, is_over, most, patience)?;

@@ -39,11 +39,13 @@ fn push_method(
 
 /// Adds the line of a target: a word for each method.
 fn push_target(door: &Door, part: &Part, target: &str, given: &mut Given) -> Result<(), CaseFault> {
-    let mut between = "";
+    let mut is_first = true;
     for method in part.arguments().split(' ') {
-        given.push(between);
+        if !is_first {
+            given.push(" ");
+        }
         push_method(door, part, method, target, given)?;
-        between = " ";
+        is_first = false;
     }
     given.push("\n");
     Ok(())
