@@ -68,6 +68,22 @@ reporter_hears_no_end : outcome one
 unfolding outcome
 reporter_hears_no_end = refl
 
+-- Nor where it reports it as an Init error.
+init_error_is_an_exit : outcome one
+    ((0, registers 1 name_a false true) ∷ (0, ExtNext 1 1) ∷ (10, ExtInitFailure 1 1 []) ∷ (20, ExtNext 1 1) ∷ [])
+    ≡ ((0, 0, Registered 1) ∷ (2, 1, Refused Container) ∷ (2, 2, Accepted) ∷ (3, 3, Refused Unknown) ∷ [])
+unfolding outcome
+init_error_is_an_exit = refl
+
+-- The only extension that a Closing waits for exits, and so ends it.
+exit_ends_a_closing : outcome one
+    ((0, registers 1 name_a false true) ∷ (10, InitFailure 1 []) ∷ (20, ExtExitFailure 1 1 []) ∷
+    (30, ExtNext 1 1) ∷ (40, RuntimeNext 1) ∷ (50, invoke 1) ∷ [])
+    ≡ ((0, 0, Registered 1) ∷ (1, 1, Accepted) ∷ (2, 2, Accepted) ∷ (3, 3, Refused Unknown) ∷
+    (5, 4, Delivered 5 3050) ∷ [])
+unfolding outcome
+exit_ends_a_closing = refl
+
 init_error_in_idle_closes_nothing : outcome one
     ((0, registers 1 name_a true false) ∷ (0, ExtNext 1 1) ∷ (0, RuntimeNext 1) ∷
     (10, ExtInitFailure 1 1 []) ∷ (20, invoke 1) ∷ [])
@@ -92,6 +108,15 @@ withdrawn_extension_poll : outcome one
     (5, 5, Told 4 3030 1) ∷ [])
 unfolding outcome
 withdrawn_extension_poll = refl
+
+-- The runtime's Next stays parked, and delivers once the extension has asked again.
+withdraw_leaves_other_polls : outcome one
+    ((0, registers 1 name_a true false) ∷ (0, ExtNext 1 1) ∷ (0, RuntimeNext 1) ∷ (10, Withdraw 1) ∷
+    (20, ExtNext 1 1) ∷ (30, invoke 1) ∷ [])
+    ≡ ((0, 0, Registered 1) ∷ (3, 1, Withdrawn) ∷ (3, 3, Done) ∷ (5, 2, Delivered 5 3030) ∷
+    (5, 4, Told 5 3030 1) ∷ [])
+unfolding outcome
+withdraw_leaves_other_polls = refl
 
 next_while_invocation_is_open : outcome one
     ((0, RuntimeNext 1) ∷ (0, invoke 1) ∷ (10, RuntimeNext 1) ∷ (20, response 1 1) ∷ (30, RuntimeNext 1) ∷
@@ -123,6 +148,23 @@ later_next_moves_no_deadline : outcome one
     ≡ ((0, 0, Registered 1) ∷ (3, 1, Refused Container) ∷ (3, 2, InitTimedOut) ∷ (4, 4, Done) ∷ [])
 unfolding outcome
 later_next_moves_no_deadline = refl
+
+-- The Withdraw leaves the environment in Starting with no deadline; the clock starts with the extension's Next, at 20.
+extension_poll_starts_the_clock : outcome one
+    ((0, registers 1 name_a true false) ∷ (0, ExtNext 1 1) ∷ (0, RuntimeNext 1) ∷ (10, Withdraw 2) ∷
+    (20, ExtNext 1 1) ∷ (10020, Tick) ∷ [])
+    ≡ ((0, 0, Registered 1) ∷ (3, 2, Withdrawn) ∷ (3, 3, Done) ∷ (4, 1, Refused Replaced) ∷
+    (5, 4, Refused Container) ∷ (6, 6, Done) ∷ [])
+unfolding outcome
+extension_poll_starts_the_clock = refl
+
+-- An expiry has the moment of the call that finds it due, and the 2 s of the Closing begin there.
+expiry_has_the_moment_of_its_call : outcome one
+    ((0, registers 1 name_a false true) ∷ (0, ExtNext 1 1) ∷ (0, RuntimeNext 1) ∷ (10, invoke 1) ∷ (5000, Tick) ∷ [])
+    ≡ ((0, 0, Registered 1) ∷ (3, 2, Delivered 3 3010) ∷ (4, 1, Ending Timeout 7000 1) ∷ (4, 3, TimedOut) ∷
+    (5, 5, Done) ∷ [])
+unfolding outcome
+expiry_has_the_moment_of_its_call = refl
 
 -- The Closing ends at 2,010 with an invocation bound, which then waits 10 s for its Init.
 bound_generation_has_a_deadline : outcome one
@@ -173,6 +215,13 @@ starting_before_closing : outcome two
     ≡ ((0, 0, Registered 1) ∷ (1, 1, Accepted) ∷ (3, 3, Delivered 2 3030) ∷ [])
 unfolding outcome
 starting_before_closing = refl
+
+-- A Closing with an invocation bound takes no second one.
+closing_binds_once : outcome one
+    ((0, registers 1 name_a false true) ∷ (10, InitFailure 1 []) ∷ (20, invoke 1) ∷ (30, invoke 1) ∷ [])
+    ≡ ((0, 0, Registered 1) ∷ (1, 1, Accepted) ∷ (3, 3, Throttled ByEnvironments) ∷ [])
+unfolding outcome
+closing_binds_once = refl
 
 events_are_counted_by_environment : outcome two
     ((0, registers 1 name_a true false) ∷ (0, registers 2 name_b true false) ∷ (0, ExtNext 1 1) ∷
@@ -241,6 +290,13 @@ reservation_after_stop_changes_nothing : reservation_after reserved_two
     1 ≡ Some 1
 unfolding reservation_after
 reservation_after_stop_changes_nothing = refl
+
+-- After a Stop nothing else is looked at.
+reservation_is_stopped_first : outcome reserved_two
+    ((0, Stop) ∷ (0, Reserve 1 (Some 3)) ∷ [])
+    ≡ ((0, 0, Accepted) ∷ (1, 1, Stopped) ∷ [])
+unfolding outcome
+reservation_is_stopped_first = refl
 
 -- Busy with its invocation answered
 

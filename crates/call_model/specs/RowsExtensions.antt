@@ -44,6 +44,15 @@ ten_extensions : outcome one
 unfolding outcome
 ten_extensions = refl
 
+-- Ten in each generation: the next one may register in the next generation.
+ten_extensions_in_each_generation : outcome one
+    (joins 1 ∷ joins 2 ∷ joins 3 ∷ joins 4 ∷ joins 5 ∷ joins 6 ∷ joins 7 ∷ joins 8 ∷ joins 9 ∷ joins 10 ∷ (0, InitFailure 1 []) ∷ joins 11 ∷ [])
+    ≡ ((0, 0, Registered 1) ∷ (1, 1, Registered 2) ∷ (2, 2, Registered 3) ∷ (3, 3, Registered 4) ∷
+    (4, 4, Registered 5) ∷ (5, 5, Registered 6) ∷ (6, 6, Registered 7) ∷ (7, 7, Registered 8) ∷
+    (8, 8, Registered 9) ∷ (9, 9, Registered 10) ∷ (10, 10, Accepted) ∷ (11, 11, Registered 11) ∷ [])
+unfolding outcome
+ten_extensions_in_each_generation = refl
+
 register_refusals : outcome one
     ((0, registers 1 name_a true false) ∷ (0, registers 1 name_a false true) ∷ (1, ExtNext 1 1) ∷
     (2, RuntimeNext 1) ∷ (3, registers 1 name_b true false) ∷ [])
@@ -65,6 +74,15 @@ expected_extension : outcome expecting
     ≡ ((1, 1, Registered 1) ∷ (3, 0, Delivered 2 3003) ∷ (3, 3, Told 2 3003 1) ∷ [])
 unfolding outcome
 expected_extension = refl
+
+-- Another extension in its place leaves it missing.
+expected_extension_by_its_name : outcome expecting
+    ((0, RuntimeNext 1) ∷ (1, registers 1 name_b true false) ∷ (2, ExtNext 1 1) ∷ (3, invoke 1) ∷
+    (4, registers 1 name_a true false) ∷ (5, ExtNext 1 2) ∷ [])
+    ≡ ((1, 1, Registered 1) ∷ (4, 4, Registered 2) ∷ (5, 0, Delivered 3 3005) ∷ (5, 2, Told 3 3005 1) ∷
+    (5, 5, Told 3 3005 2) ∷ [])
+unfolding outcome
+expected_extension_by_its_name = refl
 
 extension_exit : outcome one
     ((0, registers 1 name_a true false) ∷ (0, ExtNext 1 1) ∷ (0, RuntimeNext 1) ∷ (10, invoke 1) ∷

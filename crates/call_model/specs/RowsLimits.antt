@@ -54,6 +54,13 @@ reserved_zero : outcome reserved_none
 unfolding outcome
 reserved_zero = refl
 
+-- After a Stop no limit is looked at.
+stopped_before_throttled : outcome reserved_none
+    ((0, Stop) ∷ (10, invoke 1) ∷ [])
+    ≡ ((0, 0, Accepted) ∷ (1, 1, Stopped) ∷ [])
+unfolding outcome
+stopped_before_throttled = refl
+
 account_limit_reached : outcome narrow
     ((0, invoke 1) ∷ (0, invoke 1) ∷ [])
     ≡ ((1, 1, Throttled ByAccount) ∷ [])
