@@ -4,72 +4,89 @@ ghost use Rattle.std.specs.Prelude.{◌≡◌};
 ghost use Rattle.arn_ids.specs.Faults.{first_fault, earliest, account_faults, function_faults, environment_faults};
 
 use crate::{Config, conditions};
-use thiserror::Error;
+use std::error::Error;
+use std::fmt;
 
 /// Why a configuration is refused: the first fault that holds, in the order of the variants. Each
 /// is looked for in the whole configuration before the next. Printed, a fault is its name.
-#[derive(Clone, Copy, Debug, PartialEq, Eq, Error)]
+#[derive(Clone, Copy, Debug, PartialEq, Eq)]
 pub enum ConfigFault {
     /// The account isn't twelve digits.
-    #[error("BadAccount")]
     BadAccount,
     /// The region isn't 1 to 32 lower case letters, digits and `-`.
-    #[error("BadRegion")]
     BadRegion,
     /// The account's limit of concurrent invocations isn't between 1 and 1,000,000.
-    #[error("BadAccountLimit")]
     BadAccountLimit,
     /// The least remainder is above the account's limit.
-    #[error("BadLeastRemainder")]
     BadLeastRemainder,
     /// There are more than 64 functions.
-    #[error("TooManyFunctions")]
     TooManyFunctions,
     /// A function's name isn't 1 to 64 letters, digits, `-` and `_`.
-    #[error("BadName")]
     BadName,
     /// Two functions have one name.
-    #[error("DuplicateName")]
     DuplicateName,
     /// A handler isn't 1 to 128 printing ASCII characters.
-    #[error("BadHandler")]
     BadHandler,
     /// A timeout isn't between 1 and 900 seconds.
-    #[error("BadTimeout")]
     BadTimeout,
     /// A function has no port.
-    #[error("NoEnvironment")]
     NoEnvironment,
     /// The functions have more than 256 ports together.
-    #[error("TooManyEnvironments")]
     TooManyEnvironments,
     /// A port is 0.
-    #[error("BadPort")]
     BadPort,
     /// A port stands twice, that of the callers among them.
-    #[error("DuplicatePort")]
     DuplicatePort,
     /// A function expects more than ten extensions.
-    #[error("TooManyExtensions")]
     TooManyExtensions,
     /// The name of an extension isn't 1 to 128 printing ASCII characters.
-    #[error("BadExtension")]
     BadExtension,
     /// A function expects two extensions of one name.
-    #[error("DuplicateExtension")]
     DuplicateExtension,
     /// A function has more invocations reserved than it has environments.
-    #[error("ReservationAboveEnvironments")]
     ReservationAboveEnvironments,
     /// The reservations and the least remainder are together above the account's limit.
-    #[error("RemainderTooSmall")]
     RemainderTooSmall,
     /// The greatest number of entries of a journal is out of its range. `Config::check` never
     /// gives this one: it is for the program, whose configuration names that number too. It is
     /// printed as `EntriesOutOfRange`.
-    #[error("EntriesOutOfRange")]
     BadEntries,
 }
+
+impl ConfigFault {
+    /// What it is printed as.
+    fn name(self) -> &'static str {
+        match self {
+            ConfigFault::BadAccount => "BadAccount",
+            ConfigFault::BadRegion => "BadRegion",
+            ConfigFault::BadAccountLimit => "BadAccountLimit",
+            ConfigFault::BadLeastRemainder => "BadLeastRemainder",
+            ConfigFault::TooManyFunctions => "TooManyFunctions",
+            ConfigFault::BadName => "BadName",
+            ConfigFault::DuplicateName => "DuplicateName",
+            ConfigFault::BadHandler => "BadHandler",
+            ConfigFault::BadTimeout => "BadTimeout",
+            ConfigFault::NoEnvironment => "NoEnvironment",
+            ConfigFault::TooManyEnvironments => "TooManyEnvironments",
+            ConfigFault::BadPort => "BadPort",
+            ConfigFault::DuplicatePort => "DuplicatePort",
+            ConfigFault::TooManyExtensions => "TooManyExtensions",
+            ConfigFault::BadExtension => "BadExtension",
+            ConfigFault::DuplicateExtension => "DuplicateExtension",
+            ConfigFault::ReservationAboveEnvironments => "ReservationAboveEnvironments",
+            ConfigFault::RemainderTooSmall => "RemainderTooSmall",
+            ConfigFault::BadEntries => "EntriesOutOfRange",
+        }
+    }
+}
+
+impl fmt::Display for ConfigFault {
+    fn fmt<W: fmt::Write>(&self, f: &mut fmt::Formatter<W>) -> fmt::Result {
+        f.write_str(self.name())
+    }
+}
+
+impl Error for ConfigFault {}
 
 /// The fault that a configuration is refused for.
 #[tactic(auto, unfolding(crate::specs::Faults::first_fault))]
