@@ -1,5 +1,6 @@
 -- What a journal keeps beside the entries, and what is true of it.
 use Rattle.std.specs.Prelude.{◌≡◌, ◌<◌, ◌^◌, None}
+use Rattle.std.specs.Arc.{arc_value}
 use Rattle.arn_ids.specs.Faults.{first_fault}
 use Rattle.call_model.specs.Next.{IsLegal, last_moment}
 use Rattle.concurrency_pool.specs.Meets.{numbers}
@@ -8,14 +9,14 @@ use Rattle.account_book.specs.Pages.{Pages}
 use Rattle.account_book.specs.Taking.{AllKnown, sites, request_counts}
 
 abbrev pub pages : Inside → Pages
-pages j = record { config = j.config; history = j.ledger.history; room = j.ledger.room; widest = j.fleet.widest }
+pages j = record { config = arc_value j.config; history = j.ledger.history; room = j.ledger.room; widest = j.fleet.widest }
 
 -- the history is legal, and what is kept beside it is what it says
 pub record IsJournal (j : Inside) : Type 0 where
-  pub sound : first_fault j.config ≡ None
-  pub legal : IsLegal j.config j.ledger.history
-  pub all_known : AllKnown j.config j.ledger.history
+  pub sound : first_fault (arc_value j.config) ≡ None
+  pub legal : IsLegal (arc_value j.config) j.ledger.history
+  pub all_known : AllKnown (arc_value j.config) j.ledger.history
   pub early : last_moment j.ledger.history < 2 ^ 53
-  pub sites_are : j.fleet.sites ≡ sites j.config j.ledger.history
-  pub pool_is : j.fleet.pool ≡ numbers j.config j.ledger.history
-  pub requests_are : j.requests.items ≡ request_counts j.config j.ledger.history
+  pub sites_are : j.fleet.sites ≡ sites (arc_value j.config) j.ledger.history
+  pub pool_is : j.fleet.pool ≡ numbers (arc_value j.config) j.ledger.history
+  pub requests_are : j.requests.items ≡ request_counts (arc_value j.config) j.ledger.history

@@ -1,6 +1,7 @@
 //! The book of an account: what callers hand their calls to.
 
 ghost use Rattle.std.specs.Prelude.{◌≡◌, ◌+◌, ◌*◌, ◌<◌, ◌≤◌, ◌^◌, ◌↔◌, ℕ, [], length, reverse, All, IfOk, IfErr, Err, Some, None, true, false, is_some, slice_get, slice_index_or, option_map, MatchOption};
+ghost use Rattle.std.specs.Arc.{arc_value};
 ghost use Rattle.arn_ids.specs.Environments.{owners};
 ghost use Rattle.arn_ids.specs.Faults.{first_fault};
 ghost use Rattle.call_types.specs.declared.call.Call.TheVariants.{Stop};
@@ -36,6 +37,7 @@ use lambda_wire::Reply;
 use script::push_entry;
 use std::alloc::{AllocError, Global};
 use std::marker::Model;
+use std::sync::Arc;
 use thiserror::Error;
 
 /// Why a book could not be opened: the first that holds.
@@ -171,15 +173,16 @@ fn room_wanted(environments: u64, call: &Call) -> u64
 }
 
 impl Book {
-    /// An empty book, of at most so many entries: from the environments and one to 2^32.
+    /// An empty book, of at most so many entries: from the environments and one to 2^32. It shares
+    /// the configuration with whoever else reads it.
     pub fn open(
         alloc: Global,
-        config: Checked,
+        config: Arc<Checked>,
         salt: u64,
         max_entries: u64,
     ) -> Result<Book, OpenFault>
-        ensures range { (result ≡ Err EntriesOutOfRange) ↔ ((length (owners config) + 1 ≤ max_entries) × (max_entries ≤ 2 ^ 32) → ⊥) }
-        ensures opened { IfOk result (λ book. book ≡ record { config = config; salt = salt; max_entries = max_entries; history = [] }) }
+        ensures range { (result ≡ Err EntriesOutOfRange) ↔ ((length (owners (arc_value config)) + 1 ≤ max_entries) × (max_entries ≤ 2 ^ 32) → ⊥) }
+        ensures opened { IfOk result (λ book. book ≡ record { config = arc_value config; salt = salt; max_entries = max_entries; history = [] }) }
     {
         if max_entries <= u64::from(config.environments()) || max_entries > 1 << 32 {
             return Err(OpenFault::EntriesOutOfRange);

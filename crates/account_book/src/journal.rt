@@ -1,6 +1,7 @@
 //! The history of an account, with what is known of it.
 
-ghost use Rattle.std.specs.Prelude.{◌≡◌, ◌+◌, ◌++◌, ◌-◌, ◌<◌, ◌≤◌, ◌^◌, [], ℕ, length, reverse, Some, None, IfOk, OnOk, All, false, if◌then◌else◌};
+ghost use Rattle.std.specs.Prelude.{◌≡◌, ◌+◌, ◌++◌, ◌-◌, ◌<◌, ◌≤◌, ◌^◌, [], length, reverse, Some, None, IfOk, OnOk, All, false, if◌then◌else◌};
+ghost use Rattle.std.specs.Arc.{arc_value};
 ghost use Rattle.std.specs.List.{list_all};
 ghost use Rattle.arn_ids.specs.Environments.{owners, environments};
 ghost use Rattle.arn_ids.specs.Faults.{first_fault};
@@ -31,11 +32,12 @@ use call_model::{Answer, Call, Entry, Rejection, Stats, Ticket};
 use entry_blocks::Blocks;
 use std::alloc::{AllocError, Global};
 use std::marker::Model;
+use std::sync::Arc;
 
 /// The history with what is known of it. Room for an entry is made beforehand.
 #[derive(Debug, Drop)]
 pub struct Journal {
-    config: Checked,
+    config: Arc<Checked>,
     fleet: Fleet,
     /// How many Invokes each function has had.
     requests: Vec<u64>,
@@ -77,8 +79,8 @@ impl Verdict {
 
 impl Journal {
     /// An empty journal.
-    pub fn open(alloc: Global, config: Checked) -> Result<Journal, AllocError>
-        ensures { IfOk result (λ j. j ≡ record { config = config; history = []; room = 0; widest = 0 }) }
+    pub fn open(alloc: Global, config: Arc<Checked>) -> Result<Journal, AllocError>
+        ensures { IfOk result (λ j. j ≡ record { config = arc_value config; history = []; room = 0; widest = 0 }) }
     {
         let requests = open_counts(alloc, config.functions())?;
         let fleet = Fleet::open(alloc, &config)?;

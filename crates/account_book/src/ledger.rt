@@ -1,7 +1,6 @@
 //! The entries of an account, with what is read off them.
 
-ghost use Rattle.std.specs.Prelude.{◌≡◌, ◌+◌, ◌-◌, ◌∷◌, ◌<◌, ◌≤◌, ◌^◌, ◌||◌, [], ℕ, length, reverse, None, All, OnOk, slice_get, option_map};
-ghost use Rattle.call_model.specs.Counts.{admitted, throttled, failed};
+ghost use Rattle.std.specs.Prelude.{◌≡◌, ◌+◌, ◌-◌, ◌∷◌, ◌<◌, ◌≤◌, ◌^◌, ◌||◌, [], ℕ, length, reverse, None, All, OnOk};
 ghost use Rattle.call_model.specs.History.{answer_of, is_stop, stopped};
 ghost use Rattle.call_model.specs.CallCounts.{call_counts, request_count};
 ghost use Rattle.account_book.specs.Indexes.{noted};

@@ -1,6 +1,6 @@
 //! What an account has counted.
 
-ghost use Rattle.std.specs.Prelude.{◌≡◌, ◌+◌, ◌<◌, ◌≤◌, ◌^◌, length, count_by, cond, is_some};
+ghost use Rattle.std.specs.Prelude.{◌≡◌, ◌+◌, ◌<◌, ◌^◌, length, count_by, cond, is_some};
 ghost use Rattle.call_model.specs.Counts.{is_throttle, is_failure};
 
 use arn_ids::EnvNo;

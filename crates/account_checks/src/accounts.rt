@@ -1,6 +1,7 @@
 //! Cases of accounts: each is run by an account, and by a desk that is put behind a lock.
 
 ghost use Rattle.std.specs.Prelude.{◌≡◌, ◌^◌};
+ghost use Rattle.std.specs.Arc.{arc_value};
 
 use crate::bells::Bells;
 use crate::lines::malformed;
@@ -86,7 +87,7 @@ fn play<
     blanks: Blanks,
     given: &mut Given,
 ) -> Result<(), CaseFault>
-    requires configured { opening.config ≡ S.config }
+    requires configured { arc_value opening.config ≡ S.config }
     requires salted { opening.salt ≡ S.salt }
     requires named { blanks ≡ S.names }
 {

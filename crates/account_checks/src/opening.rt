@@ -1,37 +1,27 @@
 //! The configuration of a case.
 
-ghost use Rattle.std.specs.Prelude.{◌≡◌, Ok, IfOk};
-ghost use Rattle.lambda_wire.specs.Configuration.{read_setup};
+ghost use Rattle.std.specs.Prelude.{◌≡◌};
+ghost use Rattle.std.specs.Arc.{arc_value};
 
 use crate::lines::malformed;
 use arn_ids::Checked;
 use case_tables::{Case, CaseFault};
 use lambda_wire::{Setup, WireFault, read_config};
 use std::alloc::Global;
+use std::sync::Arc;
 
-/// What an account is opened with: its configuration, which is there a second time for those who
-/// read calls beside the account.
+/// What an account is opened with. It shares its configuration with those who read calls beside it.
 #[derive(Drop)]
 pub struct Opening {
-    pub config: Checked,
-    pub beside: Checked,
+    pub config: Arc<Checked>,
+    pub beside: Arc<Checked>,
     pub salt: u64,
     pub max_entries: u64,
-    ghost same: { beside ≡ config },
-}
-
-/// What a text configures.
-#[derive(Drop)]
-struct Configured {
-    config: Checked,
-    salt: u64,
-    max_entries: u64,
+    ghost same: { arc_value beside ≡ arc_value config },
 }
 
 /// The setup that a text of a line says.
-fn setup(alloc: Global, line: u64, text: &[u8]) -> Result<Setup, CaseFault>
-    ensures { IfOk result (λ setup. read_setup text.now ≡ Ok setup) }
-{
+fn setup(alloc: Global, line: u64, text: &[u8]) -> Result<Setup, CaseFault> {
     match read_config(alloc, text) {
         Ok(setup) => Ok(setup),
         Err(WireFault::OutOfMemory) => Err(CaseFault::Memory),
@@ -39,34 +29,22 @@ fn setup(alloc: Global, line: u64, text: &[u8]) -> Result<Setup, CaseFault>
     }
 }
 
-/// What a text of a line configures.
-fn known(alloc: Global, line: u64, text: &[u8]) -> Result<Configured, CaseFault>
-    ensures { IfOk result (λ known. read_setup text.now ≡ Ok (record { config = known.config; salt = known.salt; max_entries = known.max_entries })) }
-{
+/// What the text of a line opens.
+fn opening_in(alloc: Global, line: u64, text: &[u8]) -> Result<Opening, CaseFault> {
     let Setup {
         config,
         salt,
         max_entries,
     } = setup(alloc, line, text)?;
-    match config.check() {
-        Ok(config) => Ok(Configured {
-            config,
-            salt,
-            max_entries,
-        }),
-        Err(_) => Err(malformed(line, "a sound configuration is wanted")),
-    }
-}
-
-/// What the text of a line opens.
-fn opening_in(alloc: Global, line: u64, text: &[u8]) -> Result<Opening, CaseFault> {
-    let first = known(alloc, line, text)?;
-    let second = known(alloc, line, text)?;
+    let Ok(config) = config.check() else {
+        return Err(malformed(line, "a sound configuration is wanted"));
+    };
+    let beside = Arc::new(alloc, config)?;
     Ok(Opening {
-        config: first.config,
-        beside: second.config,
-        salt: first.salt,
-        max_entries: first.max_entries,
+        config: Arc::try_clone(&beside)?,
+        beside,
+        salt,
+        max_entries,
     })
 }
 

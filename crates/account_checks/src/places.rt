@@ -1,6 +1,7 @@
 //! Accounts that take lines of scripts.
 
 ghost use Rattle.std.specs.Prelude.{◌≡◌, ◌^◌};
+ghost use Rattle.std.specs.Arc.{arc_value};
 
 use crate::bells::Numbered;
 use crate::opening::Opening;
@@ -11,7 +12,7 @@ use call_model::{Stats, Ticket};
 use lambda_wire::Reply;
 use script::read_call;
 use std::alloc::{AllocError, Global};
-use std::sync::Wait;
+use std::sync::{Arc, Wait};
 use usage_ledger::{Blanks, Front, Keep, Start, Tally, root};
 
 /// What became of a line.
@@ -59,9 +60,9 @@ pub enum Said {
 pub struct Place<R, S: Identity> {
     pub rt: R,
     pub alloc: Global,
-    pub config: Checked,
+    pub config: Arc<Checked>,
     pub account: Account<S, Numbered>,
-    ghost configured: { config ≡ S.config },
+    ghost configured: { arc_value config ≡ S.config },
 }
 
 /// What comes of a call that was not taken.
@@ -168,12 +169,12 @@ type Begun<S, K> = (Account<S, Numbered>, Tally<K, S>);
 /// Opens a desk, and puts it behind a lock.
 fn open_desk<S: Identity, K: Keep>(
     alloc: Global,
-    config: Checked,
+    config: Arc<Checked>,
     salt: u64,
     max_entries: u64,
     blanks: Blanks,
 ) -> Result<Begun<S, K>, OpenFault>
-    requires configured { config ≡ S.config }
+    requires configured { arc_value config ≡ S.config }
     requires salted { salt ≡ S.salt }
     requires named { blanks ≡ S.names }
 {
@@ -199,7 +200,7 @@ pub fn open<R: Drop, S: Identity, K: Keep>(
     opening: Opening,
     blanks: Blanks,
 ) -> Result<Opened<R, S, K>, OpenFault>
-    requires configured { opening.config ≡ S.config }
+    requires configured { arc_value opening.config ≡ S.config }
     requires salted { opening.salt ≡ S.salt }
     requires named { blanks ≡ S.names }
 {

@@ -1,5 +1,5 @@
 -- Where nothing is kept, and nothing need be, all that is kept is right.
-use Rattle.std.proofs.Common.{◌≡◌, ℕ, ◌+◌, ◌≤◌, ◌==◌, ◌&&◌, true, false, List, [], ◌∷◌, length, sym, subst, arith, true≢false}
+use Rattle.std.proofs.Common.{◌≡◌, ℕ, ◌≤◌, ◌==◌, true, false, List, [], ◌∷◌, length, sym, subst, arith, true≢false}
 use Rattle.std.proofs.lemmas.Bool.Decides.{nat_tests}
 use Rattle.std.proofs.lemmas.List.{nil_from_length}
 use Rattle.std.proofs.lemmas.List.Elements.{All-nil, All-cons}
@@ -11,7 +11,7 @@ use Rattle.usage_ledger.specs.Keeping.{Kept, nothing}
 use Rattle.usage_ledger.specs.Tallies.{Tallied}
 use Rattle.call_model.specs.History.{answer_of}
 use Rattle.account_lock.specs.Gathered.{keeps_nothing, calls_of, times}
-use Rattle.account_lock.specs.Settlement.{Agree, Rises, head_at, CallsAgree, IsKept}
+use Rattle.account_lock.specs.Settlement.{Agree, Rises, head_at, IsKept}
 
 none_of : {X : Type 0} (xs : List X) → (length xs == 0) ≡ true → xs ≡ []
 none_of xs e = nil_from_length xs (grind (arith, nat_tests))

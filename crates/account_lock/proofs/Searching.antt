@@ -1,5 +1,5 @@
 -- Where a ticket's bell stands among bells in rising order, and that what stays of them is in that order.
-use Rattle.std.proofs.Common.{◌≡◌, ◌≢◌, ℕ, zero, suc, ◌+◌, ◌<◌, ◌≤◌, ◌==◌, List, [], ◌∷◌, ◌++◌, Bool, true, false, ◌&&◌, length, get_or, remove, refl, sym, ap, ◌∙◌, subst, nat_lt, if◌then◌else◌, Option, Some, None, arith}
+use Rattle.std.proofs.Common.{◌≡◌, ◌≢◌, ℕ, zero, suc, ◌+◌, ◌<◌, ◌≤◌, ◌==◌, List, [], ◌∷◌, ◌++◌, Bool, true, false, length, get_or, remove, refl, sym, ap, ◌∙◌, subst, nat_lt, if◌then◌else◌, Option, Some, None, arith}
 use Rattle.std.specs.List.{list_all, AllWithin}
 use Rattle.std.specs.List.Sorted.{IsPartitionedBy}
 use Rattle.std.proofs.lemmas.Bool.Decides.{nat_tests}
@@ -9,7 +9,7 @@ use Rattle.call_types.specs.declared.answer.Answer.{Answer}
 use Rattle.call_types.specs.declared.call.Call.{Call}
 use Rattle.call_types.specs.declared.call.Entry.{Entry}
 use Rattle.call_model.specs.History.{pending}
-use Rattle.call_model.specs.Next.{added, next}
+use Rattle.call_model.specs.Next.{next}
 use Rattle.account_lock.specs.Bells.{of_ticket, other_bells, are_rising, own_bell, bells_after}
 use Rattle.account_lock.proofs.Waiting.{and_true, both_true, all_by, all_both, known, not_true, past}
 

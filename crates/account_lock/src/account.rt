@@ -2,6 +2,7 @@
 
 ghost use Rattle.std.specs.Prelude.{◌≡◌, ◌≢◌, ◌⊎◌, [], ◌+◌, ◌<◌, ◌≤◌, ◌^◌, ◌↔◌, ℕ, false, is_some};
 ghost use Rattle.std.specs.Prelude.{true, length, option_map, IfOk, IfErr, OnOk, IsErrOf};
+ghost use Rattle.std.specs.Arc.{arc_value};
 ghost use Rattle.std.specs.List.{list_all};
 ghost use Rattle.arn_ids.specs.Environments.{owners};
 ghost use Rattle.account_book.specs.declared.book.OpenFault.TheVariants.{EntriesOutOfRange};
@@ -33,7 +34,7 @@ use lambda_wire::Reply;
 use shared_history::Source;
 use std::alloc::{AllocError, Global};
 use std::marker::{Brand, Model};
-use std::sync::{Mutex, Wait};
+use std::sync::{Arc, Mutex, Wait};
 use usage_ledger::{Blanks, Front, Keep, Ledgers, Line, Pen, Start, Tally, root};
 
 /// Stands for the ledgers, the history, the configuration and the salt of an account in its type, so
@@ -248,22 +249,23 @@ impl<S: Identity, B: Bell> Locked<S, B> {
 impl<S: Identity, B: Bell> Account<S, B> {
     /// A new account, of at most so many entries: from the environments and one to 2^32. Its
     /// history is empty, and the tally has all parts of its four ledgers. Each blank becomes the
-    /// ledger that `S` names, and the history the one that it names.
+    /// ledger that `S` names, and the history the one that it names. The account shares the
+    /// configuration with whoever else reads it.
     ///
     /// # Errors
     /// As `Book::open`: `EntriesOutOfRange`, else `OutOfMemory`.
     pub fn open<K: Keep>(
         alloc: Global,
-        config: Checked,
+        config: Arc<Checked>,
         salt: u64,
         max_entries: u64,
         blanks: Blanks,
     ) -> Result<(Account<S, B>, Tally<K, S>), OpenFault>
-        requires configured { config ≡ S.config }
+        requires configured { arc_value config ≡ S.config }
         requires salted { salt ≡ S.salt }
         requires named { blanks ≡ S.names }
         ensures range { IsErrOf result EntriesOutOfRange
-            ↔ ((length (owners config) + 1 ≤ max_entries) × (max_entries ≤ 2 ^ 32) → ⊥) }
+            ↔ ((length (owners (arc_value config)) + 1 ≤ max_entries) × (max_entries ≤ 2 ^ 32) → ⊥) }
         ensures tally { IfOk result (λ opened. opened.1.held ≡ fresh (2 ^ 32)) }
     {
         let book = match Book::open(alloc, config, salt, max_entries) {

@@ -1,6 +1,6 @@
 //! Laws over the definitions: what holds of every legal history. Each function does nothing; its clauses are the laws.
 
-ghost use Rattle.std.specs.Prelude.{◌≡◌, ◌<◌, ◌≤◌, ℕ, Bool, true, false, cond, List, [], ◌∷◌, ◌++◌, length, reverse, slice_index, Option, Some, None, count_by, filter, is_some, not, ◌+◌, ◌&&◌, ◌==◌};
+ghost use Rattle.std.specs.Prelude.{◌≡◌, ◌<◌, ◌≤◌, ℕ, true, false, cond, List, [], ◌∷◌, ◌++◌, length, reverse, slice_index, Some, None, count_by, is_some, ◌+◌, ◌&&◌, ◌==◌};
 ghost use Rattle.call_types.specs.declared.call.Call.{Call};
 ghost use Rattle.call_types.specs.declared.call.Entry.{Entry};
 ghost use Rattle.call_types.specs.declared.answer.Answer.{Answer};
@@ -10,12 +10,10 @@ ghost use Rattle.arn_ids.specs.Environments.{function_of, environments, function
 ghost use Rattle.call_model.specs.History.{pending, answered, place_of, call_of, answer_in, answer_of, is_expiry, is_invoke_of, requests, upto};
 ghost use Rattle.call_model.specs.CallCounts.{call_counts};
 ghost use Rattle.call_model.specs.Generation.{Actor};
-ghost use Rattle.call_model.specs.Stand.{is_number};
-ghost use Rattle.call_model.specs.Answers.{home};
-ghost use Rattle.call_model.specs.Life.{phase, stand, concerns};
+ghost use Rattle.call_model.specs.Life.{phase, stand};
 ghost use Rattle.call_model.specs.Own.{own, own_ticket};
 ghost use Rattle.call_model.specs.Isolation.{IsUnnamed, IsLegalSave, named, gist};
-ghost use Rattle.call_model.specs.Limits.{is_charged, verdict, Verdict, Refuses, reservation, remainder, in_flight, unreserved_in_flight};
+ghost use Rattle.call_model.specs.Limits.{verdict, Refuses, reservation, remainder, in_flight, unreserved_in_flight};
 ghost use Rattle.call_model.specs.Laws.{lives, times, deliveries, is_outcome, poll_of, is_open, admits, re_reserved, charged_in, is_taken, IsWithinEnvironments, is_due, deadlines_of, are_in_order, ended_by};
 ghost use Rattle.call_model.specs.Next.{IsLegal, next, due, last_moment, expiries_at};
 

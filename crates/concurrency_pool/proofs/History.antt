@@ -10,7 +10,7 @@ use Rattle.call_types.specs.declared.answer.Throttle.TheVariants.{Function as By
 use Rattle.call_types.specs.declared.call.Entry.{Entry}
 use Rattle.call_model.specs.Counts.{all_in_flight}
 use Rattle.call_model.specs.Limits as model
-use Rattle.call_model.specs.Limits.{in_flight, reservation, place, by_limits, Refuses, Verdict, where_placed, or_zero}
+use Rattle.call_model.specs.Limits.{in_flight, reservation, place, by_limits, Refuses, where_placed, or_zero}
 use Rattle.concurrency_pool.specs.declared.pool.Usage.{Usage}
 use Rattle.concurrency_pool.specs.Numbers.{Numbers}
 use Rattle.concurrency_pool.specs.Usages.{no_usage, usage_of, reserved_by, unreserved_by, charged_by}

@@ -1,6 +1,7 @@
 //! Cases: what each is run over.
 
 ghost use Rattle.std.specs.Prelude.{◌≡◌};
+ghost use Rattle.std.specs.Arc.{arc_value};
 
 use crate::board::{Board, Mood};
 use crate::lines::{malformed, number_of};
@@ -142,12 +143,12 @@ fn play<
     rt: R,
     terms: Terms,
     case: &Case,
-    config: Checked,
+    config: Arc<Checked>,
     max_entries: u64,
     blanks: Blanks,
     given: &mut String,
 ) -> Result<(), CaseFault>
-    requires configured { config ≡ S.config }
+    requires configured { arc_value config ≡ S.config }
     requires salted { S.salt ≡ 0 }
     requires named { blanks ≡ S.names }
 {
@@ -203,5 +204,6 @@ pub fn give<R: Wait + Threads + Clock + RandomSource + AllocGlobal + Copy + Send
     let Ok(config) = setup.config.check() else {
         return Err(malformed(case.line(), "a sound configuration is wanted"));
     };
+    let config = Arc::new(alloc, config)?;
     play::<R, Brand>(rt, terms, case, config, setup.max_entries, blanks, given)
 }

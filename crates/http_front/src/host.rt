@@ -1,6 +1,7 @@
 //! The server: its ports, and the threads of its connections.
 
 ghost use Rattle.std.specs.Prelude.{◌≡◌, ◌+◌, ◌^◌, ◌≤◌, ◌↔◌, length, IsErrOf};
+ghost use Rattle.std.specs.Arc.{arc_value};
 ghost use Rattle.arn_ids.specs.Environments.{owners};
 ghost use Rattle.arn_ids.specs.declared.faults.ConfigFault.TheVariants.{BadEntries};
 ghost use Rattle.http_front.specs.declared.host_fault.HostFault.TheVariants.{Config};
@@ -60,10 +61,10 @@ impl<
         patience: u32,
         blanks: Blanks,
     ) -> Result<Host<R, S, N, K>, HostFault>
-        requires configured { plan.config ≡ S.config }
+        requires configured { arc_value plan.config ≡ S.config }
         requires salted { plan.salt ≡ S.salt }
         requires named { blanks ≡ S.names }
-        ensures range { IsErrOf result (Config BadEntries) ↔ ((length (owners plan.config) + 1 ≤ plan.max_entries) × (plan.max_entries ≤ 2 ^ 32) → ⊥) }
+        ensures range { IsErrOf result (Config BadEntries) ↔ ((length (owners (arc_value plan.config)) + 1 ≤ plan.max_entries) × (plan.max_entries ≤ 2 ^ 32) → ⊥) }
     {
         let alloc = rt.alloc();
         let Plan {

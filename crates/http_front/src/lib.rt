@@ -5,7 +5,6 @@
 
 mod attendant;
 mod codings;
-mod copies;
 mod door;
 mod entrance;
 mod front;

@@ -23,29 +23,44 @@ with_read (Err e) route rows = rows
 unfoldable pub with_route : {R : Type 0} → List ℕ → R → RowsFor R → RowsFor R
 with_route text route rows = with_read (parse_route text) route rows
 
--- An environment's port (Runtime API 2018-06-01, Extensions API 2020-01-01).
-unfoldable pub environment_rows : RowsFor EnvironmentRoute
-environment_rows =
+-- the rows with those of the Runtime API (2018-06-01)
+unfoldable pub with_runtime_rows : RowsFor EnvironmentRoute → RowsFor EnvironmentRoute
+with_runtime_rows rows =
+    with_route (codes "/2018-06-01/runtime/init/error") InitFailure
+    (with_route (codes "/2018-06-01/runtime/invocation/{id}/error") Failure
+    (with_route (codes "/2018-06-01/runtime/invocation/{id}/response") Response
+    (with_route (codes "/2018-06-01/runtime/invocation/next") Next rows)))
+
+-- the rows with those of the Extensions API (2020-01-01)
+unfoldable pub with_extension_rows : RowsFor EnvironmentRoute → RowsFor EnvironmentRoute
+with_extension_rows rows =
     with_route (codes "/2020-01-01/extension/exit/error") ExtExitFailure
     (with_route (codes "/2020-01-01/extension/init/error") ExtInitFailure
     (with_route (codes "/2020-01-01/extension/event/next") ExtNext
-    (with_route (codes "/2020-01-01/extension/register") Register
-    (with_route (codes "/2018-06-01/runtime/init/error") InitFailure
-    (with_route (codes "/2018-06-01/runtime/invocation/{id}/error") Failure
-    (with_route (codes "/2018-06-01/runtime/invocation/{id}/response") Response
-    (with_route (codes "/2018-06-01/runtime/invocation/next") Next [])))))))
+    (with_route (codes "/2020-01-01/extension/register") Register rows)))
 
--- The account's port (Lambda API: Invoke, PutFunctionConcurrency, DeleteFunctionConcurrency, GetFunctionConcurrency), and
--- under `/_local` what this service adds for its operator.
-unfoldable pub account_rows : RowsFor AccountRoute
-account_rows =
+-- An environment's port.
+unfoldable pub environment_rows : RowsFor EnvironmentRoute
+environment_rows = with_extension_rows (with_runtime_rows [])
+
+-- the rows with those of the Lambda API (Invoke, PutFunctionConcurrency and DeleteFunctionConcurrency, GetFunctionConcurrency)
+unfoldable pub with_lambda_rows : RowsFor AccountRoute → RowsFor AccountRoute
+with_lambda_rows rows =
+    with_route (codes "/2019-09-30/functions/{name}/concurrency") ReadConcurrency
+    (with_route (codes "/2017-10-31/functions/{name}/concurrency") Concurrency
+    (with_route (codes "/2015-03-31/functions/{name}/invocations") Invoke rows))
+
+-- the rows with those that this service adds for its operator, under `/_local`
+unfoldable pub with_local_rows : RowsFor AccountRoute → RowsFor AccountRoute
+with_local_rows rows =
     with_route (codes "/_local/history") History
     (with_route (codes "/_local/stats") Stats
     (with_route (codes "/_local/env/{n}/spindown") Spindown
-    (with_route (codes "/_local/stop") Stop
-    (with_route (codes "/2019-09-30/functions/{name}/concurrency") ReadConcurrency
-    (with_route (codes "/2017-10-31/functions/{name}/concurrency") Concurrency
-    (with_route (codes "/2015-03-31/functions/{name}/invocations") Invoke []))))))
+    (with_route (codes "/_local/stop") Stop rows)))
+
+-- The account's port.
+unfoldable pub account_rows : RowsFor AccountRoute
+account_rows = with_local_rows (with_lambda_rows [])
 
 -- the route that a path matches
 abbrev pub route_in : {R : Type 0} → RowsFor R → List ℕ → Option R

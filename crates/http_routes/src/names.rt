@@ -1,7 +1,6 @@
 //! The function that a request to the Lambda API is about.
 
-ghost use Rattle.std.specs.Prelude.{◌≡◌, ◌==◌, option_map, count_by, IfOk};
-ghost use Rattle.std.specs.Cow.{cow_str_bytes};
+ghost use Rattle.std.specs.Prelude.{◌≡◌, ◌==◌, option_map, IfOk};
 ghost use Rattle.arn_ids.specs.Grammar as grammar;
 ghost use Rattle.http_routes.specs.Names as spec;
 ghost use Rattle.http_routes.specs.Paths as paths;

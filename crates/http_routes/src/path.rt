@@ -1,9 +1,8 @@
 //! Parts of a path and of a query.
 
-ghost use Rattle.std.specs.Prelude.{◌≡◌, ◌==◌, ◌∷◌, [], codes, option_map, IfOk, MatchOption};
+ghost use Rattle.std.specs.Prelude.{◌≡◌, ◌==◌, ◌∷◌, [], option_map, IfOk, MatchOption};
 ghost use Rattle.std.specs.List.{slice_split};
 ghost use Rattle.std.specs.Cow.{cow_str_bytes};
-ghost use Rattle.form_urlencoded.specs.Form.{raw_pairs as pairs_of};
 ghost use Rattle.http_routes.specs.Paths as spec;
 
 use form_urlencoded::{decode, raw_pairs};

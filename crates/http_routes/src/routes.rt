@@ -1,7 +1,7 @@
 //! The routes of the two kinds of ports.
 
 ghost use Rattle.std.specs.Prelude.{◌≡◌, IfOk, OnOk};
-ghost use Rattle.http_routes.specs.Routes.{with_route, environment_rows, account_rows, route_in, is_environment_method, is_account_method};
+ghost use Rattle.http_routes.specs.Routes.{with_route, with_runtime_rows, with_extension_rows, environment_rows, with_lambda_rows, with_local_rows, account_rows, route_in, is_environment_method, is_account_method};
 
 use matchit::{InsertError, Router};
 use std::alloc::Global;
@@ -84,52 +84,97 @@ fn add<R: Drop>(router: &mut Router<R>, text: &str, route: R) -> Result<(), Inse
     router.insert(text, route)
 }
 
+/// Adds the routes of the Runtime API (2018-06-01).
+fn add_runtime(router: &mut Router<EnvironmentRoute>) -> Result<(), InsertError>
+    ensures { OnOk result (router.new ≡ with_runtime_rows router.old) }
+{
+    add(
+        router,
+        "/2018-06-01/runtime/invocation/next",
+        EnvironmentRoute::Next,
+    )?;
+    add(
+        router,
+        "/2018-06-01/runtime/invocation/{id}/response",
+        EnvironmentRoute::Response,
+    )?;
+    add(
+        router,
+        "/2018-06-01/runtime/invocation/{id}/error",
+        EnvironmentRoute::Failure,
+    )?;
+    add(
+        router,
+        "/2018-06-01/runtime/init/error",
+        EnvironmentRoute::InitFailure,
+    )
+}
+
+/// Adds the routes of the Extensions API (2020-01-01).
+fn add_extensions(router: &mut Router<EnvironmentRoute>) -> Result<(), InsertError>
+    ensures { OnOk result (router.new ≡ with_extension_rows router.old) }
+{
+    add(
+        router,
+        "/2020-01-01/extension/register",
+        EnvironmentRoute::Register,
+    )?;
+    add(
+        router,
+        "/2020-01-01/extension/event/next",
+        EnvironmentRoute::ExtNext,
+    )?;
+    add(
+        router,
+        "/2020-01-01/extension/init/error",
+        EnvironmentRoute::ExtInitFailure,
+    )?;
+    add(
+        router,
+        "/2020-01-01/extension/exit/error",
+        EnvironmentRoute::ExtExitFailure,
+    )
+}
+
 /// The routes of an environment's port. They don't conflict: the error is want of memory.
 pub(crate) fn environment_routes(alloc: Global) -> Result<Router<EnvironmentRoute>, InsertError>
     ensures { IfOk result (λ router. router ≡ environment_rows) }
 {
     let mut router = Router::new(alloc);
-    add(
-        &mut router,
-        "/2018-06-01/runtime/invocation/next",
-        EnvironmentRoute::Next,
-    )?;
-    add(
-        &mut router,
-        "/2018-06-01/runtime/invocation/{id}/response",
-        EnvironmentRoute::Response,
-    )?;
-    add(
-        &mut router,
-        "/2018-06-01/runtime/invocation/{id}/error",
-        EnvironmentRoute::Failure,
-    )?;
-    add(
-        &mut router,
-        "/2018-06-01/runtime/init/error",
-        EnvironmentRoute::InitFailure,
-    )?;
-    add(
-        &mut router,
-        "/2020-01-01/extension/register",
-        EnvironmentRoute::Register,
-    )?;
-    add(
-        &mut router,
-        "/2020-01-01/extension/event/next",
-        EnvironmentRoute::ExtNext,
-    )?;
-    add(
-        &mut router,
-        "/2020-01-01/extension/init/error",
-        EnvironmentRoute::ExtInitFailure,
-    )?;
-    add(
-        &mut router,
-        "/2020-01-01/extension/exit/error",
-        EnvironmentRoute::ExtExitFailure,
-    )?;
+    add_runtime(&mut router)?;
+    add_extensions(&mut router)?;
     Ok(router)
+}
+
+/// Adds the routes of the Lambda API.
+fn add_lambda(router: &mut Router<AccountRoute>) -> Result<(), InsertError>
+    ensures { OnOk result (router.new ≡ with_lambda_rows router.old) }
+{
+    add(
+        router,
+        "/2015-03-31/functions/{name}/invocations",
+        AccountRoute::Invoke,
+    )?;
+    add(
+        router,
+        "/2017-10-31/functions/{name}/concurrency",
+        AccountRoute::Concurrency,
+    )?;
+    add(
+        router,
+        "/2019-09-30/functions/{name}/concurrency",
+        AccountRoute::ReadConcurrency,
+    )
+}
+
+/// Adds the routes that are this service's own.
+fn add_local(router: &mut Router<AccountRoute>) -> Result<(), InsertError>
+    ensures { OnOk result (router.new ≡ with_local_rows router.old) }
+{
+    add(router, "/_local/stop", AccountRoute::Stop)?;
+    add(router, "/_local/env/{n}/spindown", AccountRoute::Spindown)?;
+    add(router, "/_local/stats", AccountRoute::Stats)?;
+    add(router, "/_local/history", AccountRoute::History)
 }
 
 /// The routes of the account's port. They don't conflict: the error is want of memory.
@@ -137,29 +182,8 @@ pub(crate) fn account_routes(alloc: Global) -> Result<Router<AccountRoute>, Inse
     ensures { IfOk result (λ router. router ≡ account_rows) }
 {
     let mut router = Router::new(alloc);
-    add(
-        &mut router,
-        "/2015-03-31/functions/{name}/invocations",
-        AccountRoute::Invoke,
-    )?;
-    add(
-        &mut router,
-        "/2017-10-31/functions/{name}/concurrency",
-        AccountRoute::Concurrency,
-    )?;
-    add(
-        &mut router,
-        "/2019-09-30/functions/{name}/concurrency",
-        AccountRoute::ReadConcurrency,
-    )?;
-    add(&mut router, "/_local/stop", AccountRoute::Stop)?;
-    add(
-        &mut router,
-        "/_local/env/{n}/spindown",
-        AccountRoute::Spindown,
-    )?;
-    add(&mut router, "/_local/stats", AccountRoute::Stats)?;
-    add(&mut router, "/_local/history", AccountRoute::History)?;
+    add_lambda(&mut router)?;
+    add_local(&mut router)?;
     Ok(router)
 }
 

@@ -1,6 +1,7 @@
 //! Serving a configuration over HTTP.
 
 ghost use Rattle.std.specs.Prelude.{◌≡◌, ◌^◌, List, IfOk};
+ghost use Rattle.std.specs.Arc.{arc_value};
 ghost use Rattle.usage_ledger.specs.Tallies.{Tallied};
 ghost use Rattle.lambda_local.specs.Ending.{AreSettled};
 
@@ -58,10 +59,10 @@ fn serve_plan<R: Machine + Log, S: Identity + Drop + Send + Sync + 'static>(
     patience: u32,
     blanks: Blanks,
 ) -> Result<Stats, ServeFault>
-    requires configured { plan.config ≡ S.config }
+    requires configured { arc_value plan.config ≡ S.config }
     requires salted { plan.salt ≡ S.salt }
     requires named { blanks ≡ S.names }
-    ensures { IfOk result (λ counts. (tallies : List Tallied) × AreSettled plan.config tallies counts) }
+    ensures { IfOk result (λ counts. (tallies : List Tallied) × AreSettled (arc_value plan.config) tallies counts) }
 {
     let clock = UnixClock::new(rt);
     let host: Host<R, S, UnixClock<R>, KeepNone> = Host::open(
@@ -80,7 +81,7 @@ fn serve_plan<R: Machine + Log, S: Identity + Drop + Send + Sync + 'static>(
 
 /// Names the configuration, the salt, the ledgers and the history.
 fn serve_by_brand<R: Machine + Log>(rt: R, plan: Plan, patience: u32) -> Result<Stats, ServeFault>
-    ensures { IfOk result (λ counts. (tallies : List Tallied) × AreSettled plan.config tallies counts) }
+    ensures { IfOk result (λ counts. (tallies : List Tallied) × AreSettled (arc_value plan.config) tallies counts) }
 {
     let blanks = Blanks::new(rt.alloc()).map_err(|_fault| ServeFault::OutOfMemory)?;
     serve_plan::<R, Brand>(rt, plan, patience, blanks)

@@ -1,6 +1,6 @@
 //! The steps of every reader: the value of a body, and the members of an object, each of its type.
 
-ghost use Rattle.std.specs.Prelude.{◌≡◌, ◌^◌, []};
+ghost use Rattle.std.specs.Prelude.{◌^◌, []};
 ghost use Rattle.serde_json.specs.Find.{get};
 ghost use Rattle.serde_json.specs.View.{view, items_view};
 ghost use Rattle.lambda_wire.specs.Reading as spec;

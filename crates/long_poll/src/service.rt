@@ -1,6 +1,6 @@
 //! What a connection asks of an account.
 
-ghost use Rattle.std.specs.Prelude.{◌≡◌, ◌<◌, ◌^◌, ℕ, List, Option, IfOk, option_map};
+ghost use Rattle.std.specs.Prelude.{◌<◌, ◌^◌, ℕ, List, Option, IfOk, option_map};
 ghost use Rattle.arn_ids.specs.declared.config.Config.{Config};
 ghost use Rattle.call_types.specs.declared.call.Call.{Call as Called};
 ghost use Rattle.call_types.specs.declared.call.Entry.{Entry};

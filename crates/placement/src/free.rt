@@ -1,6 +1,6 @@
 //! The environments of one function that take an invocation.
 
-ghost use Rattle.std.specs.Prelude.{◌≡◌, ◌≢◌, ℕ, ◌-◌, ◌<◌, ◌≤◌};
+ghost use Rattle.std.specs.Prelude.{◌≢◌, ℕ, ◌-◌, ◌<◌, ◌≤◌};
 ghost use Rattle.placement.specs.Sets.{IsWhole, HasClass, SameAt};
 ghost use Rattle.placement.specs.declared.class.Class.TheVariants.{Taken};
 

@@ -1,9 +1,9 @@
 -- The line of a call or an answer has no control byte, so that it is one line, and is no longer than a line may be.
-use Rattle.std.proofs.Common.{◌≡◌, ℕ, suc, ◌+◌, ◌<◌, ◌≤◌, Bool, true, false, ◌&&◌, ◌==◌, nat_le, List, [], ◌∷◌, ◌++◌, length, codes, Option, Some, None, decimal, refl, arith}
-use Rattle.std.specs.List.{list_all, flat_map}
-use Rattle.std.proofs.lemmas.Bool.{leb-true, le-leb}
+use Rattle.std.proofs.Common.{◌≡◌, ℕ, suc, ◌+◌, ◌≤◌, Bool, true, false, ◌&&◌, ◌==◌, nat_le, List, [], ◌∷◌, ◌++◌, length, codes, Option, Some, None, decimal, refl, arith}
+use Rattle.std.specs.List.{list_all}
+use Rattle.std.proofs.lemmas.Bool.{leb-true}
 use Rattle.std.proofs.lemmas.Bool.Decides.{nat_tests}
-use Rattle.arn_ids.specs.Words.{is_name_byte, is_name, is_label, is_printable, is_word}
+use Rattle.arn_ids.specs.Words.{is_name_byte, is_name, is_printable, is_word}
 use Rattle.arn_ids.specs.Environments.{function_at}
 use Rattle.arn_ids.specs.Faults.{first_fault}
 use Rattle.arn_ids.specs.declared.identifiers.IdKind.TheVariants.{Request, Extension, Event}
@@ -21,12 +21,12 @@ use Rattle.call_types.specs.declared.answer.Throttle.TheVariants.{Function, Acco
 use Rattle.call_types.specs.declared.answer.Rejection.{Rejection}
 use Rattle.call_types.specs.declared.answer.Rejection.TheVariants.{State, Replaced, BadId, Unknown, TooLarge, Container, NameInUse, TooMany, NotIdle, BadReservation}
 use Rattle.call_model.specs.History.{call_of}
-use Rattle.call_types.specs.Within.{is_body, is_trace, IsTrace, IsWithin}
+use Rattle.call_types.specs.Within.{is_body, IsTrace, IsWithin}
 use Rattle.script.specs.TextFields.{text_field}
 use Rattle.script.specs.CallText.{line_of, or_dash, flag, events, reservation, call_words, before_moment, call_text}
 use Rattle.call_types.specs.Calls.{body_of}
 use Rattle.call_types.specs.Words.{reason_word, throttle_word}
-use Rattle.script.specs.AnswerText.{body_word, request_word, env_word, refusal_word, answer_words}
+use Rattle.script.specs.AnswerText.{body_word, refusal_word, answer_words}
 use Rattle.script.specs.Writing.{spaced}
 use Rattle.arn_ids.proofs.Printable.{both}
 use Rattle.script.proofs.WordBounds.{Fits, is_plain, fits_weaker, fits_append, fits_cons, fits_word, fits_decimal, fits_id, fits_text}

@@ -1,9 +1,7 @@
 //! The lines of answers, and the text of an entry in a history.
 
 ghost use Rattle.std.specs.Prelude.{◌≡◌, ◌<◌, ◌++◌, length, reverse, slice_index_or, OnOk, OnErr};
-ghost use Rattle.std.specs.List.{flat_map};
 ghost use Rattle.call_types.specs.declared.call.Entry.{Entry};
-ghost use Rattle.script.specs.AnswerText as spec;
 ghost use Rattle.script.specs.AnswerText.{answer_words, answer_line, answer_lines, entry_text, refusal_word};
 ghost use Rattle.call_model.specs.CallCounts.{call_counts};
 ghost use Rattle.script.specs.Writing.{Adds, spaced, marked_lines};

@@ -1,6 +1,6 @@
 //! The fields of a line, which stand between its spaces.
 
-ghost use Rattle.std.specs.Prelude.{◌≡◌, ◌∷◌, [], ◌==◌, option_map, position, MatchOption};
+ghost use Rattle.std.specs.Prelude.{◌≡◌, ◌∷◌, ◌==◌, option_map, position};
 ghost use Rattle.script.specs.Lines.{fields};
 ghost use Rattle.script.specs.Lines as spec;
 ghost use Rattle.script.specs.Views.{fields_left, text_of, two_of, three_of, four_of};

@@ -1,9 +1,8 @@
 //! Text fields: an equals sign, and bytes of which some are percent-encoded.
 
-ghost use Rattle.std.specs.Prelude.{◌≡◌, nat_le, length, option_map, IfOk};
+ghost use Rattle.std.specs.Prelude.{◌≡◌, option_map, IfOk};
 ghost use Rattle.arn_ids.specs.Words.{is_word, is_printable as is_printable_byte};
 ghost use Rattle.script.specs.TextFields.{text_in, text_that, body_in, name_in, trace_in};
-ghost use Rattle.script.specs.TextFields as spec;
 
 use arn_ids::{LONGEST_BODY, Text, is_printable_word};
 use bytes::Bytes;

@@ -11,6 +11,7 @@ use arn_ids::ConfigFault;
 use call_model::Call;
 use lambda_wire::{WireFault, read_config};
 use std::alloc::{AllocError, Global};
+use std::sync::Arc;
 
 /// Opens the book that the configuration's line says.
 #[tactic(auto, unfolding(account_book::specs::Run::opened))]
@@ -27,6 +28,7 @@ pub fn open_book(alloc: Global, line: &[u8]) -> Result<Book, ReplayFault>
         Ok(config) => config,
         Err(fault) => return Err(ReplayFault::Config(fault)),
     };
+    let config = Arc::new(alloc, config).map_err(AllocError::from)?;
     match Book::open(alloc, config, setup.salt, setup.max_entries) {
         Ok(book) => Ok(book),
         Err(OpenFault::EntriesOutOfRange) => Err(ReplayFault::Config(ConfigFault::BadEntries)),

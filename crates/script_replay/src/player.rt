@@ -1,10 +1,10 @@
 //! Replays a script from a reader to a writer.
 
-ghost use Rattle.std.specs.Prelude.{◌≡◌, ◌+◌, ◌<◌, ◌≤◌, ◌^◌, ◌∷◌, [], ◌++◌, List, ℕ, Option, Some, None, length, position, MatchOption, IfOk, IfErr, IfSome, OnOk, OnErr, IsErr, vec_len, ◌==◌};
+ghost use Rattle.std.specs.Prelude.{◌≡◌, ◌+◌, ◌<◌, ◌≤◌, ◌^◌, ◌∷◌, [], ◌++◌, List, ℕ, Option, Some, None, length, position, MatchOption, IfOk, IfErr, IfSome, OnOk, vec_len, ◌==◌};
 ghost use Rattle.std.specs.Io.KnownBytes.{IsAtEnd};
-ghost use Rattle.std.specs.Str.Lines.{lines, strip_carriage_return};
+ghost use Rattle.std.specs.Str.Lines.{lines};
 ghost use Rattle.script_replay.specs.Replays.{IsOpen, Played, Ended, StoppedAt, Replays, Stops};
-ghost use Rattle.script_replay.specs.Steps.{Position, EndsLine, Going, StoppedIn, last_lines};
+ghost use Rattle.script_replay.specs.Steps.{EndsLine, Going, StoppedIn, last_lines};
 ghost use Rattle.script_replay.specs.Views.{seen, stand};
 
 use crate::fault::ReplayFault;

@@ -1,6 +1,7 @@
 //! A service on a thread of its own.
 
 ghost use Rattle.std.specs.Prelude.{◌≡◌, ◌^◌};
+ghost use Rattle.std.specs.Arc.{arc_value};
 
 use crate::steps::{Progress, number};
 use account_lock::{Identity, SettleFault};
@@ -146,7 +147,7 @@ fn run<R: Machine, S: Identity + Drop + Send + Sync + 'static>(
     board: &Board,
     blanks: Blanks,
 ) -> Result<Left, HostFault>
-    requires configured { plan.config ≡ S.config }
+    requires configured { arc_value plan.config ≡ S.config }
     requires salted { plan.salt ≡ S.salt }
     requires named { blanks ≡ S.names }
 {

@@ -4,6 +4,7 @@ use account_book::{Book, OpenFault, Refusal};
 use arn_ids::ConfigFault;
 use lambda_wire::{Setup, WireFault, read_config};
 use std::alloc::{AllocError, Global};
+use std::sync::Arc;
 
 /// Why no book was opened.
 #[derive(Clone, Copy, Debug)]
@@ -20,13 +21,17 @@ pub enum Unopened {
 
 /// Opens the book of a configuration that was read.
 fn open(alloc: Global, setup: Setup) -> Result<Book, Unopened> {
-    match setup.config.check() {
-        Ok(config) => match Book::open(alloc, config, setup.salt, setup.max_entries) {
-            Ok(book) => Ok(book),
-            Err(OpenFault::OutOfMemory) => Err(Unopened::Memory),
-            Err(fault) => Err(Unopened::Open(fault)),
-        },
-        Err(fault) => Err(Unopened::Config(fault)),
+    let config = match setup.config.check() {
+        Ok(config) => config,
+        Err(fault) => return Err(Unopened::Config(fault)),
+    };
+    let Ok(config) = Arc::new(alloc, config) else {
+        return Err(Unopened::Memory);
+    };
+    match Book::open(alloc, config, setup.salt, setup.max_entries) {
+        Ok(book) => Ok(book),
+        Err(OpenFault::OutOfMemory) => Err(Unopened::Memory),
+        Err(fault) => Err(Unopened::Open(fault)),
     }
 }
 

@@ -4,4 +4,4 @@ use Rattle.http_routes.proofs.routes.environment_routes.Goals as goal
 
 pub returns : goal.returns
 unfolding environment_rows
-returns c = rw (c.in_ok-add-8.ensures, c.in_ok-add-7.ensures, c.in_ok-add-6.ensures, c.in_ok-add-5.ensures, c.in_ok-add-4.ensures, c.in_ok-add-3.ensures, c.in_ok-add-2.ensures, c.in_ok-add.ensures, c.new-router.ensures) refl
+returns c = rw (c.in_ok-add_extensions.ensures, c.in_ok-add_runtime.ensures, c.new-router.ensures) refl

@@ -1,5 +1,6 @@
 use Rattle.std.proofs.Common.{◌≡◌, ◌≤◌, ◌+◌, ◌^◌, ℕ, length, ap, ◌∙◌, arith, [], false, nat_lt}
 use Rattle.std.proofs.lemmas.Bool.Decides.{nat_tests}
+use Rattle.std.specs.Arc.{arc_value}
 use Rattle.arn_ids.specs.declared.config.Config.{Config}
 use Rattle.arn_ids.specs.Environments.{owners}
 use Rattle.lambda_wire.specs.Ranges.{IsConfigInRange}
@@ -28,4 +29,4 @@ begun b config is le few fits = record {
 }
 
 pub invariant_of-result : goal.invariant_of-result
-invariant_of-result c = begun _ c.args.config c.in_ok-open.ensures (omega (arith, c.if-max_entries-from.false, c.from.ensures, c.environments.ensures)) (omega (arith, c.if-max_entries.false)) c.config_fits.ensures
+invariant_of-result c = begun _ (arc_value c.args.config) c.in_ok-open.ensures (omega (arith, c.if-max_entries-from.false, c.from.ensures, c.environments.ensures)) (omega (arith, c.if-max_entries.false)) c.config_fits.ensures

@@ -1,5 +1,6 @@
 use Rattle.std.proofs.Common.{◌≡◌, length, reverse, sym, ap, ◌∙◌, List, le_refl}
 use Rattle.std.proofs.lemmas.List.{reverse-reverse}
+use Rattle.std.specs.Arc.{arc_value}
 use Rattle.call_types.specs.declared.call.Entry.{Entry}
 use Rattle.call_model.specs.Answers.{answers}
 use Rattle.call_model.specs.Next.{entry_of}
@@ -8,14 +9,14 @@ use Rattle.account_book.proofs.EntryExtent.{tickets_within, few_answers}
 use Rattle.account_book.proofs.journal.Journal.enter.Goals as goal
 
 pub add-requires-clause-fresh : goal.add-requires-clause-fresh
-add-requires-clause-fresh c = fresh c.self.inside.config c.self.inside.ledger.history (length c.self.inside.ledger.history) c.self.invariant.legal (le_refl (length c.self.inside.ledger.history))
+add-requires-clause-fresh c = fresh (arc_value c.self.inside.config) c.self.inside.ledger.history (length c.self.inside.ledger.history) c.self.invariant.legal (le_refl (length c.self.inside.ledger.history))
 
 pub add-requires-clause-tickets : goal.add-requires-clause-tickets
 add-requires-clause-tickets c =
-    let given : c.into_vec.result.items ≡ answers c.self.inside.config c.self.inside.ledger.history c.args.moment c.args.call = c.into_vec.ensures ∙ c.answer_call.ensures.answers ∙ ap (λ (h : List Entry). answers c.self.inside.config h c.args.moment c.args.call) (ap reverse c.entries-entries.ensures.value ∙ reverse-reverse c.self.inside.ledger.history) in
-    rw given (tickets_within c.self.inside.config c.self.inside.ledger.history (entry_of c.self.inside.config c.self.inside.ledger.history c.args.moment c.args.call) (rw (sym c.self.view_is) at c.requires.follows))
+    let given : c.into_vec.result.items ≡ answers (arc_value c.self.inside.config) c.self.inside.ledger.history c.args.moment c.args.call = c.into_vec.ensures ∙ c.answer_call.ensures.answers ∙ ap (λ (h : List Entry). answers (arc_value c.self.inside.config) h c.args.moment c.args.call) (ap reverse c.entries-entries.ensures.value ∙ reverse-reverse c.self.inside.ledger.history) in
+    rw given (tickets_within (arc_value c.self.inside.config) c.self.inside.ledger.history (entry_of (arc_value c.self.inside.config) c.self.inside.ledger.history c.args.moment c.args.call) (rw (sym c.self.view_is) at c.requires.follows))
 
 pub add-requires-clause-few : goal.add-requires-clause-few
 add-requires-clause-few c =
-    let given : c.into_vec.result.items ≡ answers c.self.inside.config c.self.inside.ledger.history c.args.moment c.args.call = c.into_vec.ensures ∙ c.answer_call.ensures.answers ∙ ap (λ (h : List Entry). answers c.self.inside.config h c.args.moment c.args.call) (ap reverse c.entries-entries.ensures.value ∙ reverse-reverse c.self.inside.ledger.history) in
-    rw given (few_answers c.self.inside.config c.self.inside.ledger.history (entry_of c.self.inside.config c.self.inside.ledger.history c.args.moment c.args.call) c.self.invariant.sound c.self.invariant.legal (rw (sym c.self.view_is) at c.requires.follows) c.self.invariant.all_known (rw (sym c.self.view_is) at c.requires.known))
+    let given : c.into_vec.result.items ≡ answers (arc_value c.self.inside.config) c.self.inside.ledger.history c.args.moment c.args.call = c.into_vec.ensures ∙ c.answer_call.ensures.answers ∙ ap (λ (h : List Entry). answers (arc_value c.self.inside.config) h c.args.moment c.args.call) (ap reverse c.entries-entries.ensures.value ∙ reverse-reverse c.self.inside.ledger.history) in
+    rw given (few_answers (arc_value c.self.inside.config) c.self.inside.ledger.history (entry_of (arc_value c.self.inside.config) c.self.inside.ledger.history c.args.moment c.args.call) c.self.invariant.sound c.self.invariant.legal (rw (sym c.self.view_is) at c.requires.follows) c.self.invariant.all_known (rw (sym c.self.view_is) at c.requires.known))
