@@ -1,13 +1,13 @@
 //! The steps of a check.
 
 use crate::flood::is_answered_meanwhile;
-use crate::peer::{Heard, Peer, exchange};
 use crate::stage::Stage;
-use crate::steps::{
-    Progress, bytes_of, entries_in, malformed, number, push_line, request_of, split_word,
-};
 use case_tables::{Case, CaseFault, Part};
-use http_front::Machine;
+use http_connection::Machine;
+use socket_peers::{
+    Heard, Peer, Progress, bytes_of, entries_in, exchange, malformed, number, push_line,
+    request_of, split_word,
+};
 use std::alloc::{AllocError, Global};
 use std::str;
 use std::time::Duration;

@@ -1,9 +1,9 @@
 //! A check is a case whose parts are steps.
 
 use crate::stage::Stage;
-use crate::steps::Progress;
 use case_tables::{Case, CaseFault};
-use http_front::Machine;
+use http_connection::Machine;
+use socket_peers::Progress;
 use std::alloc::Global;
 use std::cell::Cell;
 

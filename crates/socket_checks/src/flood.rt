@@ -1,7 +1,7 @@
 //! A crowd at a port.
 
-use crate::peer::exchange;
-use http_front::Machine;
+use http_connection::Machine;
+use socket_peers::exchange;
 use std::net::{IpAddr, Ipv4Addr, Net, SocketAddr, TcpListener, TcpStream};
 use std::sync::atomic::AtomicBool;
 use std::sync::atomic::Ordering::SeqCst;

@@ -4,21 +4,16 @@
 #![tactic(auto)]
 
 mod acts;
-mod answers;
 mod checks;
 mod flood;
-mod peer;
-mod peers;
-mod ports;
 mod readings;
 mod server;
 mod stage;
-mod steps;
 
 use crate::checks::Checks;
 use crate::readings::Readings;
 use case_tables::{Case, CaseFault, TableFault, end, judge_case, read_file, run_file, tell_count};
-use http_front::Machine;
+use http_connection::Machine;
 use std::alloc::AllocError;
 use std::io::Read;
 use std::marker::PhantomData;

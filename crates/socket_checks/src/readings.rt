@@ -1,9 +1,7 @@
 //! What is shown of bytes that came over a connection: how the checks read, checked without one.
 
-use crate::answers::{View, push_heard};
-use crate::peer::Heard;
-use crate::steps::bytes_of;
 use case_tables::{Case, CaseFault, Subject};
+use socket_peers::{Heard, View, bytes_of, push_heard};
 use std::alloc::Global;
 
 /// How bytes are read. The lines of a part `came` are what came until the end, and those of a part

@@ -3,13 +3,13 @@
 ghost use Rattle.std.specs.Prelude.{◌≡◌, ◌^◌};
 ghost use Rattle.std.specs.Arc.{arc_value};
 
-use crate::steps::{Progress, number};
 use account_lock::{Identity, SettleFault};
 use call_model::Stats;
 use case_tables::{CaseFault, Part};
 use http_front::{Host, HostFault, Hosted, Machine, Plan};
 use lambda_wire::read_config;
 use long_poll::Clock;
+use socket_peers::{Progress, number};
 use std::alloc::{AllocError, Global};
 use std::marker::Brand;
 use std::sync::Arc;

@@ -1,12 +1,12 @@
 //! What a check works with, and how its service begins and ends.
 
-use crate::peer::{TURN_MS, exchange};
-use crate::peers::Peers;
-use crate::ports::Ports;
 use crate::server::{Left, Order, Server, Terms};
-use crate::steps::{Progress, malformed, number, push_line, request_of};
 use case_tables::{Case, CaseFault, Part};
-use http_front::{HostFault, Machine};
+use http_connection::Machine;
+use http_front::HostFault;
+use socket_peers::{
+    Peers, Ports, Progress, TURN_MS, exchange, malformed, number, push_line, request_of,
+};
 use std::alloc::{AllocError, Global};
 use std::marker::PhantomData;
 use std::net::{TcpListener, TcpStream};
