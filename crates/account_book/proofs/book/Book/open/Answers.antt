@@ -29,4 +29,4 @@ begun b config is le few fits = record {
 }
 
 pub invariant_of-result : goal.invariant_of-result
-invariant_of-result c = begun _ (arc_value c.args.config) c.in_ok-open.ensures (omega (arith, c.if-max_entries-from.false, c.from.ensures, c.environments.ensures)) (omega (arith, c.if-max_entries.false)) c.config_fits.ensures
+invariant_of-result c = begun _ (arc_value c.args.config) c.in_ok-open.ensures (omega (arith, c.if-max_entries-from.false, c.from.ensures, rw c.deref.ensures at c.environments.ensures)) (omega (arith, c.if-max_entries.false)) (rw c.deref-2.ensures at c.config_fits.ensures)
