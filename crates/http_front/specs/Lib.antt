@@ -2,4 +2,3 @@ pub mod Codings
 pub mod Responses
 pub mod Hosts
 pub mod Ports
-pub mod Places

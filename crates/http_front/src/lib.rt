@@ -10,16 +10,12 @@ mod entrance;
 mod front;
 mod host;
 mod host_fault;
-mod mailbox;
 mod plan;
-mod post;
 mod reception;
 mod responding;
 mod response;
 mod response_fault;
-mod running;
 mod sides;
-mod slots;
 mod ticker;
 
 pub use front::Front;

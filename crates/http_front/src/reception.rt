@@ -6,10 +6,9 @@ ghost use Rattle.http_front.specs.declared.host_fault.HostFault.TheVariants.{Sti
 use crate::attendant::{Attendant, Visit};
 use crate::door::Door;
 use crate::entrance::{Entrance, Gate};
-use crate::running::Running;
-use crate::slots::Slots;
 use crate::{HostFault, Hosted};
 use account_lock::{Account, Identity};
+use connection_places::{Running, Slots, StillShared};
 use futures::channel::oneshot;
 use http_connection::{Machine, Pulse, Signals};
 use long_poll::{Clock, OneShotBell};
@@ -296,7 +295,7 @@ impl<
         } = self;
         let tallies = match slots.into_tallies(root, ticked) {
             Ok(tallies) => tallies,
-            Err(fault) => return Err(fault),
+            Err(StillShared) => return Err(HostFault::StillShared),
         };
         match Arc::into_inner(account) {
             Some(account) => Ok(Hosted { account, tallies }),

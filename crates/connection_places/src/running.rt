@@ -6,7 +6,7 @@ use std::sync::Arc;
 
 /// The signals that end a connection, and where it tells how it stands.
 #[derive(Drop)]
-pub(crate) struct Running {
+pub struct Running {
     soft: Option<Sender<()>>,
     hard: Option<Sender<()>>,
     pulse: Arc<Pulse>,
@@ -17,7 +17,7 @@ pub(crate) struct Running {
 
 impl Running {
     /// A connection that has just begun.
-    pub(crate) fn new(soft: Sender<()>, hard: Sender<()>, pulse: Arc<Pulse>) -> Running {
+    pub fn new(soft: Sender<()>, hard: Sender<()>, pulse: Arc<Pulse>) -> Running {
         Running {
             soft: Some(soft),
             hard: Some(hard),

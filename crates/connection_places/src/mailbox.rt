@@ -16,7 +16,7 @@ struct Letter<V> {
 /// what is put in then comes back, so that nothing lies in the mailbox of a thread that has ended. What
 /// lay there before is still taken out.
 #[derive(Drop)]
-pub(crate) struct Mailbox<V> {
+pub struct Mailbox<V> {
     letter: Mutex<Letter<V>>,
     changed: Condvar,
 }

@@ -1,10 +1,8 @@
 //! Places for the connections that are open, as many as the limit at most.
 
 ghost use Rattle.std.specs.Prelude.{◌≡◌, ◌+◌, ◌<◌, nat_lt, vec_len, IfOk, IfErr};
-ghost use Rattle.http_front.specs.Places.{Places};
-ghost use Rattle.http_front.specs.declared.host_fault.HostFault.TheVariants.{StillShared};
+ghost use Rattle.connection_places.specs.Places.{Places};
 
-use crate::HostFault;
 use crate::mailbox::Mailbox;
 use crate::post::{End, Ended, Post, Worker};
 use crate::running::Running;
@@ -57,12 +55,16 @@ impl<Y, V: Drop> Slot<Y, V> {
     }
 }
 
+/// A thread has a tally yet.
+#[derive(Clone, Copy, Debug, PartialEq, Eq)]
+pub struct StillShared;
+
 /// The places: by their type never more than there may be, so no more connections are open at once.
 /// Those that nobody has are `free`, the next to be taken last; room for each stands ready there and in
 /// `ended`, and in `gathered` for the tallies of all of them and two more, so that the end of the
 /// service wants no memory.
 #[derive(Drop)]
-pub(crate) struct Slots<Y, V> {
+pub struct Slots<Y, V> {
     alloc: Global,
     most: usize,
     slots: Vec<Slot<Y, V>>,
@@ -73,7 +75,7 @@ pub(crate) struct Slots<Y, V> {
 
 impl<Y, V> Model for Slots<Y, V> {
     ghost use Rattle.std.specs.Prelude.{◌≡◌, ◌+◌, ◌≤◌, length, vec_len, vec_capacity};
-    ghost use Rattle.http_front.specs.Places.{Places};
+    ghost use Rattle.connection_places.specs.Places.{Places};
 
     ghost Value = { Places };
 
@@ -84,7 +86,7 @@ impl<Y, V> Model for Slots<Y, V> {
 
 impl<Y: Drop, V: Drop> Slots<Y, V> {
     /// No places yet, of which there may be `most`. The only error is want of memory.
-    pub(crate) fn new(alloc: Global, most: u32) -> Result<Slots<Y, V>, AllocError>
+    pub fn new(alloc: Global, most: u32) -> Result<Slots<Y, V>, AllocError>
         ensures { IfOk result (λ slots. slots ≡ record { most = most; made = 0 }) }
     {
         Ok(Slots {
@@ -99,14 +101,14 @@ impl<Y: Drop, V: Drop> Slots<Y, V> {
 
     /// Takes a place that is free: the one that was given back last, whose thread is the likeliest to
     /// wait yet.
-    pub(crate) fn take(&mut self) -> Option<usize>
+    pub fn take(&mut self) -> Option<usize>
         ensures { self.new ≡ self.old }
     {
         self.free.pop()
     }
 
     /// Whether there may be another place.
-    pub(crate) fn has_room(&self) -> bool
+    pub fn has_room(&self) -> bool
         ensures { result ≡ nat_lt self.now.made self.now.most }
     {
         self.slots.len() < self.most
@@ -116,7 +118,7 @@ impl<Y: Drop, V: Drop> Slots<Y, V> {
     ///
     /// # Errors
     /// Where memory is refused the tally comes back, and there is no other place.
-    pub(crate) fn add(&mut self, rt: &impl Wait, tally: Y) -> Result<usize, Y>
+    pub fn add(&mut self, rt: &impl Wait, tally: Y) -> Result<usize, Y>
         requires { self.old.made < self.old.most }
         ensures added { IfOk result (λ at. (at ≡ self.old.made) × (self.new ≡ record self.old { made = self.old.made + 1 })) }
         ensures refused { IfErr result (λ _. self.new ≡ self.old) }
@@ -147,7 +149,7 @@ impl<Y: Drop, V: Drop> Slots<Y, V> {
     }
 
     /// A place, as a new thread has it.
-    pub(crate) fn post(&self, at: usize) -> Result<Post<Y, V>, AllocError> {
+    pub fn post(&self, at: usize) -> Result<Post<Y, V>, AllocError> {
         let Some(slot) = self.slots.get(at) else {
             return Err(AllocError);
         };
@@ -160,7 +162,7 @@ impl<Y: Drop, V: Drop> Slots<Y, V> {
     }
 
     /// Gives a connection to the thread that waits for one at a place. Where none does it comes back.
-    pub(crate) fn offer<R: Wait + Threads>(&mut self, rt: &R, at: usize, visit: V) -> Result<(), V>
+    pub fn offer<R: Wait + Threads>(&mut self, rt: &R, at: usize, visit: V) -> Result<(), V>
         ensures same { self.new ≡ self.old }
         ensures back { IfErr result (λ back. back ≡ visit) }
     {
@@ -171,7 +173,7 @@ impl<Y: Drop, V: Drop> Slots<Y, V> {
     }
 
     /// Gives a place to a thread.
-    pub(crate) fn employ(&mut self, at: usize, worker: Worker<V>)
+    pub fn employ(&mut self, at: usize, worker: Worker<V>)
         ensures { self.new ≡ self.old }
     {
         if let Some(slot) = self.slots.get_mut(at) {
@@ -180,7 +182,7 @@ impl<Y: Drop, V: Drop> Slots<Y, V> {
     }
 
     /// Notes the connection that a place which was taken now has.
-    pub(crate) fn fill(&mut self, at: usize, running: Running)
+    pub fn fill(&mut self, at: usize, running: Running)
         ensures { self.new ≡ self.old }
     {
         if let Some(slot) = self.slots.get_mut(at) {
@@ -190,7 +192,7 @@ impl<Y: Drop, V: Drop> Slots<Y, V> {
 
     /// Gives a place back that has no thread: it is taken behind those at which one waits, which want
     /// no memory and no descriptors for another connection.
-    pub(crate) fn give_back(&mut self, at: usize)
+    pub fn give_back(&mut self, at: usize)
         ensures { self.new ≡ self.old }
     {
         let _ = self.free.insert(0, at);
@@ -215,7 +217,7 @@ impl<Y: Drop, V: Drop> Slots<Y, V> {
     }
 
     /// Sees out the connections that have ended.
-    pub(crate) fn reap(&mut self, rt: &impl Wait)
+    pub fn reap(&mut self, rt: &impl Wait)
         ensures { self.new ≡ self.old }
     {
         for _ in 0..self.slots.len() {
@@ -227,7 +229,7 @@ impl<Y: Drop, V: Drop> Slots<Y, V> {
     }
 
     /// Joins the threads that have waited in vain.
-    pub(crate) fn join_the_ended<R: Wait + Threads>(&mut self, rt: &R)
+    pub fn join_the_ended<R: Wait + Threads>(&mut self, rt: &R)
         ensures { self.new ≡ self.old }
     {
         for slot in self.slots.iter_mut() {
@@ -236,7 +238,7 @@ impl<Y: Drop, V: Drop> Slots<Y, V> {
     }
 
     /// Tells each thread to end: at once if it waits, else behind its connection.
-    pub(crate) fn dismiss(&self, rt: &impl Wait) {
+    pub fn dismiss(&self, rt: &impl Wait) {
         for slot in &self.slots {
             if let Some(worker) = &slot.worker {
                 worker.mailbox.close(rt);
@@ -245,7 +247,7 @@ impl<Y: Drop, V: Drop> Slots<Y, V> {
     }
 
     /// Joins all threads, which were told to end.
-    pub(crate) fn join_all(&mut self, rt: &impl Threads)
+    pub fn join_all(&mut self, rt: &impl Threads)
         ensures { self.new ≡ self.old }
     {
         for slot in self.slots.iter_mut() {
@@ -256,12 +258,12 @@ impl<Y: Drop, V: Drop> Slots<Y, V> {
     }
 
     /// Whether no place is taken.
-    pub(crate) fn is_idle(&self) -> bool {
+    pub fn is_idle(&self) -> bool {
         self.free.len() >= self.slots.len()
     }
 
     /// Tells each connection to end: after its exchange, or at once.
-    pub(crate) fn tell(&mut self, at_once: bool)
+    pub fn tell(&mut self, at_once: bool)
         ensures { self.new ≡ self.old }
     {
         for slot in self.slots.iter_mut() {
@@ -273,7 +275,7 @@ impl<Y: Drop, V: Drop> Slots<Y, V> {
 
     /// Tells each connection to end at once that has stood still for as long as it may: so nobody keeps
     /// a place who asks for nothing. Called once a second.
-    pub(crate) fn end_the_idle(&mut self)
+    pub fn end_the_idle(&mut self)
         ensures { self.new ≡ self.old }
     {
         for slot in self.slots.iter_mut() {
@@ -289,9 +291,8 @@ impl<Y: Drop, V: Drop> Slots<Y, V> {
     ///
     /// # Errors
     /// `StillShared` where a thread has one yet; the tallies are then gone.
-    pub(crate) fn into_tallies(self, one: Y, other: Y) -> Result<Vec<Y>, HostFault>
+    pub fn into_tallies(self, one: Y, other: Y) -> Result<Vec<Y>, StillShared>
         ensures all { IfOk result (λ tallies. vec_len tallies ≡ self.made + 2) }
-        ensures shared { IfErr result (λ fault. fault ≡ StillShared) }
     {
         let Slots {
             slots,
@@ -305,7 +306,7 @@ impl<Y: Drop, V: Drop> Slots<Y, V> {
         while let Some(slot) = slots.pop() {
             let Slot { tally, .. } = slot;
             let Some(tally) = Arc::into_inner(tally) else {
-                return Err(HostFault::StillShared);
+                return Err(StillShared);
             };
             tallies.push_reserved(tally.into_inner());
         }

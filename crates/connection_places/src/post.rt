@@ -21,10 +21,12 @@ pub(crate) type Ended = Mutex<Vec<End>>;
 /// What the thread of a place has of it: its number, the tally of its connections, the mailbox into
 /// which the next one is put, and where it is told that one has ended.
 #[derive(Drop)]
-pub(crate) struct Post<Y, V> {
+pub struct Post<Y, V> {
     pub(crate) at: usize,
-    pub(crate) tally: Arc<Mutex<Y>>,
-    pub(crate) mailbox: Arc<Mailbox<V>>,
+    /// The tally of the connections of its place.
+    pub tally: Arc<Mutex<Y>>,
+    /// Where the next connection comes from.
+    pub mailbox: Arc<Mailbox<V>>,
     pub(crate) ended: Arc<Ended>,
 }
 
@@ -40,13 +42,13 @@ impl<Y, V: Drop> Post<Y, V> {
 
     /// Tells that its connection has ended, and waits for the next one. Where there is none the thread
     /// has to end.
-    pub(crate) fn next<R: Wait + Clock>(&self, rt: &R) -> Option<V> {
+    pub fn next<R: Wait + Clock>(&self, rt: &R) -> Option<V> {
         self.tell(rt, false);
         self.mailbox.take(rt, Duration::from_secs(KEPT))
     }
 
     /// Tells that its connection has ended, and that the thread leaves.
-    pub(crate) fn leave(&self, rt: &impl Wait) {
+    pub fn leave(&self, rt: &impl Wait) {
         self.mailbox.close(rt);
         self.tell(rt, true);
     }
@@ -54,9 +56,11 @@ impl<Y, V: Drop> Post<Y, V> {
 
 /// The thread of a place, and its mailbox.
 #[derive(Drop)]
-pub(crate) struct Worker<V> {
-    pub(crate) thread: JoinHandle<()>,
-    pub(crate) mailbox: Arc<Mailbox<V>>,
+pub struct Worker<V> {
+    /// Its handle.
+    pub thread: JoinHandle<()>,
+    /// Where its next connection is put.
+    pub mailbox: Arc<Mailbox<V>>,
 }
 
 impl<V: Drop> Worker<V> {

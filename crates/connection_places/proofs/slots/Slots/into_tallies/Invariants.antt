@@ -1,5 +1,5 @@
 use Rattle.std.proofs.Common.{◌≡◌, ◌+◌, ◌≤◌, vec_len, vec_capacity}
-use Rattle.http_front.proofs.slots.Slots.into_tallies.Given as goal
+use Rattle.connection_places.proofs.slots.Slots.into_tallies.Given as goal
 
 -- none is lost, and there is room for the tallies of the places that are left
 abbrev pub invariant-loop-slot : goal.invariant-loop-slot

@@ -1,5 +1,5 @@
 use Rattle.std.proofs.Common.{◌≡◌}
-use Rattle.http_front.proofs.slots.Slots.reap.Given as goal
+use Rattle.connection_places.proofs.slots.Slots.reap.Given as goal
 
 abbrev pub invariant-loop : goal.invariant-loop
 invariant-loop g l = l.self ≡ l.fn.self
