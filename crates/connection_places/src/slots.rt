@@ -55,7 +55,7 @@ impl<Y, V: Drop> Slot<Y, V> {
     }
 }
 
-/// A thread has a tally yet.
+/// A thread has the tally of its place yet.
 #[derive(Clone, Copy, Debug, PartialEq, Eq)]
 pub struct StillShared;
 
@@ -149,6 +149,9 @@ impl<Y: Drop, V: Drop> Slots<Y, V> {
     }
 
     /// A place, as a new thread has it.
+    ///
+    /// # Errors
+    /// `AllocError` where memory is refused, or there is no place of this number.
     pub fn post(&self, at: usize) -> Result<Post<Y, V>, AllocError> {
         let Some(slot) = self.slots.get(at) else {
             return Err(AllocError);
@@ -161,7 +164,8 @@ impl<Y: Drop, V: Drop> Slots<Y, V> {
         })
     }
 
-    /// Gives a connection to the thread that waits for one at a place. Where none does it comes back.
+    /// Gives a connection to the thread that waits for one at a place. Where none does, or there is no
+    /// place of this number, it comes back.
     pub fn offer<R: Wait + Threads>(&mut self, rt: &R, at: usize, visit: V) -> Result<(), V>
         ensures same { self.new ≡ self.old }
         ensures back { IfErr result (λ back. back ≡ visit) }
@@ -172,7 +176,8 @@ impl<Y: Drop, V: Drop> Slots<Y, V> {
         }
     }
 
-    /// Gives a place to a thread.
+    /// Gives a place to a thread. Where there is no place of this number the thread is let go, and
+    /// nothing changes.
     pub fn employ(&mut self, at: usize, worker: Worker<V>)
         ensures { self.new ≡ self.old }
     {
@@ -181,7 +186,8 @@ impl<Y: Drop, V: Drop> Slots<Y, V> {
         }
     }
 
-    /// Notes the connection that a place which was taken now has.
+    /// Notes the connection that a place which was taken now has. Where there is no place of this number
+    /// nothing changes.
     pub fn fill(&mut self, at: usize, running: Running)
         ensures { self.new ≡ self.old }
     {
@@ -262,7 +268,8 @@ impl<Y: Drop, V: Drop> Slots<Y, V> {
         self.free.len() >= self.slots.len()
     }
 
-    /// Tells each connection to end: after its exchange, or at once.
+    /// Tells each connection to end: after its exchange, or at once. One that was told so before hears
+    /// nothing more.
     pub fn tell(&mut self, at_once: bool)
         ensures { self.new ≡ self.old }
     {
