@@ -8,7 +8,7 @@ use crate::door::Door;
 use crate::entrance::{Entrance, Gate};
 use crate::{HostFault, Hosted};
 use account_lock::{Account, Identity};
-use connection_places::{Running, Slots, StillShared};
+use connection_places::{Running, Slots};
 use futures::channel::oneshot;
 use http_connection::{Machine, Pulse, Signals};
 use long_poll::{Clock, OneShotBell};
@@ -295,7 +295,7 @@ impl<
         } = self;
         let tallies = match slots.into_tallies(root, ticked) {
             Ok(tallies) => tallies,
-            Err(StillShared) => return Err(HostFault::StillShared),
+            Err(_shared) => return Err(HostFault::StillShared),
         };
         match Arc::into_inner(account) {
             Some(account) => Ok(Hosted { account, tallies }),
