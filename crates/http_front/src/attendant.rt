@@ -6,6 +6,7 @@ ghost use Rattle.std.specs.Arc.{arc_value};
 use crate::Side;
 use crate::door::Door;
 use crate::front::Front;
+use crate::served::Served;
 use crate::sides::Sides;
 use crate::ticker::moment;
 use account_lock::{Account, Identity};
@@ -44,13 +45,12 @@ pub(crate) struct Visit<S: Identity> {
     pub(crate) pulse: Arc<Pulse>,
 }
 
-/// Who serves the connections of a place: the account and the clock, the place, with the tally in
-/// which their calls count, and for how many milliseconds a premature call is held back at most.
+/// Who serves the connections of a place: what is served, the place, with the tally in which their calls
+/// count, and for how many milliseconds a premature call is held back at most.
 #[derive(Drop)]
 pub(crate) struct Attendant<R, S: Identity, N, K: Keep> {
     pub(crate) rt: R,
-    pub(crate) account: Arc<Account<S, OneShotBell>>,
-    pub(crate) clock: Arc<N>,
+    pub(crate) served: Served<S, N>,
     pub(crate) post: Post<Tally<K, S>, Visit<S>>,
     pub(crate) patience: u32,
 }
@@ -117,19 +117,29 @@ impl<R: Machine, S: Identity + Drop, N: Clock + Drop, K: Keep> Attendant<R, S, N
         visit: Visit<S>,
         open: &Arc<OpenPoll>,
     ) -> io::Result<()> {
+        let parked = OpenNext {
+            open: Arc::try_clone(open)?,
+        };
         let Visit {
             socket,
             door,
             signals,
             pulse,
         } = visit;
+        let front = self.front(sides, door, open)?;
+        event_loop.serve(&self.rt, socket, front, signals, parked, pulse)
+    }
+
+    /// What answers the requests of a connection at a port.
+    fn front(
+        &self,
+        sides: &mut Sides<S>,
+        door: Door<S>,
+        open: &Arc<OpenPoll>,
+    ) -> Result<Front<R, Account<S, OneShotBell>, Side, N, K, S>, AllocError> {
         let alloc = self.rt.alloc();
         let decider = sides.of(alloc, door)?;
-        let parked = OpenNext {
-            open: Arc::try_clone(open)?,
-        };
-        let front = Front::new(alloc, self.connection(decider, open)?);
-        event_loop.serve(&self.rt, socket, front, signals, parked, pulse)
+        Ok(Front::new(alloc, self.connection(decider, open)?))
     }
 
     /// What the exchanges of a connection share.
@@ -140,8 +150,7 @@ impl<R: Machine, S: Identity + Drop, N: Clock + Drop, K: Keep> Attendant<R, S, N
     ) -> Result<Arc<Connection<R, Account<S, OneShotBell>, Side, N, K, S>>, AllocError>
         requires { (arc_value decider).config ≡ S.config }
     {
-        let account = Arc::try_clone(&self.account)?;
-        let clock = Arc::try_clone(&self.clock)?;
+        let Served { account, clock, .. } = self.served.share()?;
         let tally = Arc::try_clone(&self.post.tally)?;
         let open = Arc::try_clone(open)?;
         let alloc = self.rt.alloc();
@@ -161,10 +170,11 @@ impl<R: Machine, S: Identity + Drop, N: Clock + Drop, K: Keep> Attendant<R, S, N
     /// Withdraws the Next whose ticket is noted as open. Where that is refused it stays pending.
     fn withdraw(&self, open: &OpenPoll) {
         if let Some(ticket) = open.ticket() {
-            let now = moment(&*self.clock);
+            let now = moment(&*self.served.clock);
             let mut tally = self.post.tally.lock(&self.rt);
             let withdraw = Call::Withdraw { ticket };
             let _ = self
+                .served
                 .account
                 .submit(&self.rt, &mut tally, now, withdraw, None);
         }

@@ -8,14 +8,13 @@ ghost use Rattle.http_front.specs.declared.host_fault.HostFault.TheVariants.{Con
 
 use crate::entrance::Entrance;
 use crate::reception::Reception;
+use crate::served::Served;
 use crate::ticker::Ticker;
 use crate::{HostFault, Plan};
 use account_lock::{Account, Identity};
 use http_connection::Machine;
 use long_poll::{Clock, OneShotBell};
 use std::alloc::AllocError;
-use std::sync::Arc;
-use std::sync::atomic::AtomicBool;
 use usage_ledger::{Blanks, Keep, Tally};
 
 /// An account that is served over HTTP/1.1 on 127.0.0.1: on the invoke port for callers, and on a
@@ -79,33 +78,27 @@ impl<
         };
         let entrance = Entrance::open(&rt, alloc, &shared, salt)?;
         let ticking = root.split();
-        Ok(Host::of(rt, account, root, ticking, clock, entrance, most, patience)?)
+        let served = Served::new(alloc, account, clock)?;
+        Ok(Host::of(rt, served, root, ticking, entrance, most, patience)?)
     }
 
-    /// The host of an account whose ports are listened on, with the tally from which those of the
+    /// The host of what is served, whose ports are listened on, with the tally from which those of the
     /// connections are split, and the ticker's. The only error is want of memory.
     fn of(
         rt: R,
-        account: Account<S, OneShotBell>,
+        served: Served<S, N>,
         root: Tally<K, S>,
         ticking: Tally<K, S>,
-        clock: N,
         entrance: Entrance<S>,
         most: u32,
         patience: u32,
     ) -> Result<Host<R, S, N, K>, AllocError> {
-        let alloc = rt.alloc();
-        let account = Arc::new(alloc, account).map_err(AllocError::from)?;
-        let clock = Arc::new(alloc, clock).map_err(AllocError::from)?;
-        let is_over = Arc::new(alloc, AtomicBool::new(false)).map_err(AllocError::from)?;
         let ticker = Ticker {
             rt,
-            account: Arc::try_clone(&account)?,
-            clock: Arc::try_clone(&clock)?,
+            served: served.share()?,
             tally: ticking,
-            is_over: Arc::try_clone(&is_over)?,
         };
-        let reception = Reception::new(rt, account, clock, root, is_over, most, patience)?;
+        let reception = Reception::new(rt, served, root, most, patience)?;
         Ok(Host {
             reception,
             ticker,

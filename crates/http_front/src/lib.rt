@@ -15,6 +15,7 @@ mod reception;
 mod responding;
 mod response;
 mod response_fault;
+mod served;
 mod sides;
 mod ticker;
 

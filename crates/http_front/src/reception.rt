@@ -6,17 +6,17 @@ ghost use Rattle.http_front.specs.declared.host_fault.HostFault.TheVariants.{Sti
 use crate::attendant::{Attendant, Visit};
 use crate::door::Door;
 use crate::entrance::{Entrance, Gate};
+use crate::served::Served;
 use crate::{HostFault, Hosted};
-use account_lock::{Account, Identity};
+use account_lock::Identity;
 use connection_places::{Running, Slots};
 use futures::channel::oneshot;
 use http_connection::{Machine, Pulse, Signals};
-use long_poll::{Clock, OneShotBell};
+use long_poll::Clock;
 use mio::Poll;
 use std::alloc::{AllocError, Global};
 use std::net::TcpStream;
 use std::sync::Arc;
-use std::sync::atomic::AtomicBool;
 use std::sync::atomic::Ordering::SeqCst;
 use std::time::Duration;
 use std::{io, thread};
@@ -70,17 +70,14 @@ fn admit<S: Identity>(
     Ok((visit, running))
 }
 
-/// Takes connections in, each on a thread of its own, and sees them out: the account and the clock,
-/// the tally from which those of the connections are split, the places of the connections, and whether
-/// the service is over.
+/// Takes connections in, each on a thread of its own, and sees them out: what is served, the tally from
+/// which those of the connections are split, and the places of the connections.
 #[derive(Drop)]
 pub(crate) struct Reception<R, S: Identity, N, K: Keep> {
     rt: R,
-    account: Arc<Account<S, OneShotBell>>,
-    clock: Arc<N>,
+    served: Served<S, N>,
     root: Tally<K, S>,
     slots: Slots<Tally<K, S>, Visit<S>>,
-    is_over: Arc<AtomicBool>,
     // A descriptor that is given up where none is left, so that the newcomer can be turned away.
     spare: Option<Poll>,
     // For how many milliseconds a premature call is held back at most.
@@ -98,10 +95,8 @@ impl<
     /// For so many connections at once. The only error is want of memory.
     pub(crate) fn new(
         rt: R,
-        account: Arc<Account<S, OneShotBell>>,
-        clock: Arc<N>,
+        served: Served<S, N>,
         root: Tally<K, S>,
-        is_over: Arc<AtomicBool>,
         most: u32,
         patience: u32,
     ) -> Result<Reception<R, S, N, K>, AllocError> {
@@ -109,11 +104,9 @@ impl<
         let spare = Poll::new(&rt).ok();
         Ok(Reception {
             rt,
-            account,
-            clock,
+            served,
             root,
             slots,
-            is_over,
             spare,
             patience,
             looked: Duration::ZERO,
@@ -141,8 +134,7 @@ impl<
     fn start(&mut self, at: usize, visit: Visit<S>) -> io::Result<()> {
         let attendant = Attendant {
             rt: self.rt,
-            account: Arc::try_clone(&self.account)?,
-            clock: Arc::try_clone(&self.clock)?,
+            served: self.served.share()?,
             post: self.slots.post(at)?,
             patience: self.patience,
         };
@@ -227,7 +219,7 @@ impl<
         let mut waiting = vec![in rt.alloc(); false; entrance.gates.len()]?;
         let mut more = false;
         for _ in rt.forever() {
-            if self.is_over.load(SeqCst) {
+            if self.served.is_over.load(SeqCst) {
                 return Ok(());
             }
             let round = if more { 0 } else { ROUND };
@@ -274,7 +266,7 @@ impl<
 
     /// Says that the service is over, ends every connection, and joins all threads.
     pub(crate) fn finish(&mut self) {
-        self.is_over.store(true, SeqCst);
+        self.served.is_over.store(true, SeqCst);
         self.slots.dismiss(&self.rt);
         self.end_connections();
         self.slots.join_all(&self.rt);
@@ -288,7 +280,7 @@ impl<
         ensures { IfErr result (λ fault. fault ≡ StillShared) }
     {
         let Reception {
-            account,
+            served,
             root,
             slots,
             ..
@@ -297,7 +289,7 @@ impl<
             Ok(tallies) => tallies,
             Err(_shared) => return Err(HostFault::StillShared),
         };
-        match Arc::into_inner(account) {
+        match Arc::into_inner(served.account) {
             Some(account) => Ok(Hosted { account, tallies }),
             None => Err(HostFault::StillShared),
         }

@@ -2,6 +2,7 @@
 
 ghost use Rattle.std.specs.Prelude.{◌<◌, ◌^◌};
 
+use crate::served::Served;
 use account_book::{Life, Refusal};
 use account_lock::{Account, Identity};
 use arn_ids::GREATEST_MOMENT;
@@ -9,9 +10,9 @@ use call_model::Call;
 use http_connection::Machine;
 use long_poll::{Clock, OneShotBell};
 use std::alloc::AllocError;
+use std::sync::Wait;
 use std::sync::atomic::AtomicBool;
 use std::sync::atomic::Ordering::SeqCst;
-use std::sync::{Arc, Wait};
 use std::thread::JoinHandle;
 use std::time::Duration;
 use std::{thread, time};
@@ -75,15 +76,12 @@ fn tick_on<R: Wait + time::Clock, S: Identity, N: Clock, K: Keep>(
     unreachable!()
 }
 
-/// What the ticker's thread has: the account and the clock, the tally in which its calls count, and
-/// where it says, or is told, that the service is over.
+/// What the ticker's thread has: what is served, and the tally in which its calls count.
 #[derive(Drop)]
 pub(crate) struct Ticker<R, S: Identity, N, K: Keep> {
     pub(crate) rt: R,
-    pub(crate) account: Arc<Account<S, OneShotBell>>,
-    pub(crate) clock: Arc<N>,
+    pub(crate) served: Served<S, N>,
     pub(crate) tally: Tally<K, S>,
-    pub(crate) is_over: Arc<AtomicBool>,
 }
 
 impl<
@@ -94,14 +92,14 @@ impl<
 > Ticker<R, S, N, K> {
     /// Ticks until the service is over.
     fn run(self) -> Tally<K, S> {
-        let Ticker {
-            rt,
-            account,
-            clock,
+        let Ticker { rt, served, tally } = self;
+        tick_on(
+            &rt,
+            &*served.account,
+            &*served.clock,
             tally,
-            is_over,
-        } = self;
-        tick_on(&rt, &*account, &*clock, tally, &is_over)
+            &served.is_over,
+        )
     }
 
     /// Starts the thread. Where none can be made the tally is lost.
