@@ -57,6 +57,13 @@ pub fn lines_in(part: &Part) -> &str {
     text.strip_suffix('\n').unwrap_or(text)
 }
 
+/// The three lines of a part; those that it doesn't have are empty.
+pub fn three_in(part: &Part) -> (&str, &str, &str) {
+    let (first, rest) = lines_in(part).split_once('\n').unwrap_or(("", ""));
+    let (second, third) = rest.split_once('\n').unwrap_or((rest, ""));
+    (first, second, third)
+}
+
 /// The number that a text of a line says.
 pub fn number_of(line: u64, text: &str) -> Result<u64, CaseFault> {
     text.parse::<u64>()

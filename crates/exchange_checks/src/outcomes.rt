@@ -1,5 +1,7 @@
 //! What futures come to, and what comes of requests, as lines.
 
+ghost use Rattle.std.specs.Prelude.{IfOk};
+
 use crate::lines::malformed;
 use call_model::{Answer, Ticket};
 use case_tables::CaseFault;
@@ -67,7 +69,7 @@ fn reply_of<H: Drop>(line: u64, outcome: Outcome<H>) -> Result<Reply, CaseFault>
 }
 
 /// Makes three exchanges of a part that begins at this line, at once.
-pub fn made_at_once<
+fn made_together<
     R: Wait + RandomSource + AllocGlobal,
     H: Drop,
     F: Future<Output = Result<Outcome<H>, ExchangeFault>>,
@@ -89,6 +91,27 @@ pub fn made_at_once<
     let one = reply_of(line, one)?;
     let other = reply_of(line, other)?;
     Ok((one, other, reply_of(line, last)?))
+}
+
+/// The same, where all three could be begun.
+pub fn made_at_once<
+    R: Wait + RandomSource + AllocGlobal,
+    H: Drop,
+    F: Future<Output = Result<Outcome<H>, ExchangeFault>>,
+>(
+    rt: &R,
+    line: u64,
+    first: Result<F, CaseFault>,
+    second: Result<F, CaseFault>,
+    third: Result<F, CaseFault>,
+) -> Result<(Reply, Reply, Reply), CaseFault>
+    requires first { IfOk first F.can_poll }
+    requires second { IfOk second F.can_poll }
+    requires third { IfOk third F.can_poll }
+{
+    let first = first?;
+    let second = second?;
+    made_together(rt, line, first, second, third?)
 }
 
 /// Adds pieces of text.
@@ -152,7 +175,7 @@ pub fn push_open(alloc: Global, given: &mut String, open: &OpenPoll) -> Result<(
 }
 
 /// Adds the line of a request, its reply, and the Next that its connection has open then.
-pub fn push_told(
+fn push_told(
     alloc: Global,
     given: &mut String,
     text: &str,
@@ -162,6 +185,19 @@ pub fn push_told(
     push_all(given, &[text, "\n"])?;
     push_reply(alloc, given, reply)?;
     push_open(alloc, given, open)
+}
+
+/// The same for three requests.
+pub fn push_three(
+    alloc: Global,
+    given: &mut String,
+    texts: (&str, &str, &str),
+    replies: &(Reply, Reply, Reply),
+    open: &OpenPoll,
+) -> Result<(), AllocError> {
+    push_told(alloc, given, texts.0, &replies.0, open)?;
+    push_told(alloc, given, texts.1, &replies.1, open)?;
+    push_told(alloc, given, texts.2, &replies.2, open)
 }
 
 /// What came of a poll for the answer of a ticket, as a line.

@@ -4,10 +4,10 @@ ghost use Rattle.std.specs.Prelude.{◌≡◌, ⊤, IfOk};
 ghost use Rattle.std.specs.Arc.{arc_value};
 ghost use Rattle.long_poll.specs.Stages.{CanGoOn};
 
-use crate::lines::{Ask, Pieces, ask_in, lines_in, malformed, number_of};
+use crate::lines::{Ask, Pieces, ask_in, lines_in, malformed, number_of, three_in};
 use crate::outcomes::{
     finished, made, made_at_once, push_all, push_answer, push_fault, push_open, push_text,
-    push_told, told_poll,
+    push_three, told_poll,
 };
 use crate::rows::{At, Rows};
 use account_lock::Identity;
@@ -199,26 +199,21 @@ impl<
     fn make_three(
         &self,
         line: u64,
-        first: &str,
-        second: &str,
-        third: &str,
+        texts: (&str, &str, &str),
         open: &Arc<OpenPoll>,
     ) -> Result<(Reply, Reply, Reply), CaseFault> {
-        let first = self.exchange(line, first, open)?;
-        let second = self.exchange(line, second, open)?;
-        let third = self.exchange(line, third, open)?;
+        let first = self.exchange(line, texts.0, open);
+        let second = self.exchange(line, texts.1, open);
+        let third = self.exchange(line, texts.2, open);
         made_at_once(&self.rt, line, first, second, third)
     }
 
     /// Makes the requests of a part's three lines at once.
     fn ask_three(&self, part: &Part, given: &mut String) -> Result<(), CaseFault> {
-        let (first, rest) = lines_in(part).split_once('\n').unwrap_or(("", ""));
-        let (second, third) = rest.split_once('\n').unwrap_or((rest, ""));
+        let texts = three_in(part);
         let open = Arc::new(self.alloc, OpenPoll::new())?;
-        let (one, other, last) = self.make_three(part.line(), first, second, third, &open)?;
-        push_told(self.alloc, given, first, &one, &open)?;
-        push_told(self.alloc, given, second, &other, &open)?;
-        Ok(push_told(self.alloc, given, third, &last, &open)?)
+        let replies = self.make_three(part.line(), texts, &open)?;
+        Ok(push_three(self.alloc, given, texts, &replies, &open)?)
     }
 
     /// Polls for the answer of a ticket; what came of that, as a line.
