@@ -67,19 +67,24 @@ fn text_of(alloc: Global, word: &str, words: Words<'_>) -> Result<String, LineFa
     }
 }
 
+/// Says of a line what its word asks.
+fn say(word: &str, call: &Option<(u64, Call)>, given: &mut Given) -> Result<(), LineFault> {
+    match word {
+        "call" => say_call(call, "no call\n", given),
+        "no-call" => say_call(call, "", given),
+        "form-1" | "letters" => say_whether(call, given),
+        _ => return Err(LineFault::Malformed),
+    }
+    Ok(())
+}
+
 impl Calls for Account {
     fn call(&mut self, line: &str, given: &mut Given) -> Result<(), LineFault> {
         let mut words = Words::of(line);
         let word = words.next();
         let text = text_of(given.alloc(), word, words)?;
         let call = read(given.alloc(), &self.config, word != "form-1", text.as_str())?;
-        match word {
-            "call" => say_call(&call, "no call\n", given),
-            "no-call" => say_call(&call, "", given),
-            "form-1" | "letters" => say_whether(&call, given),
-            _ => return Err(LineFault::Malformed),
-        }
-        Ok(())
+        say(word, &call, given)
     }
 }
 

@@ -1,6 +1,6 @@
 //! The headers of replies.
 
-ghost use Rattle.std.specs.Prelude.{IfOk};
+ghost use Rattle.std.specs.Prelude.{IfOk, string_bytes};
 ghost use Rattle.http_header.specs.FieldValue.{IsFieldValue};
 
 use crate::arguments::Arguments;
@@ -48,57 +48,50 @@ pub fn text_of<'v>(arguments: &Arguments, value: &'v HeaderValue) -> Result<&'v 
     }
 }
 
+/// The argument that a header is to hold, as a text.
+fn field(alloc: Global, arguments: &Arguments, name: &str) -> Result<String, CaseFault>
+    ensures { IfOk result (λ text. IsFieldValue (string_bytes text)) }
+{
+    let value = value_in(alloc, arguments, name)?;
+    Ok(String::from_str(alloc, text_of(arguments, &value)?)?)
+}
+
 fn json(alloc: Global) -> Result<Headers, CaseFault> {
     Ok(json_headers(alloc)?)
 }
 
-/// The headers of a delivery, of what they are to hold.
-fn next_of(
-    alloc: Global,
-    arguments: &Arguments,
-    request: &HeaderValue,
-    arn: &HeaderValue,
-    trace: &HeaderValue,
-) -> Result<Headers, CaseFault> {
-    let request = text_of(arguments, request)?;
-    let trace = text_of(arguments, trace)?;
-    let arn = String::from_str(alloc, text_of(arguments, arn)?)?;
-    Ok(next_headers(alloc, request, arguments.number("deadline"), arn, trace)?)
-}
-
 fn next(alloc: Global, arguments: &Arguments) -> Result<Headers, CaseFault> {
-    let request = value_in(alloc, arguments, "request")?;
-    let arn = value_in(alloc, arguments, "arn")?;
-    let trace = value_in(alloc, arguments, "trace")?;
-    next_of(alloc, arguments, &request, &arn, &trace)
+    let request = field(alloc, arguments, "request")?;
+    let arn = field(alloc, arguments, "arn")?;
+    let trace = field(alloc, arguments, "trace")?;
+    let deadline = arguments.number("deadline");
+    Ok(next_headers(alloc, request.as_str(), deadline, arn, trace.as_str())?)
 }
 
 fn event(alloc: Global, arguments: &Arguments) -> Result<Headers, CaseFault> {
-    let event = value_in(alloc, arguments, "event")?;
-    Ok(event_headers(alloc, text_of(arguments, &event)?)?)
+    let event = field(alloc, arguments, "event")?;
+    Ok(event_headers(alloc, event.as_str())?)
 }
 
 fn registered(alloc: Global, arguments: &Arguments) -> Result<Headers, CaseFault> {
-    let extension = value_in(alloc, arguments, "extension")?;
-    Ok(registered_headers(alloc, text_of(arguments, &extension)?)?)
+    let extension = field(alloc, arguments, "extension")?;
+    Ok(registered_headers(alloc, extension.as_str())?)
 }
 
 fn invoke(alloc: Global, arguments: &Arguments) -> Result<Headers, CaseFault> {
-    let request = value_in(alloc, arguments, "request")?;
-    let failed = arguments.is_true("failed");
-    Ok(invoke_headers(alloc, text_of(arguments, &request)?, failed)?)
+    let request = field(alloc, arguments, "request")?;
+    Ok(invoke_headers(alloc, request.as_str(), arguments.is_true("failed"))?)
 }
 
 fn error(alloc: Global, arguments: &Arguments) -> Result<Headers, CaseFault> {
-    let kind = value_in(alloc, arguments, "type")?;
-    Ok(error_headers(alloc, None, text_of(arguments, &kind)?)?)
+    let kind = field(alloc, arguments, "type")?;
+    Ok(error_headers(alloc, None, kind.as_str())?)
 }
 
 fn request_error(alloc: Global, arguments: &Arguments) -> Result<Headers, CaseFault> {
-    let kind = value_in(alloc, arguments, "type")?;
-    let request = value_in(alloc, arguments, "request")?;
-    let kind = text_of(arguments, &kind)?;
-    Ok(error_headers(alloc, Some(text_of(arguments, &request)?), kind)?)
+    let kind = field(alloc, arguments, "type")?;
+    let request = field(alloc, arguments, "request")?;
+    Ok(error_headers(alloc, Some(request.as_str()), kind.as_str())?)
 }
 
 /// The headers that a call writes, whose arguments are there.

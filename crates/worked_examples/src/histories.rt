@@ -9,6 +9,15 @@ fn cut(line: &[u8]) -> &[u8] {
     line.strip_suffix(b"\r").unwrap_or(line)
 }
 
+/// The book that a line opens; none where it opens none.
+fn opened(alloc: Global, line: &[u8]) -> Result<Option<Book>, AllocError> {
+    match open_book(alloc, line) {
+        Ok(book) => Ok(Some(book)),
+        Err(Unopened::Memory) => Err(AllocError),
+        Err(_) => Ok(None),
+    }
+}
+
 /// The book behind the last line of a script that ends well; none where it is no such script.
 fn book_behind(alloc: Global, script: &[u8]) -> Result<Option<Book>, AllocError> {
     let mut lines = script.split(|b| *b == b'\n');
@@ -17,10 +26,8 @@ fn book_behind(alloc: Global, script: &[u8]) -> Result<Option<Book>, AllocError>
     if reserves {
         config = cut(lines.next().unwrap_or(b""));
     }
-    let mut book = match open_book(alloc, config) {
-        Ok(book) => book,
-        Err(Unopened::Memory) => return Err(AllocError),
-        Err(_) => return Ok(None),
+    let Some(mut book) = opened(alloc, config)? else {
+        return Ok(None);
     };
     for line in lines {
         take(alloc, &mut book, reserves, cut(line))?;
