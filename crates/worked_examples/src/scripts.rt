@@ -38,8 +38,8 @@ fn play(alloc: Global, way: &Way<'_>) -> Result<Played, AllocError> {
 }
 
 /// Whether what was written where memory ran out is lines from the front of what is wanted.
-fn is_front(case: &Case, written: &[u8]) -> bool {
-    matches!(written.last(), None | Some(b'\n')) && case.wanted().as_bytes().starts_with(written)
+fn is_front(wanted: &str, written: &[u8]) -> bool {
+    matches!(written.last(), None | Some(b'\n')) && wanted.as_bytes().starts_with(written)
 }
 
 /// Adds the line of a fault.
@@ -52,11 +52,11 @@ fn push_fault(text: &mut Given, fault: ReplayFault) {
 
 /// The text of a replay: what it wrote, and at a fault the line of the fault. Where memory ran out,
 /// what was written has to be lines from the front of what is wanted.
-fn text_of(alloc: Global, case: &Case, way: &Way<'_>) -> Result<Given, CaseFault> {
+fn text_of(alloc: Global, wanted: &str, way: &Way<'_>) -> Result<Given, CaseFault> {
     let Played { ended, page } = play(alloc, way)?;
     let mut text = Given::new(alloc);
     if ended == Err(ReplayFault::OutOfMemory) {
-        if is_front(case, page.written()) {
+        if is_front(wanted, page.written()) {
             return Err(CaseFault::Memory);
         }
         text.push("(memory ran out behind other lines)\n");
@@ -86,14 +86,8 @@ fn push_other(
 }
 
 /// Adds what a way of a script gives, where it is something else than the whole replay gave.
-fn push_way(
-    case: &Case,
-    title: &str,
-    way: &Way<'_>,
-    whole: &Given,
-    given: &mut Given,
-) -> Result<(), CaseFault> {
-    let text = text_of(given.alloc(), case, way)?;
+fn push_way(title: &str, way: &Way<'_>, whole: &Given, given: &mut Given) -> Result<(), CaseFault> {
+    let text = text_of(given.alloc(), whole.as_str(), way)?;
     push_other(given, title, whole, &text)
 }
 
@@ -107,12 +101,7 @@ fn push_shown(history: &[u8], kept: &[u8], given: &mut Given) -> Result<(), Allo
 }
 
 /// Adds what the replay of a history gives, where it is something else than its answers.
-fn push_again(
-    case: &Case,
-    history: &[u8],
-    kept: &[u8],
-    given: &mut Given,
-) -> Result<(), CaseFault> {
+fn push_again(history: &[u8], kept: &[u8], given: &mut Given) -> Result<(), CaseFault> {
     let way = Way {
         first: b"",
         script: history,
@@ -122,24 +111,19 @@ fn push_again(
     };
     let mut wanted = Given::new(given.alloc());
     push_bytes(&mut wanted, kept);
-    push_way(case, "from its history", &way, &wanted, given)
+    push_way("from its history", &way, &wanted, given)
 }
 
 /// Adds what a script's history shows, where that is not what the script's entries were answered,
 /// and what the replay of its text gives, where that is something else.
-fn push_history(
-    case: &Case,
-    script: &[u8],
-    whole: &Given,
-    given: &mut Given,
-) -> Result<(), CaseFault> {
+fn push_history(script: &[u8], whole: &Given, given: &mut Given) -> Result<(), CaseFault> {
     let Some(history) = history_behind(given.alloc(), script)? else {
         given.push("no history\n");
         return Ok(());
     };
     let kept = entries_answers(given.alloc(), whole.as_str().as_bytes())?;
     push_shown(history.as_slice(), kept.as_slice(), given)?;
-    push_again(case, history.as_slice(), kept.as_slice(), given)
+    push_again(history.as_slice(), kept.as_slice(), given)
 }
 
 /// How a case's script is replayed whole.
@@ -158,12 +142,7 @@ fn whole_way<'a>(case: &Case, script: &'a [u8]) -> Result<Way<'a>, CaseFault> {
 }
 
 /// Adds what a script gives in form 2, where it is not in that form.
-fn push_later(
-    case: &Case,
-    way: &Way<'_>,
-    whole: &Given,
-    given: &mut Given,
-) -> Result<(), CaseFault> {
+fn push_later(way: &Way<'_>, whole: &Given, given: &mut Given) -> Result<(), CaseFault> {
     if way.script.starts_with(b"form 2") {
         return Ok(());
     }
@@ -171,23 +150,18 @@ fn push_later(
         first: b"form 2\n",
         ..*way
     };
-    push_way(case, "in form 2", &later, whole, given)
+    push_way("in form 2", &later, whole, given)
 }
 
 /// Adds what the other ways give.
-fn push_others(
-    case: &Case,
-    way: &Way<'_>,
-    whole: &Given,
-    given: &mut Given,
-) -> Result<(), CaseFault> {
+fn push_others(way: &Way<'_>, whole: &Given, given: &mut Given) -> Result<(), CaseFault> {
     let slow = Way { at_once: 1, ..*way };
-    push_way(case, "byte by byte", &slow, whole, given)?;
+    push_way("byte by byte", &slow, whole, given)?;
     if whole.as_str().contains(", status ") {
         return Ok(());
     }
-    push_later(case, way, whole, given)?;
-    push_history(case, way.script, whole, given)
+    push_later(way, whole, given)?;
+    push_history(way.script, whole, given)
 }
 
 /// What a script is answered, replayed whole, and in every way byte by byte, in form 2 and from its
@@ -197,11 +171,11 @@ fn push_others(
 pub fn give(case: &Case, in_every_way: bool, given: &mut Given) -> Result<(), CaseFault> {
     let script = script_of(given.alloc(), case, &["reader-fails", "room"])?;
     let way = whole_way(case, script.as_slice())?;
-    let whole = text_of(given.alloc(), case, &way)?;
+    let whole = text_of(given.alloc(), case.wanted(), &way)?;
     whole.end()?;
     given.push(whole.as_str());
     match in_every_way {
-        true => push_others(case, &way, &whole, given),
+        true => push_others(&way, &whole, given),
         false => Ok(()),
     }
 }
