@@ -1,6 +1,6 @@
 //! A configuration is written.
 
-ghost use Rattle.std.specs.Prelude.{◌≡◌, ◌≤◌, Ok, IfOk, length, map, All};
+ghost use Rattle.std.specs.Prelude.{◌≡◌, ◌≤◌, None, Some, Ok, IfOk, length, map, All};
 ghost use Rattle.serde_json.specs.Data.{string};
 ghost use Rattle.serde_json.specs.View.{view};
 ghost use Rattle.lambda_wire.specs.Ranges.{IsSlotInRange, IsFunctionInRange, IsConfigInRange};
@@ -11,13 +11,19 @@ use arn_ids::{Config, Function, Slot, Text};
 use serde_json::{Value, json};
 use std::alloc::{AllocError, Global};
 
+fn text_value(alloc: Global, text: &Text) -> Result<Value, AllocError>
+    ensures { IfOk result (λ v. view v ≡ string text.now) }
+{
+    let copy = String::from_str(alloc, text.as_str())?;
+    Ok(Value::String(copy))
+}
+
 fn text_values(alloc: Global, texts: &[Text]) -> Result<Vec<Value>, AllocError>
     ensures { IfOk result (λ v. map view v.items ≡ map string texts.now) }
 {
     let mut values = Vec::new(alloc);
     for text in texts {
-        let copy = String::from_str(alloc, text.as_str())?;
-        values.push(Value::String(copy))?;
+        values.push(text_value(alloc, text)?)?;
     }
     Ok(values)
 }
@@ -33,28 +39,61 @@ fn port_values(alloc: Global, slots: &[Slot]) -> Result<Vec<Value>, AllocError>
     Ok(values)
 }
 
+fn unreserved_value(
+    alloc: Global,
+    function: &Function,
+    extensions: Vec<Value>,
+    ports: Vec<Value>,
+) -> Result<Value, AllocError>
+    requires extensions { map view extensions.items ≡ map string function.now.extensions }
+    requires ports { map view ports.items ≡ map slot_data function.now.slots }
+    requires in_range { All IsSlotInRange function.now.slots }
+    requires reserved { function.now.reserved ≡ None }
+    ensures value { IfOk result (λ v. view v ≡ function_data function.now) }
+    ensures in_range { IfOk result (λ _. IsFunctionInRange function.now) }
+{
+    json!(in alloc; {
+        "extensions": extensions,
+        "handler": function.handler.as_str(),
+        "name": function.name.as_str(),
+        "ports": ports,
+        "timeout": function.timeout_s
+    })
+}
+
+fn reserved_value(
+    alloc: Global,
+    function: &Function,
+    extensions: Vec<Value>,
+    ports: Vec<Value>,
+    reserved: u32,
+) -> Result<Value, AllocError>
+    requires extensions { map view extensions.items ≡ map string function.now.extensions }
+    requires ports { map view ports.items ≡ map slot_data function.now.slots }
+    requires in_range { All IsSlotInRange function.now.slots }
+    requires reserved { function.now.reserved ≡ Some reserved }
+    ensures value { IfOk result (λ v. view v ≡ function_data function.now) }
+    ensures in_range { IfOk result (λ _. IsFunctionInRange function.now) }
+{
+    json!(in alloc; {
+        "extensions": extensions,
+        "handler": function.handler.as_str(),
+        "name": function.name.as_str(),
+        "ports": ports,
+        "reserved": reserved,
+        "timeout": function.timeout_s
+    })
+}
+
 fn function_value(alloc: Global, function: &Function) -> Result<Value, AllocError>
     ensures value { IfOk result (λ v. view v ≡ function_data function.now) }
     ensures in_range { IfOk result (λ _. IsFunctionInRange function.now) }
 {
-    let extensions = Value::Array(text_values(alloc, function.extensions.as_slice())?);
-    let ports = Value::Array(port_values(alloc, function.slots.as_slice())?);
+    let extensions = text_values(alloc, function.extensions.as_slice())?;
+    let ports = port_values(alloc, function.slots.as_slice())?;
     match function.reserved {
-        None => json!(in alloc; {
-            "extensions": extensions,
-            "handler": function.handler.as_str(),
-            "name": function.name.as_str(),
-            "ports": ports,
-            "timeout": function.timeout_s
-        }),
-        Some(reserved) => json!(in alloc; {
-            "extensions": extensions,
-            "handler": function.handler.as_str(),
-            "name": function.name.as_str(),
-            "ports": ports,
-            "reserved": reserved,
-            "timeout": function.timeout_s
-        }),
+        None => unreserved_value(alloc, function, extensions, ports),
+        Some(reserved) => reserved_value(alloc, function, extensions, ports, reserved),
     }
 }
 
