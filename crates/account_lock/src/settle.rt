@@ -121,6 +121,20 @@ fn fault_of_keeping<K: Keep, L: Ledgers>(
 }
 
 impl<B: Bell, L: Ledgers> Desk<B, L> {
+    /// The book, once all shares in one tally have shown that the tallies counted what it counts.
+    fn audited<K: Keep>(self, tallies: Vec<Tally<K, L>>) -> Option<Book>
+        requires parts { parts_in tallies.items ≡ 2 ^ 32 }
+        ensures some { IfSome result (λ book. (book ≡ self.book)
+            × (counts_in tallies.items ≡ counts_of self.book.history)) }
+        ensures none { IfNone result (parts_in tallies.items ≡ 0) }
+    {
+        let mut all = gather(tallies)?;
+        let Desk { book, totals, .. } = self;
+        let mut totals = totals;
+        totals.audit(&mut all);
+        Some(book)
+    }
+
     /// Adds the shares of all tallies up, and compares what they keep with the history. The time is
     /// that of one look at each receipt, call and entry.
     ///
@@ -143,17 +157,15 @@ impl<B: Bell, L: Ledgers> Desk<B, L> {
             return Err(SettleFault::TallyMissing);
         }
         let fault = fault_of_keeping(self.alloc, &self.book, &tallies);
-        let Some(all) = gather(tallies) else {
+        let Some(book) = self.audited(tallies) else {
             return Err(SettleFault::TallyMissing);
         };
-        let mut all = all;
-        let stats = self.book.stats();
-        let Desk { book, totals, .. } = self;
-        let mut totals = totals;
-        totals.audit(&mut all);
         match fault {
             Some(fault) => Err(fault),
-            None => Ok(Settled { book, stats }),
+            None => {
+                let stats = book.stats();
+                Ok(Settled { book, stats })
+            }
         }
     }
 }

@@ -4,8 +4,8 @@ use Rattle.account_lock.specs.Gathered.{parts_in, counts_in}
 use Rattle.account_lock.specs.Settlement.{IsKept}
 use Rattle.account_lock.proofs.desk.Desk.settle.Goals as goal
 
-pub returns-clause-settled : goal.returns-clause-settled
-returns-clause-settled g c =
+pub returns-in-None-clause-settled : goal.returns-in-None-clause-settled
+returns-in-None-clause-settled g c =
     let h = c.args.self.book.history in
     let tallies = c.args.tallies.items in
     let parts : parts_in tallies ≡ 2 ^ 32 = search rules in
