@@ -1,20 +1,14 @@
 //! The text of a request, as a client sends it: a line of the method, the target and the version,
 //! lines of headers, and behind an empty line the body.
 
-use case_tables::{CaseFault, Part};
+use bytes::Bytes;
+use case_tables::{CaseFault, Part, push_bytes};
 use http::Method;
 use http::method::MethodError;
 use http::request::Parts;
-use http_header::{HeaderName, HeaderNameError, HeaderValue, HeaderValueError};
+use http_header::{HeaderMap, HeaderName, HeaderNameError, HeaderValue, HeaderValueError};
 use http_uri::{Uri, UriError};
 use std::alloc::Global;
-
-/// A request.
-#[derive(Drop)]
-pub struct Request {
-    pub head: Parts,
-    pub body: Vec<u8>,
-}
 
 fn method_of(alloc: Global, part: &Part, text: &str) -> Result<Method, CaseFault> {
     match Method::from_bytes(alloc, text.as_bytes()) {
@@ -48,49 +42,84 @@ fn value_of(alloc: Global, part: &Part, text: &str) -> Result<HeaderValue, CaseF
     }
 }
 
+/// The head of a request without headers.
+fn bare_head(alloc: Global, method: Method, target: Uri) -> Parts {
+    let mut head = Parts::new(alloc);
+    head.method = method;
+    head.uri = target;
+    head
+}
+
 /// The head of a request of this method and this target, without headers.
 pub fn head_of(alloc: Global, part: &Part, method: &str, target: &str) -> Result<Parts, CaseFault> {
-    let mut head = Parts::new(alloc);
-    head.method = method_of(alloc, part, method)?;
-    head.uri = target_of(alloc, part, target)?;
-    Ok(head)
+    let method = method_of(alloc, part, method)?;
+    let target = target_of(alloc, part, target)?;
+    Ok(bare_head(alloc, method, target))
 }
 
-/// Adds the header of a line. Its value is all that stands behind the colon and one space.
-fn add_header(alloc: Global, part: &Part, head: &mut Parts, line: &str) -> Result<(), CaseFault> {
-    let Some((name, value)) = line.split_once(": ") else {
-        return Err(part.malformed("a header is wanted"));
-    };
-    let name = name_of(alloc, part, name)?;
-    let value = value_of(alloc, part, value)?;
-    match head.headers.append(name, value) {
-        Ok(_) => Ok(()),
-        Err(_) => Err(CaseFault::Memory),
-    }
-}
-
-/// The head that the lines before the empty line say.
-fn read_head(alloc: Global, part: &Part, text: &str) -> Result<Parts, CaseFault> {
-    let mut lines = text.split('\n');
-    let first = lines.next().unwrap_or("");
-    let Some((method, rest)) = first.split_once(' ') else {
+/// The head that a request's first line says, without headers.
+fn first_head(alloc: Global, part: &Part, line: &str) -> Result<Parts, CaseFault> {
+    let Some((method, rest)) = line.split_once(' ') else {
         return Err(part.malformed("a request is wanted"));
     };
     let Some(target) = rest.strip_suffix(" HTTP/1.1") else {
         return Err(part.malformed("a request of HTTP/1.1 is wanted"));
     };
-    let mut head = head_of(alloc, part, method, target)?;
-    for line in lines {
-        add_header(alloc, part, &mut head, line)?;
+    head_of(alloc, part, method, target)
+}
+
+/// Adds the header of a line. Its value is all that stands behind the colon and one space.
+fn add_header(
+    alloc: Global,
+    part: &Part,
+    headers: &mut HeaderMap<HeaderValue>,
+    line: &str,
+) -> Result<(), CaseFault> {
+    let Some((name, value)) = line.split_once(": ") else {
+        return Err(part.malformed("a header is wanted"));
+    };
+    let name = name_of(alloc, part, name)?;
+    let value = value_of(alloc, part, value)?;
+    match headers.append(name, value) {
+        Ok(_) => Ok(()),
+        Err(_) => Err(CaseFault::Memory),
     }
+}
+
+/// Adds the headers of the lines behind the first.
+fn add_headers(
+    alloc: Global,
+    part: &Part,
+    headers: &mut HeaderMap<HeaderValue>,
+    lines: &str,
+) -> Result<(), CaseFault> {
+    for line in lines.split('\n').skip(1) {
+        add_header(alloc, part, headers, line)?;
+    }
+    Ok(())
+}
+
+/// The head that the lines before the empty line say.
+pub fn read_head(alloc: Global, part: &Part, lines: &str) -> Result<Parts, CaseFault> {
+    let first = lines.split('\n').next().unwrap_or("");
+    let mut head = first_head(alloc, part, first)?;
+    add_headers(alloc, part, &mut head.headers, lines)?;
     Ok(head)
 }
 
-/// The request that a part says.
-pub fn read_request(alloc: Global, part: &Part) -> Result<Request, CaseFault> {
-    let text = part.lines();
-    let (lines, body) = text.split_once("\n\n").unwrap_or((text, ""));
-    let head = read_head(alloc, part, lines)?;
-    let body = Vec::from_slice(alloc, body.as_bytes())?;
-    Ok(Request { head, body })
+/// Whether a part adds bytes to the body of the request before it.
+fn is_of_body(part: &Part) -> bool {
+    part.word() != "request" && part.word() != "methods"
+}
+
+/// The body of a request that begins so: further bytes are those of the parts up to the next request.
+pub fn read_body(alloc: Global, begun: &str, parts: &[Part]) -> Result<Bytes, CaseFault> {
+    let mut body = Vec::from_slice(alloc, begun.as_bytes())?;
+    for part in parts {
+        if !is_of_body(part) {
+            break;
+        }
+        push_bytes(&mut body, part)?;
+    }
+    Ok(Bytes::from_vec(body)?)
 }

@@ -3,9 +3,8 @@
 use crate::decided::push_decided;
 use crate::methods::push_methods;
 use crate::port::{Door, door_of};
-use crate::request::{Request, read_request};
-use bytes::Bytes;
-use case_tables::{Case, CaseFault, Given, Part, Subject, push_bytes};
+use crate::request::{read_body, read_head};
+use case_tables::{Case, CaseFault, Given, Part, Subject};
 use std::alloc::Global;
 
 /// What is done with requests.
@@ -20,47 +19,49 @@ use std::alloc::Global;
 #[derive(Clone, Copy)]
 pub struct Requests;
 
-/// Adds what is done with the request that has been read, if there is one.
-fn finish(door: &Door, open: Option<Request>, given: &mut Given) -> Result<(), CaseFault> {
-    let Some(Request { head, body }) = open else {
-        return Ok(());
-    };
-    push_decided(door, &head, &Bytes::from_vec(body)?, given)
-}
-
-/// Adds bytes to the request that has been read.
-fn add_bytes(open: &mut Option<Request>, part: &Part) -> Result<(), CaseFault> {
-    match open {
-        Some(request) => push_bytes(&mut request.body, part),
-        None => Err(CaseFault::Unknown { line: part.line() }),
-    }
-}
-
-/// Takes a part of a case that does not belong to the request before it.
-fn begin(
+/// Adds what is done with the request of a part, to whose body the parts behind it may add.
+fn push_request(
     door: &Door,
-    open: &mut Option<Request>,
     part: &Part,
+    others: &[Part],
     given: &mut Given,
 ) -> Result<(), CaseFault> {
-    finish(door, open.take(), given)?;
-    if part.word() == "methods" {
-        return push_methods(door, part, given);
+    let text = part.lines();
+    let (lines, body) = text.split_once("\n\n").unwrap_or((text, ""));
+    let body = read_body(given.alloc(), body, others)?;
+    let head = read_head(given.alloc(), part, lines)?;
+    push_decided(door, &head, &body, given)
+}
+
+/// Adds what is done with the requests of a part, and tells whether the next part may add to a body.
+fn push_part(
+    door: &Door,
+    part: &Part,
+    others: &[Part],
+    has_body: bool,
+    given: &mut Given,
+) -> Result<bool, CaseFault> {
+    match part.word() {
+        "request" => {
+            push_request(door, part, others, given)?;
+            Ok(true)
+        }
+        "methods" => {
+            push_methods(door, part, given)?;
+            Ok(false)
+        }
+        _ if has_body => Ok(true),
+        _ => Err(CaseFault::Unknown { line: part.line() }),
     }
-    *open = Some(read_request(given.alloc(), part)?);
-    Ok(())
 }
 
 /// Adds what is done with the requests of a case.
 fn push_requests(door: &Door, parts: &[Part], given: &mut Given) -> Result<(), CaseFault> {
-    let mut open = None;
-    for part in parts {
-        match part.word() {
-            "request" | "methods" => begin(door, &mut open, part, given)?,
-            _ => add_bytes(&mut open, part)?,
-        }
+    let mut has_body = false;
+    for place in 0..parts.len() {
+        has_body = push_part(door, &parts[place], &parts[place + 1..], has_body, given)?;
     }
-    finish(door, open, given)
+    Ok(())
 }
 
 /// The first of the parts, which is to be called so, and the others.
