@@ -8,7 +8,7 @@ use crate::stand::{Ending, Seat, SeatFault, Stand, Turns};
 use account_lock::{Account, Identity, SettleFault, Settled};
 use call_model::Stats;
 use case_tables::CaseFault;
-use std::alloc::AllocError;
+use std::alloc::{AllocError, Global};
 use std::sync::Wait;
 use std::thread::Threads;
 use usage_ledger::{Front, JoinFault, Keep, Ledgers, Tally};
@@ -67,6 +67,28 @@ fn note_calls<K: Keep, L: Ledgers>(tally: &mut Tally<K, L>, kept: &Kept) -> Resu
         tally.made(call.0, call.1);
     }
     Ok(())
+}
+
+/// What a tally keeps, forged.
+fn forged_of<K: Keep, L: Ledgers>(
+    alloc: Global,
+    tally: &Tally<K, L>,
+    forgery: Forgery,
+) -> Result<Kept, AllocError> {
+    let mut kept = Kept::copy(alloc, tally.kept(), tally.calls())?;
+    kept.forge(forgery);
+    Ok(kept)
+}
+
+/// A part of a tally that has noted this.
+fn part_with<K: Keep, L: Ledgers>(
+    root: Option<&mut Tally<K, L>>,
+    kept: &Kept,
+) -> Result<Tally<K, L>, SeatFault> {
+    let mut part = part_of(root)?;
+    note_receipts(&mut part, kept)?;
+    note_calls(&mut part, kept)?;
+    Ok(part)
 }
 
 /// Two tallies as one.
@@ -177,11 +199,8 @@ impl<R: Wait + Drop, S: Identity + Drop, K: Keep> Stand for Seats<R, S, K> {
 
     fn forge(&mut self, forgery: Forgery) -> Result<(), SeatFault> {
         let honest = taken_out(&mut self.tallies, 1)?;
-        let mut kept = Kept::copy(self.place.alloc, honest.kept(), honest.calls())?;
-        kept.forge(forgery);
-        let mut forged = part_of(self.tallies.first_mut())?;
-        note_receipts(&mut forged, &kept)?;
-        note_calls(&mut forged, &kept)?;
+        let kept = forged_of(self.place.alloc, &honest, forgery)?;
+        let forged = part_with(self.tallies.first_mut(), &kept)?;
         if let Some(root) = self.tallies.first_mut() {
             root.absorb(honest);
         }

@@ -68,6 +68,17 @@ fn reply_of<H: Drop>(line: u64, outcome: Outcome<H>) -> Result<Reply, CaseFault>
     }
 }
 
+/// The replies of three requests of a part that begins at this line.
+fn replies_of<H: Drop>(
+    line: u64,
+    outcomes: (Outcome<H>, Outcome<H>, Outcome<H>),
+) -> Result<(Reply, Reply, Reply), CaseFault> {
+    let (one, other, last) = outcomes;
+    let one = reply_of(line, one)?;
+    let other = reply_of(line, other)?;
+    Ok((one, other, reply_of(line, last)?))
+}
+
 /// Makes three exchanges of a part that begins at this line, at once.
 fn made_together<
     R: Wait + RandomSource + AllocGlobal,
@@ -83,14 +94,11 @@ fn made_together<
         second.map(with_memory),
         third.map(with_memory),
     );
-    let (one, other, last) = match finished(rt, three)? {
-        Ok(outcomes) => outcomes,
-        Err(ExchangeFault::OutOfMemory) => return Err(CaseFault::Memory),
-        Err(_) => return Err(malformed(line, "three that are answered are wanted")),
-    };
-    let one = reply_of(line, one)?;
-    let other = reply_of(line, other)?;
-    Ok((one, other, reply_of(line, last)?))
+    match finished(rt, three)? {
+        Ok(outcomes) => replies_of(line, outcomes),
+        Err(ExchangeFault::OutOfMemory) => Err(CaseFault::Memory),
+        Err(_) => Err(malformed(line, "three that are answered are wanted")),
+    }
 }
 
 /// The same, where all three could be begun.

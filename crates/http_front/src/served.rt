@@ -16,7 +16,9 @@ pub(crate) struct Served<S: Identity, N> {
 }
 
 impl<S: Identity + Drop, N: Drop> Served<S, N> {
-    /// This account, by this clock; its service is not over. The only error is want of memory; both are then gone.
+    /// This account, by this clock; its service is not over.
+    ///
+    /// The only error is want of memory. Account and clock are then gone.
     pub(crate) fn new(
         alloc: Global,
         account: Account<S, OneShotBell>,
