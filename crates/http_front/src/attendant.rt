@@ -12,13 +12,14 @@ use crate::ticker::moment;
 use account_lock::{Account, Identity};
 use call_model::Call;
 use connection_places::{Post, Worker};
+use decisions::Decide;
 use http_connection::{EventLoop, Machine, Park, Pulse, Signals};
-use long_poll::{Clock, Connection, OneShotBell, OpenPoll};
+use long_poll::{Clock, Connection, OneShotBell, OpenPoll, Service};
 use std::alloc::AllocError;
 use std::net::TcpStream;
 use std::sync::{Arc, Mutex};
 use std::{io, thread};
-use usage_ledger::{Keep, Tally};
+use usage_ledger::{Keep, Ledgers, Tally};
 
 /// The stack of a thread, in bytes. The deepest chain of calls takes some 80 KB.
 const STACK: usize = 512 * 1024;
@@ -53,6 +54,28 @@ pub(crate) struct Attendant<R, S: Identity, N, K: Keep> {
     pub(crate) served: Served<S, N>,
     pub(crate) post: Post<Tally<K, S>, Visit<S>>,
     pub(crate) patience: u32,
+}
+
+/// Serves a connection by a front. Its service and who decides are parameters here: their own types, once
+/// more in each of those that `hyper` makes of a connection, are large to prove anything about.
+fn serve_by<
+    R: Machine,
+    A: Service<K, L>,
+    D: Decide + Drop,
+    N: Clock + Drop,
+    O: Park,
+    K: Keep,
+    L: Ledgers,
+>(
+    event_loop: &mut EventLoop,
+    rt: &R,
+    socket: TcpStream,
+    front: Front<R, A, D, N, K, L>,
+    signals: Signals,
+    open: O,
+    pulse: Arc<Pulse>,
+) -> io::Result<()> {
+    event_loop.serve(rt, socket, front, signals, open, pulse)
 }
 
 impl<
@@ -127,7 +150,7 @@ impl<R: Machine, S: Identity + Drop, N: Clock + Drop, K: Keep> Attendant<R, S, N
             pulse,
         } = visit;
         let front = self.front(sides, door, open)?;
-        event_loop.serve(&self.rt, socket, front, signals, parked, pulse)
+        serve_by(event_loop, &self.rt, socket, front, signals, parked, pulse)
     }
 
     /// What answers the requests of a connection at a port.
