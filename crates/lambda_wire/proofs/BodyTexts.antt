@@ -1,11 +1,13 @@
 -- The compact text of each body's value is the body.
-use Rattle.std.proofs.Common.{◌≡◌, ℕ, List, [], ◌∷◌, ◌++◌, Option, Some, None, rules, append_assoc, codes, decimal, sym}
+use Rattle.std.proofs.Common.{◌≡◌, ℕ, List, [], ◌∷◌, ◌++◌, Option, Some, None, option_map, false, refl, rules, append_assoc, codes, decimal, sym}
 use Rattle.json.specs.Print.{quoted}
-use Rattle.serde_json.specs.Written.{compact_text}
+use Rattle.serde_json.specs.Data.{string, object, no_members, member}
+use Rattle.serde_json.specs.Written.{has_float, compact_text}
 use Rattle.serde_json.proofs.OnLiterals.{serde_json_on_literals}
 use Rattle.lambda_wire.specs.declared.body_writer.InvokeFault.{InvokeFault}
 use Rattle.lambda_wire.specs.declared.body_writer.InvokeFault.TheVariants.{User, NotFound, Service}
 use Rattle.lambda_wire.specs.Bodies.{fault_text, invoke_fault_text, throttle_text, registered_text, invoke_event_text, shutdown_event_text}
+use Rattle.lambda_wire.specs.Objects.{put_if_any}
 use Rattle.lambda_wire.specs.BodyValues.{fault_data, invoke_fault_data, throttle_data, registered_data, tracing_data, invoke_event_data, shutdown_event_data}
 
 pub fault_written : (message kind : List ℕ) → compact_text (fault_data message kind) ≡ fault_text message kind
@@ -26,6 +28,19 @@ pub registered_written : (account : Option (List ℕ)) (function handler : List 
 unfolding registered_text serde_json_on_literals
 registered_written None function handler = search (rules, append_assoc)
 registered_written (Some account) function handler = search (rules, append_assoc)
+
+-- a registration, whose account is put in last
+pub registered_put : (account : Option (List ℕ)) (function handler : List ℕ)
+    → object (put_if_any (codes "accountId") (option_map string account) (member (codes "functionName") (string function)
+    (member (codes "functionVersion") (string (codes "$LATEST"))
+    (member (codes "handler") (string handler) no_members))))
+    ≡ registered_data account function handler
+registered_put None function handler = refl
+registered_put (Some account) function handler = refl
+
+pub registered_whole : (account : Option (List ℕ)) (function handler : List ℕ) → has_float (registered_data account function handler) ≡ false
+registered_whole None function handler = refl
+registered_whole (Some account) function handler = refl
 
 -- nine parts, put together from either end
 nine_parts : (a b c d e f g h i : List ℕ) → a ++ b ++ c ++ d ++ e ++ f ++ g ++ h ++ i ≡ a ++ (b ++ (c ++ (d ++ (e ++ (f ++ (g ++ (h ++ i)))))))

@@ -7,5 +7,6 @@ pub mod PlainText
 pub mod TextAgain
 pub mod SetupAgain
 pub mod BodyTexts
+pub mod ObjectParts
 pub mod FieldValues
 pub mod JsonPartsLemmas

@@ -8,3 +8,5 @@ pub mod Headers
 pub mod Replies
 pub mod BodyValues
 pub mod JsonParts
+pub mod Objects
+pub mod HeaderLists

@@ -1,14 +1,15 @@
 //! A configuration is written.
 
-ghost use Rattle.std.specs.Prelude.{◌≡◌, ◌≤◌, None, Some, Ok, IfOk, length, map, All};
+ghost use Rattle.std.specs.Prelude.{◌≡◌, ◌≤◌, Ok, IfOk, length, map, All};
 ghost use Rattle.serde_json.specs.Data.{string};
 ghost use Rattle.serde_json.specs.View.{view};
 ghost use Rattle.lambda_wire.specs.Ranges.{IsSlotInRange, IsFunctionInRange, IsConfigInRange};
 ghost use Rattle.lambda_wire.specs.Configuration.{read_setup};
 ghost use Rattle.lambda_wire.specs.ConfigurationText.{slot_data, function_data, setup_data, setup_text};
 
+use crate::object_writer::ObjectWriter;
 use arn_ids::{Config, Function, Slot, Text};
-use serde_json::{Value, json};
+use serde_json::Value;
 use std::alloc::{AllocError, Global};
 
 fn text_value(alloc: Global, text: &Text) -> Result<Value, AllocError>
@@ -39,7 +40,7 @@ fn port_values(alloc: Global, slots: &[Slot]) -> Result<Vec<Value>, AllocError>
     Ok(values)
 }
 
-fn unreserved_value(
+fn function_object(
     alloc: Global,
     function: &Function,
     extensions: Vec<Value>,
@@ -48,41 +49,17 @@ fn unreserved_value(
     requires extensions { map view extensions.items ≡ map string function.now.extensions }
     requires ports { map view ports.items ≡ map slot_data function.now.slots }
     requires in_range { All IsSlotInRange function.now.slots }
-    requires reserved { function.now.reserved ≡ None }
     ensures value { IfOk result (λ v. view v ≡ function_data function.now) }
     ensures in_range { IfOk result (λ _. IsFunctionInRange function.now) }
 {
-    json!(in alloc; {
-        "extensions": extensions,
-        "handler": function.handler.as_str(),
-        "name": function.name.as_str(),
-        "ports": ports,
-        "timeout": function.timeout_s
-    })
-}
-
-fn reserved_value(
-    alloc: Global,
-    function: &Function,
-    extensions: Vec<Value>,
-    ports: Vec<Value>,
-    reserved: u32,
-) -> Result<Value, AllocError>
-    requires extensions { map view extensions.items ≡ map string function.now.extensions }
-    requires ports { map view ports.items ≡ map slot_data function.now.slots }
-    requires in_range { All IsSlotInRange function.now.slots }
-    requires reserved { function.now.reserved ≡ Some reserved }
-    ensures value { IfOk result (λ v. view v ≡ function_data function.now) }
-    ensures in_range { IfOk result (λ _. IsFunctionInRange function.now) }
-{
-    json!(in alloc; {
-        "extensions": extensions,
-        "handler": function.handler.as_str(),
-        "name": function.name.as_str(),
-        "ports": ports,
-        "reserved": reserved,
-        "timeout": function.timeout_s
-    })
+    ObjectWriter::new(alloc)
+        .list("extensions", extensions)
+        .text("handler", function.handler.as_str())
+        .text("name", function.name.as_str())
+        .list("ports", ports)
+        .number("timeout", function.timeout_s as u64)
+        .number_if_any("reserved", function.reserved)
+        .into_value()
 }
 
 fn function_value(alloc: Global, function: &Function) -> Result<Value, AllocError>
@@ -91,10 +68,7 @@ fn function_value(alloc: Global, function: &Function) -> Result<Value, AllocErro
 {
     let extensions = text_values(alloc, function.extensions.as_slice())?;
     let ports = port_values(alloc, function.slots.as_slice())?;
-    match function.reserved {
-        None => unreserved_value(alloc, function, extensions, ports),
-        Some(reserved) => reserved_value(alloc, function, extensions, ports, reserved),
-    }
+    function_object(alloc, function, extensions, ports)
 }
 
 fn function_values(alloc: Global, functions: &[Function]) -> Result<Vec<Value>, AllocError>
@@ -108,6 +82,30 @@ fn function_values(alloc: Global, functions: &[Function]) -> Result<Vec<Value>, 
     Ok(values)
 }
 
+fn setup_object(
+    alloc: Global,
+    config: &Config,
+    salt: u64,
+    max_entries: u64,
+    functions: Vec<Value>,
+) -> Result<Value, AllocError>
+    requires functions { map view functions.items ≡ map function_data config.now.functions }
+    requires in_range { All IsFunctionInRange config.now.functions }
+    ensures value { IfOk result (λ v. view v ≡ setup_data config.now salt max_entries) }
+    ensures in_range { IfOk result (λ _. IsConfigInRange config.now) }
+{
+    ObjectWriter::new(alloc)
+        .text("account", config.home.account.as_str())
+        .number("accountLimit", config.account_limit as u64)
+        .list("functions", functions)
+        .number("invokePort", config.invoke_port as u64)
+        .number("leastRemainder", config.least_remainder as u64)
+        .number("maxEntries", max_entries)
+        .text("region", config.home.region.as_str())
+        .number("salt", salt)
+        .into_value()
+}
+
 fn setup_value(
     alloc: Global,
     config: &Config,
@@ -117,17 +115,8 @@ fn setup_value(
     ensures value { IfOk result (λ v. view v ≡ setup_data config.now salt max_entries) }
     ensures in_range { IfOk result (λ _. IsConfigInRange config.now) }
 {
-    let functions = Value::Array(function_values(alloc, config.functions.as_slice())?);
-    json!(in alloc; {
-        "account": config.home.account.as_str(),
-        "accountLimit": config.account_limit,
-        "functions": functions,
-        "invokePort": config.invoke_port,
-        "leastRemainder": config.least_remainder,
-        "maxEntries": max_entries,
-        "region": config.home.region.as_str(),
-        "salt": salt
-    })
+    let functions = function_values(alloc, config.functions.as_slice())?;
+    setup_object(alloc, config, salt, max_entries, functions)
 }
 
 /// Writes a configuration as compact JSON with every member, the keys in the order of their bytes;

@@ -1,0 +1,156 @@
+//! The headers of a reply are written one after the other.
+
+ghost use Rattle.std.specs.Prelude.{ℕ, ◌≡◌, List, [], ◌∷◌, ◌++◌, decimal, IfOk, IsTrue, MatchOption, option_map, string_bytes};
+ghost use Rattle.http_header.specs.FieldName.{is_header_name};
+ghost use Rattle.http_header.specs.FieldValue.{FieldValue, plain_value, IsFieldValue, is_visible_text};
+ghost use Rattle.lambda_wire.specs.Headers as spec;
+ghost use Rattle.lambda_wire.specs.HeaderLists.{Lists};
+
+use arn_ids::Row;
+use http_header::{HeaderName, HeaderValue, HeaderValueError};
+use std::alloc::{AllocError, Global};
+
+/// A text that is a header's value.
+fn value(alloc: Global, text: &str) -> Result<HeaderValue, AllocError>
+    requires { IsFieldValue text.now }
+    ensures { IfOk result (λ v. v ≡ plain_value text.now) }
+{
+    match HeaderValue::from_str(alloc, text) {
+        Ok(value) => Ok(value),
+        Err(HeaderValueError::OutOfMemory) => Err(AllocError),
+        Err(HeaderValueError::Invalid) => unreachable!(),
+    }
+}
+
+/// A text that becomes a header's value, in the memory that it has.
+fn value_of(text: String) -> Result<HeaderValue, AllocError>
+    requires { IsFieldValue (string_bytes text) }
+    ensures { IfOk result (λ v. v ≡ plain_value (string_bytes text)) }
+{
+    match HeaderValue::from_string(text) {
+        Ok(value) => Ok(value),
+        Err(HeaderValueError::OutOfMemory) => Err(AllocError),
+        Err(HeaderValueError::Invalid) => unreachable!(),
+    }
+}
+
+/// The headers that a reply was given so far. That memory ran out on the way is noted, and told at the
+/// end, as by an `ObjectWriter`.
+#[derive(Drop)]
+pub(crate) struct HeaderList {
+    alloc: Global,
+    headers: Vec<(HeaderName, HeaderValue)>,
+    is_cut: bool,
+}
+
+impl HeaderList {
+    /// The header of every reply with a body, with room for so many in all.
+    pub(crate) fn new(alloc: Global, room: usize) -> HeaderList
+        ensures { Lists result spec.json_headers }
+    {
+        let none = HeaderList {
+            alloc,
+            headers: Vec::new(alloc),
+            is_cut: false,
+        };
+        match Vec::with_capacity(alloc, room) {
+            Ok(headers) => HeaderList { headers, ..none }.fixed("content-type", "application/json"),
+            Err(_) => none.cut(),
+        }
+    }
+
+    /// Adds a header.
+    fn header(self, name: &'static str, value: HeaderValue) -> HeaderList
+        requires { IsTrue (is_header_name name.now) }
+        ensures { (before : List (List ℕ × FieldValue)) → Lists self before → Lists result (before ++ (name.now, value) ∷ []) }
+    {
+        let HeaderList {
+            alloc,
+            mut headers,
+            is_cut,
+        } = self;
+        let name = HeaderName::from_static(name);
+        let is_cut = headers.push((name, value)).is_err() || is_cut;
+        HeaderList {
+            alloc,
+            headers,
+            is_cut,
+        }
+    }
+
+    /// Adds a header with a text that is always the same.
+    pub(crate) fn fixed(self, name: &'static str, text: &'static str) -> HeaderList
+        requires name { IsTrue (is_header_name name.now) }
+        requires text { IsTrue (is_visible_text text.now) }
+        ensures { (before : List (List ℕ × FieldValue)) → Lists self before → Lists result (before ++ spec.header name.now text.now ∷ []) }
+    {
+        self.header(name, HeaderValue::from_static(text))
+    }
+
+    /// Adds a header with a text.
+    pub(crate) fn text(self, name: &'static str, text: &str) -> HeaderList
+        requires name { IsTrue (is_header_name name.now) }
+        requires text { IsFieldValue text.now }
+        ensures { (before : List (List ℕ × FieldValue)) → Lists self before → Lists result (before ++ spec.header name.now text.now ∷ []) }
+    {
+        match value(self.alloc, text) {
+            Ok(value) => self.header(name, value),
+            Err(_) => self.cut(),
+        }
+    }
+
+    /// Adds a header with a text, in the memory that it has.
+    pub(crate) fn string(self, name: &'static str, text: String) -> HeaderList
+        requires name { IsTrue (is_header_name name.now) }
+        requires text { IsFieldValue (string_bytes text) }
+        ensures { (before : List (List ℕ × FieldValue)) → Lists self before → Lists result (before ++ spec.header name.now (string_bytes text) ∷ []) }
+    {
+        match value_of(text) {
+            Ok(value) => self.header(name, value),
+            Err(_) => self.cut(),
+        }
+    }
+
+    /// Adds a header with a whole number.
+    pub(crate) fn number(self, name: &'static str, number: u64) -> HeaderList
+        requires { IsTrue (is_header_name name.now) }
+        ensures { (before : List (List ℕ × FieldValue)) → Lists self before → Lists result (before ++ spec.header name.now (decimal number) ∷ []) }
+    {
+        match HeaderValue::from_u64(self.alloc, number) {
+            Ok(value) => self.header(name, value),
+            Err(_) => self.cut(),
+        }
+    }
+
+    /// Adds the request identifier, if there is one.
+    pub(crate) fn request_if_any(self, request: Option<&str>) -> HeaderList
+        requires { MatchOption request Unit (λ r. IsFieldValue r.now) }
+        ensures { (before : List (List ℕ × FieldValue)) → Lists self before
+            → Lists result (before ++ spec.request_mark (option_map (λ r. r.now) request.entry)) }
+    {
+        match request {
+            None => self,
+            Some(request) => self.text("x-amzn-requestid", request),
+        }
+    }
+
+    /// Notes that memory ran out.
+    fn cut(self) -> HeaderList
+        ensures { (headers : List (List ℕ × FieldValue)) → Lists result headers }
+    {
+        HeaderList {
+            is_cut: true,
+            ..self
+        }
+    }
+
+    /// The headers. The only error is want of memory.
+    pub(crate) fn done(self) -> Result<Row<(HeaderName, HeaderValue)>, AllocError>
+        ensures { (headers : List (List ℕ × FieldValue)) → Lists self headers → IfOk result (λ h. h ≡ headers) }
+    {
+        if self.is_cut {
+            return Err(AllocError);
+        }
+        Ok(Row::new(self.headers))
+    }
+}
