@@ -1,16 +1,19 @@
 //! The lines of answers, and the text of an entry in a history.
 
-ghost use Rattle.std.specs.Prelude.{◌≡◌, ◌<◌, ◌++◌, length, reverse, slice_index_or, OnOk, OnErr};
+ghost use Rattle.std.specs.Prelude.{◌≡◌, ℕ, ◌<◌, List, [], ◌∷◌, ◌++◌, decimal, length, take, drop, reverse, slice_index_or, OnOk, OnErr};
+ghost use Rattle.arn_ids.specs.declared.identifiers.IdKind.TheVariants.{Event};
 ghost use Rattle.call_types.specs.declared.call.Entry.{Entry};
+ghost use Rattle.call_types.specs.Words.{reason_word};
+ghost use Rattle.script.specs.AnswerText as spec;
 ghost use Rattle.script.specs.AnswerText.{answer_words, answer_line, answer_lines, entry_text, refusal_word};
 ghost use Rattle.call_model.specs.CallCounts.{call_counts};
 ghost use Rattle.script.specs.Writing.{Adds, spaced, marked_lines};
 
 use crate::call_writer::push_call;
 use crate::past_words::{body_word, env_word, request_word};
-use crate::words::{Word, end_line, push_spaced, push_word, push_words};
+use crate::words::{Word, end_line, push_last, push_name, push_spaced, push_word, push_words};
 use arn_ids::{Checked, IdKind};
-use call_model::{Answer, Entry, Past, Rejection, Ticket};
+use call_model::{Answer, Entry, Past, Reason, Rejection, Ticket};
 use entry_blocks::Blocks;
 use std::alloc::AllocError;
 
@@ -31,8 +34,126 @@ fn refusal_text(refusal: Rejection) -> &'static str
     }
 }
 
-/// Adds the words of an answer, each behind a space.
+/// The first word of an answer.
 #[tactic(auto, unfolding(crate::specs::AnswerText::answer_words))]
+fn first_word(answer: Answer) -> &'static str
+    ensures { (salt : ℕ) (h : List Entry) (t : ℕ) → take 1 (answer_words salt h t answer) ≡ result.now ∷ [] }
+{
+    match answer {
+        Answer::Delivered { .. } => "deliver",
+        Answer::Told { .. } => "tell",
+        Answer::Ending { .. } => "shutdown",
+        Answer::Registered { .. } => "registered",
+        Answer::Accepted => "accepted",
+        Answer::Done => "done",
+        Answer::Output { .. } => "output",
+        Answer::Error { .. } => "error",
+        Answer::TimedOut => "timeout",
+        Answer::InitTimedOut => "init-timeout",
+        Answer::OutputTooLarge => "too-large-output",
+        Answer::Throttled(_) => "throttled",
+        Answer::Stopped => "stopped",
+        Answer::Withdrawn => "withdrawn",
+        Answer::Refused(_) => "refused",
+        Answer::Reserved { .. } => "reserved",
+        Answer::Unreserved => "unreserved",
+    }
+}
+
+fn push_delivery(
+    out: &mut Vec<u8>,
+    past: &Past,
+    invoke: Ticket,
+    deadline: u64,
+) -> Result<(), AllocError>
+    ensures { let h = reverse past.now.entries.now.0 in Adds result (spaced (spec.request_word past.now.salt h invoke ∷ decimal deadline ∷ spec.body_word h invoke ∷ [])) out.old.items out.new.items }
+{
+    let words = [
+        request_word(past, invoke),
+        Word::Number(deadline),
+        body_word(past, invoke),
+    ];
+    push_words(out, &words)
+}
+
+fn push_event(
+    out: &mut Vec<u8>,
+    past: &Past,
+    ticket: Ticket,
+    invoke: Ticket,
+    deadline: u64,
+    event: u64,
+) -> Result<(), AllocError>
+    ensures { let h = reverse past.now.entries.now.0 in Adds result (spaced (spec.env_word past.now.salt Event h ticket event ∷ spec.request_word past.now.salt h invoke ∷ decimal deadline ∷ [])) out.old.items out.new.items }
+{
+    let words = [
+        env_word(past, IdKind::Event, ticket, event),
+        request_word(past, invoke),
+        Word::Number(deadline),
+    ];
+    push_words(out, &words)
+}
+
+fn push_ending(
+    out: &mut Vec<u8>,
+    past: &Past,
+    ticket: Ticket,
+    reason: Reason,
+    until: u64,
+    event: u64,
+) -> Result<(), AllocError>
+    ensures { let h = reverse past.now.entries.now.0 in Adds result (spaced (spec.env_word past.now.salt Event h ticket event ∷ reason_word reason ∷ decimal until ∷ [])) out.old.items out.new.items }
+{
+    let words = [
+        env_word(past, IdKind::Event, ticket, event),
+        Word::Plain(reason.as_str()),
+        Word::Number(until),
+    ];
+    push_words(out, &words)
+}
+
+/// Adds the words of an answer behind its first, each behind a space.
+#[tactic(auto, unfolding(crate::specs::AnswerText::answer_words))]
+fn push_other_words(
+    out: &mut Vec<u8>,
+    past: &Past,
+    ticket: Ticket,
+    answer: Answer,
+) -> Result<(), AllocError>
+    ensures { Adds result (spaced (drop 1 (answer_words past.now.salt (reverse past.now.entries.now.0) ticket answer))) out.old.items out.new.items }
+{
+    match answer {
+        Answer::Delivered { invoke, deadline } => push_delivery(out, past, invoke, deadline),
+        Answer::Told {
+            invoke,
+            deadline,
+            event,
+        } => push_event(out, past, ticket, invoke, deadline, event),
+        Answer::Ending {
+            reason,
+            until,
+            event,
+        } => push_ending(out, past, ticket, reason, until, event),
+        Answer::Registered { count } => {
+            push_last(out, &env_word(past, IdKind::Extension, ticket, count))
+        }
+        Answer::Output { source } => push_last(out, &body_word(past, source)),
+        Answer::Error { source } => push_last(out, &body_word(past, source)),
+        Answer::Throttled(reason) => push_name(out, reason.as_str()),
+        Answer::Refused(refusal) => push_name(out, refusal_text(refusal)),
+        Answer::Reserved { count } => push_last(out, &Word::Number(u64::from(count))),
+        Answer::Accepted
+        | Answer::Done
+        | Answer::TimedOut
+        | Answer::InitTimedOut
+        | Answer::OutputTooLarge
+        | Answer::Stopped
+        | Answer::Withdrawn
+        | Answer::Unreserved => Ok(()),
+    }
+}
+
+/// Adds the words of an answer, each behind a space.
 fn push_answer_words(
     out: &mut Vec<u8>,
     past: &Past,
@@ -41,84 +162,25 @@ fn push_answer_words(
 ) -> Result<(), AllocError>
     ensures { Adds result (spaced (answer_words past.now.salt (reverse past.now.entries.now.0) ticket answer)) out.old.items out.new.items }
 {
-    match answer {
-        Answer::Delivered { invoke, deadline } => push_words(
-            out,
-            &[
-                Word::Plain("deliver"),
-                request_word(past, invoke),
-                Word::Number(deadline),
-                body_word(past, invoke),
-            ],
-        ),
-        Answer::Told {
-            invoke,
-            deadline,
-            event,
-        } => push_words(
-            out,
-            &[
-                Word::Plain("tell"),
-                env_word(past, IdKind::Event, ticket, event),
-                request_word(past, invoke),
-                Word::Number(deadline),
-            ],
-        ),
-        Answer::Ending {
-            reason,
-            until,
-            event,
-        } => push_words(
-            out,
-            &[
-                Word::Plain("shutdown"),
-                env_word(past, IdKind::Event, ticket, event),
-                Word::Plain(reason.as_str()),
-                Word::Number(until),
-            ],
-        ),
-        Answer::Registered { count } => {
-            push_words(
-                out,
-                &[
-                    Word::Plain("registered"),
-                    env_word(past, IdKind::Extension, ticket, count),
-                ],
-            )
-        }
-        Answer::Accepted => push_words(out, &[Word::Plain("accepted")]),
-        Answer::Done => push_words(out, &[Word::Plain("done")]),
-        Answer::Output { source } => push_words(
-            out,
-            &[Word::Plain("output"), body_word(past, source)],
-        ),
-        Answer::Error { source } => push_words(
-            out,
-            &[Word::Plain("error"), body_word(past, source)],
-        ),
-        Answer::TimedOut => push_words(out, &[Word::Plain("timeout")]),
-        Answer::InitTimedOut => push_words(out, &[Word::Plain("init-timeout")]),
-        Answer::OutputTooLarge => push_words(out, &[Word::Plain("too-large-output")]),
-        Answer::Throttled(reason) => push_words(
-            out,
-            &[Word::Plain("throttled"), Word::Plain(reason.as_str())],
-        ),
-        Answer::Stopped => push_words(out, &[Word::Plain("stopped")]),
-        Answer::Withdrawn => push_words(out, &[Word::Plain("withdrawn")]),
-        Answer::Refused(refusal) => push_words(
-            out,
-            &[Word::Plain("refused"), Word::Plain(refusal_text(refusal))],
-        ),
-        Answer::Reserved { count } => push_words(
-            out,
-            &[Word::Plain("reserved"), Word::Number(u64::from(count))],
-        ),
-        Answer::Unreserved => push_words(out, &[Word::Plain("unreserved")]),
-    }
+    push_spaced(out, &Word::Plain(first_word(answer)))?;
+    push_other_words(out, past, ticket, answer)
+}
+
+/// Adds a mark, and the numbers that an answer's line begins with.
+fn push_numbers(
+    out: &mut Vec<u8>,
+    mark: &str,
+    number: usize,
+    ticket: Ticket,
+) -> Result<(), AllocError>
+    ensures { Adds result (mark.now ++ (decimal number ++ 32 ∷ decimal ticket)) out.old.items out.new.items }
+{
+    push_word(out, &Word::Plain(mark))?;
+    push_word(out, &Word::Number(number as u64))?;
+    push_spaced(out, &Word::Number(ticket))
 }
 
 /// Adds the line of an answer, behind a mark.
-#[tactic(auto, unfolding(crate::specs::AnswerText::answer_line), using(crate::proofs::WritingLemmas::in_front, crate::proofs::WritingLemmas::still_in_front, crate::proofs::WritingLemmas::as_before))]
 fn push_answer(
     out: &mut Vec<u8>,
     past: &Past,
@@ -129,16 +191,12 @@ fn push_answer(
 ) -> Result<(), AllocError>
     ensures { Adds result (mark.now ++ answer_line past.now.salt (reverse past.now.entries.now.0) number ticket answer) out.old.items out.new.items }
 {
-    push_word(out, &Word::Plain(mark))?;
-    push_word(out, &Word::Number(number as u64))?;
-    push_spaced(out, &Word::Number(ticket))?;
+    push_numbers(out, mark, number, ticket)?;
     push_answer_words(out, past, ticket, answer)?;
-    end_line(out)?;
-    Ok(())
+    end_line(out)
 }
 
 /// Adds the lines of answers, each behind a mark.
-#[tactic(auto, using(crate::proofs::WritingLemmas::in_front, crate::proofs::WritingLemmas::still_in_front, crate::proofs::WritingLemmas::as_before))]
 fn push_lines(
     out: &mut Vec<u8>,
     past: &Past,
@@ -206,7 +264,6 @@ pub fn push_answers(
     }
 }
 
-#[tactic(auto, using(crate::proofs::WritingLemmas::in_front, crate::proofs::WritingLemmas::still_in_front, crate::proofs::WritingLemmas::as_before))]
 fn push_whole_entry(
     out: &mut Vec<u8>,
     config: &Checked,

@@ -1,9 +1,10 @@
 //! The call that a line of a script stands for.
 
-ghost use Rattle.std.specs.Prelude.{◌≡◌, codes, IfOk, IfSome};
+ghost use Rattle.std.specs.Prelude.{◌≡◌, bytes_eq, IfOk, IfSome};
 ghost use Rattle.script.specs.Lines as spec;
 ghost use Rattle.script.specs.Lines.{call_in};
 ghost use Rattle.call_types.specs.Within.{IsTimed};
+ghost use Rattle.call_types.specs.declared.call.Call.TheVariants as calls;
 ghost use Rattle.script.specs.Views.{fields_left};
 
 use crate::fields::{cut, four_fields, one_field, three_fields, two_fields};
@@ -15,6 +16,13 @@ use bytes::Bytes;
 use call_model::Call;
 use std::alloc::{AllocError, Global};
 
+/// Whether a word is this.
+fn says(word: &[u8], text: &str) -> bool
+    ensures { result ≡ bytes_eq word.now text.now }
+{
+    word == text.as_bytes()
+}
+
 /// The count in an identifier.
 fn count_number(field: &[u8]) -> Option<u64>
     ensures { result ≡ spec.count_in field.now }
@@ -22,24 +30,13 @@ fn count_number(field: &[u8]) -> Option<u64>
     read_number(field, GREATEST_COUNT)
 }
 
-fn is_qualified(field: &[u8]) -> Option<bool>
-    ensures { result ≡ spec.flag_in (codes "q") field.now }
+/// Whether a flag is set, which is this word or else a dash.
+fn flag(field: &[u8], word: &str) -> Option<bool>
+    ensures { result ≡ spec.flag_in word.now field.now }
 {
-    if field == b"q".as_slice() {
+    if says(field, word) {
         Some(true)
-    } else if field == b"-".as_slice() {
-        Some(false)
-    } else {
-        None
-    }
-}
-
-fn asks_for_account(field: &[u8]) -> Option<bool>
-    ensures { result ≡ spec.flag_in (codes "a") field.now }
-{
-    if field == b"a".as_slice() {
-        Some(true)
-    } else if field == b"-".as_slice() {
+    } else if says(field, "-") {
         Some(false)
     } else {
         None
@@ -50,13 +47,13 @@ fn asks_for_account(field: &[u8]) -> Option<bool>
 fn events(field: &[u8]) -> Option<(bool, bool)>
     ensures { result ≡ spec.events_in field.now }
 {
-    if field == b"i".as_slice() {
+    if says(field, "i") {
         Some((true, false))
-    } else if field == b"s".as_slice() {
+    } else if says(field, "s") {
         Some((false, true))
-    } else if field == b"is".as_slice() {
+    } else if says(field, "is") {
         Some((true, true))
-    } else if field == b"-".as_slice() {
+    } else if says(field, "-") {
         Some((false, false))
     } else {
         None
@@ -67,7 +64,7 @@ fn events(field: &[u8]) -> Option<(bool, bool)>
 fn reservation(field: &[u8]) -> Option<Option<u32>>
     ensures { result ≡ spec.reservation_in field.now }
 {
-    if field == b"-".as_slice() {
+    if says(field, "-") {
         return Some(None);
     }
     let count = read_number_u32(field, u32::MAX)?;
@@ -84,7 +81,7 @@ fn invoke(alloc: Global, config: &Checked, line: Option<&[u8]>) -> Result<Option
     let Some(function) = config.function_named(function) else {
         return Ok(None);
     };
-    let Some(qualified) = is_qualified(qualified) else {
+    let Some(qualified) = flag(qualified, "q") else {
         return Ok(None);
     };
     let Some(trace) = trace(alloc, trace_field)? else {
@@ -184,7 +181,7 @@ fn register(
     let Some((invoke, shutdown)) = events(events_field) else {
         return Ok(None);
     };
-    let Some(account) = asks_for_account(account) else {
+    let Some(account) = flag(account, "a") else {
         return Ok(None);
     };
     Ok(Some(Call::Register {
@@ -214,13 +211,22 @@ fn reserve(config: &Checked, line: Option<&[u8]>) -> Option<Call>
     Some(Call::Reserve { function, count })
 }
 
-/// A call that has no fields.
 #[tactic(auto, using(crate::proofs::FieldLemmas::not_alone))]
-fn alone(call: Call, line: Option<&[u8]>) -> Option<Call>
-    ensures { result ≡ spec.alone call (fields_left line.entry) }
+fn tick(line: Option<&[u8]>) -> Option<Call>
+    ensures { result ≡ spec.alone calls.Tick (fields_left line.entry) }
 {
     match line {
-        None => Some(call),
+        None => Some(Call::Tick),
+        Some(_) => None,
+    }
+}
+
+#[tactic(auto, using(crate::proofs::FieldLemmas::not_alone))]
+fn stop(line: Option<&[u8]>) -> Option<Call>
+    ensures { result ≡ spec.alone calls.Stop (fields_left line.entry) }
+{
+    match line {
+        None => Some(Call::Stop),
         Some(_) => None,
     }
 }
@@ -235,18 +241,18 @@ fn extension_call(
 ) -> Result<Option<Call>, AllocError>
     ensures { IfOk result (λ call. call ≡ spec.extension_call_in config.now word.now (fields_left line.entry)) }
 {
-    if word == b"register".as_slice() {
+    if says(word, "register") {
         return register(alloc, config, line);
     }
-    if word == b"ext-next".as_slice() {
+    if says(word, "ext-next") {
         let two = env_and_count(config, line);
         return Ok(two.map(|(env, ext)| Call::ExtNext { env, ext }));
     }
-    if word == b"ext-init-failure".as_slice() {
+    if says(word, "ext-init-failure") {
         let report = report(alloc, config, line)?;
         return Ok(report.map(|(env, ext, body)| Call::ExtInitFailure { env, ext, body }));
     }
-    if word == b"ext-exit-failure".as_slice() {
+    if says(word, "ext-exit-failure") {
         let report = report(alloc, config, line)?;
         return Ok(report.map(|(env, ext, body)| Call::ExtExitFailure { env, ext, body }));
     }
@@ -263,22 +269,22 @@ fn runtime_call(
 ) -> Result<Option<Call>, AllocError>
     ensures { IfOk result (λ call. call ≡ spec.runtime_call_in config.now word.now (fields_left line.entry)) }
 {
-    if word == b"next".as_slice() {
+    if says(word, "next") {
         return Ok(lone_env(config, line).map(|env| Call::RuntimeNext { env }));
     }
-    if word == b"response".as_slice() {
+    if says(word, "response") {
         let report = report(alloc, config, line)?;
         return Ok(report.map(|(env, id, body)| Call::Response { env, id, body }));
     }
-    if word == b"response-too-large".as_slice() {
+    if says(word, "response-too-large") {
         let two = env_and_count(config, line);
         return Ok(two.map(|(env, id)| Call::ResponseTooLarge { env, id }));
     }
-    if word == b"failure".as_slice() {
+    if says(word, "failure") {
         let report = report(alloc, config, line)?;
         return Ok(report.map(|(env, id, body)| Call::Failure { env, id, body }));
     }
-    if word == b"init-failure".as_slice() {
+    if says(word, "init-failure") {
         return init_failure(alloc, config, line);
     }
     extension_call(alloc, config, word, line)
@@ -296,22 +302,22 @@ fn call_by_word(
 ) -> Result<Option<Call>, AllocError>
     ensures { IfOk result (λ call. call ≡ spec.call_by_word reserves config.now word.now (fields_left line.entry)) }
 {
-    if word == b"invoke".as_slice() {
+    if says(word, "invoke") {
         return invoke(alloc, config, line);
     }
-    if word == b"tick".as_slice() {
-        return Ok(alone(Call::Tick, line));
+    if says(word, "tick") {
+        return Ok(tick(line));
     }
-    if word == b"stop".as_slice() {
-        return Ok(alone(Call::Stop, line));
+    if says(word, "stop") {
+        return Ok(stop(line));
     }
-    if word == b"spindown".as_slice() {
+    if says(word, "spindown") {
         return Ok(lone_env(config, line).map(|env| Call::Spindown { env }));
     }
-    if word == b"withdraw".as_slice() {
+    if says(word, "withdraw") {
         return Ok(withdraw(line));
     }
-    if word == b"reserve".as_slice() && reserves {
+    if says(word, "reserve") && reserves {
         return Ok(reserve(config, line));
     }
     runtime_call(alloc, config, word, line)

@@ -6,7 +6,7 @@ ghost use Rattle.script.specs.CallText.{before_moment, call_words, call_text, fl
 ghost use Rattle.script.specs.TextFields.{text_field};
 ghost use Rattle.script.specs.Writing.{Adds, spaced, word_text};
 
-use crate::words::{Word, push_word, push_words};
+use crate::words::{Word, push_name, push_named, push_word, push_words};
 use arn_ids::{Checked, EnvNo, FnNo, Text};
 use bytes::Bytes;
 use call_model::Call;
@@ -71,7 +71,7 @@ fn env_word(env: EnvNo) -> Word<'static>
 fn push_env(out: &mut Vec<u8>, word: &str, env: EnvNo) -> Result<(), AllocError>
     ensures { Adds result (spaced (word.now ∷ decimal env ∷ [])) out.old.items out.new.items }
 {
-    push_words(out, &[Word::Plain(word), env_word(env)])
+    push_named(out, word, &env_word(env))
 }
 
 fn push_count(out: &mut Vec<u8>, word: &str, env: EnvNo, count: u64) -> Result<(), AllocError>
@@ -101,6 +101,17 @@ fn push_report<'a>(
             Word::Text(body.as_slice()),
         ],
     )
+}
+
+fn push_init_failure(out: &mut Vec<u8>, env: EnvNo, body: &Bytes) -> Result<(), AllocError>
+    ensures { Adds result (spaced (codes "init-failure" ∷ decimal env ∷ text_field body.now ∷ [])) out.old.items out.new.items }
+{
+    let words = [
+        Word::Plain("init-failure"),
+        env_word(env),
+        Word::Text(body.as_slice()),
+    ];
+    push_words(out, &words)
 }
 
 fn push_invoke<'a>(
@@ -142,6 +153,17 @@ fn push_register(
     push_words(out, &words)
 }
 
+fn push_reserve(out: &mut Vec<u8>, name: &str, count: Option<u32>) -> Result<(), AllocError>
+    ensures { Adds result (spaced (codes "reserve" ∷ name.now ∷ reservation count ∷ [])) out.old.items out.new.items }
+{
+    let words = [
+        Word::Plain("reserve"),
+        Word::Plain(name),
+        reservation_word(count),
+    ];
+    push_words(out, &words)
+}
+
 /// Adds the words of a call, each behind a space.
 #[tactic(auto, unfolding(crate::specs::CallText::call_words))]
 fn push_call_words(out: &mut Vec<u8>, config: &Checked, call: &Call) -> Result<(), AllocError>
@@ -158,14 +180,7 @@ fn push_call_words(out: &mut Vec<u8>, config: &Checked, call: &Call) -> Result<(
         Call::Response { env, id, body } => push_report(out, "response", *env, *id, body),
         Call::ResponseTooLarge { env, id } => push_count(out, "response-too-large", *env, *id),
         Call::Failure { env, id, body } => push_report(out, "failure", *env, *id, body),
-        Call::InitFailure { env, body } => push_words(
-            out,
-            &[
-                Word::Plain("init-failure"),
-                env_word(*env),
-                Word::Text(body.as_slice()),
-            ],
-        ),
+        Call::InitFailure { env, body } => push_init_failure(out, *env, body),
         Call::Register {
             env,
             name,
@@ -188,22 +203,14 @@ fn push_call_words(out: &mut Vec<u8>, config: &Checked, call: &Call) -> Result<(
             *ext,
             body,
         ),
-        Call::Tick => push_words(out, &[Word::Plain("tick")]),
-        Call::Withdraw { ticket } => push_words(
-            out,
-            &[Word::Plain("withdraw"), Word::Number(*ticket)],
-        ),
+        Call::Tick => push_name(out, "tick"),
+        Call::Withdraw { ticket } => push_named(out, "withdraw", &Word::Number(*ticket)),
         Call::Spindown { env } => push_env(out, "spindown", *env),
-        Call::Stop => push_words(out, &[Word::Plain("stop")]),
+        Call::Stop => push_name(out, "stop"),
         Call::Expire { env } => push_env(out, "expire", *env),
-        Call::Reserve { function, count } => push_words(
-            out,
-            &[
-                Word::Plain("reserve"),
-                Word::Plain(name_of(config, *function)),
-                reservation_word(*count),
-            ],
-        ),
+        Call::Reserve { function, count } => {
+            push_reserve(out, name_of(config, *function), *count)
+        }
     }
 }
 
@@ -217,7 +224,6 @@ fn mark(call: &Call) -> &'static str
 }
 
 /// Adds the line of a call that is taken at a moment, without its ending.
-#[tactic(auto, unfolding(crate::specs::CallText::call_text), using(crate::proofs::WritingLemmas::in_front, crate::proofs::WritingLemmas::still_in_front, crate::proofs::WritingLemmas::as_before))]
 pub(crate) fn push_call(
     out: &mut Vec<u8>,
     config: &Checked,

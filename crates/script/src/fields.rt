@@ -39,8 +39,10 @@ pub(crate) fn two_fields(rest: Option<&[u8]>) -> Option<(&[u8], &[u8])>
     ensures { option_map two_of result ≡ spec.two_fields (fields_left rest.entry) }
 {
     let (first, more) = cut(rest?);
-    let second = one_field(more)?;
-    Some((first, second))
+    match one_field(more) {
+        Some(second) => Some((first, second)),
+        None => None,
+    }
 }
 
 /// Three fields and no more.
@@ -48,8 +50,10 @@ pub(crate) fn three_fields(rest: Option<&[u8]>) -> Option<(&[u8], &[u8], &[u8])>
     ensures { option_map three_of result ≡ spec.three_fields (fields_left rest.entry) }
 {
     let (first, more) = cut(rest?);
-    let (second, third) = two_fields(more)?;
-    Some((first, second, third))
+    match two_fields(more) {
+        Some((second, third)) => Some((first, second, third)),
+        None => None,
+    }
 }
 
 /// Four fields and no more.
@@ -57,6 +61,8 @@ pub(crate) fn four_fields(rest: Option<&[u8]>) -> Option<(&[u8], &[u8], &[u8], &
     ensures { option_map four_of result ≡ spec.four_fields (fields_left rest.entry) }
 {
     let (first, more) = cut(rest?);
-    let (second, third, fourth) = three_fields(more)?;
-    Some((first, second, third, fourth))
+    match three_fields(more) {
+        Some((second, third, fourth)) => Some((first, second, third, fourth)),
+        None => None,
+    }
 }

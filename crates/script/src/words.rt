@@ -91,7 +91,6 @@ pub(crate) fn push_spaced(out: &mut Vec<u8>, word: &Word) -> Result<(), AllocErr
 }
 
 /// Adds words, each behind a space.
-#[tactic(auto, using(crate::proofs::WritingLemmas::in_front, crate::proofs::WritingLemmas::still_in_front, crate::proofs::WritingLemmas::as_before))]
 pub(crate) fn push_words(out: &mut Vec<u8>, words: &[Word]) -> Result<(), AllocError>
     ensures { Adds result (spaced (map word_text words.now)) out.old.items out.new.items }
 {
@@ -99,6 +98,28 @@ pub(crate) fn push_words(out: &mut Vec<u8>, words: &[Word]) -> Result<(), AllocE
         push_spaced(out, word)?;
     }
     Ok(())
+}
+
+/// Adds one word, behind a space.
+pub(crate) fn push_name(out: &mut Vec<u8>, name: &str) -> Result<(), AllocError>
+    ensures { Adds result (spaced (name.now ∷ [])) out.old.items out.new.items }
+{
+    push_words(out, &[Word::Plain(name)])
+}
+
+/// Adds the one word that a line ends with, behind a space.
+pub(crate) fn push_last(out: &mut Vec<u8>, word: &Word) -> Result<(), AllocError>
+    ensures { Adds result (spaced (word_text word.now ∷ [])) out.old.items out.new.items }
+{
+    push_spaced(out, word)
+}
+
+/// Adds a word and what it is about, each behind a space.
+pub(crate) fn push_named(out: &mut Vec<u8>, name: &str, word: &Word) -> Result<(), AllocError>
+    ensures { Adds result (spaced (name.now ∷ word_text word.now ∷ [])) out.old.items out.new.items }
+{
+    push_spaced(out, &Word::Plain(name))?;
+    push_spaced(out, word)
 }
 
 /// Ends a line.
