@@ -139,6 +139,29 @@ fn answers_wanted(widest: usize, environments: u64, call: &Call) -> usize
     }
 }
 
+/// Room for a call, and for so many expiries before it: in the journal for their entries, and for
+/// the answers of each expiry and of the call. A refusal leaves the history.
+fn room_for(
+    alloc: Global,
+    journal: &mut Journal,
+    expiries: usize,
+    call: &Call,
+) -> Result<(Vec<Roomy<(Ticket, Answer)>>, Roomy<(Ticket, Answer)>), AllocError>
+    requires { length journal.old.history + (expiries + 1) ≤ 2 ^ 32 }
+    ensures same { (journal.new.config ≡ journal.old.config) × (journal.new.history ≡ journal.old.history) × (journal.new.widest ≡ journal.old.widest) }
+    ensures made { IfOk result (λ rooms. journal.new.room ≡ expiries + 1) }
+    ensures as_many { IfOk result (λ rooms. length rooms.0.items ≡ expiries) }
+    ensures enough { IfOk result (λ rooms. All (λ room. room ≡ ([], journal.old.widest + 4)) rooms.0.items) }
+    ensures own { IfOk result (λ rooms. rooms.1 ≡ ([], most_answers journal.old.widest (length (owners journal.old.config)) call.now)) }
+{
+    let widest = journal.widest();
+    let rooms = make_rooms(alloc, expiries, widest + 4)?;
+    let wanted = answers_wanted(widest, journal.environments(), call);
+    let answers = Roomy::with_room(alloc, wanted)?;
+    journal.make_room(expiries + 1)?;
+    Ok((rooms, answers))
+}
+
 /// What bytes are: numbers below 256.
 fn bytes_fit(bytes: &[u8])
     ensures { All (λ b. b < 256) bytes.now }
@@ -149,12 +172,12 @@ fn body_fits(call: &Call)
     ensures { All (λ b. b < 256) (body_of call.now) }
 {
     match call {
-        Call::Invoke { body, .. } => bytes_fit(body.as_slice()),
-        Call::Response { body, .. } => bytes_fit(body.as_slice()),
-        Call::Failure { body, .. } => bytes_fit(body.as_slice()),
-        Call::InitFailure { body, .. } => bytes_fit(body.as_slice()),
-        Call::ExtInitFailure { body, .. } => bytes_fit(body.as_slice()),
-        Call::ExtExitFailure { body, .. } => bytes_fit(body.as_slice()),
+        Call::Invoke { body, .. }
+        | Call::Response { body, .. }
+        | Call::Failure { body, .. }
+        | Call::InitFailure { body, .. }
+        | Call::ExtInitFailure { body, .. }
+        | Call::ExtExitFailure { body, .. } => bytes_fit(body.as_slice()),
         _ => {}
     }
 }
@@ -230,11 +253,7 @@ impl Book {
         self.journal.facts();
         body_fits(&call);
         let moment = now.max(self.journal.last_moment());
-        let widest = self.journal.widest();
-        let rooms = make_rooms(self.alloc, expiries, widest + 4)?;
-        let wanted = answers_wanted(widest, self.journal.environments(), &call);
-        let answers = Roomy::with_room(self.alloc, wanted)?;
-        self.journal.make_room(rooms.len() + 1)?;
+        let (rooms, answers) = room_for(self.alloc, &mut self.journal, expiries, &call)?;
         self.journal.expire_due(moment, rooms);
         self.journal.take(moment, call, answers);
         Ok(self.journal.entries().len() as u64 - 1)

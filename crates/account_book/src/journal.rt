@@ -57,7 +57,7 @@ impl Model for Journal {
 
 /// What an account says to a call: where it is placed, and its own answer, where the call names no
 /// environment.
-#[derive(Clone, Copy, Debug)]
+#[derive(Clone, Copy)]
 pub struct Verdict {
     /// Where an admitted Invoke goes.
     pub place: Option<EnvNo>,

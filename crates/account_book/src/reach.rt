@@ -9,7 +9,7 @@ use call_model::{Call, Entry, Ticket};
 use entry_blocks::Blocks;
 
 /// The environments that a call concerns.
-#[derive(Clone, Copy, Debug, PartialEq, Eq)]
+#[derive(Clone, Copy)]
 pub enum Reach {
     /// None: the account alone answers it.
     Nowhere,

@@ -9,7 +9,7 @@ use std::marker::Model;
 
 /// A list that takes no memory for as many values as there is room for.
 /// Contracts see its values and its room.
-#[derive(Debug, Drop)]
+#[derive(Drop)]
 pub struct Roomy<T> {
     items: Vec<T>,
     room: usize,

@@ -12,11 +12,15 @@ use http::{Request, Response};
 use http_body::Body;
 use hyper::body::Incoming;
 use hyper::server::conn::http1::Builder;
+use hyper::server::graceful::GracefulConnection;
 use hyper::service::Service;
+use std::alloc::{AllocGlobal, Global};
 use std::hash::RandomState;
 use std::io;
 use std::net::TcpStream;
-use std::sync::Arc;
+use std::random::RandomSource;
+use std::sync::{Arc, Wait};
+use std::time::Clock;
 use tokio::runtime::LocalRuntime;
 
 /// The reactor of a thread, and the settings of connections. A thread opens it once, and serves one
@@ -66,11 +70,35 @@ impl EventLoop {
         requires can_call { V.can_call service }
         requires bodies { (request : _) (future : _) → V.calls service request future → GivesBodies V.Future.gives B.can_poll future }
     {
-        socket.set_nodelay(true)?;
-        let stream = tokio::net::TcpStream::from_std(socket, self.runtime.handle().reactor())?;
-        let (wire, peer) = Wire::pair(rt.alloc(), stream)?;
+        let (wire, peer) = self.wires(rt.alloc(), socket)?;
         let conn = self.http.serve_connection(wire, service);
         let ending = Ending::boxed(rt.alloc(), conn, signals)?;
+        self.wait_for(rt, ending, peer, open, pulse)
+    }
+
+    /// Both holders of a socket, which is watched.
+    fn wires(&self, alloc: Global, socket: TcpStream) -> io::Result<(Wire, Wire)> {
+        socket.set_nodelay(true)?;
+        let stream = tokio::net::TcpStream::from_std(socket, self.runtime.handle().reactor())?;
+        Ok(Wire::pair(alloc, stream)?)
+    }
+
+    /// Waits until a connection has ended. Its type is a parameter here: `hyper`'s own, once more in the
+    /// future that is waited for, is large to prove anything about.
+    fn wait_for<R, C, O>(
+        &mut self,
+        rt: &R,
+        ending: Box<Ending<C>>,
+        peer: Wire,
+        open: O,
+        pulse: Arc<Pulse>,
+    ) -> io::Result<()>
+    where
+        R: Wait + Clock + RandomSource + AllocGlobal,
+        C: GracefulConnection<Output = hyper::Result<()>>,
+        O: Park,
+        requires { C.can_poll ending.value.conn }
+    {
         self.runtime
             .block_on(rt, Watched::new(ending, peer, open, pulse))
     }

@@ -1,9 +1,10 @@
 //! A socket whose end is seen while nobody reads it: what came meanwhile is kept for the next read.
 //! It notes whether it moves, and what is waited for.
 
-ghost use Rattle.std.specs.Prelude.{⊤, ◌≡◌};
+ghost use Rattle.std.specs.Prelude.{⊤, ◌≡◌, ◌≤◌, length};
 ghost use Rattle.futures.specs.Poll.{OnPending};
 ghost use Rattle.futures.specs.Task.{IsArmed, Keeps};
+ghost use Rattle.tokio.specs.Io.Moved.{count_moved};
 ghost use Rattle.http_connection.specs.Standing.{standing, after_read, after_reading, after_writing, awaited_by};
 
 use crate::pulse::{Awaited, Pulse};
@@ -38,6 +39,18 @@ struct Socket {
 }
 
 impl Socket {
+    /// One over which nothing has come or gone yet.
+    fn new(alloc: Global, stream: TcpStream) -> Socket {
+        Socket {
+            stream,
+            ahead: BytesMut::new(alloc),
+            moves: 0,
+            has_answered: false,
+            is_awaited: false,
+            drained: 0,
+        }
+    }
+
     /// Notes a read, of so many bytes.
     fn note_read(&mut self, count: usize)
         ensures { standing self.new ≡ after_read (standing self.old) count }
@@ -73,6 +86,35 @@ impl Socket {
         }
     }
 
+    /// Reads what was read ahead, or else what comes, and notes it.
+    fn read(&mut self, cx: &mut Context<'_>, buf: &mut [u8]) -> Poll<io::Result<usize>>
+        ensures bound { count_moved result ≤ length buf.new }
+        ensures registered { OnPending result (IsArmed cx.new) }
+        ensures kept { Keeps cx.old cx.new }
+    {
+        let count = self.ahead.len().min(buf.len());
+        if count > 0 {
+            buf[..count].copy_from_slice(&self.ahead.as_slice()[..count]);
+            self.ahead.advance(count);
+            self.note_read(count);
+            return Poll::Ready(Ok(count));
+        }
+        let polled = self.stream.poll_read(cx, buf);
+        self.note_reading(&polled);
+        polled
+    }
+
+    /// Writes, and notes it.
+    fn write(&mut self, cx: &mut Context<'_>, buf: &[u8]) -> Poll<io::Result<usize>>
+        ensures bound { count_moved result ≤ length buf.now }
+        ensures registered { OnPending result (IsArmed cx.new) }
+        ensures kept { Keeps cx.old cx.new }
+    {
+        let polled = self.stream.poll_write(cx, buf);
+        self.note_writing(&polled);
+        polled
+    }
+
     /// What it waits for at the end of a turn: its peer, where the connection asked it for more than
     /// was there.
     fn awaited(&self) -> Awaited
@@ -98,15 +140,7 @@ pub struct Wire {
 impl Wire {
     /// Both holders of a socket.
     pub(crate) fn pair(alloc: Global, stream: TcpStream) -> Result<(Wire, Wire), AllocError> {
-        let socket = Socket {
-            stream,
-            ahead: BytesMut::new(alloc),
-            moves: 0,
-            has_answered: false,
-            is_awaited: false,
-            drained: 0,
-        };
-        let socket = Rc::new(alloc, RefCell::new(socket))?;
+        let socket = Rc::new(alloc, RefCell::new(Socket::new(alloc, stream)))?;
         let other = socket.clone()?;
         Ok((Wire { socket }, Wire { socket: other }))
     }
@@ -190,20 +224,10 @@ impl AsyncRead for Wire {
     ghost reads_in_order = { λ _ _ _ _ _ _ _. tt };
 
     fn poll_read(&mut self, cx: &mut Context<'_>, buf: &mut [u8]) -> Poll<io::Result<usize>> {
-        let Ok(mut guard) = self.socket.try_borrow_mut() else {
-            return cx.yield_now();
-        };
-        let socket = &mut *guard;
-        let count = socket.ahead.len().min(buf.len());
-        if count > 0 {
-            buf[..count].copy_from_slice(&socket.ahead.as_slice()[..count]);
-            socket.ahead.advance(count);
-            socket.note_read(count);
-            return Poll::Ready(Ok(count));
+        match self.socket.try_borrow_mut() {
+            Ok(mut socket) => socket.read(cx, buf),
+            Err(_) => cx.yield_now(),
         }
-        let polled = socket.stream.poll_read(cx, buf);
-        socket.note_reading(&polled);
-        polled
     }
 }
 
@@ -215,13 +239,10 @@ impl AsyncWrite for Wire {
     ghost writes_in_order = { λ _ _ _ _ _ _ _. tt };
 
     fn poll_write(&mut self, cx: &mut Context<'_>, buf: &[u8]) -> Poll<io::Result<usize>> {
-        let Ok(mut guard) = self.socket.try_borrow_mut() else {
-            return cx.yield_now();
-        };
-        let socket = &mut *guard;
-        let polled = socket.stream.poll_write(cx, buf);
-        socket.note_writing(&polled);
-        polled
+        match self.socket.try_borrow_mut() {
+            Ok(mut socket) => socket.write(cx, buf),
+            Err(_) => cx.yield_now(),
+        }
     }
 
     fn poll_flush(&mut self, _cx: &mut Context<'_>) -> Poll<io::Result<()>> {
@@ -229,10 +250,9 @@ impl AsyncWrite for Wire {
     }
 
     fn poll_shutdown(&mut self, cx: &mut Context<'_>) -> Poll<io::Result<()>> {
-        let Ok(mut guard) = self.socket.try_borrow_mut() else {
-            return cx.yield_now();
-        };
-        let socket = &mut *guard;
-        socket.stream.poll_shutdown(cx)
+        match self.socket.try_borrow_mut() {
+            Ok(mut socket) => socket.stream.poll_shutdown(cx),
+            Err(_) => cx.yield_now(),
+        }
     }
 }

@@ -1,8 +1,9 @@
 //! Responses as lines: each its status and its body, and of its head what is asked for.
 
 use crate::peer::Heard;
-use crate::steps::push_line;
+use case_tables::Given;
 use std::alloc::{AllocError, Global};
+use std::num::ParseIntError;
 use std::str;
 
 /// The longest body that is shown.
@@ -11,8 +12,8 @@ const LONGEST_SHOWN: usize = 1_000;
 /// A response (RFC 9112).
 #[derive(Drop)]
 struct Answer {
-    head: String,
-    body: String,
+    head: Given,
+    body: Given,
     /// In how many chunks the body came; none where it had a length or ended with the connection.
     chunks: Option<usize>,
 }
@@ -30,7 +31,7 @@ pub struct View<'a> {
 /// Responses of which each reads like the others, one behind the other.
 #[derive(Drop)]
 struct Run {
-    text: String,
+    text: Given,
     times: u64,
 }
 
@@ -55,164 +56,203 @@ fn status(head: &str) -> Option<&str> {
     behind.get(..3)
 }
 
+/// The first part of a text, of this length, and the rest; none where the text is shorter, or the
+/// length isn't one.
+fn cut(text: &str, length: Result<usize, ParseIntError>) -> Option<(&str, &str)> {
+    match length {
+        Ok(length) => text.split_at_checked(length),
+        Err(_) => None,
+    }
+}
+
 /// Takes a chunk off the front of a text; the last one is empty.
 fn take_chunk<'a>(rest: &mut &'a str) -> Option<&'a str> {
     let (size, behind) = rest.split_once("\r\n")?;
-    let size = usize::from_str_radix(size, 16).ok()?;
-    let chunk = behind.get(..size)?;
-    *rest = behind.get(size..)?.strip_prefix("\r\n")?;
+    let (chunk, behind) = cut(behind, usize::from_str_radix(size, 16))?;
+    *rest = behind.strip_prefix("\r\n")?;
     Some(chunk)
 }
 
 /// Takes the chunks of a body off the front of a text, and gives how many they are; none where the
 /// last one doesn't come.
-fn take_chunks(rest: &mut &str, body: &mut String) -> Result<Option<usize>, AllocError> {
+fn take_chunks(rest: &mut &str, body: &mut Given) -> Option<usize> {
     let mut count = 0usize;
     for _ in 0..rest.len() {
-        match take_chunk(rest) {
-            None => return Ok(None),
-            Some("") => return Ok(Some(count)),
-            Some(chunk) => body.push_str(chunk)?,
+        let chunk = take_chunk(rest)?;
+        if chunk.is_empty() {
+            return Some(count);
         }
+        body.push(chunk);
         count = count.saturating_add(1);
     }
-    Ok(None)
+    None
 }
 
-/// The first part of a text, of this length, and the rest; none where the text is shorter.
-fn cut<'a>(text: &'a str, length: &str) -> Option<(&'a str, &'a str)> {
-    let length = length.parse::<usize>().ok()?;
-    Some((text.get(..length)?, text.get(length..)?))
-}
-
-/// Takes the body behind a head off the front of a text. Gives whether it came whole, and in how many
-/// chunks.
-fn take_body(
-    head: &str,
-    rest: &mut &str,
-    body: &mut String,
-) -> Result<(bool, Option<usize>), AllocError> {
-    if field(head, "transfer-encoding").is_some() {
-        let chunks = take_chunks(rest, body)?;
-        return Ok((chunks.is_some(), chunks));
-    }
+/// Takes the body behind a head off the front of a text, which has a length or ends with the connection;
+/// none where it didn't come whole.
+fn take_whole<'a>(head: &str, rest: &mut &'a str) -> Option<&'a str> {
     let text = *rest;
-    let whole = match field(head, "content-length") {
-        Some(length) => cut(text, length),
-        None => Some((text, "")),
-    };
-    let Some((own, behind)) = whole else {
-        return Ok((false, None));
+    let (body, behind) = match field(head, "content-length") {
+        Some(length) => cut(text, length.parse::<usize>())?,
+        None => (text, ""),
     };
     *rest = behind;
-    body.push_str(own)?;
-    Ok((true, None))
+    Some(body)
+}
+
+impl Answer {
+    /// Takes the body behind its head off the front of a text. Gives whether it came whole.
+    fn take_body(&mut self, rest: &mut &str) -> bool {
+        if field(self.head.as_str(), "transfer-encoding").is_some() {
+            self.chunks = take_chunks(rest, &mut self.body);
+            return self.chunks.is_some();
+        }
+        match take_whole(self.head.as_str(), rest) {
+            Some(body) => {
+                self.body.push(body);
+                true
+            }
+            None => false,
+        }
+    }
 }
 
 /// Takes a response off the front of a text; none where it didn't come whole.
-fn take_answer(alloc: Global, rest: &mut &str) -> Result<Option<Answer>, AllocError> {
-    let Some((head, behind)) = rest.split_once("\r\n\r\n") else {
-        return Ok(None);
-    };
+fn take_answer(alloc: Global, rest: &mut &str) -> Option<Answer> {
+    let (head, behind) = rest.split_once("\r\n\r\n")?;
     *rest = behind;
-    let mut body = String::new(alloc);
-    let (is_whole, chunks) = take_body(head, rest, &mut body)?;
-    if !is_whole {
-        return Ok(None);
+    let mut answer = Answer {
+        head: Given::new(alloc),
+        body: Given::new(alloc),
+        chunks: None,
+    };
+    answer.head.push(head);
+    match answer.take_body(rest) {
+        true => Some(answer),
+        false => None,
     }
-    let head = String::from_str(alloc, head)?;
-    Ok(Some(Answer { head, body, chunks }))
+}
+
+/// Notes that a text was cut, where this part of it was.
+fn cut_with(given: &mut Given, part: &Given) {
+    if part.end().is_err() {
+        given.cut();
+    }
 }
 
 /// Adds a body: on the same line, or below it where it has lines itself.
-fn push_body(alloc: Global, text: &mut String, body: &str) -> Result<(), AllocError> {
-    if body.contains('\n') {
-        text.push('\n')?;
-        return text.push_str(body.strip_suffix('\n').unwrap_or(body));
+fn tell_body(given: &mut Given, body: &Given) {
+    let text = body.as_str();
+    if text.contains('\n') {
+        given.push("\n");
+        given.push(text.strip_suffix('\n').unwrap_or(text));
+    } else if text.len() > LONGEST_SHOWN {
+        given.push(" (");
+        given.print(&text.len());
+        given.push(" bytes)");
+    } else if !text.is_empty() {
+        given.push(" ");
+        given.push(text);
     }
-    if body.len() > LONGEST_SHOWN {
-        let length = body.len();
-        return text.push_str(format!(in alloc; " ({length} bytes)")?.as_str());
-    }
-    if !body.is_empty() {
-        text.push(' ')?;
-    }
-    text.push_str(body)
+    cut_with(given, body);
 }
 
 /// Adds the fields of the head that are shown.
-fn push_fields(
-    alloc: Global,
-    text: &mut String,
-    view: &View<'_>,
-    answer: &Answer,
-) -> Result<(), AllocError> {
-    for name in view.fields.split(' ') {
+fn tell_fields(given: &mut Given, fields: &str, answer: &Answer) {
+    for name in fields.split(' ') {
         if name == "chunks" {
-            let count = answer.chunks.unwrap_or(0);
-            text.push_str(format!(in alloc; "\n  chunks: {count}")?.as_str())?;
+            given.push("\n  chunks: ");
+            given.print(&answer.chunks.unwrap_or(0));
         } else if !name.is_empty() {
             let value = field(answer.head.as_str(), name).unwrap_or("-");
-            text.push_str(format!(in alloc; "\n  {name}: {value}")?.as_str())?;
+            given.push("\n  ");
+            given.push(name);
+            given.push(": ");
+            given.push(value);
         }
     }
-    Ok(())
+    cut_with(given, &answer.head);
 }
 
-/// The text of the response that is next: its status and body, and below it the fields that are shown.
-fn next_text(alloc: Global, rest: &mut &str, view: &View<'_>) -> Result<String, AllocError> {
-    let Some(answer) = take_answer(alloc, rest)? else {
-        *rest = "";
-        return String::from_str(alloc, "a part of a response");
-    };
-    let Some(status) = status(answer.head.as_str()) else {
-        return String::from_str(alloc, "no response");
-    };
-    let mut text = String::from_str(alloc, status)?;
-    push_body(alloc, &mut text, answer.body.as_str())?;
-    push_fields(alloc, &mut text, view, &answer)?;
-    Ok(text)
+/// Adds a response: its status and body, and below it the fields that are shown.
+fn tell_answer(given: &mut Given, fields: &str, answer: &Answer) {
+    match status(answer.head.as_str()) {
+        None => given.push("no response"),
+        Some(status) => {
+            given.push(status);
+            tell_body(given, &answer.body);
+            tell_fields(given, fields, answer);
+        }
+    }
+}
+
+/// The text of the response that is next.
+fn next_text(alloc: Global, rest: &mut &str, fields: &str) -> Given {
+    let mut text = Given::new(alloc);
+    match take_answer(alloc, rest) {
+        Some(answer) => tell_answer(&mut text, fields, &answer),
+        None => {
+            *rest = "";
+            text.push("a part of a response");
+        }
+    }
+    text
+}
+
+/// Adds a line of what has this name.
+fn tell_line(given: &mut Given, name: &str, what: &str) {
+    given.push(name);
+    given.push(": ");
+    given.line(what);
 }
 
 /// Adds the lines of a run.
-fn push_run(
-    alloc: Global,
-    given: &mut String,
-    view: &View<'_>,
-    run: &Run,
-) -> Result<(), AllocError> {
-    let (name, text) = (view.name, run.text.as_str());
-    match run.times {
-        0 => Ok(()),
-        1 => push_line(given, name, text),
-        times => given.push_str(format!(in alloc; "{name}: {times} times {text}\n")?.as_str()),
+fn tell_run(given: &mut Given, name: &str, run: &Run) {
+    if run.times == 0 {
+        return;
     }
+    given.push(name);
+    given.push(": ");
+    if run.times > 1 {
+        given.print(&run.times);
+        given.push(" times ");
+    }
+    given.line(run.text.as_str());
 }
 
 /// Adds the lines of all responses in a text.
-fn push_answers(
-    alloc: Global,
-    given: &mut String,
-    view: &View<'_>,
-    whole: &str,
-) -> Result<(), AllocError> {
+fn tell_answers(given: &mut Given, view: &View<'_>, whole: &str) {
     let mut rest = whole;
     let mut run = Run {
-        text: String::new(alloc),
+        text: Given::new(given.alloc()),
         times: 0,
     };
     for _ in 0..whole.len() {
         if rest.is_empty() {
             break;
         }
-        let text = next_text(alloc, &mut rest, view)?;
-        if text != run.text {
-            push_run(alloc, given, view, &run)?;
+        let text = next_text(given.alloc(), &mut rest, view.fields);
+        cut_with(given, &text);
+        if text.as_str() != run.text.as_str() {
+            tell_run(given, view.name, &run);
             run = Run { text, times: 0 };
         }
         run.times = run.times.saturating_add(1);
     }
-    push_run(alloc, given, view, &run)
+    tell_run(given, view.name, &run);
+}
+
+/// Adds what came over a connection, and how it ended.
+fn tell_heard(given: &mut Given, view: &View<'_>, heard: &Heard) {
+    match str::from_utf8(heard.bytes.as_slice()) {
+        Ok(text) => tell_answers(given, view, text),
+        Err(_) => tell_line(given, view.name, "bytes that are no text"),
+    }
+    if !heard.has_ended {
+        tell_line(given, view.name, "no end");
+    } else if heard.bytes.is_empty() {
+        tell_line(given, view.name, "closed");
+    }
 }
 
 /// Adds what came over a connection: its responses, `closed` where it ended with none, and `no end`
@@ -223,15 +263,7 @@ pub fn push_heard(
     view: &View<'_>,
     heard: &Heard,
 ) -> Result<(), AllocError> {
-    match str::from_utf8(heard.bytes.as_slice()) {
-        Ok(text) => push_answers(alloc, given, view, text)?,
-        Err(_) => push_line(given, view.name, "bytes that are no text")?,
-    }
-    if !heard.has_ended {
-        return push_line(given, view.name, "no end");
-    }
-    if heard.bytes.is_empty() {
-        return push_line(given, view.name, "closed");
-    }
-    Ok(())
+    let mut told = Given::new(alloc);
+    tell_heard(&mut told, view, heard);
+    told.hand_over(given).map_err(|_fault| AllocError)
 }

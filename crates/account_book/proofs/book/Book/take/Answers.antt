@@ -21,39 +21,39 @@ use Rattle.account_book.proofs.book.Book.take.Goals as goal
 stops : (config : Config) (h : List Entry) (now : ℕ) (call : Call) → is_stop call ≡ true → stopped (next config h now call) ≡ true
 stops config h now call q = ap stopped (next_entered config h now call) ∙ ap (λ (b : Bool). b || stopped (expiries_at config h (moment_at h now) ++ h)) q
 
-pub make_room-requires : goal.make_room-requires
-make_room-requires c =
+pub room_for-requires : goal.room_for-requires
+room_for-requires c =
     let free : full c.self.inside.journal.config c.self.inside.max_entries c.self.inside.journal.history c.args.call ≡ false = rw (sym c.self.view_is) at c.requires.free in
-    omega (arith, room_for c.self.inside.journal.config c.self.inside.max_entries c.self.inside.journal.history c.args.call (moment_at c.self.inside.journal.history c.args.now) free, c.in_ok-rooms.ensures.as_many, c.self.invariant.few, rw (sym c.self.view_is) at c.requires.expiries, c.len.ensures)
+    omega (arith, room_for c.self.inside.journal.config c.self.inside.max_entries c.self.inside.journal.history c.args.call (moment_at c.self.inside.journal.history c.args.now) free, c.self.invariant.few, rw (sym c.self.view_is) at c.requires.expiries)
 
 pub expire_due-requires-clause-as_many : goal.expire_due-requires-clause-as_many
 expire_due-requires-clause-as_many c =
     let j = c.self.inside.journal in
     let moment : c.max-moment.result ≡ moment_at j.history c.args.now = c.max-moment.ensures ∙ ap (max c.args.now) c.last_moment.ensures.value in
-    rw (c.in_ok-make_room.ensures.same.0, c.in_ok-make_room.ensures.same.1, moment) (c.in_ok-rooms.ensures.as_many ∙ rw (sym c.self.view_is) at c.requires.expiries)
+    rw (c.in_ok-rooms.ensures.same.0, c.in_ok-rooms.ensures.same.1, moment) (c.in_ok-rooms.ensures.as_many ∙ rw (sym c.self.view_is) at c.requires.expiries)
 
 pub take-requires-clause-later : goal.take-requires-clause-later
 take-requires-clause-later c =
     let j = c.self.inside.journal in
     let moment : c.max-moment.result ≡ max c.args.now (last_moment j.history) = c.max-moment.ensures ∙ ap (max c.args.now) c.last_moment.ensures.value in
     let later : last_moment j.history ≤ c.max-moment.result = rw moment (omega arith) in
-    rw (c.expire_due.ensures, c.in_ok-make_room.ensures.same.0, c.in_ok-make_room.ensures.same.1) ((none_due_at j.config j.history c.max-moment.result c.facts.ensures.legal later).later)
+    rw (c.expire_due.ensures, c.in_ok-rooms.ensures.same.0, c.in_ok-rooms.ensures.same.1) ((none_due_at j.config j.history c.max-moment.result c.facts.ensures.legal later).later)
 
 pub take-requires-clause-none_due : goal.take-requires-clause-none_due
 take-requires-clause-none_due c =
     let j = c.self.inside.journal in
     let moment : c.max-moment.result ≡ max c.args.now (last_moment j.history) = c.max-moment.ensures ∙ ap (max c.args.now) c.last_moment.ensures.value in
     let later : last_moment j.history ≤ c.max-moment.result = rw moment (omega arith) in
-    rw (c.expire_due.ensures, c.in_ok-make_room.ensures.same.0, c.in_ok-make_room.ensures.same.1) ((none_due_at j.config j.history c.max-moment.result c.facts.ensures.legal later).none_due)
+    rw (c.expire_due.ensures, c.in_ok-rooms.ensures.same.0, c.in_ok-rooms.ensures.same.1) ((none_due_at j.config j.history c.max-moment.result c.facts.ensures.legal later).none_due)
 
 -- the history after the call
-stepped : (c : goal.After-len-2) → (c.take.new.self.config ≡ c.self.inside.journal.config) × (c.take.new.self.history ≡ next c.self.inside.journal.config c.self.inside.journal.history c.args.now c.args.call)
+stepped : (c : goal.After-len) → (c.take.new.self.config ≡ c.self.inside.journal.config) × (c.take.new.self.history ≡ next c.self.inside.journal.config c.self.inside.journal.history c.args.now c.args.call)
 stepped c =
     let j = c.self.inside.journal in
     let moment : c.max-moment.result ≡ moment_at j.history c.args.now = c.max-moment.ensures ∙ ap (max c.args.now) c.last_moment.ensures.value in
-    let config : c.expire_due.new.self.config ≡ j.config = ap (λ (p : Pages). p.config) c.expire_due.ensures ∙ c.in_ok-make_room.ensures.same.0 in (
+    let config : c.expire_due.new.self.config ≡ j.config = ap (λ (p : Pages). p.config) c.expire_due.ensures ∙ c.in_ok-rooms.ensures.same.0 in (
       c.take.ensures.config ∙ config,
-      c.take.ensures.history ∙ rw (c.expire_due.ensures, c.in_ok-make_room.ensures.same.0, c.in_ok-make_room.ensures.same.1, moment) (sym (next_entered j.config j.history c.args.now c.args.call)),
+      c.take.ensures.history ∙ rw (c.expire_due.ensures, c.in_ok-rooms.ensures.same.0, c.in_ok-rooms.ensures.same.1, moment) (sym (next_entered j.config j.history c.args.now c.args.call)),
     )
 
 pub returns-clause-step : goal.returns-clause-step
@@ -70,7 +70,7 @@ as_before b after k config history entries = record {
 }
 
 pub invariant_of-self : goal.invariant_of-self
-invariant_of-self c = as_before c.self.inside _ c.self.invariant c.in_err-make_room.ensures.same.0 c.in_err-make_room.ensures.same.1 refl
+invariant_of-self c = as_before c.self.inside _ c.self.invariant c.in_err-rooms.ensures.same.0 c.in_err-rooms.ensures.same.1 refl
 
 -- and where it takes a call
 goes_on : (b after : Inside) (now : ℕ) (call : Call) → IsBook b → now < 2 ^ 53 → IsWithin b.journal.config call → All (λ x. x < 256) (body_of call) → full b.journal.config b.max_entries b.journal.history call ≡ false
