@@ -1,14 +1,22 @@
 //! Cases of accounts: each is run by an account, and by a desk that is put behind a lock.
 
+mod bells;
+mod crowds;
+mod forging;
+mod places;
+mod running;
+mod seats;
+mod stand;
+mod texts;
+
 ghost use Rattle.std.specs.Prelude.{◌≡◌, ◌^◌};
 ghost use Rattle.std.specs.Arc.{arc_value};
 
-use crate::bells::Bells;
-use crate::lines::malformed;
+use crate::accounts::bells::Bells;
+use crate::accounts::places::{Way, open};
+use crate::accounts::running::{Deed, deed_of, end_case, one_part, turns_of};
+use crate::accounts::seats::{Seats, crowd};
 use crate::opening::{Opening, opening_of};
-use crate::places::{Way, open};
-use crate::running::{end_case, one_part, turns_of};
-use crate::seats::{Seats, crowd};
 use account_book::OpenFault;
 use account_lock::Identity;
 use case_tables::{Case, CaseFault, Given, Part};
@@ -28,9 +36,9 @@ fn play_part<
     part: &Part,
     given: &mut Given,
 ) -> Result<(), CaseFault> {
-    match part.word() {
-        "crowd" => crowd(seats, bells, turns_of(part)?),
-        _ => one_part(seats, bells, part, given),
+    match deed_of(part)? {
+        Deed::Crowd => crowd(seats, bells, turns_of(part)?),
+        deed => one_part(seats, bells, deed, part, given),
     }
 }
 
@@ -114,7 +122,7 @@ fn keeps_all(case: &Case) -> Result<bool, CaseFault> {
     match case.part("keep") {
         None => Ok(true),
         Some(part) if part.arguments() == "none" => Ok(false),
-        Some(part) => Err(malformed(part.line(), "keep none is wanted")),
+        Some(part) => Err(part.malformed("keep none is wanted")),
     }
 }
 
@@ -148,7 +156,7 @@ fn push_other(given: &mut Given, other: &Given) -> Result<(), CaseFault> {
 ///
 /// | Part | What it says |
 /// |---|---|
-/// | `open` | the configuration |
+/// | `open` | the configuration; else it has one function `f` on environment 1 |
 /// | `keep none` | the tallies keep no receipts and no calls |
 /// | `calls N` | calls as the lines of scripts, which the tally with this number submits; 0 if none stands there |
 /// | `quietly N` | the same, of which nothing is told |

@@ -1,4 +1,4 @@
-//! The lines of a part, and the numbers in them.
+//! Numbers in the lines of cases.
 
 use case_tables::{CaseFault, Part};
 
@@ -15,13 +15,18 @@ pub fn number_of(line: u64, text: &str) -> Result<u64, CaseFault> {
     }
 }
 
-/// The number of a tally behind the word of a part; 0 where none stands there.
-pub fn seat_behind(part: &Part) -> Result<usize, CaseFault> {
-    if part.arguments().is_empty() {
+/// The number behind the word of a part.
+pub fn number_behind(part: &Part) -> Result<u64, CaseFault> {
+    number_of(part.line(), part.arguments())
+}
+
+/// The number of a tally that a text of a line says; 0 where it is empty.
+pub fn seat_in(line: u64, text: &str) -> Result<usize, CaseFault> {
+    if text.is_empty() {
         return Ok(0);
     }
-    match number_of(part.line(), part.arguments())? {
+    match number_of(line, text)? {
         seat if seat <= 9 => Ok(seat as usize),
-        _ => Err(malformed(part.line(), "a tally from 0 to 9 is wanted")),
+        _ => Err(malformed(line, "a tally from 0 to 9 is wanted")),
     }
 }

@@ -1,55 +1,94 @@
-//! Runs what is checked of accounts: desks behind their locks, the bells of those who wait, threads
-//! that share an account, and settlements of true and of forged tallies.
+//! Runs what is checked of accounts in memory: desks behind their locks, the bells of those who
+//! wait, threads that share an account, and settlements of true and of forged tallies; the ledgers
+//! of their counts; and the polls and exchanges of `long_poll`, over an account and over a service
+//! that does as a case says.
 #![tactic(auto)]
 
 mod accounts;
-mod bells;
-mod crowds;
-mod forging;
+mod exchanges;
+mod ledgers;
 mod lines;
 mod opening;
-mod places;
-mod running;
-mod seats;
-mod stand;
-mod texts;
+mod tallies;
 
-use crate::accounts::give;
-use case_tables::{Case, Given, TableFault, end, judge_case, read_file, tell_count};
+use case_tables::{Case, CaseFault, Given, TableFault, end, judge_case, read_file, tell_count};
 use std::io::Read;
 use std::process::ExitCode;
+use std::random::RandomSource;
 use std::rt::Files;
 use std::sync::Wait;
 use std::thread::Threads;
+use std::time::Clock;
 
-/// The tables, each of one subject.
-const TABLES: [&str; 4] = [
-    "openings.txt",
-    "bells.txt",
-    "settlements.txt",
-    "threads.txt",
+/// What the cases of a file are about.
+#[derive(Clone, Copy)]
+enum Table {
+    Accounts,
+    Ledgers,
+    Exchanges,
+}
+
+/// The files.
+const TABLES: [(&str, Table); 9] = [
+    ("accounts/openings.txt", Table::Accounts),
+    ("accounts/bells.txt", Table::Accounts),
+    ("accounts/settlements.txt", Table::Accounts),
+    ("accounts/threads.txt", Table::Accounts),
+    ("ledgers/tallies.txt", Table::Ledgers),
+    ("exchanges/calls.txt", Table::Exchanges),
+    ("exchanges/polls.txt", Table::Exchanges),
+    ("exchanges/bodies.txt", Table::Exchanges),
+    ("exchanges/services.txt", Table::Exchanges),
 ];
 
+/// Tells what a case gives.
+fn tell<
+    R: Wait + Threads + Clock + RandomSource + AllocGlobal + Copy + Send + Sync + Drop + 'static,
+>(rt: R, table: Table, case: &Case, given: &mut Given) -> Result<(), CaseFault> {
+    match table {
+        Table::Accounts => accounts::give(rt, case, given)?,
+        Table::Ledgers => ledgers::give(case, given)?,
+        Table::Exchanges => exchanges::give(rt, case, given)?,
+    }
+    given.end()
+}
+
 /// Runs a case of a table, and says whether it agrees.
-fn run_case<R: Wait + Threads + Print + AllocGlobal + Copy + Send + Sync + Drop + 'static>(
-    rt: R,
-    file: &'static str,
-    case: &Case,
-) -> Result<bool, TableFault> {
+fn run_case<
+    R: Wait
+        + Threads
+        + Clock
+        + RandomSource
+        + Print
+        + AllocGlobal
+        + Copy
+        + Send
+        + Sync
+        + Drop
+        + 'static,
+>(rt: R, file: &'static str, table: Table, case: &Case) -> Result<bool, TableFault> {
     let mut given = Given::new(rt.alloc());
-    let came = give(rt, case, &mut given);
+    let came = tell(rt, table, case, &mut given);
     judge_case(&rt, file, case, came, given.as_str())
 }
 
 /// Runs the cases of a table, and says whether all agree.
-fn run_cases<R: Wait + Threads + Print + AllocGlobal + Copy + Send + Sync + Drop + 'static>(
-    rt: R,
-    file: &'static str,
-    cases: &[Case],
-) -> Result<bool, TableFault> {
+fn run_cases<
+    R: Wait
+        + Threads
+        + Clock
+        + RandomSource
+        + Print
+        + AllocGlobal
+        + Copy
+        + Send
+        + Sync
+        + Drop
+        + 'static,
+>(rt: R, file: &'static str, table: Table, cases: &[Case]) -> Result<bool, TableFault> {
     let mut agree = true;
     for case in cases {
-        if !run_case(rt, file, case)? {
+        if !run_case(rt, file, table, case)? {
             agree = false;
         }
     }
@@ -59,27 +98,28 @@ fn run_cases<R: Wait + Threads + Print + AllocGlobal + Copy + Send + Sync + Drop
     Ok(agree)
 }
 
-/// Runs a table, and says whether all of its cases agree.
-fn run_table<R: Wait + Threads + Files + Print + AllocGlobal + Copy + Send + Sync + Drop + 'static>(
-    rt: R,
-    file: &'static str,
-) -> Result<bool, TableFault>
-where
-    R::File: Read + Drop,
-{
-    let cases = read_file(&rt, file)?;
-    run_cases(rt, file, cases.as_slice())
-}
-
-fn run<R: Wait + Threads + Files + Print + AllocGlobal + Copy + Send + Sync + Drop + 'static>(
-    rt: R,
-) -> Result<bool, TableFault>
+/// Runs the tables, and says whether all of their cases agree.
+fn run<
+    R: Wait
+        + Threads
+        + Clock
+        + RandomSource
+        + Files
+        + Print
+        + AllocGlobal
+        + Copy
+        + Send
+        + Sync
+        + Drop
+        + 'static,
+>(rt: R) -> Result<bool, TableFault>
 where
     R::File: Read + Drop,
 {
     let mut agree = true;
-    for file in TABLES {
-        if !run_table(rt, file)? {
+    for (file, table) in TABLES {
+        let cases = read_file(&rt, file)?;
+        if !run_cases(rt, file, table, cases.as_slice())? {
             agree = false;
         }
     }

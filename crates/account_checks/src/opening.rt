@@ -10,6 +10,10 @@ use lambda_wire::{Setup, WireFault, read_config};
 use std::alloc::Global;
 use std::sync::Arc;
 
+/// One function `f` on environment 1.
+const ONE: &str =
+    r#"{"account":"123456789012","region":"us-east-2","functions":[{"name":"f","ports":[9001]}]}"#;
+
 /// What an account is opened with. It shares its configuration with those who read calls beside it.
 #[derive(Drop)]
 pub struct Opening {
@@ -48,10 +52,10 @@ fn opening_in(alloc: Global, line: u64, text: &[u8]) -> Result<Opening, CaseFaul
     })
 }
 
-/// What the part `open` of a case says.
+/// What the part `open` of a case says; where it has none, one function `f` on environment 1.
 pub fn opening_of(alloc: Global, case: &Case) -> Result<Opening, CaseFault> {
     match case.part("open") {
         Some(part) => opening_in(alloc, part.line(), part.text().as_bytes()),
-        None => Err(CaseFault::Missing { part: "open" }),
+        None => opening_in(alloc, case.line(), ONE.as_bytes()),
     }
 }

@@ -1,15 +1,13 @@
-//! Runs the worked examples of scripts and of books: each file of cases in the folder that it is
-//! run in.
+//! Runs the worked examples: each file of cases, below the folder that it is run in.
 #![tactic(auto)]
 
-mod books;
-mod histories;
-mod pieces;
-mod questions;
-mod readings;
+mod accounts;
+mod answers;
+mod parts;
+mod routes;
 mod scripts;
-mod taking;
-mod texts;
+mod shown;
+mod wire;
 
 use case_tables::{Case, CaseFault, Given, Subject, end, run_files};
 use std::alloc::Global;
@@ -18,39 +16,117 @@ use std::process::ExitCode;
 /// What the cases of a file are about.
 #[derive(Clone, Copy)]
 enum Table {
-    /// Scripts, each replayed in every way.
-    Scripts,
-    /// Scripts whose lines are too long to be replayed byte by byte.
-    LongLines,
-    /// Books.
-    Books,
+    /// The parts that an account is made of.
+    Parts(parts::Table),
+    /// Bodies and headers, and the replies of answers.
+    Wire(wire::Table),
+    /// Requests on a port.
+    Routes,
+    /// Scripts, and the books that they make.
+    Scripts(scripts::Table),
 }
 
-/// The files. That of long lines is the last one: who refuses each request for memory in turn comes
-/// to it the least often.
-const TABLES: [(&str, Table); 13] = [
-    ("calls.txt", Table::Scripts),
-    ("extensions.txt", Table::Scripts),
-    ("times.txt", Table::Scripts),
-    ("limits.txt", Table::Scripts),
-    ("long.txt", Table::Scripts),
-    ("faults.txt", Table::Scripts),
-    ("streams.txt", Table::Scripts),
-    ("books.txt", Table::Books),
-    ("full.txt", Table::Books),
-    ("readings.txt", Table::Books),
-    ("rendered.txt", Table::Books),
-    ("early.txt", Table::Books),
-    ("long_lines.txt", Table::LongLines),
+/// The files. Those whose shortest case is long are the last ones: who refuses each request for
+/// memory in turn comes to them the least often.
+const TABLES: [(&str, Table); 43] = [
+    ("parts/names.txt", Table::Parts(parts::Table::Names)),
+    (
+        "parts/identifiers.txt",
+        Table::Parts(parts::Table::Identifiers),
+    ),
+    (
+        "parts/configurations.txt",
+        Table::Parts(parts::Table::Configurations),
+    ),
+    ("parts/scripts.txt", Table::Parts(parts::Table::ScriptLines)),
+    ("parts/histories.txt", Table::Parts(parts::Table::Histories)),
+    ("parts/heads.txt", Table::Parts(parts::Table::Heads)),
+    ("parts/pools.txt", Table::Parts(parts::Table::Pools)),
+    ("parts/deadlines.txt", Table::Parts(parts::Table::Deadlines)),
+    ("parts/places.txt", Table::Parts(parts::Table::Places)),
+    ("parts/moves.txt", Table::Parts(parts::Table::Moves)),
+    (
+        "parts/extensions.txt",
+        Table::Parts(parts::Table::Extensions),
+    ),
+    (
+        "parts/environments.txt",
+        Table::Parts(parts::Table::Environments),
+    ),
+    ("wire/bodies.txt", Table::Wire(wire::Table::Bodies)),
+    ("wire/headers.txt", Table::Wire(wire::Table::Headers)),
+    ("wire/refusals.txt", Table::Wire(wire::Table::Refusals)),
+    ("wire/payloads.txt", Table::Wire(wire::Table::Payloads)),
+    (
+        "wire/registrations.txt",
+        Table::Wire(wire::Table::Registrations),
+    ),
+    (
+        "wire/reservations.txt",
+        Table::Wire(wire::Table::Reservations),
+    ),
+    (
+        "wire/configurations.txt",
+        Table::Wire(wire::Table::Configurations),
+    ),
+    ("wire/replies.txt", Table::Wire(wire::Table::Replies)),
+    ("routes/routes.txt", Table::Routes),
+    ("routes/worked.txt", Table::Routes),
+    ("routes/names.txt", Table::Routes),
+    ("routes/reservations.txt", Table::Routes),
+    ("routes/runtimes.txt", Table::Routes),
+    ("routes/extensions.txt", Table::Routes),
+    ("routes/registrations.txt", Table::Routes),
+    ("scripts/calls.txt", Table::Scripts(scripts::Table::Scripts)),
+    (
+        "scripts/extensions.txt",
+        Table::Scripts(scripts::Table::Scripts),
+    ),
+    ("scripts/times.txt", Table::Scripts(scripts::Table::Scripts)),
+    (
+        "scripts/limits.txt",
+        Table::Scripts(scripts::Table::Scripts),
+    ),
+    (
+        "scripts/faults.txt",
+        Table::Scripts(scripts::Table::Scripts),
+    ),
+    (
+        "scripts/streams.txt",
+        Table::Scripts(scripts::Table::Scripts),
+    ),
+    ("scripts/books.txt", Table::Scripts(scripts::Table::Books)),
+    ("scripts/full.txt", Table::Scripts(scripts::Table::Books)),
+    (
+        "scripts/readings.txt",
+        Table::Scripts(scripts::Table::Books),
+    ),
+    (
+        "scripts/rendered.txt",
+        Table::Scripts(scripts::Table::Books),
+    ),
+    ("scripts/early.txt", Table::Scripts(scripts::Table::Books)),
+    ("routes/operator.txt", Table::Routes),
+    ("routes/invokes.txt", Table::Routes),
+    ("scripts/long.txt", Table::Scripts(scripts::Table::Scripts)),
+    (
+        "parts/long_lines.txt",
+        Table::Parts(parts::Table::ScriptLines),
+    ),
+    (
+        "scripts/long_lines.txt",
+        Table::Scripts(scripts::Table::LongLines),
+    ),
 ];
 
 impl Table {
     /// Tells what a case gives.
     fn tell(self, case: &Case, given: &mut Given) -> Result<(), CaseFault> {
         match self {
-            Table::Scripts => scripts::give(case, true, given),
-            Table::LongLines => scripts::give(case, false, given),
-            Table::Books => books::give(case, given),
+            Table::Parts(table) => table.tell(case, given),
+            Table::Wire(table) => table.tell(case, given),
+            Table::Routes => routes::give(case, given),
+            Table::Scripts(table) => table.tell(case, given),
         }
     }
 }

@@ -1,0 +1,147 @@
+//! Threads that share an account. Which of them comes first is not known; that every call has its
+//! ticket, and every bell rings once, is.
+
+use crate::accounts::bells::Bells;
+use crate::accounts::places::{Place, Taken};
+use crate::accounts::stand::Turns;
+use crate::lines::malformed;
+use crate::tallies::part_of;
+use account_lock::Identity;
+use call_model::Ticket;
+use case_tables::{CaseFault, Given};
+use std::alloc::Global;
+use std::sync::Wait;
+use std::thread::{self, Threads};
+use usage_ledger::{Front, Keep, Ledgers, Tally};
+
+/// How many milliseconds go by in a turn.
+const TURN: u64 = 500;
+
+/// What a thread works with: its tally, and the environment at which it polls.
+#[derive(Drop)]
+struct Job<K: Keep, L: Ledgers> {
+    tally: Tally<K, L>,
+    env: u64,
+}
+
+/// What the words of a line stand for.
+#[derive(Clone, Copy)]
+struct Words {
+    now: u64,
+    env: u64,
+    parked: Ticket,
+}
+
+/// Adds a word: NOW is the moment of the turn, ENV the environment of the thread, and PARKED the
+/// ticket of its last Next.
+fn push_word(text: &mut Given, word: &str, words: Words) {
+    match word {
+        "NOW" => text.print(&words.now),
+        "ENV" => text.print(&words.env),
+        "PARKED" => text.print(&words.parked),
+        _ => text.push(word),
+    }
+}
+
+/// A line with its words.
+fn line_with(alloc: Global, line: &str, words: Words) -> Given {
+    let mut text = Given::new(alloc);
+    for word in line.split(' ') {
+        if !text.as_str().is_empty() {
+            text.push(" ");
+        }
+        push_word(&mut text, word, words);
+    }
+    text
+}
+
+/// Makes the call of a line; its ticket.
+fn one_call<R: Wait, S: Identity, K: Keep>(
+    place: &Place<R, S>,
+    tally: &mut Tally<K, S>,
+    front: &mut Front<S>,
+    bells: &Bells,
+    number: u64,
+    line: &Given,
+) -> Result<Ticket, CaseFault> {
+    line.end()?;
+    let bell = bells.unnumbered(0)?;
+    match place.submit(tally, front, line.as_str().as_bytes(), bell)? {
+        Taken::At(ticket) => Ok(ticket),
+        _ => Err(malformed(number, "a call that is taken is wanted")),
+    }
+}
+
+/// Makes the calls of all lines once; the ticket of the last Next.
+fn one_turn<R: Wait, S: Identity, K: Keep>(
+    place: &Place<R, S>,
+    tally: &mut Tally<K, S>,
+    front: &mut Front<S>,
+    bells: &Bells,
+    turns: Turns<'_>,
+    words: Words,
+) -> Result<Ticket, CaseFault> {
+    let mut words = words;
+    let mut number = turns.first;
+    for line in turns.lines.split('\n') {
+        let text = line_with(place.alloc, line, words);
+        let ticket = one_call(place, tally, front, bells, number, &text)?;
+        if line.contains(" next ") {
+            words.parked = ticket;
+        }
+        number = number.saturating_add(1);
+    }
+    Ok(words.parked)
+}
+
+/// The calls of a thread; its tally.
+fn work<R: Wait, S: Identity, K: Keep>(
+    place: &Place<R, S>,
+    bells: &Bells,
+    turns: Turns<'_>,
+    job: Job<K, S>,
+) -> Result<Tally<K, S>, CaseFault> {
+    let Job { tally, env } = job;
+    let mut tally = tally;
+    let mut front = place.account.front(&place.rt);
+    let mut parked = 0;
+    for turn in 0..turns.count {
+        let words = Words {
+            now: turn.wrapping_mul(TURN),
+            env,
+            parked,
+        };
+        parked = one_turn(place, &mut tally, &mut front, bells, turns, words)?;
+    }
+    Ok(tally)
+}
+
+/// A job for each of four environments.
+fn jobs_of<K: Keep, L: Ledgers>(
+    alloc: Global,
+    tallies: &mut [Tally<K, L>],
+) -> Result<Vec<Job<K, L>>, CaseFault> {
+    let mut jobs = Vec::with_capacity(alloc, 4)?;
+    for env in 1..5 {
+        let Ok(tally) = part_of(tallies.first_mut()) else {
+            return Err(malformed(0, "a tally with parts is wanted"));
+        };
+        jobs.push(Job { tally, env })?;
+    }
+    Ok(jobs)
+}
+
+/// Makes the calls of four threads at once. Their tallies are put behind the others.
+pub fn crowd_of<R: Wait + Threads + Sync, S: Identity + Send + Sync, K: Keep + Send + Sync>(
+    place: &Place<R, S>,
+    tallies: &mut Vec<Tally<K, S>>,
+    bells: &Bells,
+    turns: Turns<'_>,
+) -> Result<(), CaseFault> {
+    let jobs = jobs_of(place.alloc, tallies)?;
+    let worked = thread::map_vec(&place.rt, jobs, &|job| work(place, bells, turns, job))?;
+    for tally in worked {
+        tallies.push(tally?)?;
+    }
+    Ok(())
+}

@@ -1,0 +1,230 @@
+//! Accounts that take lines of scripts.
+
+ghost use Rattle.std.specs.Prelude.{◌≡◌, ◌^◌};
+ghost use Rattle.std.specs.Arc.{arc_value};
+
+use crate::accounts::bells::Numbered;
+use crate::opening::Opening;
+use account_book::{Book, Life, OpenFault, Refusal};
+use account_lock::{Account, Desk, Identity, Look, Refused};
+use arn_ids::{Checked, FnNo};
+use call_model::{Stats, Ticket};
+use lambda_wire::Reply;
+use script::read_call;
+use std::alloc::{AllocError, Global};
+use std::sync::{Arc, Wait};
+use usage_ledger::{Blanks, Front, Keep, Start, Tally, root};
+
+/// What became of a line.
+#[derive(Clone, Copy)]
+pub enum Taken {
+    /// Its call has this ticket.
+    At(Ticket),
+    /// The journal is full, and the call's bell came back.
+    Full,
+    /// The journal is full, and the call's bell is gone.
+    BellGone,
+    /// It stands for no call.
+    NoCall,
+}
+
+/// What an account is asked.
+#[derive(Clone, Copy)]
+pub enum Question {
+    Look(Ticket),
+    Due(u64),
+    Life,
+    Stats,
+    Reservation(FnNo),
+    Render(Ticket),
+    Opening,
+    History(Ticket),
+}
+
+/// What an account says.
+#[derive(Drop)]
+pub enum Said {
+    Look(Look),
+    Due(bool),
+    Life(Life),
+    Stats(Stats),
+    Reservation(Option<u32>),
+    Reply(Option<Reply>),
+    Text(Option<Vec<u8>>),
+    /// The configuration has no such function.
+    NoFunction,
+}
+
+/// An account, and its configuration, by which the lines of its calls are read.
+#[derive(Drop)]
+pub struct Place<R, S: Identity> {
+    pub rt: R,
+    pub alloc: Global,
+    pub config: Arc<Checked>,
+    pub account: Account<S, Numbered>,
+    ghost configured: { arc_value config ≡ S.config },
+}
+
+/// What comes of a call that was not taken.
+fn untaken(refused: &Refused<Numbered>) -> Result<Taken, AllocError> {
+    match (refused.refusal, refused.bell.is_some()) {
+        (Refusal::OutOfMemory, _) => Err(AllocError),
+        (Refusal::JournalFull, true) => Ok(Taken::Full),
+        (Refusal::JournalFull, false) => Ok(Taken::BellGone),
+    }
+}
+
+impl<R: Wait, S: Identity> Place<R, S> {
+    /// Submits the call of a line by a tally, with a bell, which comes back where it is refused. The
+    /// token is then that of the call, where one is taken.
+    fn submit_once<K: Keep>(
+        &self,
+        tally: &mut Tally<K, S>,
+        front: &mut Front<S>,
+        line: &[u8],
+        bell: Option<Numbered>,
+    ) -> Result<Taken, Refused<Numbered>> {
+        let Ok(read) = read_call(self.alloc, &self.config, true, line) else {
+            return Err(Refused {
+                refusal: Refusal::OutOfMemory,
+                bell,
+            });
+        };
+        let Some((now, call)) = read else {
+            return Ok(Taken::NoCall);
+        };
+        match self.account.submit(&self.rt, tally, now, call, bell) {
+            Ok((ticket, seen)) => {
+                *front = seen;
+                Ok(Taken::At(ticket))
+            }
+            Err(refused) => Err(refused),
+        }
+    }
+
+    /// Submits the call of a line, with a bell, by a tally; once more, with the bell that came back,
+    /// where memory was refused: account and tally are then as they were. The token is then that of the
+    /// call, where one is taken.
+    pub fn submit<K: Keep>(
+        &self,
+        tally: &mut Tally<K, S>,
+        front: &mut Front<S>,
+        line: &[u8],
+        bell: Numbered,
+    ) -> Result<Taken, AllocError> {
+        let refused = match self.submit_once(tally, front, line, Some(bell)) {
+            Ok(taken) => return Ok(taken),
+            Err(refused) => refused,
+        };
+        if refused.refusal != Refusal::OutOfMemory {
+            return untaken(&refused);
+        }
+        match self.submit_once(tally, front, line, refused.bell) {
+            Ok(taken) => Ok(taken),
+            Err(refused) => untaken(&refused),
+        }
+    }
+
+    /// The reservation of a function.
+    fn reservation(&self, function: FnNo) -> Said {
+        if function < 1 || function as usize > self.config.functions().len() {
+            return Said::NoFunction;
+        }
+        Said::Reservation(self.account.reservation(&self.rt, function))
+    }
+
+    /// Asks the account, with a token, which then has seen the history that was read.
+    pub fn ask(&self, front: &mut Front<S>, question: Question) -> Result<Said, AllocError> {
+        let (rt, account) = (&self.rt, &self.account);
+        Ok(match question {
+            Question::Look(ticket) => Said::Look(account.look(rt, front, ticket)),
+            Question::Due(now) => Said::Due(account.due(rt, now)),
+            Question::Life => Said::Life(account.life(rt)),
+            Question::Stats => Said::Stats(account.stats(rt)),
+            Question::Reservation(function) => self.reservation(function),
+            Question::Render(ticket) => Said::Reply(account.render(rt, front, ticket)?),
+            Question::Opening => Said::Text(Some(account.opening(rt)?)),
+            Question::History(ticket) => Said::Text(account.history(rt, front, ticket)?),
+        })
+    }
+}
+
+/// An account and the tally that has all parts.
+#[derive(Drop)]
+pub struct Opened<R, S: Identity, K: Keep> {
+    pub place: Place<R, S>,
+    pub root: Tally<K, S>,
+}
+
+/// Whether a case is run by an account or by a desk.
+#[derive(Clone, Copy)]
+pub enum Way {
+    Account,
+    Desk,
+}
+
+/// An account, and its first tally.
+type Begun<S, K> = (Account<S, Numbered>, Tally<K, S>);
+
+/// Opens a desk, and puts it behind a lock.
+fn open_desk<S: Identity, K: Keep>(
+    alloc: Global,
+    config: Arc<Checked>,
+    salt: u64,
+    max_entries: u64,
+    blanks: Blanks,
+) -> Result<Begun<S, K>, OpenFault>
+    requires configured { arc_value config ≡ S.config }
+    requires salted { salt ≡ S.salt }
+    requires named { blanks ≡ S.names }
+{
+    let book = match Book::open(alloc, config, salt, max_entries) {
+        Ok(book) => book,
+        Err(fault) => return Err(fault),
+    };
+    let Start {
+        totals,
+        tally,
+        line,
+        pen,
+    } = root(alloc, blanks);
+    let desk = Desk::open(alloc, book, totals);
+    Ok((Account::share(desk, line, pen), tally))
+}
+
+/// Opens an account in a way.
+pub fn open<R: Drop, S: Identity, K: Keep>(
+    rt: R,
+    alloc: Global,
+    way: Way,
+    opening: Opening,
+    blanks: Blanks,
+) -> Result<Opened<R, S, K>, OpenFault>
+    requires configured { arc_value opening.config ≡ S.config }
+    requires salted { opening.salt ≡ S.salt }
+    requires named { blanks ≡ S.names }
+{
+    let Opening {
+        config,
+        beside,
+        salt,
+        max_entries,
+    } = opening;
+    let begun = match way {
+        Way::Account => Account::open(alloc, config, salt, max_entries, blanks),
+        Way::Desk => open_desk(alloc, config, salt, max_entries, blanks),
+    };
+    let (account, root) = match begun {
+        Ok(begun) => begun,
+        Err(fault) => return Err(fault),
+    };
+    Ok(Opened {
+        place: Place {
+            rt,
+            alloc,
+            config: beside,
+            account,
+        },
+        root,
+    })
+}

@@ -1,0 +1,107 @@
+//! The requests in the lines of a part.
+
+use crate::exchanges::rows::At;
+use crate::lines::{malformed, number_of};
+use bytes::Bytes;
+use case_tables::{CaseFault, Part};
+use futures::task::{Context, Poll};
+use http::request::Parts;
+use http_body::{Body, Frame};
+use http_uri::{Uri, UriError};
+use std::alloc::Global;
+
+/// The most letters of a piece.
+const MOST_LETTERS: u64 = 1 << 24;
+
+/// So many times the same piece; then it ends, or it fails.
+#[derive(Drop)]
+pub struct Pieces {
+    piece: Bytes,
+    left: u64,
+    is_broken: bool,
+}
+
+impl Body for Pieces {
+    type Data = Bytes;
+
+    type Error = ();
+
+    fn poll_frame(&mut self, _cx: &mut Context<'_>) -> Poll<Option<Result<Frame<Bytes>, ()>>> {
+        if self.left > 0 {
+            self.left -= 1;
+            if let Ok(piece) = self.piece.clone() {
+                return Poll::Ready(Some(Ok(Frame::data(piece))));
+            }
+        } else if !self.is_broken {
+            return Poll::Ready(None);
+        }
+        Poll::Ready(Some(Err(())))
+    }
+}
+
+/// What is asked: at which moment, with which head and body.
+#[derive(Drop)]
+pub struct Ask {
+    pub at: At,
+    pub parts: Parts,
+    pub body: Pieces,
+}
+
+/// The three lines of a part; those that it doesn't have are empty.
+pub fn three_in(part: &Part) -> (&str, &str, &str) {
+    let (first, rest) = part.lines().split_once('\n').unwrap_or(("", ""));
+    let (second, third) = rest.split_once('\n').unwrap_or((rest, ""));
+    (first, second, third)
+}
+
+/// A piece of a body: `=TEXT` or `letters N`.
+fn piece_in(alloc: Global, line: u64, text: &str) -> Result<Bytes, CaseFault> {
+    let mut piece = Vec::new(alloc);
+    if let Some(count) = text.strip_prefix("letters ") {
+        let count = number_of(line, count)?.min(MOST_LETTERS);
+        piece.resize(count as usize, b'x')?;
+    } else {
+        let text = text.strip_prefix('=').unwrap_or(text);
+        piece.extend_from_slice(text.as_bytes())?;
+    }
+    Ok(Bytes::from_vec(piece)?)
+}
+
+/// A body: a piece, or so many of them behind `pieces N` or `broken N`.
+fn body_in(alloc: Global, line: u64, text: &str) -> Result<Pieces, CaseFault> {
+    let (word, rest) = text.split_once(' ').unwrap_or((text, ""));
+    let is_broken = word == "broken";
+    let (count, text) = if is_broken || word == "pieces" {
+        rest.split_once(' ').unwrap_or((rest, ""))
+    } else {
+        ("1", text)
+    };
+    let left = number_of(line, count)?;
+    Ok(Pieces {
+        piece: piece_in(alloc, line, text)?,
+        left,
+        is_broken,
+    })
+}
+
+/// The head of a request with this path.
+fn head_in(alloc: Global, line: u64, path: &str) -> Result<Parts, CaseFault> {
+    let uri = match Uri::from_str(alloc, path) {
+        Ok(uri) => uri,
+        Err(UriError::OutOfMemory) => return Err(CaseFault::Memory),
+        Err(_) => return Err(malformed(line, "a path is wanted")),
+    };
+    let mut parts = Parts::new(alloc);
+    parts.uri = uri;
+    Ok(parts)
+}
+
+/// What a line asks: a moment, a path and a body.
+pub fn ask_in(alloc: Global, line: u64, text: &str) -> Result<Ask, CaseFault> {
+    let (moment, rest) = text.split_once(' ').unwrap_or((text, ""));
+    let (path, body) = rest.split_once(' ').unwrap_or((rest, ""));
+    let at = At(number_of(line, moment)?);
+    let body = body_in(alloc, line, body)?;
+    let parts = head_in(alloc, line, path)?;
+    Ok(Ask { at, parts, body })
+}

@@ -1,0 +1,189 @@
+//! A service that is no account, and does as a case says.
+
+use account_book::Refusal;
+use account_lock::{Account, Bell, Declined, Identity, Look, Refused};
+use arn_ids::FnNo;
+use call_model::{Answer, Call, Stats, Ticket};
+use case_tables::Given;
+use lambda_wire::{Reply, fault_reply};
+use long_poll::{OneShotBell, Service};
+use std::alloc::{AllocError, Global};
+use std::sync::Wait;
+use std::sync::atomic::AtomicU64;
+use std::sync::atomic::Ordering::SeqCst;
+use usage_ledger::{Front, KeepNone, Tally};
+
+/// The ticket of every call that is taken.
+const TICKET: Ticket = 7;
+
+/// What becomes of its calls.
+#[derive(Drop)]
+pub enum Mood {
+    /// They are refused.
+    Refuses,
+    /// They wait, and their bells are lost.
+    LosesBells,
+    /// So many are premature that are offered; then they are answered.
+    Answers(u64),
+}
+
+/// Notes how many calls came, and the moment of the last one. Its fronts are those of an account that
+/// takes none.
+#[derive(Drop)]
+pub struct Board<S: Identity> {
+    alloc: Global,
+    mood: Mood,
+    offered: AtomicU64,
+    submitted: AtomicU64,
+    last: AtomicU64,
+    account: Account<S, OneShotBell>,
+}
+
+impl<S: Identity> Board<S> {
+    /// To which no call came.
+    pub fn new(alloc: Global, mood: Mood, account: Account<S, OneShotBell>) -> Board<S> {
+        Board {
+            alloc,
+            mood,
+            offered: AtomicU64::new(0),
+            submitted: AtomicU64::new(0),
+            last: AtomicU64::new(0),
+            account,
+        }
+    }
+
+    /// Adds which calls came.
+    pub fn push_noted(&self, given: &mut Given) {
+        given.print(&self.offered.load(SeqCst));
+        given.push(" offered, ");
+        given.print(&self.submitted.load(SeqCst));
+        given.push(" submitted, the last at ");
+        given.print(&self.last.load(SeqCst));
+        given.push("\n");
+    }
+
+    /// Takes a call, or refuses it.
+    fn take<R: Wait>(
+        &self,
+        rt: &R,
+        now: u64,
+        bell: Option<OneShotBell>,
+    ) -> Result<(Ticket, Front<S>), Refused<OneShotBell>> {
+        self.last.store(now, SeqCst);
+        if let Mood::Refuses = self.mood {
+            let refusal = Refusal::JournalFull;
+            return Err(Refused { refusal, bell });
+        }
+        if let Some(bell) = bell {
+            if let Mood::Answers(_) = self.mood {
+                bell.ring();
+            }
+        }
+        Ok((TICKET, self.account.front(rt)))
+    }
+}
+
+impl<S: Identity> Service<KeepNone, S> for Board<S> {
+    ghost serves = { λ _. S.config };
+
+    ghost submits = { λ _ _ _ _ _ _ _. Unit {0} };
+
+    ghost shows = { λ _ _. Unit {0} };
+
+    ghost looks = { λ _ _ _ _ _. Unit {0} };
+
+    ghost renders = { λ _ _ _ _ _. Unit {0} };
+
+    ghost opens = { λ _ _. Unit {0} };
+
+    ghost tells = { λ _ _ _ _ _. Unit {0} };
+
+    ghost counts = { λ _ _. Unit {0} };
+
+    ghost reserves = { λ _ _ _. Unit {0} };
+
+    fn submit<R: Wait>(
+        &self,
+        rt: &R,
+        _tally: &mut Tally<KeepNone, S>,
+        now: u64,
+        _call: Call,
+        bell: Option<OneShotBell>,
+    ) -> Result<(Ticket, Front<S>), Refused<OneShotBell>> {
+        self.submitted.fetch_add(1, SeqCst);
+        self.take(rt, now, bell)
+    }
+
+    fn offer<R: Wait>(
+        &self,
+        rt: &R,
+        _tally: &mut Tally<KeepNone, S>,
+        now: u64,
+        call: Call,
+        bell: Option<OneShotBell>,
+    ) -> Result<(Ticket, Front<S>), Declined<OneShotBell>> {
+        let before = self.offered.fetch_add(1, SeqCst);
+        if matches!(self.mood, Mood::Answers(count) if before < count) {
+            return Err(Declined::Premature { call, bell });
+        }
+        match self.take(rt, now, bell) {
+            Ok(taken) => Ok(taken),
+            Err(refused) => Err(Declined::Refused(refused)),
+        }
+    }
+
+    fn front<R: Wait>(&self, rt: &R) -> Front<S> {
+        self.account.front(rt)
+    }
+
+    fn look<R: Wait>(&self, _rt: &R, _front: &mut Front<S>, _ticket: Ticket) -> Look {
+        match self.mood {
+            Mood::Answers(_) => Look::Given(Answer::Done),
+            _ => Look::Waiting,
+        }
+    }
+
+    fn render<R: Wait>(
+        &self,
+        _rt: &R,
+        _front: &mut Front<S>,
+        ticket: Ticket,
+    ) -> Result<Option<Reply>, AllocError> {
+        match self.mood {
+            Mood::Answers(_) if ticket == TICKET => Ok(Some(fault_reply(
+                self.alloc, 200, "done", "Done",
+            )?)),
+            _ => Ok(None),
+        }
+    }
+
+    fn opening<R: Wait>(&self, _rt: &R) -> Result<Vec<u8>, AllocError> {
+        Ok(String::from_str(self.alloc, "a board\n")?.into_bytes())
+    }
+
+    fn history<R: Wait>(
+        &self,
+        _rt: &R,
+        _front: &mut Front<S>,
+        ticket: Ticket,
+    ) -> Result<Option<Vec<u8>>, AllocError> {
+        match ticket {
+            0 | 1 => Ok(Some(String::from_str(self.alloc, "an entry\n")?.into_bytes())),
+            _ => Ok(None),
+        }
+    }
+
+    fn stats<R: Wait>(&self, _rt: &R) -> Stats {
+        Stats {
+            entries: 1,
+            admitted: 2,
+            throttled: 3,
+            failed: 4,
+            in_flight: 5,
+        }
+    }
+
+    fn reservation<R: Wait>(&self, _rt: &R, _function: FnNo) -> Option<u32> {
+        Some(6)
+    }
+}

@@ -1,0 +1,201 @@
+//! What futures come to, and what comes of requests, as lines.
+
+ghost use Rattle.std.specs.Prelude.{IfOk};
+
+use crate::lines::malformed;
+use call_model::{Answer, Ticket};
+use case_tables::{CaseFault, Given};
+use futures::executor::block_on;
+use futures::future::{Future, FutureExt, poll_immediate, try_join3};
+use lambda_wire::Reply;
+use long_poll::{BellLost, ExchangeFault, OpenPoll, Outcome};
+use std::alloc::AllocGlobal;
+use std::random::RandomSource;
+use std::str;
+use std::sync::Wait;
+
+/// Runs a future to its end. An executor fails for want of memory alone.
+pub fn finished<R: Wait + RandomSource + AllocGlobal, F: Future>(
+    rt: &R,
+    future: F,
+) -> Result<F::Output, CaseFault>
+    requires { F.can_poll future }
+{
+    match block_on(rt, future) {
+        Ok(output) => Ok(output),
+        Err(_) => Err(CaseFault::Memory),
+    }
+}
+
+/// Runs a future to its end, or lets it go once it waits: none where it does.
+pub fn made<R: Wait + RandomSource + AllocGlobal, F: Future>(
+    rt: &R,
+    future: F,
+    drops: bool,
+) -> Result<Option<F::Output>, CaseFault>
+    requires { F.can_poll future }
+{
+    if drops {
+        return finished(rt, poll_immediate(future));
+    }
+    Ok(Some(finished(rt, future)?))
+}
+
+/// Whether a reply says that its call was refused for want of memory.
+fn lacks_memory(reply: &Reply) -> bool {
+    reply.status == 500
+        && str::from_utf8(reply.body.as_slice()).is_ok_and(|text| text.contains("Out of memory"))
+}
+
+/// What came of an exchange, with a fault in place of the reply that a call was refused for want of
+/// memory, so that no other exchange waits for that call.
+fn with_memory<H: Drop>(
+    came: Result<Outcome<H>, ExchangeFault>,
+) -> Result<Outcome<H>, ExchangeFault> {
+    if let Ok(Outcome::Reply(reply)) = &came
+        && lacks_memory(reply)
+    {
+        return Err(ExchangeFault::OutOfMemory);
+    }
+    came
+}
+
+/// The reply of a request of a part that begins at this line.
+fn reply_of<H: Drop>(line: u64, outcome: Outcome<H>) -> Result<Reply, CaseFault> {
+    match outcome {
+        Outcome::Reply(reply) => Ok(reply),
+        Outcome::History(_) => Err(malformed(line, "three that have a reply are wanted")),
+    }
+}
+
+/// The replies of three requests of a part that begins at this line.
+fn replies_of<H: Drop>(
+    line: u64,
+    outcomes: (Outcome<H>, Outcome<H>, Outcome<H>),
+) -> Result<(Reply, Reply, Reply), CaseFault> {
+    let (one, other, last) = outcomes;
+    let one = reply_of(line, one)?;
+    let other = reply_of(line, other)?;
+    Ok((one, other, reply_of(line, last)?))
+}
+
+/// Makes three exchanges of a part that begins at this line, at once.
+fn made_together<
+    R: Wait + RandomSource + AllocGlobal,
+    H: Drop,
+    F: Future<Output = Result<Outcome<H>, ExchangeFault>>,
+>(rt: &R, line: u64, first: F, second: F, third: F) -> Result<(Reply, Reply, Reply), CaseFault>
+    requires first { F.can_poll first }
+    requires second { F.can_poll second }
+    requires third { F.can_poll third }
+{
+    let three = try_join3(
+        first.map(with_memory),
+        second.map(with_memory),
+        third.map(with_memory),
+    );
+    match finished(rt, three)? {
+        Ok(outcomes) => replies_of(line, outcomes),
+        Err(ExchangeFault::OutOfMemory) => Err(CaseFault::Memory),
+        Err(_) => Err(malformed(line, "three that are answered are wanted")),
+    }
+}
+
+/// The same, where all three could be begun.
+pub fn made_at_once<
+    R: Wait + RandomSource + AllocGlobal,
+    H: Drop,
+    F: Future<Output = Result<Outcome<H>, ExchangeFault>>,
+>(
+    rt: &R,
+    line: u64,
+    first: Result<F, CaseFault>,
+    second: Result<F, CaseFault>,
+    third: Result<F, CaseFault>,
+) -> Result<(Reply, Reply, Reply), CaseFault>
+    requires first { IfOk first F.can_poll }
+    requires second { IfOk second F.can_poll }
+    requires third { IfOk third F.can_poll }
+{
+    let first = first?;
+    let second = second?;
+    made_together(rt, line, first, second, third?)
+}
+
+/// Adds the headers of a reply.
+fn push_headers(given: &mut Given, reply: &Reply) {
+    for header in reply.headers.as_slice() {
+        given.push("  ");
+        given.push(header.0.as_str());
+        given.push(": ");
+        given.push_bytes(header.1.as_bytes());
+        given.push("\n");
+    }
+}
+
+/// Adds a reply: its status, its headers, and its body if it has one.
+fn push_reply(given: &mut Given, reply: &Reply) {
+    given.push("  ");
+    given.print(&reply.status);
+    given.push("\n");
+    push_headers(given, reply);
+    given.push("  =");
+    given.push_bytes(reply.body.as_slice());
+    given.push("\n");
+}
+
+/// Adds the reply of a request.
+pub fn push_answer(given: &mut Given, reply: &Reply) -> Result<(), CaseFault> {
+    if lacks_memory(reply) {
+        return Err(CaseFault::Memory);
+    }
+    push_reply(given, reply);
+    Ok(())
+}
+
+/// Adds why a request has no reply.
+pub fn push_fault(given: &mut Given, fault: ExchangeFault) -> Result<(), CaseFault> {
+    match fault {
+        ExchangeFault::OutOfMemory => return Err(CaseFault::Memory),
+        ExchangeFault::BodyFailed => given.push("  BodyFailed\n"),
+        ExchangeFault::BellLost => given.push("  BellLost\n"),
+    }
+    Ok(())
+}
+
+/// Adds the Next that the connection of a request has open.
+pub fn push_open(given: &mut Given, open: &OpenPoll) {
+    if let Some(ticket) = open.ticket() {
+        given.push("  open ");
+        given.print(&ticket);
+        given.push("\n");
+    }
+}
+
+/// Adds the line of a request, its reply, and the Next that its connection has open then.
+fn push_told(given: &mut Given, text: &str, reply: &Reply, open: &OpenPoll) {
+    given.line(text);
+    push_reply(given, reply);
+    push_open(given, open);
+}
+
+/// The same for three requests.
+pub fn push_three(
+    given: &mut Given,
+    texts: (&str, &str, &str),
+    replies: &(Reply, Reply, Reply),
+    open: &OpenPoll,
+) {
+    push_told(given, texts.0, &replies.0, open);
+    push_told(given, texts.1, &replies.1, open);
+    push_told(given, texts.2, &replies.2, open);
+}
+
+/// Adds what came of a poll for the answer of a ticket.
+pub fn push_poll(given: &mut Given, ticket: Ticket, came: Result<Answer, BellLost>) {
+    given.push("poll ");
+    given.print(&ticket);
+    given.push(": ");
+    given.show(&came);
+    given.push("\n");
+}

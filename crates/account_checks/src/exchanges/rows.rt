@@ -1,0 +1,166 @@
+//! What a request is decided to be in these checks, by its path alone, and their clock.
+
+ghost use Rattle.std.specs.Prelude.{◌≡◌, true, IfOk, IfSome};
+ghost use Rattle.call_types.specs.Within.{IsEnv, IsFunction, is_body};
+ghost use Rattle.decisions.specs.Decisions.{IsAllowed};
+
+use account_lock::Identity;
+use arn_ids::LONGEST_BODY;
+use bytes::Bytes;
+use call_model::{Call, Ticket};
+use case_tables::{CaseFault, value_of};
+use decisions::{Decide, Decision, Shown};
+use http::request::Parts;
+use lambda_wire::{PayloadScratch, Reply, fault_reply, json_headers};
+use long_poll::{Clock, Heard, OneShotBell, Service};
+use std::alloc::{AllocError, Global};
+use std::marker::PhantomData;
+use std::sync::Wait;
+use usage_ledger::{Front, KeepNone, Tally};
+
+/// A clock that stands.
+#[derive(Drop)]
+pub struct At(pub u64);
+
+impl Clock for At {
+    fn now(&self) -> u64 {
+        self.0
+    }
+}
+
+/// Decides for a configuration that has an environment and a function.
+#[derive(Drop)]
+pub struct Rows<S: Identity> {
+    of: PhantomData<S>,
+    ghost environment: { IsEnv S.config 1 },
+    ghost function: { IsFunction S.config 1 },
+}
+
+/// A body that a call may have.
+fn payload(body: &Bytes) -> Result<Option<Bytes>, AllocError>
+    ensures { IfOk result (λ payload. IfSome payload (λ bytes. is_body bytes ≡ true)) }
+{
+    if body.as_slice().len() > LONGEST_BODY {
+        return Ok(None);
+    }
+    Ok(Some(body.clone()?))
+}
+
+/// What is asked for.
+#[derive(Clone, Copy)]
+enum Asked {
+    Next,
+    Invoke,
+    Response,
+    Withdraw,
+    Stats,
+    History,
+    Reservation,
+    Echo,
+    Length,
+}
+
+/// What paths ask for; any other path asks how long the body is.
+const PATHS: [(&str, Asked); 8] = [
+    ("/next", Asked::Next),
+    ("/invoke", Asked::Invoke),
+    ("/response", Asked::Response),
+    ("/withdraw", Asked::Withdraw),
+    ("/stats", Asked::Stats),
+    ("/history", Asked::History),
+    ("/reservation", Asked::Reservation),
+    ("/echo", Asked::Echo),
+];
+
+/// Gives a text.
+fn shown(alloc: Global, body: Bytes) -> Result<Reply, AllocError> {
+    Ok(Reply {
+        status: 200,
+        headers: json_headers(alloc)?,
+        body,
+    })
+}
+
+/// Says how long a body is.
+fn length_of(alloc: Global, body: &Bytes) -> Result<Reply, AllocError> {
+    shown(
+        alloc,
+        Bytes::from_string(format!(in alloc; "{}", body.len())?)?,
+    )
+}
+
+impl<S: Identity> Rows<S> {
+    /// Decides for the configuration that the type names.
+    pub fn new() -> Rows<S>
+        requires environment { IsEnv S.config 1 }
+        requires function { IsFunction S.config 1 }
+    {
+        Rows { of: PhantomData }
+    }
+
+    /// Submits a runtime's Next with a bell, at moment 500.
+    pub fn park<X: Service<KeepNone, S>>(
+        &self,
+        rt: &impl Wait,
+        alloc: Global,
+        service: &X,
+        tally: &mut Tally<KeepNone, S>,
+    ) -> Result<(Ticket, Heard, Front<S>), CaseFault>
+        requires { X.serves service.now ≡ S.config }
+    {
+        let _of = &self.of;
+        let (bell, heard) = OneShotBell::pair(alloc)?;
+        let call = Call::RuntimeNext { env: 1 };
+        match service.submit(rt, tally, 500, call, Some(bell)) {
+            Ok((ticket, front)) => Ok((ticket, heard, front)),
+            Err(_) => Err(CaseFault::Memory),
+        }
+    }
+
+    /// A call with a body: a response to invocation 1, or an Invoke of function 1.
+    fn call(&self, alloc: Global, body: &Bytes, is_response: bool) -> Result<Decision, AllocError>
+        ensures { IfOk result (IsAllowed S.config) }
+    {
+        let _of = &self.of;
+        let Some(body) = payload(body)? else {
+            return Ok(Decision::Reply(fault_reply(alloc, 413, "too large", "TooLarge")?));
+        };
+        if is_response {
+            let (env, id) = (1, 1);
+            return Ok(Decision::Submit(Call::Response { env, id, body }));
+        }
+        Ok(Decision::Submit(Call::Invoke {
+            function: 1,
+            qualified: false,
+            trace: None,
+            body,
+        }))
+    }
+}
+
+impl<S: Identity> Decide for Rows<S> {
+    ghost decides = { λ _ _ _ _. Unit {0} };
+
+    ghost decides_for = { λ _. S.config };
+
+    fn decide(
+        &self,
+        alloc: Global,
+        _scratch: &mut PayloadScratch,
+        parts: &Parts,
+        body: &Bytes,
+    ) -> Result<Decision, AllocError> {
+        let _of = &self.of;
+        match value_of(&PATHS, parts.uri.path()).unwrap_or(Asked::Length) {
+            Asked::Next => Ok(Decision::Submit(Call::RuntimeNext { env: 1 })),
+            Asked::Invoke => self.call(alloc, body, false),
+            Asked::Response => self.call(alloc, body, true),
+            Asked::Withdraw => Ok(Decision::Submit(Call::Withdraw { ticket: 0 })),
+            Asked::Stats => Ok(Decision::Show(Shown::Stats)),
+            Asked::History => Ok(Decision::Show(Shown::History)),
+            Asked::Reservation => Ok(Decision::Show(Shown::Reservation { function: 1 })),
+            Asked::Echo => Ok(Decision::Reply(shown(alloc, body.clone()?)?)),
+            Asked::Length => Ok(Decision::Reply(length_of(alloc, body)?)),
+        }
+    }
+}

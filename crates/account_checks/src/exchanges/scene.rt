@@ -1,0 +1,334 @@
+//! A service, and what is asked of it.
+
+ghost use Rattle.std.specs.Prelude.{◌≡◌, ⊤, IfOk};
+ghost use Rattle.std.specs.Arc.{arc_value};
+ghost use Rattle.long_poll.specs.Stages.{CanGoOn};
+
+use crate::exchanges::asks::{Ask, Pieces, ask_in, three_in};
+use crate::exchanges::outcomes::{
+    finished, made, made_at_once, push_answer, push_fault, push_open, push_poll, push_three,
+};
+use crate::exchanges::rows::{At, Rows};
+use crate::lines::number_behind;
+use account_lock::Identity;
+use call_model::{Answer, Ticket};
+use case_tables::{Case, CaseFault, Given, Part, value_of};
+use http_body_util::BodyExt;
+use lambda_wire::Reply;
+use long_poll::{
+    BellLost, Connection, Exchange, ExchangeFault, Heard, HistoryBody, OneShotBell, OpenPoll,
+    Outcome, Poll, Service,
+};
+use std::alloc::{AllocError, AllocGlobal, Global};
+use std::random::RandomSource;
+use std::sync::{Arc, Mutex, Wait};
+use std::thread::{self, Threads};
+use std::time::Clock;
+use usage_ledger::{Front, KeepNone, Tally};
+
+/// How often a call is withdrawn that another thread waits for, since memory may be refused.
+const TRIES: u32 = 2;
+
+/// What the connections of a case share: a service, who decides for it, and a tally.
+#[derive(Drop)]
+pub struct Shared<X: Service<KeepNone, S>, S: Identity> {
+    service: Arc<X>,
+    rows: Arc<Rows<S>>,
+    tally: Arc<Mutex<Tally<KeepNone, S>>>,
+    ghost agree: { X.serves (arc_value service) ≡ S.config },
+}
+
+/// What is asked, and for how many milliseconds a connection holds a premature call back.
+#[derive(Drop)]
+pub struct Scene<R, X: Service<KeepNone, S>, S: Identity> {
+    rt: R,
+    alloc: Global,
+    shared: Shared<X, S>,
+    patience: u32,
+}
+
+/// What came of an exchange.
+type Came<R, X, S> = Result<Outcome<HistoryBody<R, X, KeepNone, S>>, ExchangeFault>;
+
+/// What came of a poll.
+type Polled = Result<Answer, BellLost>;
+
+impl<X: Service<KeepNone, S>, S: Identity> Shared<X, S> {
+    /// What the connections to this service share.
+    pub fn new(
+        alloc: Global,
+        service: Arc<X>,
+        rows: Arc<Rows<S>>,
+        tally: Tally<KeepNone, S>,
+    ) -> Result<Shared<X, S>, AllocError>
+        requires { X.serves (arc_value service) ≡ S.config }
+    {
+        let tally = Arc::new(alloc, Mutex::new(tally))?;
+        Ok(Shared {
+            service,
+            rows,
+            tally,
+        })
+    }
+
+    /// The same for one more connection.
+    fn again(&self) -> Result<Shared<X, S>, AllocError> {
+        let service = Arc::try_clone(&self.service)?;
+        let rows = Arc::try_clone(&self.rows)?;
+        let tally = Arc::try_clone(&self.tally)?;
+        Ok(Shared {
+            service,
+            rows,
+            tally,
+        })
+    }
+}
+
+impl<
+    R: Wait + Clock + RandomSource + AllocGlobal + Copy + Drop,
+    X: Service<KeepNone, S>,
+    S: Identity + Drop,
+> Scene<R, X, S> {
+    /// What is asked of this service.
+    pub fn new(rt: R, alloc: Global, shared: Shared<X, S>, patience: u32) -> Scene<R, X, S> {
+        Scene {
+            rt,
+            alloc,
+            shared,
+            patience,
+        }
+    }
+
+    /// A connection with this clock and this note of its open Next.
+    fn connected(
+        &self,
+        clock: Arc<At>,
+        open: Arc<OpenPoll>,
+    ) -> Result<Arc<Connection<R, X, Rows<S>, At, KeepNone, S>>, AllocError> {
+        let Shared {
+            service,
+            rows,
+            tally,
+        } = self.shared.again()?;
+        let connection = Connection::new(
+            self.rt,
+            self.alloc,
+            service,
+            rows,
+            clock,
+            tally,
+            open,
+            self.patience,
+        );
+        Ok(Arc::new(self.alloc, connection)?)
+    }
+
+    /// A new connection, whose clock stands at a moment, with the note of its open Next.
+    fn connection(
+        &self,
+        at: At,
+        open: &Arc<OpenPoll>,
+    ) -> Result<Arc<Connection<R, X, Rows<S>, At, KeepNone, S>>, AllocError> {
+        let clock = Arc::new(self.alloc, at)?;
+        let open = Arc::try_clone(open)?;
+        self.connected(clock, open)
+    }
+
+    /// The exchange of a line, over a new connection.
+    fn exchange(
+        &self,
+        line: u64,
+        text: &str,
+        open: &Arc<OpenPoll>,
+    ) -> Result<Exchange<R, X, Rows<S>, At, Pieces, KeepNone, S>, CaseFault>
+        ensures { IfOk result (λ exchange. CanGoOn (λ _. ⊤) exchange.stage) }
+    {
+        let Ask { at, parts, body } = ask_in(self.alloc, line, text)?;
+        Ok(Exchange::new(self.connection(at, open)?, parts, body))
+    }
+
+    /// Adds the history.
+    fn push_history(
+        &self,
+        given: &mut Given,
+        body: HistoryBody<R, X, KeepNone, S>,
+    ) -> Result<(), CaseFault> {
+        let text = finished(&self.rt, body.collect(self.alloc))??;
+        given.push_bytes(text.to_bytes()?.as_slice());
+        Ok(())
+    }
+
+    /// Adds what came of an exchange.
+    fn push_came(&self, given: &mut Given, came: Came<R, X, S>) -> Result<(), CaseFault> {
+        match came {
+            Ok(Outcome::Reply(reply)) => push_answer(given, &reply),
+            Ok(Outcome::History(body)) => self.push_history(given, body),
+            Err(fault) => push_fault(given, fault),
+        }
+    }
+
+    /// Makes the request of a line, or lets it go once it waits, and adds what came of it.
+    fn make(
+        &self,
+        line: u64,
+        text: &str,
+        drops: bool,
+        open: &Arc<OpenPoll>,
+        given: &mut Given,
+    ) -> Result<(), CaseFault> {
+        let exchange = self.exchange(line, text, open)?;
+        match made(&self.rt, exchange, drops)? {
+            None => {
+                given.push("  waits\n");
+                Ok(())
+            }
+            Some(came) => self.push_came(given, came),
+        }
+    }
+
+    /// Adds the line of a request, what comes of it, and the Next that its connection has open then.
+    fn ask(&self, line: u64, text: &str, drops: bool, given: &mut Given) -> Result<(), CaseFault> {
+        given.line(text);
+        let open = Arc::new(self.alloc, OpenPoll::new())?;
+        self.make(line, text, drops, &open, given)?;
+        push_open(given, &open);
+        Ok(())
+    }
+
+    /// Makes the requests of a part's lines one after another.
+    fn ask_all(&self, part: &Part, given: &mut Given) -> Result<(), CaseFault> {
+        for text in part.lines().split('\n') {
+            self.ask(part.line(), text, part.word() == "drops", given)?;
+        }
+        Ok(())
+    }
+
+    /// Makes the requests of three lines at once, each over a connection of its own.
+    fn make_three(
+        &self,
+        line: u64,
+        texts: (&str, &str, &str),
+        open: &Arc<OpenPoll>,
+    ) -> Result<(Reply, Reply, Reply), CaseFault> {
+        let first = self.exchange(line, texts.0, open);
+        let second = self.exchange(line, texts.1, open);
+        let third = self.exchange(line, texts.2, open);
+        made_at_once(&self.rt, line, first, second, third)
+    }
+
+    /// Makes the requests of a part's three lines at once.
+    fn ask_three(&self, part: &Part, given: &mut Given) -> Result<(), CaseFault> {
+        let texts = three_in(part);
+        let open = Arc::new(self.alloc, OpenPoll::new())?;
+        let replies = self.make_three(part.line(), texts, &open)?;
+        push_three(given, texts, &replies, &open);
+        Ok(())
+    }
+
+    /// Polls for the answer of a ticket; what came of that.
+    fn poll(&self, ticket: Ticket, heard: Heard, front: Front<S>) -> Result<Polled, CaseFault> {
+        let service = Arc::try_clone(&self.shared.service)?;
+        let poll: Poll<R, X, Heard, KeepNone, S> = Poll::new(
+            self.rt, service, ticket, heard, front,
+        );
+        finished(&self.rt, poll)
+    }
+
+    /// Polls for the answer of a ticket, whose bell was dropped.
+    fn poll_lost(&self, part: &Part, given: &mut Given) -> Result<(), CaseFault> {
+        let ticket = number_behind(part)?;
+        let (bell, heard) = OneShotBell::pair(self.alloc)?;
+        drop(bell);
+        let came = self.poll(ticket, heard, self.shared.service.front(&self.rt))?;
+        push_poll(given, ticket, came);
+        Ok(())
+    }
+
+    /// Submits a runtime's Next with a bell.
+    fn park(&self) -> Result<(Ticket, Heard, Front<S>), CaseFault> {
+        let mut tally = self.shared.tally.lock(&self.rt);
+        self.shared
+            .rows
+            .park(&self.rt, self.alloc, &*self.shared.service, &mut tally)
+    }
+
+    /// Begins the request of a part while another thread polls for ticket 0: if that has no answer then,
+    /// it is withdrawn, so that nobody waits in vain.
+    fn ask_for_other(&self, part: &Part, given: &mut Given) -> Result<(), CaseFault> {
+        let asked = self.ask(part.line(), part.lines(), true, given);
+        for _ in 0..TRIES {
+            let mut unread = Given::new(self.alloc);
+            let _ = self.ask(part.line(), "0 /withdraw", true, &mut unread);
+        }
+        asked
+    }
+}
+
+/// Polls on another thread for the answer of a runtime's Next, while this one begins the request of a
+/// part.
+fn poll_across<
+    R: Wait + Threads + Clock + RandomSource + AllocGlobal + Copy + Send + Sync + Drop,
+    X: Service<KeepNone, S> + Send + Sync,
+    S: Identity + Drop + Send + Sync,
+>(scene: &Scene<R, X, S>, part: &Part, given: &mut Given) -> Result<(), CaseFault> {
+    let (ticket, heard, front) = scene.park()?;
+    let (came, asked) = thread::join(
+        &scene.rt,
+        move || scene.poll(ticket, heard, front),
+        || scene.ask_for_other(part, given),
+    );
+    asked?;
+    push_poll(given, ticket, came?);
+    Ok(())
+}
+
+/// What a part does.
+#[derive(Clone, Copy)]
+enum Deed {
+    /// It says what the case is run over.
+    Opens,
+    Asks,
+    AsksAtOnce,
+    PollsLost,
+    PollsAcross,
+}
+
+/// The words of parts.
+const DEEDS: [(&str, Deed); 8] = [
+    ("open", Deed::Opens),
+    ("board", Deed::Opens),
+    ("patience", Deed::Opens),
+    ("asks", Deed::Asks),
+    ("drops", Deed::Asks),
+    ("at-once", Deed::AsksAtOnce),
+    ("lost", Deed::PollsLost),
+    ("across", Deed::PollsAcross),
+];
+
+/// Does what a part of a case says.
+fn act<
+    R: Wait + Threads + Clock + RandomSource + AllocGlobal + Copy + Send + Sync + Drop,
+    X: Service<KeepNone, S> + Send + Sync,
+    S: Identity + Drop + Send + Sync,
+>(scene: &Scene<R, X, S>, part: &Part, given: &mut Given) -> Result<(), CaseFault> {
+    match value_of(&DEEDS, part.word()) {
+        Some(Deed::Opens) => Ok(()),
+        Some(Deed::Asks) => scene.ask_all(part, given),
+        Some(Deed::AsksAtOnce) => scene.ask_three(part, given),
+        Some(Deed::PollsLost) => scene.poll_lost(part, given),
+        Some(Deed::PollsAcross) => poll_across(scene, part, given),
+        None => Err(CaseFault::Unknown { line: part.line() }),
+    }
+}
+
+/// Does what the parts of a case say, in their order.
+pub fn play<
+    R: Wait + Threads + Clock + RandomSource + AllocGlobal + Copy + Send + Sync + Drop,
+    X: Service<KeepNone, S> + Send + Sync,
+    S: Identity + Drop + Send + Sync,
+>(scene: &Scene<R, X, S>, case: &Case, given: &mut Given) -> Result<(), CaseFault> {
+    for part in case.parts() {
+        act(scene, part, given)?;
+    }
+    Ok(())
+}

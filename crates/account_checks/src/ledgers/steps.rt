@@ -1,0 +1,258 @@
+//! The steps of a case of ledgers.
+
+ghost use Rattle.std.specs.Prelude.{◌≡◌, ◌^◌};
+
+use crate::lines::seat_in;
+use crate::tallies::{
+    SeatFault, join_next, note_calls, note_receipts, part_of, push_receipts, push_seat, seat_at,
+    two_taken_out,
+};
+use call_model::{Answer, Head, Kind, Ticket};
+use case_tables::{CaseFault, Given, value_of};
+use std::alloc::{AllocError, Global};
+use usage_ledger::{Counts, JoinFault, Keep, Ledgers, Start, Tally, Totals};
+
+/// How many parts there are.
+const ALL_PARTS: u64 = 4_294_967_296;
+
+/// More room than there is.
+const TOO_MUCH: usize = 18_446_744_073_709_551_615;
+
+/// The receipts of one invocation: a runtime's Next waits for it, and a response answers it.
+const RECEIPTS: [(&str, (Ticket, Answer)); 3] = [
+    (
+        "delivered",
+        (
+            0,
+            Answer::Delivered {
+                invoke: 1,
+                deadline: 4000,
+            },
+        ),
+    ),
+    ("output", (1, Answer::Output { source: 2 })),
+    ("accepted", (2, Answer::Accepted)),
+];
+
+/// Its calls: each with its ticket, and the count that it names.
+const CALLS: [(&str, (Ticket, Kind, Option<u64>)); 3] = [
+    ("next", (0, Kind::RuntimeNext, None)),
+    ("invoke", (1, Kind::Invoke, None)),
+    ("response", (2, Kind::Response, Some(1))),
+];
+
+/// What is done to a tally.
+#[derive(Clone, Copy)]
+enum Change {
+    Note,
+    Make,
+    Split,
+    Join,
+    Count,
+    Audit,
+}
+
+/// The words of changes.
+const CHANGES: [(&str, Change); 6] = [
+    ("note", Change::Note),
+    ("make", Change::Make),
+    ("split", Change::Split),
+    ("join", Change::Join),
+    ("count", Change::Count),
+    ("audit", Change::Audit),
+];
+
+/// What is told of a tally.
+#[derive(Clone, Copy)]
+enum Question {
+    Look,
+    Room,
+    Refuse,
+}
+
+/// The words of questions.
+const QUESTIONS: [(&str, Question); 3] = [
+    ("look", Question::Look),
+    ("room", Question::Room),
+    ("refuse", Question::Refuse),
+];
+
+/// The ledgers of an account: what all tallies count, and the tallies.
+#[derive(Drop)]
+pub struct Bench<K: Keep, L: Ledgers> {
+    totals: Totals<L>,
+    tallies: Vec<Tally<K, L>>,
+}
+
+/// Notes the receipt of a word.
+fn note<K: Keep, L: Ledgers>(tally: &mut Tally<K, L>, word: &str) -> Result<(), SeatFault> {
+    match value_of(&RECEIPTS, word) {
+        Some(receipt) => Ok(note_receipts(tally, &[receipt])?),
+        None => Err(SeatFault::NoWord),
+    }
+}
+
+/// Notes the call of a word.
+fn make<K: Keep, L: Ledgers>(tally: &mut Tally<K, L>, word: &str) -> Result<(), SeatFault> {
+    let Some((ticket, kind, count)) = value_of(&CALLS, word) else {
+        return Err(SeatFault::NoWord);
+    };
+    let head = Head {
+        kind,
+        number: 1,
+        count,
+    };
+    Ok(note_calls(tally, &[(ticket, head)])?)
+}
+
+/// Tells that a tally has not so much room.
+fn push_room<K: Keep, L: Ledgers>(tally: &mut Tally<K, L>, given: &mut Given) {
+    given.push(match tally.room(TOO_MUCH) {
+        Ok(()) => " made\n",
+        Err(AllocError) => " refused\n",
+    });
+}
+
+/// Tells why two tallies were not joined.
+fn push_fault<K: Keep, L: Ledgers>(fault: &JoinFault<Tally<K, L>>, given: &mut Given) {
+    given.push(" ");
+    given.print(fault);
+    given.push(": ");
+    given.show(fault);
+    given.push("\n");
+}
+
+/// Joins a tally with the one behind it where memory is refused; both are then put behind the others.
+fn push_refused<K: Keep, L: Ledgers>(
+    tallies: &mut Vec<Tally<K, L>>,
+    seat: usize,
+    given: &mut Given,
+) -> Result<(), SeatFault> {
+    let (one, other) = two_taken_out(tallies, seat)?;
+    let Err(fault) = one.join(other) else {
+        return Err(SeatFault::NoFault);
+    };
+    push_fault(&fault, given);
+    let JoinFault::OutOfMemory { one, other } = fault;
+    tallies.push(one)?;
+    tallies.push(other)?;
+    Ok(())
+}
+
+/// Tells of a tally.
+fn push_look<K: Keep, L: Ledgers>(
+    tallies: &[Tally<K, L>],
+    seat: usize,
+    given: &mut Given,
+) -> Result<(), SeatFault> {
+    let Some(seen) = seat_at(tallies, seat) else {
+        return Err(SeatFault::NoTally);
+    };
+    push_seat(given, seen);
+    push_receipts(given, seen.receipts, 0);
+    Ok(())
+}
+
+/// The tally with a number.
+fn tally_at<K: Keep, L: Ledgers>(
+    tallies: &mut Vec<Tally<K, L>>,
+    seat: usize,
+) -> Result<&mut Tally<K, L>, SeatFault> {
+    match tallies.get_mut(seat) {
+        Some(tally) => Ok(tally),
+        None => Err(SeatFault::NoTally),
+    }
+}
+
+impl<K: Keep, L: Ledgers> Bench<K, L> {
+    /// The ledgers with their first tally.
+    pub fn new(alloc: Global, start: Start<K, L>) -> Result<Bench<K, L>, AllocError> {
+        let Start { totals, tally, .. } = start;
+        let mut tallies = Vec::with_capacity(alloc, 1)?;
+        tallies.push(tally)?;
+        Ok(Bench { totals, tallies })
+    }
+
+    /// Puts a tally with a part of another one behind the others.
+    fn split(&mut self, seat: usize) -> Result<(), SeatFault> {
+        let part = part_of(self.tallies.get_mut(seat))?;
+        self.tallies.push(part)?;
+        Ok(())
+    }
+
+    /// Counts three calls, of which one was admitted.
+    fn count(&mut self, seat: usize) -> Result<(), SeatFault> {
+        let rises = Counts {
+            calls: 3,
+            admitted: 1,
+            throttled: 0,
+            failed: 0,
+        };
+        self.totals.count(tally_at(&mut self.tallies, seat)?, rises);
+        Ok(())
+    }
+
+    /// Holds the counts of the tally that has all parts against the totals.
+    fn audit(&mut self, seat: usize) -> Result<(), SeatFault> {
+        let tally = tally_at(&mut self.tallies, seat)?;
+        if tally.parts() != ALL_PARTS {
+            return Err(SeatFault::NoParts);
+        }
+        self.totals.audit(tally);
+        Ok(())
+    }
+
+    /// Changes a tally, with the word behind its number.
+    fn change(&mut self, change: Change, seat: usize, word: &str) -> Result<(), SeatFault> {
+        match change {
+            Change::Note => note(tally_at(&mut self.tallies, seat)?, word),
+            Change::Make => make(tally_at(&mut self.tallies, seat)?, word),
+            Change::Split => self.split(seat),
+            Change::Join => join_next(&mut self.tallies, seat),
+            Change::Count => self.count(seat),
+            Change::Audit => self.audit(seat),
+        }
+    }
+
+    /// Tells what is asked of a tally.
+    fn ask(&mut self, question: Question, seat: usize, given: &mut Given) -> Result<(), SeatFault> {
+        match question {
+            Question::Look => push_look(self.tallies.as_slice(), seat, given),
+            Question::Room => {
+                push_room(tally_at(&mut self.tallies, seat)?, given);
+                Ok(())
+            }
+            Question::Refuse => push_refused(&mut self.tallies, seat, given),
+        }
+    }
+
+    /// Does what words say to the tally with a number; of a question its line is told.
+    fn act(
+        &mut self,
+        line: &str,
+        words: (&str, &str),
+        seat: usize,
+        given: &mut Given,
+    ) -> Result<(), SeatFault> {
+        if let Some(change) = value_of(&CHANGES, words.0) {
+            return self.change(change, seat, words.1);
+        }
+        let Some(question) = value_of(&QUESTIONS, words.0) else {
+            return Err(SeatFault::NoWord);
+        };
+        given.push(line);
+        given.push(":");
+        self.ask(question, seat, given)
+    }
+
+    /// Does what a line says.
+    pub fn step(&mut self, number: u64, line: &str, given: &mut Given) -> Result<(), CaseFault> {
+        let (word, rest) = line.split_once(' ').unwrap_or((line, ""));
+        let (seat, behind) = rest.split_once(' ').unwrap_or((rest, ""));
+        let seat = seat_in(number, seat)?;
+        match self.act(line, (word, behind), seat, given) {
+            Ok(()) => Ok(()),
+            Err(fault) => Err(fault.at(number)),
+        }
+    }
+}

@@ -1,0 +1,198 @@
+//! Tallies, by which callers keep their shares of the counts: what cases do to them, and what is
+//! seen of them.
+
+ghost use Rattle.std.specs.Prelude.{◌<◌, OnOk};
+
+use crate::lines::malformed;
+use call_model::{Answer, Head, Ticket};
+use case_tables::{CaseFault, Given};
+use std::alloc::{AllocError, AllocFailed};
+use usage_ledger::{JoinFault, Keep, Ledgers, Tally};
+
+/// Why something was not done to tallies.
+#[derive(Clone, Copy)]
+pub enum SeatFault {
+    /// There is no such tally.
+    NoTally,
+    /// The tally has too few parts.
+    NoParts,
+    /// The word stands for nothing.
+    NoWord,
+    /// Two tallies were joined that are not to be.
+    NoFault,
+    /// There was no memory.
+    Memory,
+}
+
+impl From<AllocError> for SeatFault {
+    fn from(_e: AllocError) -> SeatFault {
+        SeatFault::Memory
+    }
+}
+
+impl<X: Drop> From<AllocFailed<X>> for SeatFault {
+    fn from(_e: AllocFailed<X>) -> SeatFault {
+        SeatFault::Memory
+    }
+}
+
+impl SeatFault {
+    /// What a case suffers from that has this fault at a line.
+    pub fn at(self, line: u64) -> CaseFault {
+        match self {
+            SeatFault::Memory => CaseFault::Memory,
+            SeatFault::NoTally => malformed(line, "a tally that is there is wanted"),
+            SeatFault::NoParts => malformed(line, "fewer tallies are wanted"),
+            SeatFault::NoWord => malformed(line, "another word is wanted"),
+            SeatFault::NoFault => malformed(line, "tallies that refuse room are wanted"),
+        }
+    }
+}
+
+/// What is seen of a tally.
+#[derive(Clone, Copy)]
+pub struct Seat<'a> {
+    pub parts: u64,
+    pub joined: bool,
+    pub receipts: &'a [(Ticket, Answer)],
+    pub calls: &'a [(Ticket, Head)],
+}
+
+/// What is seen of the tally with a number.
+pub fn seat_at<K: Keep, L: Ledgers>(tallies: &[Tally<K, L>], seat: usize) -> Option<Seat<'_>> {
+    let tally = tallies.get(seat)?;
+    Some(Seat {
+        parts: tally.parts(),
+        joined: tally.joined(),
+        receipts: tally.kept(),
+        calls: tally.calls(),
+    })
+}
+
+/// A new tally with a part of another one.
+pub fn part_of<K: Keep, L: Ledgers>(
+    tally: Option<&mut Tally<K, L>>,
+) -> Result<Tally<K, L>, SeatFault> {
+    let Some(tally) = tally else {
+        return Err(SeatFault::NoTally);
+    };
+    if tally.parts() < 2 {
+        return Err(SeatFault::NoParts);
+    }
+    Ok(tally.split())
+}
+
+/// Takes a tally out of these.
+pub fn taken_out<K: Keep, L: Ledgers>(
+    tallies: &mut Vec<Tally<K, L>>,
+    seat: usize,
+) -> Result<Tally<K, L>, SeatFault> {
+    if seat >= tallies.len() {
+        return Err(SeatFault::NoTally);
+    }
+    Ok(tallies.remove(seat))
+}
+
+/// Takes a tally and the next one out of these.
+pub fn two_taken_out<K: Keep, L: Ledgers>(
+    tallies: &mut Vec<Tally<K, L>>,
+    seat: usize,
+) -> Result<(Tally<K, L>, Tally<K, L>), SeatFault> {
+    let one = taken_out(tallies, seat)?;
+    let other = taken_out(tallies, seat)?;
+    Ok((one, other))
+}
+
+/// Joins a tally and the next one, and puts them behind the others.
+pub fn join_next<K: Keep, L: Ledgers>(
+    tallies: &mut Vec<Tally<K, L>>,
+    seat: usize,
+) -> Result<(), SeatFault> {
+    let (one, other) = two_taken_out(tallies, seat)?;
+    match one.join(other) {
+        Ok(joined) => Ok(tallies.push(joined)?),
+        Err(JoinFault::OutOfMemory { .. }) => Err(SeatFault::Memory),
+    }
+}
+
+/// Makes room for one receipt and one call, and asks again where it was refused.
+fn make_room<K: Keep, L: Ledgers>(tally: &mut Tally<K, L>) -> Result<(), AllocError>
+    ensures notes { OnOk result (0 < tally.new.spare_notes) }
+    ensures calls { OnOk result (0 < tally.new.spare_calls) }
+{
+    if tally.room(1).is_ok() {
+        return Ok(());
+    }
+    tally.room(1)
+}
+
+/// Notes receipts.
+pub fn note_receipts<K: Keep, L: Ledgers>(
+    tally: &mut Tally<K, L>,
+    receipts: &[(Ticket, Answer)],
+) -> Result<(), AllocError> {
+    for receipt in receipts {
+        make_room(tally)?;
+        tally.note(receipt.0, receipt.1);
+    }
+    Ok(())
+}
+
+/// Notes calls.
+pub fn note_calls<K: Keep, L: Ledgers>(
+    tally: &mut Tally<K, L>,
+    calls: &[(Ticket, Head)],
+) -> Result<(), AllocError> {
+    for call in calls {
+        make_room(tally)?;
+        tally.made(call.0, call.1);
+    }
+    Ok(())
+}
+
+/// Adds the line of what a ticket was answered.
+pub fn push_answered(given: &mut Given, ticket: Ticket, answer: Answer) {
+    given.push("  ");
+    given.print(&ticket);
+    given.push(": ");
+    given.show(&answer);
+    given.push("\n");
+}
+
+/// Adds receipts, but for so many of the first.
+pub fn push_receipts(given: &mut Given, receipts: &[(Ticket, Answer)], but: usize) {
+    for receipt in receipts.iter().skip(but) {
+        push_answered(given, receipt.0, receipt.1);
+    }
+}
+
+/// Adds the head of a call.
+fn push_head(given: &mut Given, ticket: Ticket, head: Head) {
+    given.push("  ");
+    given.print(&ticket);
+    given.push(": ");
+    given.show(&head.kind);
+    given.push(" ");
+    given.print(&head.number);
+    if let Some(count) = head.count {
+        given.push(" ");
+        given.print(&count);
+    }
+    given.push("\n");
+}
+
+/// Adds what is seen of a tally.
+pub fn push_seat(given: &mut Given, seat: Seat<'_>) {
+    given.push(" ");
+    given.print(&seat.parts);
+    given.push(if seat.joined {
+        " parts, joined, "
+    } else {
+        " parts, "
+    });
+    given.print(&seat.receipts.len());
+    given.push(" receipts\n");
+    for call in seat.calls {
+        push_head(given, call.0, call.1);
+    }
+}

@@ -1,0 +1,57 @@
+//! The parts that an account is made of.
+
+mod answers;
+mod configurations;
+mod due;
+mod environments;
+mod extension_sets;
+mod heads;
+mod histories;
+mod identifiers;
+mod lines;
+mod moves;
+mod names;
+mod places;
+mod pools;
+mod script_calls;
+mod script_lines;
+mod written_answers;
+
+use case_tables::{Case, CaseFault, Given};
+
+/// What a file's cases are about.
+#[derive(Clone, Copy)]
+pub enum Table {
+    Names,
+    Identifiers,
+    Configurations,
+    ScriptLines,
+    Histories,
+    Heads,
+    Pools,
+    Deadlines,
+    Places,
+    Moves,
+    Extensions,
+    Environments,
+}
+
+impl Table {
+    /// Tells what a case gives.
+    pub fn tell(self, case: &Case, given: &mut Given) -> Result<(), CaseFault> {
+        match self {
+            Table::Names => names::give(case, given),
+            Table::Identifiers => identifiers::give(case, given),
+            Table::Configurations => configurations::give(case, given),
+            Table::ScriptLines => script_lines::give(case, given),
+            Table::Histories => histories::give(case, given),
+            Table::Heads => heads::give(case, given),
+            Table::Pools => pools::give(case, given),
+            Table::Deadlines => due::give(case, given),
+            Table::Places => places::give(case, given),
+            Table::Moves => moves::give(case, given),
+            Table::Extensions => extension_sets::give(case, given),
+            Table::Environments => environments::give(case, given),
+        }
+    }
+}

@@ -1,0 +1,79 @@
+//! Deadlines of environments, and which of them is due first.
+
+use crate::parts::lines::{Calls, LineFault, Words, make_calls, number_of, short};
+use crate::shown::tell;
+use arn_ids::EnvNo;
+use case_tables::{Case, CaseFault, Given};
+use deadlines::Due;
+
+/// Environments with their deadlines.
+#[derive(Drop)]
+struct Environments {
+    due: Due,
+}
+
+fn set(due: &mut Due, env: EnvNo, deadline: Option<u64>) -> Result<(), LineFault> {
+    if env < 1 || due.environments() < env {
+        return Err(LineFault::Malformed);
+    }
+    due.set(env, deadline);
+    Ok(())
+}
+
+fn set_one(due: &mut Due, words: Words<'_>) -> Result<(), LineFault> {
+    let mut words = words;
+    let env = short(words.number()?)?;
+    match words.rest() {
+        "-" => set(due, env, None),
+        _ => set(due, env, Some(words.last_number()?)),
+    }
+}
+
+fn set_all(due: &mut Due, divisor: u64) -> Result<(), LineFault> {
+    for index in 0..due.environments() {
+        let env = index.saturating_add(1);
+        let deadline = u64::from(env).checked_rem(divisor);
+        set(due, env, deadline)?;
+    }
+    Ok(())
+}
+
+fn call_due(due: &mut Due, line: &str, given: &mut Given) -> Result<(), LineFault> {
+    let mut words = Words::of(line);
+    match words.next() {
+        "set" => set_one(due, words)?,
+        "set-all" => set_all(due, words.last_number()?)?,
+        "first-due" => tell(given, &due.first_due(words.last_number()?)),
+        "environments" => tell(given, &due.environments()),
+        _ => return Err(LineFault::Malformed),
+    }
+    Ok(())
+}
+
+impl Calls for Environments {
+    fn call(&mut self, line: &str, given: &mut Given) -> Result<(), LineFault> {
+        match line.strip_prefix("open ") {
+            Some(count) => {
+                self.due = Due::open(given.alloc(), short(number_of(count)?)?)?;
+                Ok(())
+            }
+            None => call_due(&mut self.due, line, given),
+        }
+    }
+}
+
+/// Which environment is due.
+///
+/// | Line | What it gives |
+/// |---|---|
+/// | `open N` | nothing; the lines behind it call N environments without deadlines |
+/// | `set E MOMENT`, `set E -` | nothing; the environment's deadline |
+/// | `set-all N` | nothing; each environment's deadline is its number's remainder by N |
+/// | `first-due MOMENT` | the environment that is due then |
+/// | `environments` | how many there are |
+pub fn give(case: &Case, given: &mut Given) -> Result<(), CaseFault> {
+    let mut environments = Environments {
+        due: Due::open(given.alloc(), 0)?,
+    };
+    make_calls(case, &mut environments, given)
+}

@@ -1,0 +1,215 @@
+//! Extensions of an environment, from their registering to their end.
+
+use crate::answers::REASONS;
+use crate::parts::answers::{answer_of, say_answers};
+use crate::parts::lines::{Calls, LineFault, Opens, Words, call_opened, text_of};
+use crate::parts::script_calls::call_of;
+use crate::shown::tell;
+use arn_ids::Checked;
+use call_model::{Call, Reason};
+use case_tables::{Case, CaseFault, Given, value_of};
+use extension_set::{CLOSING_LIMIT, ExtensionSet, Moves, RegisterFault, Turn};
+use std::alloc::{AllocError, Global};
+
+/// The extensions of one environment, and the account whose calls are made.
+#[derive(Drop)]
+struct Environment {
+    config: Checked,
+    set: ExtensionSet,
+}
+
+/// The events that an extension can ask for: those of invocations, and of the end.
+const EVENTS: [(&str, (bool, bool)); 4] = [
+    ("i", (true, false)),
+    ("s", (false, true)),
+    ("is", (true, true)),
+    ("-", (false, false)),
+];
+
+fn say_verdict(verdict: Result<(), RegisterFault>, given: &mut Given) {
+    match verdict {
+        Ok(()) => given.push("registered"),
+        Err(fault) => given.print(&fault),
+    }
+    given.push("\n");
+}
+
+fn register(set: &mut ExtensionSet, words: Words<'_>, given: &mut Given) -> Result<(), LineFault> {
+    let mut words = words;
+    let name = words.next();
+    let events = words.next();
+    let count = words.last_number()?;
+    let name = text_of(given.alloc(), name)?;
+    if name.as_str().len() > 128 {
+        return Err(LineFault::Malformed);
+    }
+    match value_of(&EVENTS, events) {
+        Some((invoke, shutdown)) => {
+            say_verdict(set.register(&name, invoke, shutdown, count), given);
+            Ok(())
+        }
+        None => Err(LineFault::Malformed),
+    }
+}
+
+/// The reason that a word says; none for a dash.
+fn reason_of(word: &str) -> Result<Option<Reason>, LineFault> {
+    match value_of(&REASONS, word) {
+        Some(reason) => Ok(Some(reason)),
+        None if word == "-" => Ok(None),
+        None => Err(LineFault::Malformed),
+    }
+}
+
+/// Has the extensions take a call, and says what it answers.
+fn take_call(
+    set: &mut ExtensionSet,
+    turn: Turn,
+    call: &Call,
+    given: &mut Given,
+) -> Result<(), LineFault> {
+    if turn.now >= 1 << 53 || set.len() > 10 {
+        return Err(LineFault::Malformed);
+    }
+    let mut moves = Moves::new();
+    set.take(turn, call, &mut moves);
+    say_answers(given, moves.as_slice());
+    Ok(())
+}
+
+fn take(
+    environment: &mut Environment,
+    words: Words<'_>,
+    given: &mut Given,
+) -> Result<(), LineFault> {
+    let mut words = words;
+    let ticket = words.number()?;
+    let own = answer_of(words.next())?;
+    let closes = reason_of(words.next())?;
+    let (now, call) = call_of(given.alloc(), &environment.config, words.rest())?;
+    let turn = Turn {
+        ticket,
+        now,
+        own,
+        closes,
+    };
+    take_call(&mut environment.set, turn, &call, given)
+}
+
+fn invoke(set: &mut ExtensionSet, words: Words<'_>, given: &mut Given) -> Result<(), LineFault> {
+    let mut words = words;
+    let ticket = words.number()?;
+    let deadline = words.last_number()?;
+    if set.len() > 10 {
+        return Err(LineFault::Malformed);
+    }
+    let mut moves = Moves::new();
+    set.take_invoke(ticket, deadline, &mut moves);
+    say_answers(given, moves.as_slice());
+    Ok(())
+}
+
+/// How many of the names that these words say are free.
+fn unregistered(alloc: Global, set: &ExtensionSet, words: &str) -> Result<u64, AllocError> {
+    let mut names = Vec::new(alloc);
+    for name in words.split(' ') {
+        if !name.is_empty() {
+            names.push(text_of(alloc, name)?)?;
+        }
+    }
+    Ok(set.unregistered(names.as_slice()))
+}
+
+/// Asks about a name.
+fn ask_name(
+    set: &ExtensionSet,
+    admits: bool,
+    name: &str,
+    given: &mut Given,
+) -> Result<(), LineFault> {
+    let name = text_of(given.alloc(), name)?;
+    match admits {
+        true => say_verdict(set.admits(&name), given),
+        false => tell(given, &set.lacks(&name)),
+    }
+    Ok(())
+}
+
+/// Asks about one extension or a name.
+fn ask(
+    set: &ExtensionSet,
+    word: &str,
+    words: Words<'_>,
+    given: &mut Given,
+) -> Result<(), LineFault> {
+    match word {
+        "admits" => ask_name(set, true, words.rest(), given)?,
+        "lacks" => ask_name(set, false, words.rest(), given)?,
+        "unregistered" => tell(given, &unregistered(given.alloc(), set, words.rest())?),
+        "is-known" => tell(given, &set.is_known(words.last_number()?)),
+        "owes-end" => tell(given, &set.owes_end(words.last_number()?)),
+        _ => return Err(LineFault::Malformed),
+    }
+    Ok(())
+}
+
+/// Asks for one of the set's numbers.
+fn number(set: &ExtensionSet, line: &str) -> Option<u64> {
+    match line {
+        "len" => Some(set.len() as u64),
+        "waiting" => Some(set.waiting()),
+        "silent" => Some(set.silent()),
+        "closing-limit" => Some(CLOSING_LIMIT),
+        _ => None,
+    }
+}
+
+fn call_set(environment: &mut Environment, line: &str, given: &mut Given) -> Result<(), LineFault> {
+    let mut words = Words::of(line);
+    match words.next() {
+        "register" => register(&mut environment.set, words, given),
+        "invoke" => invoke(&mut environment.set, words, given),
+        "take" => take(environment, words, given),
+        word => ask(&environment.set, word, words, given),
+    }
+}
+
+impl Calls for Environment {
+    fn call(&mut self, line: &str, given: &mut Given) -> Result<(), LineFault> {
+        if line == "clear" {
+            self.set.clear();
+            return Ok(());
+        }
+        match number(&self.set, line) {
+            Some(number) => {
+                tell(given, &number);
+                Ok(())
+            }
+            None => call_set(self, line, given),
+        }
+    }
+}
+
+impl Opens for Environment {
+    fn open(alloc: Global, config: Checked) -> Result<Environment, LineFault> {
+        let set = ExtensionSet::open(alloc)?;
+        Ok(Environment { config, set })
+    }
+}
+
+/// What extensions are told.
+///
+/// | Line | What it gives |
+/// |---|---|
+/// | `{..}` | nothing; the account whose calls are made, and no extensions |
+/// | `register NAME EVENTS COUNT` | `registered`, or why not; the events are `i`, `s`, `is` or `-` |
+/// | `take TICKET ANSWER REASON CALL` | the answers to parked Nexts at a script's call, which has this ticket and answer, and closes the environment for this reason |
+/// | `invoke TICKET DEADLINE` | the answers where an invocation begins |
+/// | `admits NAME`, `lacks NAME` | whether the name may be registered, and is free |
+/// | `unregistered NAMES` | how many of the names are free |
+/// | `is-known COUNT`, `owes-end COUNT` | what is asked of one extension |
+/// | `len`, `waiting`, `silent`, `closing-limit` | numbers |
+/// | `clear` | nothing; all are forgotten |
+pub fn give(case: &Case, given: &mut Given) -> Result<(), CaseFault> {
+    call_opened::<Environment>(case, given)
+}

@@ -1,0 +1,149 @@
+//! Histories, and what is written of their calls and answers.
+
+mod past;
+
+use crate::parts::configurations::setup_of;
+use crate::parts::histories::past::Past;
+use crate::parts::lines::{Calls, LineFault, Words, make_calls};
+use crate::parts::script_calls::call_of;
+use crate::parts::written_answers::answer_of;
+use arn_ids::Checked;
+use call_model::{Answer, Answers, Entry, Ticket};
+use case_tables::{Case, CaseFault, Given};
+use script::{push_answers, push_entry};
+use std::alloc::Global;
+use std::mem;
+
+/// An account, its entries, and the answers of the next one.
+#[derive(Drop)]
+struct Account {
+    config: Option<Checked>,
+    salt: u64,
+    past: Past,
+    answers: Vec<(Ticket, Answer)>,
+}
+
+/// Says the entry with a number as a history has it.
+fn say_entry(
+    config: &Checked,
+    salt: u64,
+    past: &Past,
+    number: u64,
+    given: &mut Given,
+) -> Result<(), LineFault> {
+    let entries = past.entries();
+    if entries.len() as u64 <= number {
+        return Err(LineFault::Malformed);
+    }
+    let mut written = Vec::new(given.alloc());
+    push_entry(
+        &mut written,
+        config,
+        salt,
+        entries,
+        past.counts(),
+        number as usize,
+    )?;
+    given.push_bytes(written.as_slice());
+    Ok(())
+}
+
+/// Says the answers of the entry with a number.
+fn say_answers(salt: u64, past: &Past, number: u64, given: &mut Given) -> Result<(), LineFault> {
+    let entries = past.entries();
+    if entries.len() as u64 <= number {
+        return Err(LineFault::Malformed);
+    }
+    let mut written = Vec::new(given.alloc());
+    push_answers(&mut written, salt, entries, past.counts(), number as usize)?;
+    given.push_bytes(written.as_slice());
+    Ok(())
+}
+
+impl Account {
+    fn open(&mut self, alloc: Global, line: &str) -> Result<(), LineFault> {
+        let setup = setup_of(alloc, line)?;
+        self.salt = setup.salt;
+        match setup.config.check() {
+            Ok(checked) => self.config = Some(checked),
+            Err(_) => return Err(LineFault::Malformed),
+        }
+        Ok(())
+    }
+
+    fn answer(&mut self, words: Words<'_>) -> Result<(), LineFault> {
+        let mut words = words;
+        let ticket = words.number()?;
+        let answer = answer_of(words)?;
+        Ok(self.answers.push((ticket, answer))?)
+    }
+}
+
+/// Adds an entry with these answers.
+fn add(
+    alloc: Global,
+    config: &Checked,
+    past: &mut Past,
+    answers: Vec<(Ticket, Answer)>,
+    line: &str,
+) -> Result<(), LineFault> {
+    let (moment, call) = call_of(alloc, config, line)?;
+    past.add(Entry {
+        moment,
+        call,
+        answers: Answers::new(answers),
+        place: None,
+    })?;
+    Ok(())
+}
+
+fn call_account(account: &mut Account, line: &str, given: &mut Given) -> Result<(), LineFault> {
+    let mut words = Words::of(line);
+    let word = words.next();
+    let Some(config) = &account.config else {
+        return Err(LineFault::Malformed);
+    };
+    let salt = account.salt;
+    match word {
+        "entry" => {
+            let alloc = given.alloc();
+            let answers = mem::replace(&mut account.answers, Vec::new(alloc));
+            add(alloc, config, &mut account.past, answers, words.rest())
+        }
+        "text" => say_entry(config, salt, &account.past, words.last_number()?, given),
+        "answers" => say_answers(salt, &account.past, words.last_number()?, given),
+        _ => Err(LineFault::Malformed),
+    }
+}
+
+impl Calls for Account {
+    fn call(&mut self, line: &str, given: &mut Given) -> Result<(), LineFault> {
+        if line.starts_with('{') {
+            return self.open(given.alloc(), line);
+        }
+        match line.strip_prefix("answer ") {
+            Some(words) => self.answer(Words::of(words)),
+            None => call_account(self, line, given),
+        }
+    }
+}
+
+/// What is written of histories.
+///
+/// | Line | What it gives |
+/// |---|---|
+/// | `{..}` | nothing; the account whose calls are read and written, and its salt |
+/// | `answer TICKET ANSWER` | nothing; an answer of the entry that comes next |
+/// | `entry CALL` | nothing; an entry of this call of a script, behind those before it |
+/// | `text N` | the entry with this number as a history has it |
+/// | `answers N` | the answers of the entry with this number |
+pub fn give(case: &Case, given: &mut Given) -> Result<(), CaseFault> {
+    let alloc = given.alloc();
+    let mut account = Account {
+        config: None,
+        salt: 0,
+        past: Past::new(alloc),
+        answers: Vec::new(alloc),
+    };
+    make_calls(case, &mut account, given)
+}

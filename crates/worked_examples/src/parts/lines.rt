@@ -1,0 +1,160 @@
+//! The lines of a case: each is words, and says one call that is made.
+
+use crate::parts::configurations::configuration_of;
+use arn_ids::{Checked, Text};
+use case_tables::{Case, CaseFault, Given, Part};
+use std::alloc::{AllocError, AllocFailed, Global};
+
+/// Why a line was not taken.
+#[derive(Clone, Copy)]
+pub enum LineFault {
+    /// There was no memory.
+    Memory,
+    /// It says no call that is known here, or one that cannot be made.
+    Malformed,
+}
+
+impl From<AllocError> for LineFault {
+    fn from(_e: AllocError) -> LineFault {
+        LineFault::Memory
+    }
+}
+
+impl<T: Drop> From<AllocFailed<T>> for LineFault {
+    fn from(_e: AllocFailed<T>) -> LineFault {
+        LineFault::Memory
+    }
+}
+
+/// What a case's lines are told to, one after the other.
+pub trait Calls {
+    /// Makes the call of a line, and adds what it gives.
+    fn call(&mut self, line: &str, given: &mut Given) -> Result<(), LineFault>;
+}
+
+/// What a configuration opens, and the lines behind it call.
+pub trait Opens: Calls + Drop {
+    /// Opens what a configuration says.
+    fn open(alloc: Global, config: Checked) -> Result<Self, LineFault>;
+}
+
+/// What the configuration opened that was read last.
+#[derive(Drop)]
+struct Opened<T> {
+    last: Option<T>,
+}
+
+impl<T: Opens> Calls for Opened<T> {
+    fn call(&mut self, line: &str, given: &mut Given) -> Result<(), LineFault> {
+        if line.starts_with('{') {
+            let config = configuration_of(given.alloc(), line)?;
+            self.last = Some(T::open(given.alloc(), config)?);
+            return Ok(());
+        }
+        match &mut self.last {
+            Some(opened) => opened.call(line, given),
+            None => Err(LineFault::Malformed),
+        }
+    }
+}
+
+/// The words of a line.
+#[derive(Clone, Copy)]
+pub struct Words<'a> {
+    rest: &'a str,
+}
+
+impl<'a> Words<'a> {
+    /// All words of a line.
+    pub fn of(line: &'a str) -> Words<'a> {
+        Words { rest: line }
+    }
+
+    /// The next word; an empty one behind the last.
+    pub fn next(&mut self) -> &'a str {
+        let (word, rest) = self.rest.split_once(' ').unwrap_or((self.rest, ""));
+        self.rest = rest;
+        word
+    }
+
+    /// The number that the next word says.
+    pub fn number(&mut self) -> Result<u64, LineFault> {
+        number_of(self.next())
+    }
+
+    /// The number that all other words say.
+    pub fn last_number(self) -> Result<u64, LineFault> {
+        number_of(self.rest)
+    }
+
+    /// The number of 32 bits that all other words say.
+    pub fn last_short(self) -> Result<u32, LineFault> {
+        short(self.last_number()?)
+    }
+
+    /// The other words, as they stand.
+    pub fn rest(self) -> &'a str {
+        self.rest
+    }
+}
+
+/// A text, as arn_ids has it.
+pub fn text_of(alloc: Global, text: &str) -> Result<Text, AllocError> {
+    Ok(Text::new(String::from_str(alloc, text)?))
+}
+
+/// The number that a text says.
+pub fn number_of(text: &str) -> Result<u64, LineFault> {
+    match text.parse::<u64>() {
+        Ok(number) => Ok(number),
+        Err(_) => Err(LineFault::Malformed),
+    }
+}
+
+/// A number that has 32 bits.
+pub fn short(number: u64) -> Result<u32, LineFault> {
+    match u32::try_from(number) {
+        Ok(number) => Ok(number),
+        Err(_) => Err(LineFault::Malformed),
+    }
+}
+
+/// The only part of a case, which is `calls`.
+fn calls_of(case: &Case) -> Result<&Part, CaseFault> {
+    match case.part("calls") {
+        Some(part) if case.parts().len() == 1 => Ok(part),
+        _ => Err(CaseFault::Missing { part: "calls" }),
+    }
+}
+
+/// Makes the calls of a case, which has one part `calls`.
+pub fn make_calls<C: Calls>(
+    case: &Case,
+    calls: &mut C,
+    given: &mut Given,
+) -> Result<(), CaseFault> {
+    let part = calls_of(case)?;
+    let mut number = part.line();
+    for line in part.lines().split('\n') {
+        number = number.saturating_add(1);
+        if let Err(fault) = calls.call(line, given) {
+            return Err(fault_at(number, fault));
+        }
+    }
+    Ok(())
+}
+
+/// Makes the calls of a case. A line that is a configuration opens what those behind it call.
+pub fn call_opened<T: Opens>(case: &Case, given: &mut Given) -> Result<(), CaseFault> {
+    make_calls(case, &mut Opened::<T> { last: None }, given)
+}
+
+fn fault_at(line: u64, fault: LineFault) -> CaseFault {
+    match fault {
+        LineFault::Memory => CaseFault::Memory,
+        LineFault::Malformed => CaseFault::Malformed {
+            line,
+            what: "a call that can be made is wanted",
+        },
+    }
+}

@@ -1,0 +1,110 @@
+//! Lines of scripts, and the calls that they stand for.
+
+use crate::parts::lines::{Calls, LineFault, Opens, Words, call_opened, short};
+use crate::shown::tell;
+use arn_ids::Checked;
+use call_model::Call;
+use case_tables::{Case, CaseFault, Given};
+use std::alloc::Global;
+
+/// The account whose scripts are read.
+#[derive(Drop)]
+struct Account {
+    config: Checked,
+}
+
+/// The line between the bars.
+fn line_of(alloc: Global, words: &str) -> Result<String, LineFault> {
+    let Some(rest) = words.strip_prefix('|') else {
+        return Err(LineFault::Malformed);
+    };
+    let Some(line) = rest.strip_suffix('|') else {
+        return Err(LineFault::Malformed);
+    };
+    let line = line.replace(alloc, "<tab>", "\t")?;
+    Ok(line.as_str().replace(alloc, "<return>", "\r")?)
+}
+
+/// What a line of a script stands for, in a form that has `reserve` or not.
+fn read(
+    alloc: Global,
+    config: &Checked,
+    reserves: bool,
+    line: &str,
+) -> Result<Option<(u64, Call)>, LineFault> {
+    Ok(script::read_call(alloc, config, reserves, line.as_bytes())?)
+}
+
+fn say_whether(call: &Option<(u64, Call)>, given: &mut Given) {
+    given.push(if call.is_some() {
+        "a call\n"
+    } else {
+        "no call\n"
+    });
+}
+
+/// Says what a line is; where that is no call, what stands for that.
+fn say_call(call: &Option<(u64, Call)>, otherwise: &str, given: &mut Given) {
+    match call {
+        Some(call) => tell(given, call),
+        None => given.push(otherwise),
+    }
+}
+
+/// A line with so many letters.
+fn with_letters(alloc: Global, words: Words<'_>) -> Result<String, LineFault> {
+    let mut words = words;
+    let count = short(words.number()?)?;
+    let letters = "x".repeat(alloc, count as usize)?;
+    let line = line_of(alloc, words.rest())?;
+    Ok(line.as_str().replace(alloc, "<letters>", letters.as_str())?)
+}
+
+/// What a line says, in its bars.
+fn text_of(alloc: Global, word: &str, words: Words<'_>) -> Result<String, LineFault> {
+    match word {
+        "letters" => with_letters(alloc, words),
+        _ => line_of(alloc, words.rest()),
+    }
+}
+
+/// Says of a line what its word asks.
+fn say(word: &str, call: &Option<(u64, Call)>, given: &mut Given) -> Result<(), LineFault> {
+    match word {
+        "call" => say_call(call, "no call\n", given),
+        "no-call" => say_call(call, "", given),
+        "form-1" | "letters" => say_whether(call, given),
+        _ => return Err(LineFault::Malformed),
+    }
+    Ok(())
+}
+
+impl Calls for Account {
+    fn call(&mut self, line: &str, given: &mut Given) -> Result<(), LineFault> {
+        let mut words = Words::of(line);
+        let word = words.next();
+        let text = text_of(given.alloc(), word, words)?;
+        let call = read(given.alloc(), &self.config, word != "form-1", text.as_str())?;
+        say(word, &call, given)
+    }
+}
+
+impl Opens for Account {
+    fn open(_alloc: Global, config: Checked) -> Result<Account, LineFault> {
+        Ok(Account { config })
+    }
+}
+
+/// What lines of scripts say. A line of a script stands between bars (here quotes), `<tab>` and `<return>` stand
+/// for these bytes.
+///
+/// | Line | What it gives |
+/// |---|---|
+/// | `{..}` | nothing; the account whose scripts are read |
+/// | `call 'LINE'` | the line's moment and call, or `no call` |
+/// | `no-call 'LINE'` | nothing where the line stands for no call |
+/// | `form-1 'LINE'` | whether it stands for a call in a script of the first form |
+/// | `letters N 'LINE'` | whether it does, with N letters in place of `<letters>` |
+pub fn give(case: &Case, given: &mut Given) -> Result<(), CaseFault> {
+    call_opened::<Account>(case, given)
+}

@@ -1,0 +1,84 @@
+//! Requests: on which port each comes in, and what is done with it.
+
+mod decided;
+mod methods;
+mod port;
+mod request;
+
+use crate::routes::decided::push_decided;
+use crate::routes::methods::push_methods;
+use crate::routes::port::{Door, door_of};
+use crate::routes::request::{read_body, read_head};
+use case_tables::{Case, CaseFault, Given, Part};
+
+/// Adds what is done with the request of a part, to whose body the parts behind it may add.
+fn push_request(
+    door: &Door,
+    part: &Part,
+    others: &[Part],
+    given: &mut Given,
+) -> Result<(), CaseFault> {
+    let text = part.lines();
+    let (lines, body) = text.split_once("\n\n").unwrap_or((text, ""));
+    let body = read_body(given.alloc(), body, others)?;
+    let head = read_head(given.alloc(), part, lines)?;
+    push_decided(door, &head, &body, given)
+}
+
+/// Adds what is done with the requests of a part, and tells whether the next part may add to a body.
+fn push_part(
+    door: &Door,
+    part: &Part,
+    others: &[Part],
+    has_body: bool,
+    given: &mut Given,
+) -> Result<bool, CaseFault> {
+    match part.word() {
+        "request" => {
+            push_request(door, part, others, given)?;
+            Ok(true)
+        }
+        "methods" => {
+            push_methods(door, part, given)?;
+            Ok(false)
+        }
+        _ if has_body => Ok(true),
+        _ => Err(CaseFault::Unknown { line: part.line() }),
+    }
+}
+
+/// Adds what is done with the requests of a case.
+fn push_requests(door: &Door, parts: &[Part], given: &mut Given) -> Result<(), CaseFault> {
+    let mut has_body = false;
+    for place in 0..parts.len() {
+        has_body = push_part(door, &parts[place], &parts[place + 1..], has_body, given)?;
+    }
+    Ok(())
+}
+
+/// The first of the parts, which is to be called so, and the others.
+fn cut_part<'c>(
+    parts: &'c [Part],
+    word: &'static str,
+) -> Result<(&'c Part, &'c [Part]), CaseFault> {
+    match parts.split_first() {
+        Some((part, others)) if part.word() == word => Ok((part, others)),
+        _ => Err(CaseFault::Missing { part: word }),
+    }
+}
+
+/// What is done with the requests of a case.
+///
+/// | Part | What it says |
+/// |---|---|
+/// | `config` | the configuration, the first part of a case |
+/// | `port account`, `port environment E` | the port, the second part of a case |
+/// | `request` | a request, which gives a line |
+/// | `body`, `bytes`, `times` | further bytes of the body of the request before it |
+/// | `methods M M ..` | a target a line, each of which gives a word for each of these methods |
+pub fn give(case: &Case, given: &mut Given) -> Result<(), CaseFault> {
+    let (config, parts) = cut_part(case.parts(), "config")?;
+    let (port, parts) = cut_part(parts, "port")?;
+    let door = door_of(given.alloc(), config, port)?;
+    push_requests(&door, parts, given)
+}

@@ -1,0 +1,132 @@
+//! What is done with a request, as a line.
+
+ghost use Rattle.std.specs.Prelude.{◌≡◌, [], ◌∷◌, IfOk};
+ghost use Rattle.call_model.specs.CallCounts.{request_count};
+
+use crate::routes::port::Door;
+use arn_ids::Checked;
+use bytes::Bytes;
+use call_model::{Answers, Call, Entry};
+use case_tables::{CaseFault, Given};
+use entry_blocks::Blocks;
+use http::request::Parts;
+use http_routes::{Decision, Shown};
+use lambda_wire::{PayloadScratch, Reply};
+use script::push_entry;
+use std::alloc::{AllocError, Global};
+
+/// How many bytes of a body a line shows.
+const LONGEST_SHOWN: usize = 1000;
+
+/// What a port does with a request.
+pub fn decided(
+    alloc: Global,
+    door: &Door,
+    head: &Parts,
+    body: &Bytes,
+) -> Result<Decision, AllocError> {
+    let mut scratch = PayloadScratch::new();
+    door.side.decide(alloc, &mut scratch, head, body)
+}
+
+/// The count in the request identifier of the only call of a history.
+fn count_of(entry: &Entry) -> u64
+    ensures { result ≡ request_count (entry.now ∷ []) entry.now.call }
+{
+    match &entry.call {
+        Call::Invoke { .. } => 1,
+        _ => 0,
+    }
+}
+
+/// A row of one item.
+fn row_of<T: Drop>(alloc: Global, item: T) -> Result<Blocks<T>, AllocError>
+    ensures { IfOk result (λ row. row.0 ≡ item ∷ []) }
+{
+    let mut row = Blocks::open(alloc);
+    row.reserve(1)?;
+    row.push(item);
+    Ok(row)
+}
+
+/// The line of a script that a call is read from.
+fn line_of(alloc: Global, config: &Checked, call: Call) -> Result<Vec<u8>, AllocError> {
+    let entry = Entry {
+        moment: 0,
+        call,
+        answers: Answers::new(Vec::new(alloc)),
+        place: None,
+    };
+    let mut line = Vec::new(alloc);
+    let count = count_of(&entry);
+    let entries = row_of(alloc, entry)?;
+    let counts = row_of(alloc, count)?;
+    push_entry(&mut line, config, 0, &entries, &counts, 0)?;
+    Ok(line)
+}
+
+/// Adds a script's line. Where it ends with the request's body, and that is long, it is told how
+/// many bytes those are.
+fn push_line(line: &[u8], body: &[u8], given: &mut Given) {
+    let line = line.strip_suffix(b"\n").unwrap_or(line);
+    match line.strip_suffix(body) {
+        Some(front) if body.len() > LONGEST_SHOWN => {
+            given.push_bytes(front);
+            given.push("(the ");
+            given.print(&body.len());
+            given.push(" bytes of the body)");
+        }
+        _ => given.push_bytes(line),
+    }
+}
+
+/// Adds the line of a call.
+fn push_call(config: &Checked, call: Call, body: &[u8], given: &mut Given) {
+    given.push("submit ");
+    match line_of(given.alloc(), config, call) {
+        Ok(line) => push_line(line.as_slice(), body, given),
+        Err(_) => given.cut(),
+    }
+}
+
+/// Adds a refusal: its status, the type that the Lambda API gives it, and its body.
+fn push_refusal(reply: &Reply, given: &mut Given) {
+    given.push("refuse ");
+    given.print(&reply.status);
+    given.push(" ");
+    for (name, value) in reply.headers.as_slice() {
+        if name.as_str() == "x-amzn-errortype" {
+            given.push_bytes(value.as_bytes());
+            given.push(" ");
+        }
+    }
+    given.push_bytes(reply.body.as_slice());
+}
+
+/// Adds what is shown.
+fn push_shown(shown: Shown, given: &mut Given) {
+    match shown {
+        Shown::Stats => given.push("show stats"),
+        Shown::History => given.push("show history"),
+        Shown::Reservation { function } => {
+            given.push("show reservation ");
+            given.print(&function);
+        }
+    }
+}
+
+/// Adds the line of what a port does with a request.
+pub fn push_decided(
+    door: &Door,
+    head: &Parts,
+    body: &Bytes,
+    given: &mut Given,
+) -> Result<(), CaseFault> {
+    match decided(given.alloc(), door, head, body)? {
+        Decision::Submit(call) => push_call(&door.config, call, body.as_slice(), given),
+        Decision::Reply(reply) => push_refusal(&reply, given),
+        Decision::Show(shown) => push_shown(shown, given),
+    }
+    given.push("\n");
+    Ok(())
+}

@@ -1,0 +1,67 @@
+//! Targets with each method: whether a port has the path, and whether the path takes the method.
+
+use crate::routes::decided::decided;
+use crate::routes::port::Door;
+use crate::routes::request::head_of;
+use bytes::Bytes;
+use case_tables::{CaseFault, Given, Part};
+use http::request::Parts;
+use http_routes::Decision;
+use std::alloc::{AllocError, Global};
+
+/// The word for what is done with a request: 404 where there is no such path, 405 where it takes
+/// other methods, and `yes` where it takes this one.
+fn word_of(decision: &Decision) -> &'static str {
+    let Decision::Reply(reply) = decision else {
+        return "yes";
+    };
+    let body = reply.body.as_slice();
+    if body.starts_with(b"{\"errorMessage\":\"No such resource\"") {
+        return "404";
+    }
+    match reply.status {
+        405 => "405",
+        _ => "yes",
+    }
+}
+
+/// The word for what is done with a request of this head and no body.
+fn word_for(alloc: Global, door: &Door, head: &Parts) -> Result<&'static str, AllocError> {
+    let decision = decided(alloc, door, head, &Bytes::new())?;
+    Ok(word_of(&decision))
+}
+
+/// Adds the word of a method.
+fn push_method(
+    door: &Door,
+    part: &Part,
+    method: &str,
+    target: &str,
+    given: &mut Given,
+) -> Result<(), CaseFault> {
+    let head = head_of(given.alloc(), part, method, target)?;
+    given.push(word_for(given.alloc(), door, &head)?);
+    Ok(())
+}
+
+/// Adds the line of a target: a word for each method.
+fn push_target(door: &Door, part: &Part, target: &str, given: &mut Given) -> Result<(), CaseFault> {
+    let mut is_first = true;
+    for method in part.arguments().split(' ') {
+        if !is_first {
+            given.push(" ");
+        }
+        push_method(door, part, method, target, given)?;
+        is_first = false;
+    }
+    given.push("\n");
+    Ok(())
+}
+
+/// Adds the lines of a part's targets.
+pub fn push_methods(door: &Door, part: &Part, given: &mut Given) -> Result<(), CaseFault> {
+    for target in part.lines().split('\n') {
+        push_target(door, part, target, given)?;
+    }
+    Ok(())
+}

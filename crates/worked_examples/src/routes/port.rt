@@ -1,0 +1,54 @@
+//! The port that the requests of a case come in on.
+
+use crate::accounts::{Account, account_of};
+use arn_ids::Checked;
+use case_tables::{CaseFault, Part};
+use http_routes::{Port, Side};
+use std::alloc::Global;
+use std::sync::Arc;
+
+/// A port, and the configuration that it is of.
+#[derive(Drop)]
+pub struct Door {
+    pub config: Arc<Checked>,
+    pub side: Side,
+}
+
+/// The port that a part names: `account`, or `environment E`.
+fn port_of(part: &Part) -> Result<Port, CaseFault> {
+    let words = part.arguments();
+    if words == "account" {
+        return Ok(Port::Account);
+    }
+    let Some(number) = words.strip_prefix("environment ") else {
+        return Err(part.malformed("account or environment E is wanted"));
+    };
+    match number.parse::<u32>() {
+        Ok(env) => Ok(Port::Environment(env)),
+        Err(_) => Err(part.malformed("the number of an environment is wanted")),
+    }
+}
+
+/// Opens a port of a configuration, where it has the port.
+fn open(
+    alloc: Global,
+    config: &Arc<Checked>,
+    salt: u64,
+    port: Port,
+    part: &Part,
+) -> Result<Side, CaseFault> {
+    if let Port::Environment(env) = port {
+        if env == 0 || env > config.environments() {
+            return Err(part.malformed("there is no such environment"));
+        }
+    }
+    Ok(Side::open(alloc, Arc::try_clone(config)?, salt, port)?)
+}
+
+/// Opens the port that a part names, of the configuration that another one says.
+pub fn door_of(alloc: Global, config_part: &Part, port_part: &Part) -> Result<Door, CaseFault> {
+    let Account { config, salt } = account_of(alloc, config_part)?;
+    let config = Arc::new(alloc, config)?;
+    let side = open(alloc, &config, salt, port_of(port_part)?, port_part)?;
+    Ok(Door { config, side })
+}

@@ -1,0 +1,119 @@
+//! What a book says to a question, as lines.
+
+use crate::scripts::questions::Question;
+use crate::scripts::texts::push_bytes;
+use crate::shown::{push_headers, push_line, tell};
+use account_book::Book;
+use arn_ids::FnNo;
+use call_model::{Answer, Ticket};
+use case_tables::Given;
+use lambda_wire::Reply;
+use std::alloc::AllocError;
+
+/// Adds a number and what stands behind it; where there is none, `-`.
+fn push_number(given: &mut Given, number: Option<u64>, behind: &str) {
+    match number {
+        Some(number) => given.print(&number),
+        None => given.push("-"),
+    }
+    given.push(behind);
+}
+
+/// Adds bytes as lines; where there are none, `-`.
+fn push_text(given: &mut Given, text: &Option<Vec<u8>>) {
+    match text {
+        Some(bytes) => push_bytes(given, bytes.as_slice()),
+        None => given.push("-\n"),
+    }
+}
+
+/// Adds an answer as a line; where there is none, `-`.
+fn push_answer(given: &mut Given, answer: Option<Answer>) {
+    match answer {
+        Some(answer) => tell(given, &answer),
+        None => given.push("-\n"),
+    }
+}
+
+/// The place of an entry as a number.
+fn number_of(place: Option<u32>) -> Option<u64> {
+    match place {
+        Some(place) => Some(u64::from(place)),
+        None => None,
+    }
+}
+
+/// The moment and the place of the entry with a ticket.
+fn moment_and_place(book: &Book, ticket: Ticket) -> (Option<u64>, Option<u64>) {
+    match book.entry(ticket) {
+        Some(entry) => (Some(entry.moment), number_of(entry.place)),
+        None => (None, None),
+    }
+}
+
+/// Adds the line of a ticket.
+fn push_entry(book: &Book, ticket: Ticket, given: &mut Given) {
+    let (moment, place) = moment_and_place(book, ticket);
+    push_number(given, Some(ticket), " ");
+    push_number(given, moment, " ");
+    push_number(given, place, " ");
+    push_number(given, book.counts().get(ticket as usize).copied(), " ");
+    push_answer(given, book.answer(ticket));
+}
+
+/// Adds the line of each ticket, and of the one past the end.
+fn push_entries(book: &Book, given: &mut Given) {
+    for ticket in 0..=book.len() {
+        push_entry(book, ticket, given);
+    }
+}
+
+/// Adds the reservation in force of a function; where there is no such function, that.
+fn push_reservation(book: &Book, function: FnNo, given: &mut Given) {
+    if function == 0 || book.config().functions().len() < function as usize {
+        given.push("no such function\n");
+        return;
+    }
+    push_number(given, number_of(book.reservation(function)), "\n");
+}
+
+/// Adds what the configuration says.
+fn push_config(book: &Book, given: &mut Given) {
+    let config = book.config();
+    given.push("environments ");
+    given.print(&config.environments());
+    given.push(", functions ");
+    given.print(&config.functions().len());
+    given.push(", limit ");
+    given.print(&config.account_limit());
+    given.push("\n");
+}
+
+/// Adds a reply; where there is none, `-`.
+fn push_reply(given: &mut Given, reply: &Option<Reply>) {
+    let Some(reply) = reply else {
+        given.push("-\n");
+        return;
+    };
+    push_number(given, Some(u64::from(reply.status)), "\n");
+    push_headers(given, &reply.headers);
+    given.push("=");
+    push_line(given, reply.body.as_slice());
+}
+
+/// Adds what a book says to a question.
+pub fn push_reading(book: &Book, question: Question, given: &mut Given) -> Result<(), AllocError> {
+    match question {
+        Question::Entries => push_entries(book, given),
+        Question::Opening => push_bytes(given, book.opening()?.as_slice()),
+        Question::History(ticket) => push_text(given, &book.history(ticket)?),
+        Question::Render(ticket) => push_reply(given, &book.render(ticket)?),
+        Question::Stats => tell(given, &book.stats()),
+        Question::Due(moment) => tell(given, &book.due(moment)),
+        Question::Life => tell(given, &book.life()),
+        Question::Reservation(function) => push_reservation(book, function, given),
+        Question::Salt => push_number(given, Some(book.salt()), "\n"),
+        Question::Config => push_config(book, given),
+    }
+    Ok(())
+}

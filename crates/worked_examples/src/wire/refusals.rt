@@ -1,0 +1,50 @@
+//! Whole replies that refuse.
+
+use crate::wire::arguments::Arguments;
+use crate::wire::headers::{text_of, value_in};
+use crate::wire::reply_text::push_reply;
+use case_tables::{CaseFault, Given};
+use lambda_wire::{Reply, fault_reply, invoke_fault_reply};
+use std::alloc::Global;
+
+fn status_of(arguments: &Arguments) -> Result<u16, CaseFault> {
+    match u16::try_from(arguments.number("status")) {
+        Ok(status) => Ok(status),
+        Err(_) => Err(arguments.fault("no status")),
+    }
+}
+
+fn fault(alloc: Global, status: u16, arguments: &Arguments) -> Result<Reply, CaseFault> {
+    let message = arguments.text("message");
+    Ok(fault_reply(alloc, status, message, arguments.text("type"))?)
+}
+
+fn invoke_fault(alloc: Global, status: u16, arguments: &Arguments) -> Result<Reply, CaseFault> {
+    let form = arguments.form()?;
+    let kind = value_in(alloc, arguments, "type")?;
+    let kind = text_of(arguments, &kind)?;
+    Ok(invoke_fault_reply(alloc, status, kind, form, arguments.text("message"))?)
+}
+
+/// The reply that a call makes.
+fn refusal(alloc: Global, word: &str, arguments: &Arguments) -> Result<Reply, CaseFault> {
+    arguments.check(&["status", "type", "message"])?;
+    let status = status_of(arguments)?;
+    match word {
+        "fault" => fault(alloc, status, arguments),
+        "invoke-fault" => invoke_fault(alloc, status, arguments),
+        _ => Err(arguments.unknown()),
+    }
+}
+
+/// Adds the reply that a call makes.
+///
+/// | Call | Arguments |
+/// |---|---|
+/// | `fault`, on an environment's port | `status`, `type`, `message` |
+/// | `invoke-fault`, on the account's | `status`, `type`, `form` as for the body, `message` |
+pub fn push_refusal(word: &str, arguments: &Arguments, given: &mut Given) -> Result<(), CaseFault> {
+    let reply = refusal(given.alloc(), word, arguments)?;
+    push_reply(given, &reply);
+    Ok(())
+}
