@@ -2,13 +2,12 @@
 
 use crate::flood::is_answered_meanwhile;
 use crate::stage::Stage;
-use case_tables::{Case, CaseFault, Part};
+use case_tables::{Case, CaseFault, Given, Part};
 use http_connection::Machine;
 use socket_peers::{
-    Heard, Peer, Progress, bytes_of, entries_in, exchange, malformed, number, push_line,
-    request_of, split_word,
+    Heard, Peer, Progress, bytes_of, entries_in, exchange, number, push_line, request_of,
+    split_word,
 };
-use std::alloc::{AllocError, Global};
 use std::str;
 use std::time::Duration;
 
@@ -26,39 +25,32 @@ fn takes_lines(word: &str) -> bool {
 }
 
 /// Adds how many entries were seen last, where they are not as many as are wanted.
-fn tell_entries(
-    alloc: Global,
-    given: &mut String,
-    seen: Option<u64>,
-    wanted: u64,
-) -> Result<Progress, AllocError> {
+fn tell_entries(given: &mut Given, seen: Option<u64>, wanted: u64) -> Progress {
     if seen == Some(wanted) {
-        return Ok(Progress::On);
+        return Progress::On;
     }
-    let seen = format!(in alloc; "{seen:?}")?;
-    push_line(given, "entries", seen.as_str())?;
-    Ok(Progress::Stuck)
+    given.push("entries: ");
+    given.show(&seen);
+    given.push("\n");
+    Progress::Stuck
 }
 
 /// Adds how many seconds a check has taken, where they are out of a range.
-fn tell_seconds(
-    alloc: Global,
-    part: &Part,
-    given: &mut String,
-    taken: u64,
-) -> Result<Progress, CaseFault> {
+fn tell_seconds(part: &Part, given: &mut Given, taken: u64) -> Result<Progress, CaseFault> {
     let (least, most) = split_word(part.arguments());
     let least = u64::from(number(part, least)?);
     let most = u64::from(number(part, most)?);
     if taken < least || taken > most {
-        given.push_str(format!(in alloc; "it took {taken} seconds\n")?.as_str())?;
+        given.push("it took ");
+        given.print(&taken);
+        given.push(" seconds\n");
     }
     Ok(Progress::On)
 }
 
 impl<R: Machine> Stage<R> {
     /// Performs the steps of a case, until one waits in vain.
-    pub fn play(&mut self, case: &Case, given: &mut String) -> Result<Progress, CaseFault> {
+    pub fn play(&mut self, case: &Case, given: &mut Given) -> Result<Progress, CaseFault> {
         for part in case.parts() {
             if self.perform(part, given)? == Progress::Stuck {
                 return Ok(Progress::Stuck);
@@ -68,9 +60,9 @@ impl<R: Machine> Stage<R> {
     }
 
     /// Performs a step (docs/architecture.md, "Adding a case", has a table of them).
-    fn perform(&mut self, part: &Part, given: &mut String) -> Result<Progress, CaseFault> {
+    fn perform(&mut self, part: &Part, given: &mut Given) -> Result<Progress, CaseFault> {
         if !part.text().is_empty() && !takes_lines(part.word()) {
-            return Err(malformed(part, "no lines are wanted here"));
+            return Err(part.malformed("no lines are wanted here"));
         }
         match part.word() {
             "places" | "patience" | "holds-back" => self.set_terms(part),
@@ -90,14 +82,14 @@ impl<R: Machine> Stage<R> {
     pub fn port(&self, part: &Part, name: &str) -> Result<u16, CaseFault> {
         match self.ports.number(name) {
             Some(port) => Ok(port),
-            None => Err(malformed(part, "a port is invoke or 1 to 4")),
+            None => Err(part.malformed("a port is invoke or 1 to 4")),
         }
     }
 
     /// Connects a peer of this name to a port, and sends these bytes.
     fn connect(
         &mut self,
-        given: &mut String,
+        given: &mut Given,
         name: &str,
         port: u16,
         bytes: &[u8],
@@ -105,14 +97,14 @@ impl<R: Machine> Stage<R> {
         match Peer::connect(&self.rt, port) {
             Ok(peer) => self.peers.welcome(given, name, peer, bytes),
             Err(_) => {
-                push_line(given, name, "not connected")?;
+                push_line(given, name, "not connected");
                 Ok(Progress::Stuck)
             }
         }
     }
 
     /// A peer connects, and sends the lines of the part.
-    fn open(&mut self, part: &Part, given: &mut String) -> Result<Progress, CaseFault> {
+    fn open(&mut self, part: &Part, given: &mut Given) -> Result<Progress, CaseFault> {
         let (name, port) = split_word(part.arguments());
         self.peers.expect_newcomer(part, name)?;
         let port = self.port(part, port)?;
@@ -121,14 +113,14 @@ impl<R: Machine> Stage<R> {
     }
 
     /// A peer connects, and sends a request.
-    fn ask(&mut self, part: &Part, given: &mut String) -> Result<Progress, CaseFault> {
+    fn ask(&mut self, part: &Part, given: &mut Given) -> Result<Progress, CaseFault> {
         let (name, words) = split_word(part.arguments());
         let (port, words) = split_word(words);
         let (method, path) = split_word(words);
         self.peers.expect_newcomer(part, name)?;
         let port = self.port(part, port)?;
         let request = request_of(self.alloc, method, path, part.text())?;
-        self.connect(given, name, port, request.as_bytes())
+        self.connect(given, name, port, request.as_str().as_bytes())
     }
 
     /// How many entries the history has, once it has so many; or what was said last.
@@ -149,12 +141,12 @@ impl<R: Machine> Stage<R> {
     }
 
     /// Waits until the history has so many entries, and not more.
-    fn wait_for_entries(&self, part: &Part, given: &mut String) -> Result<Progress, CaseFault> {
+    fn wait_for_entries(&self, part: &Part, given: &mut Given) -> Result<Progress, CaseFault> {
         let wanted = u64::from(number(part, part.arguments())?);
         let port = self.port(part, "invoke")?;
         let request = request_of(self.alloc, "GET", "/_local/stats", "")?;
         let seen = self.entries(port, request.as_str(), wanted);
-        Ok(tell_entries(self.alloc, given, seen, wanted)?)
+        Ok(tell_entries(given, seen, wanted))
     }
 
     /// Whether a request to a port is answered while two others crowd another one.
@@ -168,7 +160,7 @@ impl<R: Machine> Stage<R> {
     }
 
     /// Two others crowd a port while the service's counts are asked for.
-    fn crowd(&self, part: &Part, given: &mut String) -> Result<Progress, CaseFault> {
+    fn crowd(&self, part: &Part, given: &mut Given) -> Result<Progress, CaseFault> {
         let crowded = self.port(part, part.arguments())?;
         let port = self.port(part, "invoke")?;
         let request = request_of(self.alloc, "GET", "/_local/stats", "")?;
@@ -176,32 +168,27 @@ impl<R: Machine> Stage<R> {
             true => "the counts came meanwhile",
             false => "the counts didn't come before its end",
         };
-        push_line(given, "crowd", what)?;
+        push_line(given, "crowd", what);
         Ok(Progress::On)
     }
 
     /// Stops the service, and adds whether it was stopped.
-    fn stop_by_step(&mut self, part: &Part, given: &mut String) -> Result<Progress, CaseFault> {
+    fn stop_by_step(&mut self, part: &Part, given: &mut Given) -> Result<Progress, CaseFault> {
         if !part.arguments().is_empty() {
-            return Err(malformed(part, "no word is wanted here"));
+            return Err(part.malformed("no word is wanted here"));
         }
         let progress = self.stop()?;
         let what = match progress {
             Progress::On => "202",
             Progress::Stuck => "no answer",
         };
-        push_line(given, "stop", what)?;
+        push_line(given, "stop", what);
         Ok(progress)
     }
 
     /// Adds how many seconds the check has taken, where they are out of a range.
-    fn compare_seconds(&self, part: &Part, given: &mut String) -> Result<Progress, CaseFault> {
+    fn compare_seconds(&self, part: &Part, given: &mut Given) -> Result<Progress, CaseFault> {
         let now = self.rt.monotonic().unwrap_or(Duration::ZERO);
-        tell_seconds(
-            self.alloc,
-            part,
-            given,
-            now.saturating_sub(self.begun).as_secs(),
-        )
+        tell_seconds(part, given, now.saturating_sub(self.begun).as_secs())
     }
 }

@@ -1,10 +1,9 @@
 //! A check is a case whose parts are steps.
 
 use crate::stage::Stage;
-use case_tables::{Case, CaseFault};
+use case_tables::{Case, CaseFault, Given};
 use http_connection::Machine;
 use socket_peers::Progress;
-use std::alloc::Global;
 use std::cell::Cell;
 
 /// What peers hear of a service. A case gives the lines of what they heard, and how the service ended.
@@ -25,8 +24,8 @@ impl<R: Machine> Checks<R> {
     }
 
     /// Performs the steps of a case, and ends its service in any case.
-    fn play(&self, alloc: Global, case: &Case, given: &mut String) -> Result<Progress, CaseFault> {
-        let mut stage = Stage::new(self.rt, alloc, case)?;
+    fn play(&self, case: &Case, given: &mut Given) -> Result<Progress, CaseFault> {
+        let mut stage = Stage::new(self.rt, given.alloc(), case)?;
         let played = stage.play(case, given);
         let ended = stage.end(given)?;
         match played? {
@@ -36,14 +35,14 @@ impl<R: Machine> Checks<R> {
     }
 
     /// Runs a check, where none before it has waited in vain, and adds what it gives.
-    pub fn give(&self, alloc: Global, case: &Case, given: &mut String) -> Result<(), CaseFault> {
+    pub fn give(&self, case: &Case, given: &mut Given) -> Result<(), CaseFault> {
         if self.is_stuck.get() {
-            given.push_str("not run: a check before it waited in vain\n")?;
-            return Ok(());
+            given.line("not run: a check before it waited in vain");
+            return given.end();
         }
-        if self.play(alloc, case, given)? == Progress::Stuck {
+        if self.play(case, given)? == Progress::Stuck {
             self.is_stuck.set(true);
         }
-        Ok(())
+        given.end()
     }
 }

@@ -12,7 +12,9 @@ mod stage;
 
 use crate::checks::Checks;
 use crate::readings::Readings;
-use case_tables::{Case, CaseFault, TableFault, end, judge_case, read_file, run_file, tell_count};
+use case_tables::{
+    Case, CaseFault, Given, TableFault, end, judge_case, read_file, run_file, tell_count,
+};
 use http_connection::Machine;
 use std::alloc::AllocError;
 use std::io::Read;
@@ -68,8 +70,8 @@ where
     let cases = read_file(&rt, file)?;
     let mut agree = true;
     for case in cases.iter() {
-        let mut given = String::new(rt.alloc());
-        let came = checks.give(rt.alloc(), case, &mut given);
+        let mut given = Given::new(rt.alloc());
+        let came = checks.give(case, &mut given);
         if !tell_check(&rt, file, case, came, given.as_str())? {
             agree = false;
         }
@@ -99,7 +101,7 @@ where
 #[derive(Drop)]
 struct Ran {
     came: Result<(), CaseFault>,
-    given: String,
+    given: Given,
 }
 
 /// Checks that were run, of which nothing is told yet.
@@ -114,8 +116,8 @@ fn ran_of<R: Machine>(rt: R, cases: &[Case]) -> Result<Vec<Ran>, AllocError> {
     let checks = Checks::new(rt);
     let mut ran = Vec::with_capacity(rt.alloc(), cases.len())?;
     for case in cases {
-        let mut given = String::new(rt.alloc());
-        let came = checks.give(rt.alloc(), case, &mut given);
+        let mut given = Given::new(rt.alloc());
+        let came = checks.give(case, &mut given);
         ran.push(Ran { came, given })?;
     }
     Ok(ran)

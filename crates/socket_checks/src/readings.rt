@@ -1,6 +1,6 @@
 //! What is shown of bytes that came over a connection: how the checks read, checked without one.
 
-use case_tables::{Case, CaseFault, Subject};
+use case_tables::{Case, CaseFault, Given, Subject};
 use socket_peers::{Heard, View, bytes_of, push_heard};
 use std::alloc::Global;
 
@@ -10,6 +10,7 @@ pub struct Readings;
 
 impl Subject for Readings {
     fn give(&self, alloc: Global, case: &Case, given: &mut String) -> Result<(), CaseFault> {
+        let mut told = Given::new(alloc);
         for part in case.parts() {
             let has_ended = match part.word() {
                 "came" => true,
@@ -24,8 +25,8 @@ impl Subject for Readings {
                 bytes: bytes_of(alloc, part)?,
                 has_ended,
             };
-            push_heard(alloc, given, &view, &heard)?;
+            push_heard(&mut told, &view, &heard);
         }
-        Ok(())
+        told.hand_over(given)
     }
 }

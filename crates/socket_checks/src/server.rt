@@ -85,7 +85,7 @@ pub struct Order {
 
 /// What a service left: how many entries, how many calls and receipts its tallies keep, and what its
 /// account settled with.
-#[derive(Clone, Copy, Debug)]
+#[derive(Clone, Copy)]
 pub struct Left {
     pub entries: u64,
     pub calls: u64,

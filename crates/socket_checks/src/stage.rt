@@ -1,13 +1,13 @@
 //! What a check works with, and how its service begins and ends.
 
 use crate::server::{Left, Order, Server, Terms};
-use case_tables::{Case, CaseFault, Part};
+use call_model::Stats;
+use case_tables::{Case, CaseFault, Given, Part};
 use http_connection::Machine;
 use http_front::HostFault;
-use socket_peers::{
-    Peers, Ports, Progress, TURN_MS, exchange, malformed, number, push_line, request_of,
-};
-use std::alloc::{AllocError, Global};
+use socket_peers::{Peers, Ports, Progress, TURN_MS, exchange, number, push_line, request_of};
+use std::alloc::Global;
+use std::fmt::Debug;
 use std::marker::PhantomData;
 use std::net::{TcpListener, TcpStream};
 use std::sync::atomic::Ordering::SeqCst;
@@ -37,24 +37,38 @@ pub struct Stage<R> {
     of: PhantomData<(TcpListener, TcpStream)>,
 }
 
-/// How a service ended, as a line.
-fn ending(alloc: Global, left: Result<Left, HostFault>) -> Result<String, AllocError> {
-    let left = match left {
-        Ok(left) => left,
-        Err(fault) => return format!(in alloc; "ended: {fault:?}\n"),
-    };
-    let Left {
-        entries,
-        calls,
-        receipts,
-        settled,
-    } = left;
-    match settled {
-        Ok(stats) => format!(in alloc;
-            "ended: {entries} entries, {calls} calls, {receipts} receipts; {} admitted, {} throttled, {} failed\n",
-            stats.admitted, stats.throttled, stats.failed
-        ),
-        Err(fault) => format!(in alloc; "ended: {fault:?}\n"),
+/// Adds that a service ended with a fault.
+fn push_fault<F: Debug>(given: &mut Given, fault: &F) {
+    given.push("ended: ");
+    given.show(fault);
+    given.push("\n");
+}
+
+/// Adds a number of something, behind which stands what it is.
+fn push_count(given: &mut Given, count: u64, what: &str) {
+    given.print(&count);
+    given.push(what);
+}
+
+/// Adds what a service left whose account has settled with these counts.
+fn push_settled(given: &mut Given, left: Left, stats: Stats) {
+    given.push("ended: ");
+    push_count(given, left.entries, " entries, ");
+    push_count(given, left.calls, " calls, ");
+    push_count(given, left.receipts, " receipts; ");
+    push_count(given, stats.admitted, " admitted, ");
+    push_count(given, stats.throttled, " throttled, ");
+    push_count(given, stats.failed, " failed\n");
+}
+
+/// Adds how a service ended, as a line.
+fn push_ending(given: &mut Given, left: Result<Left, HostFault>) {
+    match left {
+        Ok(left) => match left.settled {
+            Ok(stats) => push_settled(given, left, stats),
+            Err(fault) => push_fault(given, &fault),
+        },
+        Err(fault) => push_fault(given, &fault),
     }
 }
 
@@ -89,7 +103,7 @@ impl<R: Machine> Stage<R> {
     /// That the service has yet to begin.
     fn expect_no_service(&self, part: &Part) -> Result<(), CaseFault> {
         match self.server {
-            Some(_) => Err(malformed(part, "the service has begun")),
+            Some(_) => Err(part.malformed("the service has begun")),
             None => Ok(()),
         }
     }
@@ -131,12 +145,12 @@ impl<R: Machine> Stage<R> {
         match part.arguments().split_once(' ') {
             None if part.arguments().is_empty() => Ok(None),
             Some(("taken", name)) if self.ports.number(name).is_some() => Ok(Some(name)),
-            _ => Err(malformed(part, "taken and a port are wanted")),
+            _ => Err(part.malformed("taken and a port are wanted")),
         }
     }
 
     /// Serves the configuration that a part says. Where the service doesn't open, that is its end.
-    pub fn serve(&mut self, part: &Part, given: &mut String) -> Result<Progress, CaseFault> {
+    pub fn serve(&mut self, part: &Part, given: &mut Given) -> Result<Progress, CaseFault> {
         self.expect_no_service(part)?;
         let taken = self.taken(part)?;
         for _ in 0..TRIES {
@@ -147,12 +161,12 @@ impl<R: Machine> Stage<R> {
             }
             let left = server.join(&self.rt);
             if taken.is_some() || !matches!(left, Err(HostFault::Network)) {
-                given.push_str(ending(self.alloc, left)?.as_str())?;
+                push_ending(given, left);
                 return Ok(Progress::On);
             }
             self.look_for_ports(part)?;
         }
-        Err(malformed(part, "no port is free"))
+        Err(part.malformed("no port is free"))
     }
 
     /// Looks for other ports.
@@ -162,12 +176,12 @@ impl<R: Machine> Stage<R> {
                 self.ports = ports;
                 Ok(())
             }
-            Err(_) => Err(malformed(part, "no port is free")),
+            Err(_) => Err(part.malformed("no port is free")),
         }
     }
 
     /// Asks the service to stop, and says whether it does; none where it keeps silent.
-    fn is_stopped(&self) -> Result<Option<bool>, AllocError> {
+    fn is_stopped(&self) -> Result<Option<bool>, CaseFault> {
         let request = request_of(self.alloc, "POST", "/_local/stop", "")?;
         let Some(port) = self.ports.number("invoke") else {
             return Ok(None);
@@ -193,26 +207,25 @@ impl<R: Machine> Stage<R> {
     }
 
     /// Waits for the end of a service, and adds how it ended.
-    fn see_out(&self, server: Server, given: &mut String) -> Result<Progress, CaseFault> {
+    fn see_out(&self, server: Server, given: &mut Given) -> Result<Progress, CaseFault> {
         for _ in 0..TURNS {
             if server.has_ended() {
-                let line = ending(self.alloc, server.join(&self.rt))?;
-                given.push_str(line.as_str())?;
+                push_ending(given, server.join(&self.rt));
                 return Ok(Progress::On);
             }
             self.pause();
         }
-        push_line(given, "ended", "not yet")?;
+        push_line(given, "ended", "not yet");
         Ok(Progress::Stuck)
     }
 
     /// Ends the service, if there is one, and adds how it ended.
-    pub fn end(&mut self, given: &mut String) -> Result<Progress, CaseFault> {
+    pub fn end(&mut self, given: &mut Given) -> Result<Progress, CaseFault> {
         let Some(server) = self.server.take() else {
             return Ok(Progress::On);
         };
         if !self.is_stopping && self.stop()? == Progress::Stuck {
-            push_line(given, "stop", "no answer")?;
+            push_line(given, "stop", "no answer");
         }
         self.see_out(server, given)
     }

@@ -1,8 +1,9 @@
 //! Responses as lines: each its status and its body, and of its head what is asked for.
 
 use crate::peer::Heard;
+use crate::steps::push_line;
 use case_tables::Given;
-use std::alloc::{AllocError, Global};
+use std::alloc::Global;
 use std::num::ParseIntError;
 use std::str;
 
@@ -199,13 +200,6 @@ fn next_text(alloc: Global, rest: &mut &str, fields: &str) -> Given {
     text
 }
 
-/// Adds a line of what has this name.
-fn tell_line(given: &mut Given, name: &str, what: &str) {
-    given.push(name);
-    given.push(": ");
-    given.line(what);
-}
-
 /// Adds the lines of a run.
 fn tell_run(given: &mut Given, name: &str, run: &Run) {
     if run.times == 0 {
@@ -242,28 +236,16 @@ fn tell_answers(given: &mut Given, view: &View<'_>, whole: &str) {
     tell_run(given, view.name, &run);
 }
 
-/// Adds what came over a connection, and how it ended.
-fn tell_heard(given: &mut Given, view: &View<'_>, heard: &Heard) {
-    match str::from_utf8(heard.bytes.as_slice()) {
-        Ok(text) => tell_answers(given, view, text),
-        Err(_) => tell_line(given, view.name, "bytes that are no text"),
-    }
-    if !heard.has_ended {
-        tell_line(given, view.name, "no end");
-    } else if heard.bytes.is_empty() {
-        tell_line(given, view.name, "closed");
-    }
-}
-
 /// Adds what came over a connection: its responses, `closed` where it ended with none, and `no end`
 /// where it didn't.
-pub fn push_heard(
-    alloc: Global,
-    given: &mut String,
-    view: &View<'_>,
-    heard: &Heard,
-) -> Result<(), AllocError> {
-    let mut told = Given::new(alloc);
-    tell_heard(&mut told, view, heard);
-    told.hand_over(given).map_err(|_fault| AllocError)
+pub fn push_heard(given: &mut Given, view: &View<'_>, heard: &Heard) {
+    match str::from_utf8(heard.bytes.as_slice()) {
+        Ok(text) => tell_answers(given, view, text),
+        Err(_) => push_line(given, view.name, "bytes that are no text"),
+    }
+    if !heard.has_ended {
+        push_line(given, view.name, "no end");
+    } else if heard.bytes.is_empty() {
+        push_line(given, view.name, "closed");
+    }
 }

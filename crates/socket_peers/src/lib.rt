@@ -12,6 +12,4 @@ pub use answers::{View, push_heard};
 pub use peer::{Heard, Peer, TURN_MS, exchange};
 pub use peers::Peers;
 pub use ports::Ports;
-pub use steps::{
-    Progress, bytes_of, entries_in, malformed, number, push_line, request_of, split_word,
-};
+pub use steps::{Progress, bytes_of, entries_in, number, push_line, request_of, split_word};

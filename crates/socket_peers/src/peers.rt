@@ -3,8 +3,8 @@
 use crate::answers::{View, push_heard};
 use crate::peer::Peer;
 use crate::ports::Ports;
-use crate::steps::{Progress, bytes_of, malformed, number, push_line, split_word};
-use case_tables::{CaseFault, Part};
+use crate::steps::{Progress, bytes_of, number, push_line, split_word};
+use case_tables::{CaseFault, Given, Part};
 use std::alloc::Global;
 
 /// How many turns something is waited for: ten seconds. A step may say otherwise for the steps behind
@@ -45,14 +45,16 @@ impl Peers {
 
     /// The place of the peer that is called so.
     fn place(&self, part: &Part, name: &str) -> Result<usize, CaseFault> {
-        let named = self.named.iter().position(|it| it.name.as_str() == name);
-        named.ok_or(malformed(part, "no peer of this name is connected"))
+        match self.named.iter().position(|it| it.name.as_str() == name) {
+            Some(place) => Ok(place),
+            None => Err(part.malformed("no peer of this name is connected")),
+        }
     }
 
     /// That nobody who is connected is called so.
     pub fn expect_newcomer(&self, part: &Part, name: &str) -> Result<(), CaseFault> {
         match self.place(part, name) {
-            Ok(_) => Err(malformed(part, "a peer of this name is connected")),
+            Ok(_) => Err(part.malformed("a peer of this name is connected")),
             Err(_) => Ok(()),
         }
     }
@@ -60,7 +62,7 @@ impl Peers {
     /// A peer has connected, which is called so from now on, and sends these bytes.
     pub fn welcome(
         &mut self,
-        given: &mut String,
+        given: &mut Given,
         name: &str,
         peer: Peer,
         bytes: &[u8],
@@ -71,7 +73,8 @@ impl Peers {
             name: own_name,
             peer,
         })?;
-        self.send_times(place, given, bytes, 1)
+        self.send_times(place, given, bytes, 1);
+        Ok(Progress::On)
     }
 
     /// From now on a step waits longer.
@@ -86,7 +89,7 @@ impl Peers {
         &mut self,
         part: &Part,
         ports: &Ports,
-        given: &mut String,
+        given: &mut Given,
     ) -> Result<Progress, CaseFault> {
         match part.word() {
             "waits" => self.wait_longer(part),
@@ -103,60 +106,55 @@ impl Peers {
     }
 
     /// A peer sends these bytes so many times.
-    fn send_times(
-        &mut self,
-        place: usize,
-        given: &mut String,
-        bytes: &[u8],
-        times: u32,
-    ) -> Result<Progress, CaseFault> {
+    fn send_times(&mut self, place: usize, given: &mut Given, bytes: &[u8], times: u32) {
         for _ in 0..times {
             if let Some(named) = self.named.get_mut(place)
                 && named.peer.send(bytes).is_err()
             {
-                push_line(given, named.name.as_str(), "not sent")?;
+                push_line(given, named.name.as_str(), "not sent");
                 break;
             }
         }
-        Ok(Progress::On)
     }
 
     /// A peer sends the lines of the part.
-    fn send(&mut self, part: &Part, given: &mut String) -> Result<Progress, CaseFault> {
+    fn send(&mut self, part: &Part, given: &mut Given) -> Result<Progress, CaseFault> {
         let place = self.place(part, part.arguments())?;
         let bytes = bytes_of(self.alloc, part)?;
-        self.send_times(place, given, bytes.as_slice(), 1)
+        self.send_times(place, given, bytes.as_slice(), 1);
+        Ok(Progress::On)
     }
 
     /// A peer sends the lines of the part so many times.
-    fn repeat(&mut self, part: &Part, given: &mut String) -> Result<Progress, CaseFault> {
+    fn repeat(&mut self, part: &Part, given: &mut Given) -> Result<Progress, CaseFault> {
         let (name, times) = split_word(part.arguments());
         let place = self.place(part, name)?;
         let bytes = bytes_of(self.alloc, part)?;
         let times = number(part, times)?;
-        self.send_times(place, given, bytes.as_slice(), times)
+        self.send_times(place, given, bytes.as_slice(), times);
+        Ok(Progress::On)
     }
 
     /// A peer sends so many letters.
-    fn fill(&mut self, part: &Part, given: &mut String) -> Result<Progress, CaseFault> {
+    fn fill(&mut self, part: &Part, given: &mut Given) -> Result<Progress, CaseFault> {
         let (name, count) = split_word(part.arguments());
         let place = self.place(part, name)?;
         let count = number(part, count)?;
         if let Some(named) = self.named.get_mut(place)
             && named.peer.fill(count as usize).is_err()
         {
-            push_line(given, name, "not filled")?;
+            push_line(given, name, "not filled");
         }
         Ok(Progress::On)
     }
 
     /// A peer ends its own side.
-    fn end_side(&mut self, part: &Part, given: &mut String) -> Result<Progress, CaseFault> {
+    fn end_side(&mut self, part: &Part, given: &mut Given) -> Result<Progress, CaseFault> {
         let place = self.place(part, part.arguments())?;
         if let Some(named) = self.named.get(place)
             && named.peer.end_side().is_err()
         {
-            push_line(given, part.arguments(), "no end of its side")?;
+            push_line(given, part.arguments(), "no end of its side");
         }
         Ok(Progress::On)
     }
@@ -175,7 +173,7 @@ impl Peers {
         &mut self,
         part: &Part,
         ports: &Ports,
-        given: &mut String,
+        given: &mut Given,
     ) -> Result<Progress, CaseFault> {
         let (name, fields) = split_word(part.arguments());
         let place = self.place(part, name)?;
@@ -183,12 +181,13 @@ impl Peers {
             return Ok(Progress::Stuck);
         };
         let Ok(heard) = named.peer.hear(self.alloc, self.turns) else {
-            push_line(given, name, "not heard")?;
+            push_line(given, name, "not heard");
             return Ok(Progress::Stuck);
         };
-        let mut lines = String::new(self.alloc);
-        push_heard(self.alloc, &mut lines, &View { name, fields }, &heard)?;
-        given.push_str(ports.named(self.alloc, lines.as_str())?.as_str())?;
+        let mut lines = Given::new(self.alloc);
+        push_heard(&mut lines, &View { name, fields }, &heard);
+        lines.end()?;
+        given.push(ports.named(self.alloc, lines.as_str())?.as_str());
         match heard.has_ended {
             true => Ok(Progress::On),
             false => Ok(Progress::Stuck),
@@ -196,7 +195,7 @@ impl Peers {
     }
 
     /// A peer waits until bytes have come.
-    fn wait_for_bytes(&self, part: &Part, given: &mut String) -> Result<Progress, CaseFault> {
+    fn wait_for_bytes(&self, part: &Part, given: &mut Given) -> Result<Progress, CaseFault> {
         let name = part.arguments();
         let place = self.place(part, name)?;
         let has_come = self
@@ -206,12 +205,12 @@ impl Peers {
         if has_come {
             return Ok(Progress::On);
         }
-        push_line(given, name, "nothing came")?;
+        push_line(given, name, "nothing came");
         Ok(Progress::Stuck)
     }
 
     /// A peer hears nothing for a moment.
-    fn stay(&mut self, part: &Part, given: &mut String) -> Result<Progress, CaseFault> {
+    fn stay(&mut self, part: &Part, given: &mut Given) -> Result<Progress, CaseFault> {
         let name = part.arguments();
         let place = self.place(part, name)?;
         let Some(named) = self.named.get_mut(place) else {
@@ -223,7 +222,7 @@ impl Peers {
             Ok(_) => "something came, or the end",
             Err(_) => "not heard",
         };
-        push_line(given, name, what)?;
+        push_line(given, name, what);
         Ok(Progress::On)
     }
 }

@@ -1,6 +1,6 @@
 //! What the parts of a case say as steps.
 
-use case_tables::{CaseFault, Part};
+use case_tables::{CaseFault, Given, Part};
 use std::alloc::{AllocError, Global};
 
 /// How a step went.
@@ -12,14 +12,6 @@ pub enum Progress {
     Stuck,
 }
 
-/// That a part doesn't hold what it is to hold.
-pub fn malformed(part: &Part, what: &'static str) -> CaseFault {
-    CaseFault::Malformed {
-        line: part.line(),
-        what,
-    }
-}
-
 /// The first word behind that of a part, and the others.
 pub fn split_word(arguments: &str) -> (&str, &str) {
     arguments.split_once(' ').unwrap_or((arguments, ""))
@@ -27,8 +19,16 @@ pub fn split_word(arguments: &str) -> (&str, &str) {
 
 /// The number that a text of a part says.
 pub fn number(part: &Part, text: &str) -> Result<u32, CaseFault> {
-    text.parse::<u32>()
-        .map_err(|_| malformed(part, "a number is wanted"))
+    match text.parse::<u32>() {
+        Ok(number) => Ok(number),
+        Err(_) => Err(part.malformed("a number is wanted")),
+    }
+}
+
+/// Adds a line and its end.
+fn push_with_end(bytes: &mut Vec<u8>, line: &str, end: &str) -> Result<(), AllocError> {
+    bytes.extend_from_slice(line.as_bytes())?;
+    bytes.extend_from_slice(end.as_bytes())
 }
 
 /// The bytes that a part says: each of its lines ends with a carriage return and a line feed, but one
@@ -38,10 +38,7 @@ pub fn bytes_of(alloc: Global, part: &Part) -> Result<Vec<u8>, AllocError> {
     for line in part.text().split_terminator('\n') {
         match line.strip_suffix('\\') {
             Some(line) => bytes.extend_from_slice(line.as_bytes())?,
-            None => {
-                bytes.extend_from_slice(line.as_bytes())?;
-                bytes.extend_from_slice(b"\r\n")?;
-            }
+            None => push_with_end(&mut bytes, line, "\r\n")?,
         }
     }
     Ok(bytes)
@@ -49,17 +46,21 @@ pub fn bytes_of(alloc: Global, part: &Part) -> Result<Vec<u8>, AllocError> {
 
 /// A request that closes its connection, with the lines of a part as its body, but for the end of the
 /// last one.
-pub fn request_of(
-    alloc: Global,
-    method: &str,
-    path: &str,
-    body: &str,
-) -> Result<String, AllocError> {
+///
+/// # Errors
+/// Only `Memory`.
+pub fn request_of(alloc: Global, method: &str, path: &str, body: &str) -> Result<Given, CaseFault> {
     let body = body.strip_suffix('\n').unwrap_or(body);
-    let length = body.len();
-    format!(in alloc;
-        "{method} {path} HTTP/1.1\r\nHost: h\r\nConnection: close\r\nContent-Length: {length}\r\n\r\n{body}"
-    )
+    let mut request = Given::new(alloc);
+    request.push(method);
+    request.push(" ");
+    request.push(path);
+    request.push(" HTTP/1.1\r\nHost: h\r\nConnection: close\r\nContent-Length: ");
+    request.print(&body.len());
+    request.push("\r\n\r\n");
+    request.push(body);
+    request.end()?;
+    Ok(request)
 }
 
 /// The number of entries that the counts of a service say.
@@ -68,15 +69,9 @@ pub fn entries_in(shown: &str) -> Option<u64> {
     behind.split(',').next()?.parse::<u64>().ok()
 }
 
-/// Adds pieces of text.
-fn push_all(given: &mut String, pieces: &[&str]) -> Result<(), AllocError> {
-    for piece in pieces {
-        given.push_str(piece)?;
-    }
-    Ok(())
-}
-
 /// Adds a line of something that has a name.
-pub fn push_line<'a>(given: &mut String, name: &'a str, what: &'a str) -> Result<(), AllocError> {
-    push_all(given, &[name, ": ", what, "\n"])
+pub fn push_line(given: &mut Given, name: &str, what: &str) {
+    given.push(name);
+    given.push(": ");
+    given.line(what);
 }
