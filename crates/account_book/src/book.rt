@@ -154,12 +154,11 @@ fn room_for(
     ensures enough { IfOk result (λ rooms. All (λ room. room ≡ ([], journal.old.widest + 4)) rooms.0.items) }
     ensures own { IfOk result (λ rooms. rooms.1 ≡ ([], most_answers journal.old.widest (length (owners journal.old.config)) call.now)) }
 {
+    journal.make_room(expiries + 1)?;
     let widest = journal.widest();
-    let rooms = make_rooms(alloc, expiries, widest + 4)?;
     let wanted = answers_wanted(widest, journal.environments(), call);
     let answers = Roomy::with_room(alloc, wanted)?;
-    journal.make_room(expiries + 1)?;
-    Ok((rooms, answers))
+    Ok((make_rooms(alloc, expiries, widest + 4)?, answers))
 }
 
 /// What bytes are: numbers below 256.

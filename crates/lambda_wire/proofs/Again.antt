@@ -9,7 +9,7 @@ use Rattle.arn_ids.specs.declared.config.Function.{Function}
 use Rattle.arn_ids.specs.declared.config.Config.{Config}
 use Rattle.lambda_wire.specs.declared.setup.Setup.{Setup}
 use Rattle.lambda_wire.specs.Reading.{each, text_of, number_below}
-use Rattle.lambda_wire.specs.Configuration.{slot_of, function_of, setup_of, said_by, read_setup}
+use Rattle.lambda_wire.specs.Configuration.{slot_of, lists_of, function_of, home_of, config_of, setup_of, said_by, read_setup}
 use Rattle.lambda_wire.specs.ConfigurationText.{slot_data, number_data, with_reserved, function_data, setup_data}
 use Rattle.lambda_wire.specs.Ranges.{IsSlotInRange, IsReservedInRange, IsFunctionInRange, IsConfigInRange}
 use Rattle.lambda_wire.proofs.Parsed.{json_ok}
@@ -26,7 +26,7 @@ slots_again [] h = refl
 slots_again (s ∷ ss) h = rw (below_again (2 ^ 16) s.port (All-head IsSlotInRange s ss h), slots_again ss (All-tail IsSlotInRange s ss h)) refl
 
 reserved_again : (o : Option ℕ) (f : Function) → f.reserved ≡ o → IsFunctionInRange f → function_of (function_data f) ≡ Ok f
-unfolding function_of
+unfolding lists_of function_of
 reserved_again None f e h = rw (e, below_again (2 ^ 32) f.timeout_s h.0, texts_again f.extensions, slots_again f.slots h.2) refl
 reserved_again (Some n) f e h =
     let small : n < 2 ^ 32 = subst IsReservedInRange e h.1 in
@@ -40,7 +40,7 @@ functions_again [] h = refl
 functions_again (f ∷ fs) h = rw (function_again f (All-head IsFunctionInRange f fs h), functions_again fs (All-tail IsFunctionInRange f fs h)) refl
 
 pub setup_again : (config : Config) (salt max_entries : ℕ) → IsConfigInRange config → setup_of (setup_data config salt max_entries) ≡ Ok (record { config = config; salt = salt; max_entries = max_entries })
-unfolding setup_of
+unfolding home_of config_of setup_of
 setup_again config salt max_entries h =
     rw (functions_again config.functions h.3, below_again (2 ^ 32) config.account_limit h.0, below_again (2 ^ 32) config.least_remainder h.1, below_again (2 ^ 16) config.invoke_port h.2) refl
 

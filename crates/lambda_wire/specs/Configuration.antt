@@ -4,6 +4,8 @@ use Rattle.serde_json.specs.Data.{Data}
 use Rattle.serde_json.specs.Find.{get}
 use Rattle.arn_ids.specs.declared.config.Slot.{Slot}
 use Rattle.arn_ids.specs.declared.config.Function.{Function}
+use Rattle.arn_ids.specs.declared.config.Home.{Home}
+use Rattle.arn_ids.specs.declared.config.Config.{Config}
 use Rattle.lambda_wire.specs.declared.setup.Setup.{Setup}
 use Rattle.lambda_wire.specs.declared.fault.WireFault.{WireFault}
 use Rattle.lambda_wire.specs.declared.fault.WireFault.TheVariants.{TooLong, BadShape}
@@ -28,40 +30,54 @@ port_of = number_below (2 ^ 16)
 abbrev pub slot_of : Data → Result Slot WireFault
 slot_of d = port_of d >>= λ port. Ok (record { port = port })
 
+-- the lists of a function: the extensions that it expects, and its environments
+unfoldable pub lists_of : Data → Result (List (List ℕ) × List Slot) WireFault
+lists_of d = do
+  extensions ← or_else [] (list_of text_of) (get (codes "extensions") d)
+  slots ← required (list_of slot_of) (get (codes "ports") d)
+  Ok (extensions, slots)
+
 -- a function, and what stands for the members that it leaves out
 unfoldable pub function_of : Data → Result Function WireFault
 function_of d = if has_only is_function_member d then (do
-  name ← required text_of (get (codes "name") d)
-  handler ← or_else (codes "index.handler") text_of (get (codes "handler") d)
   timeout_s ← or_else 3 (number_below (2 ^ 32)) (get (codes "timeout") d)
   reserved ← optional (number_below (2 ^ 32)) (get (codes "reserved") d)
-  extensions ← or_else [] (list_of text_of) (get (codes "extensions") d)
-  slots ← required (list_of slot_of) (get (codes "ports") d)
-  Ok (record { name = name; handler = handler; timeout_s = timeout_s; reserved = reserved; extensions = extensions; slots = slots }))
+  name ← required text_of (get (codes "name") d)
+  handler ← or_else (codes "index.handler") text_of (get (codes "handler") d)
+  lists ← lists_of d
+  Ok (record { name = name; handler = handler; timeout_s = timeout_s; reserved = reserved; extensions = lists.0; slots = lists.1 }))
     else Err BadShape
 
--- an account, and what stands for the members that it leaves out
-unfoldable pub setup_of : Data → Result Setup WireFault
-setup_of d = if has_only is_setup_member d then (do
+-- where an account is
+unfoldable pub home_of : Data → Result Home WireFault
+home_of d = do
   account ← required text_of (get (codes "account") d)
   region ← required text_of (get (codes "region") d)
-  functions ← required (list_of function_of) (get (codes "functions") d)
+  Ok (record { account = account; region = region })
+
+-- an account, and what stands for the members that it leaves out
+unfoldable pub config_of : Data → Result Config WireFault
+config_of d = do
   account_limit ← or_else 1000 (number_below (2 ^ 32)) (get (codes "accountLimit") d)
   least_remainder ← or_else 100 (number_below (2 ^ 32)) (get (codes "leastRemainder") d)
   invoke_port ← or_else 9000 port_of (get (codes "invokePort") d)
+  home ← home_of d
+  functions ← required (list_of function_of) (get (codes "functions") d)
+  Ok (record {
+    home = home;
+    account_limit = account_limit;
+    least_remainder = least_remainder;
+    invoke_port = invoke_port;
+    functions = functions;
+  })
+
+-- an account, and what its book begins with
+unfoldable pub setup_of : Data → Result Setup WireFault
+setup_of d = if has_only is_setup_member d then (do
   salt ← or_else 0 number_of (get (codes "salt") d)
   max_entries ← or_else 1000000 number_of (get (codes "maxEntries") d)
-  Ok (record {
-    config = record {
-      home = record { account = account; region = region };
-      account_limit = account_limit;
-      least_remainder = least_remainder;
-      invoke_port = invoke_port;
-      functions = functions;
-    };
-    salt = salt;
-    max_entries = max_entries;
-  }))
+  config ← config_of d
+  Ok (record { config = config; salt = salt; max_entries = max_entries }))
     else Err BadShape
 
 -- the setup that the bytes say, however many they are

@@ -1,11 +1,12 @@
 //! A configuration is read.
 
-ghost use Rattle.std.specs.Prelude.{◌≡◌, ◌<◌, length, string_bytes, IsErrOf};
+ghost use Rattle.std.specs.Prelude.{◌≡◌, ◌<◌, codes, length, string_bytes, IsErrOf};
 ghost use Rattle.std.specs.List.{list_all};
 ghost use Rattle.std.specs.BTreeMap.{keys};
+ghost use Rattle.serde_json.specs.Find.{get};
 ghost use Rattle.serde_json.specs.View.{view, items_view};
 ghost use Rattle.lambda_wire.specs.Reading as spec;
-ghost use Rattle.lambda_wire.specs.Configuration.{is_function_member, is_setup_member, slot_of, function_of, setup_of, read_setup};
+ghost use Rattle.lambda_wire.specs.Configuration.{is_function_member, is_setup_member, slot_of, lists_of, function_of, home_of, config_of, setup_of, read_setup};
 
 use crate::fault::WireFault;
 use crate::members::{
@@ -13,7 +14,7 @@ use crate::members::{
     text_or, texts_or_none,
 };
 use crate::setup::Setup;
-use arn_ids::{Config, Function, Home, Row, Slot};
+use arn_ids::{Config, Function, Home, Row, Slot, Text};
 use serde_json::{Map, Value};
 use std::alloc::Global;
 
@@ -23,25 +24,26 @@ const MAX_BYTES: usize = 20_000_000;
 fn is_function_member(name: &str) -> bool
     ensures { result ≡ is_function_member name.now }
 {
-    name == "name"
-        || name == "handler"
-        || name == "timeout"
-        || name == "reserved"
-        || name == "extensions"
-        || name == "ports"
+    matches!(
+        name,
+        "name" | "handler" | "timeout" | "reserved" | "extensions" | "ports"
+    )
 }
 
 fn is_setup_member(name: &str) -> bool
     ensures { result ≡ is_setup_member name.now }
 {
-    name == "account"
-        || name == "region"
-        || name == "functions"
-        || name == "accountLimit"
-        || name == "leastRemainder"
-        || name == "invokePort"
-        || name == "salt"
-        || name == "maxEntries"
+    matches!(
+        name,
+        "account"
+            | "region"
+            | "functions"
+            | "accountLimit"
+            | "leastRemainder"
+            | "invokePort"
+            | "salt"
+            | "maxEntries"
+    )
 }
 
 fn are_function_members(members: &Map<String, Value>) -> bool
@@ -87,6 +89,16 @@ fn slots(alloc: Global, values: &[Value]) -> Result<Row<Slot>, WireFault>
     Ok(Row::new(found))
 }
 
+/// What the members `extensions` and `ports` list.
+#[tactic(auto, unfolding(crate::specs::Configuration::lists_of))]
+fn lists(alloc: Global, value: &Value) -> Result<(Row<Text>, Row<Slot>), WireFault>
+    ensures { spec.Gives result (lists_of (view value.now)) }
+{
+    let extensions = texts_or_none(alloc, value, "extensions")?;
+    let ports = items_at(value, "ports")?;
+    Ok((extensions, slots(alloc, ports)?))
+}
+
 #[tactic(auto, unfolding(crate::specs::Configuration::function_of))]
 fn function(alloc: Global, value: &Value) -> Result<Function, WireFault>
     ensures { spec.Gives result (function_of (view value.now)) }
@@ -94,13 +106,11 @@ fn function(alloc: Global, value: &Value) -> Result<Function, WireFault>
     if !has_function_members(value) {
         return Err(WireFault::BadShape);
     }
-    let name = text_at(alloc, value, "name")?;
-    let handler = text_or(alloc, value, "handler", "index.handler")?;
     let timeout_s = number_u32_or(value, "timeout", 3)?;
     let reserved = optional_u32(value, "reserved")?;
-    let extensions = texts_or_none(alloc, value, "extensions")?;
-    let ports = items_at(value, "ports")?;
-    let slots = slots(alloc, ports)?;
+    let name = text_at(alloc, value, "name")?;
+    let handler = text_or(alloc, value, "handler", "index.handler")?;
+    let (extensions, slots) = lists(alloc, value)?;
     Ok(Function {
         name,
         handler,
@@ -123,6 +133,42 @@ fn functions(alloc: Global, values: &[Value]) -> Result<Row<Function>, WireFault
     Ok(Row::new(found))
 }
 
+/// The functions that the member `functions` lists.
+fn functions_at(alloc: Global, value: &Value) -> Result<Row<Function>, WireFault>
+    ensures { spec.Gives result
+        (spec.required (spec.list_of function_of) (get (codes "functions") (view value.now))) }
+{
+    let listed = items_at(value, "functions")?;
+    functions(alloc, listed)
+}
+
+#[tactic(auto, unfolding(crate::specs::Configuration::home_of))]
+fn home(alloc: Global, value: &Value) -> Result<Home, WireFault>
+    ensures { spec.Gives result (home_of (view value.now)) }
+{
+    let account = text_at(alloc, value, "account")?;
+    let region = text_at(alloc, value, "region")?;
+    Ok(Home { account, region })
+}
+
+#[tactic(auto, unfolding(crate::specs::Configuration::config_of))]
+fn config(alloc: Global, value: &Value) -> Result<Config, WireFault>
+    ensures { spec.Gives result (config_of (view value.now)) }
+{
+    let account_limit = number_u32_or(value, "accountLimit", 1000)?;
+    let least_remainder = number_u32_or(value, "leastRemainder", 100)?;
+    let invoke_port = number_u16_or(value, "invokePort", 9000)?;
+    let home = home(alloc, value)?;
+    let functions = functions_at(alloc, value)?;
+    Ok(Config {
+        home,
+        account_limit,
+        least_remainder,
+        invoke_port,
+        functions,
+    })
+}
+
 #[tactic(auto, unfolding(crate::specs::Configuration::setup_of))]
 fn setup(alloc: Global, value: &Value) -> Result<Setup, WireFault>
     ensures { spec.Gives result (setup_of (view value.now)) }
@@ -130,23 +176,11 @@ fn setup(alloc: Global, value: &Value) -> Result<Setup, WireFault>
     if !has_setup_members(value) {
         return Err(WireFault::BadShape);
     }
-    let account = text_at(alloc, value, "account")?;
-    let region = text_at(alloc, value, "region")?;
-    let listed = items_at(value, "functions")?;
-    let functions = functions(alloc, listed)?;
-    let account_limit = number_u32_or(value, "accountLimit", 1000)?;
-    let least_remainder = number_u32_or(value, "leastRemainder", 100)?;
-    let invoke_port = number_u16_or(value, "invokePort", 9000)?;
     let salt = number_or(value, "salt", 0)?;
     let max_entries = number_or(value, "maxEntries", 1_000_000)?;
+    let config = config(alloc, value)?;
     Ok(Setup {
-        config: Config {
-            home: Home { account, region },
-            account_limit,
-            least_remainder,
-            invoke_port,
-            functions,
-        },
+        config,
         salt,
         max_entries,
     })

@@ -1,6 +1,6 @@
 //! A whole reply.
 
-ghost use Rattle.std.specs.Prelude.{◌≡◌, IfOk};
+ghost use Rattle.std.specs.Prelude.{◌≡◌, Ok, IfOk, MatchResult};
 ghost use Rattle.http_header.specs.FieldValue.{IsFieldValue};
 ghost use Rattle.lambda_wire.specs.Replies as spec;
 
@@ -20,9 +20,31 @@ pub struct Reply {
     pub body: Bytes,
 }
 
+impl Reply {
+    /// A reply of what its headers and its body came to.
+    ///
+    /// As of every function here, the only error is want of memory, that of one of the two included.
+    pub fn of(
+        status: u16,
+        headers: Result<Headers, AllocError>,
+        body: Result<Vec<u8>, AllocError>,
+    ) -> Result<Reply, AllocError>
+        ensures status { IfOk result (λ r. r.status ≡ status) }
+        ensures headers { IfOk result (λ r. headers ≡ Ok r.headers) }
+        ensures body { IfOk result (λ r. MatchResult body (λ b. r.body ≡ b.items) (λ _. ⊥)) }
+    {
+        let (Ok(headers), Ok(body)) = (headers, body) else {
+            return Err(AllocError);
+        };
+        Ok(Reply {
+            status,
+            headers,
+            body: Bytes::from_vec(body)?,
+        })
+    }
+}
+
 /// A refusal on an environment's port: a message and its type.
-///
-/// As of every function here, the only error is want of memory.
 pub fn fault_reply(
     alloc: Global,
     status: u16,
@@ -31,11 +53,8 @@ pub fn fault_reply(
 ) -> Result<Reply, AllocError>
     ensures { IfOk result (λ r. r ≡ spec.fault_reply status message.now kind.now) }
 {
-    Ok(Reply {
-        status,
-        headers: json_headers(alloc)?,
-        body: Bytes::from_vec(write_fault(alloc, message, kind)?)?,
-    })
+    let body = write_fault(alloc, message, kind);
+    Reply::of(status, json_headers(alloc), body)
 }
 
 /// A refusal by the Lambda API before there is a request identifier: its type, the form of its
@@ -50,9 +69,6 @@ pub fn invoke_fault_reply(
     requires kind { IsFieldValue kind.now }
     ensures { IfOk result (λ r. r ≡ spec.invoke_fault_reply status kind.now form message.now) }
 {
-    Ok(Reply {
-        status,
-        headers: error_headers(alloc, None, kind)?,
-        body: Bytes::from_vec(write_invoke_fault(alloc, form, message)?)?,
-    })
+    let body = write_invoke_fault(alloc, form, message);
+    Reply::of(status, error_headers(alloc, None, kind), body)
 }

@@ -5,7 +5,6 @@ ghost use Rattle.serde_json.specs.View.{view};
 ghost use Rattle.long_poll.specs.Views as spec;
 
 use arn_ids::Row;
-use bytes::Bytes;
 use call_model::Stats;
 use http_header::{HeaderName, HeaderValue};
 use lambda_wire::{Headers, Reply, json_headers, write_reservation};
@@ -37,11 +36,7 @@ fn write_stats(alloc: Global, stats: Stats) -> Result<Vec<u8>, AllocError>
 pub fn stats_reply(alloc: Global, stats: Stats) -> Result<Reply, AllocError>
     ensures { IfOk result (λ reply. reply ≡ spec.stats_reply stats) }
 {
-    Ok(Reply {
-        status: 200,
-        headers: json_headers(alloc)?,
-        body: Bytes::from_vec(write_stats(alloc, stats)?)?,
-    })
+    Reply::of(200, json_headers(alloc), write_stats(alloc, stats))
 }
 
 /// The headers of a history, which is text.
@@ -60,9 +55,5 @@ pub fn history_headers(alloc: Global) -> Result<Headers, AllocError>
 pub fn reservation_reply(alloc: Global, count: Option<u32>) -> Result<Reply, AllocError>
     ensures { IfOk result (λ reply. reply ≡ spec.reservation_reply count) }
 {
-    Ok(Reply {
-        status: 200,
-        headers: json_headers(alloc)?,
-        body: Bytes::from_vec(write_reservation(alloc, count)?)?,
-    })
+    Reply::of(200, json_headers(alloc), write_reservation(alloc, count))
 }

@@ -52,11 +52,8 @@ fn failure(
     let mut buffer = Uuid::encode_buffer();
     let request = request_text(&mut buffer, salt, gist.call, gist.count);
     let message = format!(in alloc; "{request}{message}")?;
-    Ok(Reply {
-        status: 200,
-        headers: invoke_headers(alloc, request, true)?,
-        body: Bytes::from_vec(write_fault(alloc, message.as_str(), kind)?)?,
-    })
+    let body = write_fault(alloc, message.as_str(), kind);
+    Reply::of(200, invoke_headers(alloc, request, true), body)
 }
 
 /// The invocation took longer than its function's timeout.
@@ -115,11 +112,8 @@ pub(crate) fn throttled(
 {
     let mut buffer = Uuid::encode_buffer();
     let request = request_text(&mut buffer, salt, gist.call, gist.count);
-    Ok(Reply {
-        status: 429,
-        headers: error_headers(alloc, Some(request), "TooManyRequestsException")?,
-        body: Bytes::from_vec(write_throttle(alloc, reason.as_str())?)?,
-    })
+    let headers = error_headers(alloc, Some(request), "TooManyRequestsException");
+    Reply::of(429, headers, write_throttle(alloc, reason.as_str()))
 }
 
 /// The service is stopped, for a call that has this request identifier, where it has one.
@@ -128,15 +122,9 @@ fn service_stopped(alloc: Global, request: Option<&str>) -> Result<Reply, AllocE
     requires request { MatchOption request Unit (λ r. IsFieldValue r.now) }
     ensures { IfOk result (λ r. r ≡ spec.stopped (option_map (λ r. r.now) request.entry)) }
 {
-    Ok(Reply {
-        status: 500,
-        headers: error_headers(alloc, request, "ServiceException")?,
-        body: Bytes::from_vec(write_invoke_fault(
-            alloc,
-            InvokeFault::Service,
-            "Service is stopped",
-        )?)?,
-    })
+    let headers = error_headers(alloc, request, "ServiceException");
+    let body = write_invoke_fault(alloc, InvokeFault::Service, "Service is stopped");
+    Reply::of(500, headers, body)
 }
 
 /// The service is stopped, for a call with its count where it is an Invoke.
@@ -175,11 +163,11 @@ pub(crate) fn done_with(alloc: Global, status: u16) -> Result<Reply, AllocError>
 pub(crate) fn reserved(alloc: Global, count: u32) -> Result<Reply, AllocError>
     ensures { IfOk result (λ r. r ≡ spec.reserved count) }
 {
-    Ok(Reply {
-        status: 200,
-        headers: json_headers(alloc)?,
-        body: Bytes::from_vec(write_reservation(alloc, Some(count))?)?,
-    })
+    Reply::of(
+        200,
+        json_headers(alloc),
+        write_reservation(alloc, Some(count)),
+    )
 }
 
 /// A reservation is removed.

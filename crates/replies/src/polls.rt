@@ -9,7 +9,6 @@ use crate::calls::{shared_body, trace_of, wants_account};
 use crate::functions::{arn_text, env_function};
 use crate::words::{env_text, request_text};
 use arn_ids::{Checked, IdKind};
-use bytes::Bytes;
 use call_model::Reason;
 use lambda_wire::{
     Reply, event_headers, next_headers, registered_headers, write_invoke_event, write_registered,
@@ -56,16 +55,13 @@ pub(crate) fn invoke_event(
 {
     let mut buffer = Uuid::encode_buffer();
     let event = env_text(&mut buffer, salt, IdKind::Event, gist.call, event);
-    let headers = event_headers(alloc, event)?;
+    let headers = event_headers(alloc, event);
     let mut buffer = Uuid::encode_buffer();
     let request = request_text(&mut buffer, salt, gist.source, gist.source_count);
     let arn = arn_text(alloc, config, gist.source)?;
     let trace = trace_of(gist.source);
-    Ok(Reply {
-        status: 200,
-        headers,
-        body: Bytes::from_vec(write_invoke_event(alloc, deadline, arn.as_str(), request, trace)?)?,
-    })
+    let body = write_invoke_event(alloc, deadline, arn.as_str(), request, trace);
+    Reply::of(200, headers, body)
 }
 
 /// The end of its environment is told to an extension.
@@ -82,11 +78,8 @@ pub(crate) fn shutdown_event(
 {
     let mut buffer = Uuid::encode_buffer();
     let event = env_text(&mut buffer, salt, IdKind::Event, gist.call, event);
-    Ok(Reply {
-        status: 200,
-        headers: event_headers(alloc, event)?,
-        body: Bytes::from_vec(write_shutdown_event(alloc, until, reason.as_str())?)?,
-    })
+    let body = write_shutdown_event(alloc, until, reason.as_str());
+    Reply::of(200, event_headers(alloc, event), body)
 }
 
 /// An extension is registered.
@@ -108,9 +101,6 @@ pub(crate) fn registration(
         None
     };
     let (name, handler) = env_function(config, gist.call);
-    Ok(Reply {
-        status: 200,
-        headers: registered_headers(alloc, extension)?,
-        body: Bytes::from_vec(write_registered(alloc, account, name, handler)?)?,
-    })
+    let body = write_registered(alloc, account, name, handler);
+    Reply::of(200, registered_headers(alloc, extension), body)
 }
