@@ -91,7 +91,7 @@ pub enum Life {
 
 /// The journal of one account. Its history is a legal one: each entry has the answers, the place
 /// and the moment that the entries before it and its call determine.
-#[derive(Debug, Drop)]
+#[derive(Drop)]
 pub struct Book {
     journal: Journal,
     salt: u64,

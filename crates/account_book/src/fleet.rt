@@ -29,7 +29,7 @@ use std::alloc::{AllocError, Global};
 use std::marker::Model;
 
 /// The environments in the order of their numbers.
-#[derive(Debug, Drop)]
+#[derive(Drop)]
 pub struct Fleet {
     sites: Vec<Site>,
     due: Due,

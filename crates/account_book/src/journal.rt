@@ -35,7 +35,7 @@ use std::marker::Model;
 use std::sync::Arc;
 
 /// The history with what is known of it. Room for an entry is made beforehand.
-#[derive(Debug, Drop)]
+#[derive(Drop)]
 pub struct Journal {
     config: Arc<Checked>,
     fleet: Fleet,

@@ -14,7 +14,7 @@ use std::alloc::{AllocError, Global};
 use std::marker::Model;
 
 /// The entries, the oldest first, with what is read off them. Room for an entry is made beforehand.
-#[derive(Debug, Drop)]
+#[derive(Drop)]
 pub struct Ledger {
     entries: Blocks<Entry>,
     /// For each entry the count in its request identifier, 0 where its call is no Invoke.

@@ -11,7 +11,7 @@ use env_phase::{Environment, Step};
 use extension_set::Moves;
 
 /// An environment, and the function that it belongs to.
-#[derive(Debug, Drop)]
+#[derive(Drop)]
 pub struct Site {
     /// The number of its function, from 1.
     pub function: FnNo,

@@ -7,7 +7,7 @@ use arn_ids::EnvNo;
 use call_model::{Answer, Ticket};
 
 /// How many invocations were admitted, throttled and failed.
-#[derive(Clone, Copy, Debug)]
+#[derive(Clone, Copy)]
 pub struct Counters {
     /// The Invokes that were placed in an environment.
     pub admitted: u64,

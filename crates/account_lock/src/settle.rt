@@ -21,7 +21,7 @@ use std::alloc::Global;
 use usage_ledger::{Keep, Ledgers, Tally};
 
 /// A settled account: what was counted is what its book says.
-#[derive(Debug, Drop)]
+#[derive(Drop)]
 pub struct Settled {
     /// The book, with its history.
     pub book: Book,

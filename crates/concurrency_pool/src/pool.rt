@@ -11,7 +11,7 @@ use std::alloc::{AllocError, Global};
 use std::marker::Model;
 
 /// What a function may have and what it has in flight.
-#[derive(Clone, Copy, Debug)]
+#[derive(Clone, Copy)]
 pub struct Usage {
     /// How many environments it has.
     pub environments: usize,
@@ -29,7 +29,7 @@ pub struct Usage {
 /// It is seen as a record of the limits and of the functions in the order of their numbers. The
 /// totals beside them are the sums over the functions: only [`Pool::open`] goes over all of them and
 /// takes memory.
-#[derive(Debug, Drop)]
+#[derive(Drop)]
 pub struct Pool {
     account_limit: u32,
     least_remainder: u32,

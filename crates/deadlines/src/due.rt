@@ -14,7 +14,7 @@ use std::marker::Model;
 /// A tree stands over them, so that asking for the first reads its root alone. Node 1 is the root,
 /// nodes 2 i and 2 i + 1 are below node i, and behind the inner nodes come the environments, one
 /// node each: that is a tree for any number of them.
-#[derive(Debug, Drop)]
+#[derive(Drop)]
 pub struct Due {
     deadlines: Vec<Option<u64>>,
     /// At each inner node's number, the first of the environments below it; nothing at 0.

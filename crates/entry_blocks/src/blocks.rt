@@ -13,7 +13,7 @@ const BLOCK_LENGTH: usize = 1024;
 /// Items in the order in which they were appended, in blocks of 1,024. An append moves no item that
 /// stands there. Where the row of the blocks grows, it is copied: 24 bytes for every 1,024 items.
 /// Contracts see the items, and for how many more there is room.
-#[derive(Debug, Drop)]
+#[derive(Drop)]
 pub struct Blocks<T> {
     /// Each block is full before the next holds any.
     blocks: Vec<Vec<T>>,

@@ -21,7 +21,7 @@ use std::alloc::{AllocError, Global};
 use std::marker::Model;
 
 /// One execution environment as it stands. No call but `open` takes memory.
-#[derive(Debug, Drop)]
+#[derive(Drop)]
 pub struct Environment {
     /// Its function's timeout in milliseconds.
     timeout: u64,

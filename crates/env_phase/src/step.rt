@@ -3,7 +3,7 @@
 use call_model::Ticket;
 
 /// What a call comes with.
-#[derive(Clone, Copy, Debug)]
+#[derive(Clone, Copy)]
 pub struct Step {
     /// The call's ticket.
     pub ticket: Ticket,

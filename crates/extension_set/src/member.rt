@@ -16,7 +16,7 @@ use call_model::{Answer, Call, Reason, Rejection, Ticket};
 use std::marker::Model;
 
 /// An extension as it stands.
-#[derive(Debug, Drop)]
+#[derive(Drop)]
 pub(crate) struct Member {
     /// The count in its identifier, from 1 over all generations of its environment.
     count: u64,

@@ -11,7 +11,7 @@ use std::marker::Model;
 /// Answers with the tickets that get them, in rising ticket order. There is room for 32, which is
 /// more than one entry gives at an environment: with ten extensions at most 24. So nothing here
 /// takes memory.
-#[derive(Debug, Drop)]
+#[derive(Drop)]
 pub struct Moves {
     pairs: [(Ticket, Answer); 32],
     count: usize,

@@ -10,7 +10,7 @@ const LONGEST: usize = 128;
 
 /// A name, seen as the list of its bytes. It stands in its own bytes, so an extension that registers
 /// takes no memory.
-#[derive(Debug, Drop)]
+#[derive(Drop)]
 pub(crate) struct Name {
     bytes: [u8; 128],
     len: usize,

@@ -21,7 +21,7 @@ use std::marker::Model;
 const MOST: usize = 10;
 
 /// The extensions of one generation, seen as the list of them, the newest first.
-#[derive(Debug, Drop)]
+#[derive(Drop)]
 pub struct ExtensionSet {
     /// The newest last.
     members: Vec<Member>,

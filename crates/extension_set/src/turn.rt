@@ -7,7 +7,7 @@ use call_model::{Answer, Reason, Ticket};
 pub const CLOSING_LIMIT: u64 = 2000;
 
 /// What a call comes to at an environment, as its parked Nexts need to know it.
-#[derive(Clone, Copy, Debug)]
+#[derive(Clone, Copy)]
 pub struct Turn {
     /// The call's ticket.
     pub ticket: Ticket,

@@ -15,7 +15,7 @@ use std::sync::{Arc, Wait};
 use usage_ledger::{Front, Keep, Ledgers, Tally};
 
 /// Which text comes next.
-#[derive(Clone, Copy, Debug, PartialEq, Eq)]
+#[derive(Clone, Copy)]
 enum Stage {
     /// That before the first entry.
     Opening,

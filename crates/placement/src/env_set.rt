@@ -10,7 +10,7 @@ use arn_ids::EnvNo;
 const WORDS: usize = 4;
 
 /// A set of environments: that with number 1 is the lowest bit of the first word.
-#[derive(Clone, Copy, Debug)]
+#[derive(Clone, Copy)]
 pub(crate) struct EnvSet {
     words: [u64; WORDS],
 }

@@ -9,7 +9,7 @@ use crate::env_set::EnvSet;
 use arn_ids::EnvNo;
 
 /// The environments of a function that take an invocation, a set for each of their classes.
-#[derive(Clone, Copy, Debug)]
+#[derive(Clone, Copy)]
 pub(crate) struct Free {
     /// Those that are ready.
     pub(crate) idle: EnvSet,

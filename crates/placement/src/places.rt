@@ -14,7 +14,7 @@ use std::alloc::{AllocError, Global};
 use std::marker::Model;
 
 /// An environment: the function that it belongs to, and the class that was last noted of it.
-#[derive(Clone, Copy, Debug)]
+#[derive(Clone, Copy)]
 pub struct Place {
     /// The number of its function, from 1.
     pub function: FnNo,
@@ -23,7 +23,7 @@ pub struct Place {
 }
 
 /// The environments of an account, seen as the list of them in the order of their numbers.
-#[derive(Debug, Drop)]
+#[derive(Drop)]
 pub struct Places {
     places: Vec<Place>,
     // By the number of a function, its environments that take an invocation; none has number 0.

@@ -4,7 +4,7 @@ use call_model::{Answer, Call};
 
 /// All that the reply to a call is made of. The calls are only read, so that a body is copied once,
 /// into the reply.
-#[derive(Clone, Copy, Debug)]
+#[derive(Clone, Copy)]
 pub struct Gist<'a> {
     /// The answer to the call.
     pub answer: Answer,

@@ -5,7 +5,7 @@ use call_types::{Answer, Head, Ticket};
 use std::alloc::{AllocError, Global};
 
 /// Keeps every receipt and every call.
-#[derive(Debug, Drop)]
+#[derive(Drop)]
 pub struct KeepAll {
     receipts: Vec<(Ticket, Answer)>,
     heads: Vec<(Ticket, Head)>,
@@ -60,7 +60,7 @@ impl Keep for KeepAll {
 
 /// Keeps nothing: a service that runs for long, and whose callers have their own record, needs no
 /// receipts.
-#[derive(Debug, Drop)]
+#[derive(Drop)]
 pub struct KeepNone;
 
 impl Keep for KeepNone {
