@@ -18,7 +18,7 @@ use crate::{Bell, Desk, SettleFault};
 use account_book::Book;
 use call_model::{Answer, Stats};
 use std::alloc::Global;
-use usage_ledger::{Keep, Ledgers, Tally};
+use usage_ledger::{Keep, Ledgers, Tally, Totals};
 
 /// A settled account: what was counted is what its book says.
 #[derive(Drop)]
@@ -52,6 +52,18 @@ fn gather<K: Keep, L: Ledgers>(tallies: Vec<Tally<K, L>>) -> Option<Tally<K, L>>
         all.absorb(tally);
     }
     Some(all)
+}
+
+/// All shares in one tally show that the tallies counted what the totals say.
+fn audit<K: Keep, L: Ledgers>(totals: Totals<L>, tallies: Vec<Tally<K, L>>)
+    requires parts { parts_in tallies.items ≡ 2 ^ 32 }
+    ensures { counts_in tallies.items ≡ totals }
+{
+    let Some(mut all) = gather(tallies) else {
+        unreachable!();
+    };
+    let mut totals = totals;
+    totals.audit(&mut all);
 }
 
 /// The first fault of the receipts and calls, in the order in which the faults are declared. All
@@ -122,17 +134,14 @@ fn fault_of_keeping<K: Keep, L: Ledgers>(
 
 impl<B: Bell, L: Ledgers> Desk<B, L> {
     /// The book, once all shares in one tally have shown that the tallies counted what it counts.
-    fn audited<K: Keep>(self, tallies: Vec<Tally<K, L>>) -> Option<Book>
+    fn audited<K: Keep>(self, tallies: Vec<Tally<K, L>>) -> Book
         requires parts { parts_in tallies.items ≡ 2 ^ 32 }
-        ensures some { IfSome result (λ book. (book ≡ self.book)
-            × (counts_in tallies.items ≡ counts_of self.book.history)) }
-        ensures none { IfNone result (parts_in tallies.items ≡ 0) }
+        ensures book { result ≡ self.book }
+        ensures counted { counts_in tallies.items ≡ counts_of self.book.history }
     {
-        let mut all = gather(tallies)?;
         let Desk { book, totals, .. } = self;
-        let mut totals = totals;
-        totals.audit(&mut all);
-        Some(book)
+        audit(totals, tallies);
+        book
     }
 
     /// Adds the shares of all tallies up, and compares what they keep with the history. The time is
@@ -157,9 +166,7 @@ impl<B: Bell, L: Ledgers> Desk<B, L> {
             return Err(SettleFault::TallyMissing);
         }
         let fault = fault_of_keeping(self.alloc, &self.book, &tallies);
-        let Some(book) = self.audited(tallies) else {
-            return Err(SettleFault::TallyMissing);
-        };
+        let book = self.audited(tallies);
         match fault {
             Some(fault) => Err(fault),
             None => {
