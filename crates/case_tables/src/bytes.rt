@@ -50,10 +50,7 @@ fn push_times(bytes: &mut Vec<u8>, part: &Part) -> Result<(), CaseFault> {
 /// `Unknown` for another part, `Malformed` where the numbers are none, and `Memory`.
 pub fn push_bytes(bytes: &mut Vec<u8>, part: &Part) -> Result<(), CaseFault> {
     match part.word() {
-        "body" => {
-            bytes.extend_from_slice(part.lines().as_bytes())?;
-            Ok(())
-        }
+        "body" => Ok(bytes.extend_from_slice(part.lines().as_bytes())?),
         "bytes" => push_hex(bytes, part),
         "times" => push_times(bytes, part),
         _ => Err(CaseFault::Unknown { line: part.line() }),

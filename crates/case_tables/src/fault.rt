@@ -17,6 +17,11 @@ pub enum CaseFault {
     Malformed { line: u64, what: &'static str },
 }
 
+/// That the line of this number does not hold what it is to hold.
+pub(crate) fn malformed(line: u64, what: &'static str) -> CaseFault {
+    CaseFault::Malformed { line, what }
+}
+
 impl From<AllocError> for CaseFault {
     fn from(_e: AllocError) -> CaseFault {
         CaseFault::Memory

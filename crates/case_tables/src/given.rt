@@ -92,7 +92,9 @@ impl Given {
     /// # Errors
     /// `Memory`, where there was none for it.
     pub fn hand_over(&self, text: &mut String) -> Result<(), CaseFault> {
-        self.end()?;
-        Ok(text.push_str(self.as_str())?)
+        match self.is_cut || text.push_str(self.as_str()).is_err() {
+            true => Err(CaseFault::Memory),
+            false => Ok(()),
+        }
     }
 }

@@ -25,24 +25,23 @@ struct Difference<'a> {
 
 /// The first line in which the texts differ.
 fn first_difference<'a>(wanted: &'a str, given: &'a str) -> Option<Difference<'a>> {
-    let mut others = given.split('\n');
-    let mut number = 0u64;
-    for line in wanted.split('\n') {
-        number = number.saturating_add(1);
-        let other = others.next();
-        if other != Some(line) {
+    let mut wanted = wanted.split('\n');
+    let mut given = given.split('\n');
+    for number in 1..u64::MAX {
+        let line = wanted.next();
+        let other = given.next();
+        if line != other {
             return Some(Difference {
                 number,
-                wanted: Some(line),
+                wanted: line,
                 given: other,
             });
         }
+        if line.is_none() {
+            break;
+        }
     }
-    Some(Difference {
-        number: number.saturating_add(1),
-        wanted: None,
-        given: Some(others.next()?),
-    })
+    None
 }
 
 /// Tells that a case of a file differs.

@@ -9,7 +9,21 @@ use crate::routes::decided::push_decided;
 use crate::routes::methods::push_methods;
 use crate::routes::port::{Door, door_of};
 use crate::routes::request::{read_body, read_head};
+use bytes::Bytes;
 use case_tables::{Case, CaseFault, Given, Part};
+
+/// Adds what is done with a request of this body, whose head these lines of a part say.
+fn push_headed(
+    door: &Door,
+    part: &Part,
+    lines: &str,
+    body: &Bytes,
+    given: &mut Given,
+) -> Result<(), CaseFault> {
+    let head = read_head(given.alloc(), part, lines)?;
+    push_decided(door, &head, body, given);
+    Ok(())
+}
 
 /// Adds what is done with the request of a part, to whose body the parts behind it may add.
 fn push_request(
@@ -21,8 +35,7 @@ fn push_request(
     let text = part.lines();
     let (lines, body) = text.split_once("\n\n").unwrap_or((text, ""));
     let body = read_body(given.alloc(), body, others)?;
-    let head = read_head(given.alloc(), part, lines)?;
-    push_decided(door, &head, &body, given)
+    push_headed(door, part, lines, &body, given)
 }
 
 /// Adds what is done with the requests of a part, and tells whether the next part may add to a body.

@@ -1,6 +1,6 @@
 //! Configurations, and the first fault of each.
 
-use crate::parts::lines::{Calls, LineFault, Words, make_calls, short};
+use crate::parts::lines::{Calls, LineFault, Words, make_calls};
 use crate::shown::tell;
 use arn_ids::{Checked, Config, ConfigFault};
 use case_tables::{Case, CaseFault, Given};
@@ -77,15 +77,27 @@ fn owner(checked: &Checked, env: u32, given: &mut Given) -> Result<(), LineFault
     Ok(())
 }
 
+/// Asks a configuration for the function or the environment with a number.
+fn ask_number(
+    checked: &Checked,
+    word: &str,
+    number: u32,
+    given: &mut Given,
+) -> Result<(), LineFault> {
+    match word {
+        "name-of" => name_of(checked, number, given),
+        "function-of" => owner(checked, number, given),
+        _ => Err(LineFault::Malformed),
+    }
+}
+
 /// Asks a configuration for what a word and what stands behind it say.
 fn ask_words(checked: &Checked, line: &str, given: &mut Given) -> Result<(), LineFault> {
     let mut words = Words::of(line);
     match words.next() {
         "region" => given.line(checked.home().region.as_str()),
         "number-of" => tell(given, &checked.function_named(words.rest().as_bytes())),
-        "name-of" => return name_of(checked, words.last_short()?, given),
-        "function-of" => return owner(checked, words.last_short()?, given),
-        _ => return Err(LineFault::Malformed),
+        word => return ask_number(checked, word, words.last_short()?, given),
     }
     Ok(())
 }
@@ -113,12 +125,17 @@ impl Read {
         }
     }
 
+    /// Reads a configuration that is said in full, and says its fault.
+    fn read_whole(&mut self, line: &str, given: &mut Given) -> Result<(), LineFault> {
+        let setup = setup_of(given.alloc(), line)?;
+        self.take(setup.config, given);
+        Ok(())
+    }
+
     /// Reads a configuration, and says its fault.
     fn read(&mut self, line: &str, given: &mut Given) -> Result<(), LineFault> {
         let whole = line.replace(given.alloc(), "MANY", self.many.as_str())?;
-        let setup = setup_of(given.alloc(), whole.as_str())?;
-        self.take(setup.config, given);
-        Ok(())
+        self.read_whole(whole.as_str(), given)
     }
 
     /// Keeps what `MANY` stands for.

@@ -1,6 +1,6 @@
 //! Deadlines of environments, and which of them is due first.
 
-use crate::parts::lines::{Calls, LineFault, Words, make_calls, number_of, short};
+use crate::parts::lines::{Calls, LineFault, Words, make_calls, number_if_given, short_of};
 use crate::shown::tell;
 use arn_ids::EnvNo;
 use case_tables::{Case, CaseFault, Given};
@@ -22,11 +22,8 @@ fn set(due: &mut Due, env: EnvNo, deadline: Option<u64>) -> Result<(), LineFault
 
 fn set_one(due: &mut Due, words: Words<'_>) -> Result<(), LineFault> {
     let mut words = words;
-    let env = short(words.number()?)?;
-    match words.rest() {
-        "-" => set(due, env, None),
-        _ => set(due, env, Some(words.last_number()?)),
-    }
+    let env = words.short()?;
+    set(due, env, number_if_given(words.rest())?)
 }
 
 fn set_all(due: &mut Due, divisor: u64) -> Result<(), LineFault> {
@@ -41,8 +38,8 @@ fn set_all(due: &mut Due, divisor: u64) -> Result<(), LineFault> {
 fn call_due(due: &mut Due, line: &str, given: &mut Given) -> Result<(), LineFault> {
     let mut words = Words::of(line);
     match words.next() {
-        "set" => set_one(due, words)?,
-        "set-all" => set_all(due, words.last_number()?)?,
+        "set" => return set_one(due, words),
+        "set-all" => return set_all(due, words.last_number()?),
         "first-due" => tell(given, &due.first_due(words.last_number()?)),
         "environments" => tell(given, &due.environments()),
         _ => return Err(LineFault::Malformed),
@@ -54,7 +51,7 @@ impl Calls for Environments {
     fn call(&mut self, line: &str, given: &mut Given) -> Result<(), LineFault> {
         match line.strip_prefix("open ") {
             Some(count) => {
-                self.due = Due::open(given.alloc(), short(number_of(count)?)?)?;
+                self.due = Due::open(given.alloc(), short_of(count)?)?;
                 Ok(())
             }
             None => call_due(&mut self.due, line, given),

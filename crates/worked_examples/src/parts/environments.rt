@@ -113,17 +113,22 @@ impl Account {
         Step { ticket, now, count }
     }
 
+    /// Has the environment take a call, and says its phase and the answers.
+    fn take_call(&mut self, step: Step, call: &Call, given: &mut Given) -> Result<(), LineFault> {
+        if step.now >= 1 << 53 {
+            return Err(LineFault::Malformed);
+        }
+        let moves = self.driven.take(step, call)?;
+        say_phase(&self.driven.environment, &moves, given);
+        Ok(())
+    }
+
     fn take(&mut self, words: Words<'_>, given: &mut Given) -> Result<(), LineFault> {
         let mut words = words;
         let ticket = words.number()?;
         let (now, call) = call_of(given.alloc(), &self.config, words.rest())?;
         let step = self.step(ticket, now, &call);
-        if step.now >= 1 << 53 {
-            return Err(LineFault::Malformed);
-        }
-        let moves = self.driven.take(step, &call)?;
-        say_phase(&self.driven.environment, &moves, given);
-        Ok(())
+        self.take_call(step, &call, given)
     }
 }
 

@@ -5,7 +5,7 @@ use crate::parts::answers::{answer_of, say_answers};
 use crate::parts::lines::{Calls, LineFault, Opens, Words, call_opened, text_of};
 use crate::parts::script_calls::call_of;
 use crate::shown::tell;
-use arn_ids::Checked;
+use arn_ids::{Checked, Text};
 use call_model::{Call, Reason};
 use case_tables::{Case, CaseFault, Given, value_of};
 use extension_set::{CLOSING_LIMIT, ExtensionSet, Moves, RegisterFault, Turn};
@@ -34,22 +34,31 @@ fn say_verdict(verdict: Result<(), RegisterFault>, given: &mut Given) {
     given.push("\n");
 }
 
-fn register(set: &mut ExtensionSet, words: Words<'_>, given: &mut Given) -> Result<(), LineFault> {
-    let mut words = words;
-    let name = words.next();
-    let events = words.next();
-    let count = words.last_number()?;
-    let name = text_of(given.alloc(), name)?;
+/// Registers an extension of this name for these events.
+fn register_named(
+    set: &mut ExtensionSet,
+    name: &Text,
+    events: (bool, bool),
+    count: u64,
+    given: &mut Given,
+) -> Result<(), LineFault> {
     if name.as_str().len() > 128 {
         return Err(LineFault::Malformed);
     }
-    match value_of(&EVENTS, events) {
-        Some((invoke, shutdown)) => {
-            say_verdict(set.register(&name, invoke, shutdown, count), given);
-            Ok(())
-        }
-        None => Err(LineFault::Malformed),
-    }
+    let (invoke, shutdown) = events;
+    say_verdict(set.register(name, invoke, shutdown, count), given);
+    Ok(())
+}
+
+fn register(set: &mut ExtensionSet, words: Words<'_>, given: &mut Given) -> Result<(), LineFault> {
+    let mut words = words;
+    let name = words.next();
+    let Some(events) = value_of(&EVENTS, words.next()) else {
+        return Err(LineFault::Malformed);
+    };
+    let count = words.last_number()?;
+    let name = text_of(given.alloc(), name)?;
+    register_named(set, &name, events, count, given)
 }
 
 /// The reason that a word says; none for a dash.
@@ -109,15 +118,30 @@ fn invoke(set: &mut ExtensionSet, words: Words<'_>, given: &mut Given) -> Result
     Ok(())
 }
 
-/// How many of the names that these words say are free.
-fn unregistered(alloc: Global, set: &ExtensionSet, words: &str) -> Result<u64, AllocError> {
+/// Adds a name, where it is one.
+fn push_name(names: &mut Vec<Text>, alloc: Global, name: &str) -> Result<(), AllocError> {
+    if name.is_empty() {
+        return Ok(());
+    }
+    let name = text_of(alloc, name)?;
+    Ok(names.push(name)?)
+}
+
+/// The names that these words say.
+fn names_of(alloc: Global, words: &str) -> Result<Vec<Text>, AllocError> {
     let mut names = Vec::new(alloc);
     for name in words.split(' ') {
-        if !name.is_empty() {
-            names.push(text_of(alloc, name)?)?;
-        }
+        push_name(&mut names, alloc, name)?;
     }
-    Ok(set.unregistered(names.as_slice()))
+    Ok(names)
+}
+
+/// Says how many of the names that these words say are free.
+fn say_unregistered(set: &ExtensionSet, words: &str, given: &mut Given) {
+    match names_of(given.alloc(), words) {
+        Ok(names) => tell(given, &set.unregistered(names.as_slice())),
+        Err(_) => given.cut(),
+    }
 }
 
 /// Asks about a name.
@@ -135,6 +159,16 @@ fn ask_name(
     Ok(())
 }
 
+/// Asks about the extension with a number.
+fn ask_one(set: &ExtensionSet, word: &str, count: u64, given: &mut Given) -> Result<(), LineFault> {
+    match word {
+        "is-known" => tell(given, &set.is_known(count)),
+        "owes-end" => tell(given, &set.owes_end(count)),
+        _ => return Err(LineFault::Malformed),
+    }
+    Ok(())
+}
+
 /// Asks about one extension or a name.
 fn ask(
     set: &ExtensionSet,
@@ -143,14 +177,14 @@ fn ask(
     given: &mut Given,
 ) -> Result<(), LineFault> {
     match word {
-        "admits" => ask_name(set, true, words.rest(), given)?,
-        "lacks" => ask_name(set, false, words.rest(), given)?,
-        "unregistered" => tell(given, &unregistered(given.alloc(), set, words.rest())?),
-        "is-known" => tell(given, &set.is_known(words.last_number()?)),
-        "owes-end" => tell(given, &set.owes_end(words.last_number()?)),
-        _ => return Err(LineFault::Malformed),
+        "admits" => ask_name(set, true, words.rest(), given),
+        "lacks" => ask_name(set, false, words.rest(), given),
+        "unregistered" => {
+            say_unregistered(set, words.rest(), given);
+            Ok(())
+        }
+        _ => ask_one(set, word, words.last_number()?, given),
     }
-    Ok(())
 }
 
 /// Asks for one of the set's numbers.

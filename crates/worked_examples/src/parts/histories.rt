@@ -79,22 +79,39 @@ impl Account {
     }
 }
 
-/// Adds an entry with these answers.
+/// Adds the entry of a call, which takes these answers.
 fn add(
     alloc: Global,
     config: &Checked,
     past: &mut Past,
-    answers: Vec<(Ticket, Answer)>,
+    answers: &mut Vec<(Ticket, Answer)>,
     line: &str,
 ) -> Result<(), LineFault> {
     let (moment, call) = call_of(alloc, config, line)?;
-    past.add(Entry {
+    let answers = mem::replace(answers, Vec::new(alloc));
+    let entry = Entry {
         moment,
         call,
         answers: Answers::new(answers),
         place: None,
-    })?;
-    Ok(())
+    };
+    Ok(past.add(entry)?)
+}
+
+/// Says what a word asks of the entry with a number.
+fn say(
+    config: &Checked,
+    salt: u64,
+    past: &Past,
+    word: &str,
+    number: u64,
+    given: &mut Given,
+) -> Result<(), LineFault> {
+    match word {
+        "text" => say_entry(config, salt, past, number, given),
+        "answers" => say_answers(salt, past, number, given),
+        _ => Err(LineFault::Malformed),
+    }
 }
 
 fn call_account(account: &mut Account, line: &str, given: &mut Given) -> Result<(), LineFault> {
@@ -103,17 +120,24 @@ fn call_account(account: &mut Account, line: &str, given: &mut Given) -> Result<
     let Some(config) = &account.config else {
         return Err(LineFault::Malformed);
     };
-    let salt = account.salt;
-    match word {
-        "entry" => {
-            let alloc = given.alloc();
-            let answers = mem::replace(&mut account.answers, Vec::new(alloc));
-            add(alloc, config, &mut account.past, answers, words.rest())
-        }
-        "text" => say_entry(config, salt, &account.past, words.last_number()?, given),
-        "answers" => say_answers(salt, &account.past, words.last_number()?, given),
-        _ => Err(LineFault::Malformed),
+    if word == "entry" {
+        let answers = &mut account.answers;
+        return add(
+            given.alloc(),
+            config,
+            &mut account.past,
+            answers,
+            words.rest(),
+        );
     }
+    say(
+        config,
+        account.salt,
+        &account.past,
+        word,
+        words.last_number()?,
+        given,
+    )
 }
 
 impl Calls for Account {

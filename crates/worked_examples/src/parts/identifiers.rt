@@ -1,6 +1,6 @@
 //! Identifiers of requests, extensions and events.
 
-use crate::parts::lines::{Calls, LineFault, Words, make_calls, short};
+use crate::parts::lines::{Calls, LineFault, Words, make_calls};
 use arn_ids::{IdParts, event_id, extension_id, id_parts, request_id, salt_word};
 use case_tables::{Case, CaseFault, Given};
 use uuid::Uuid;
@@ -26,8 +26,8 @@ fn identifier(kind: &str, salt: u64, number: u32, count: u64) -> Result<Uuid, Li
 fn make(kind: &str, numbers: Words<'_>, given: &mut Given) -> Result<(), LineFault> {
     let mut words = numbers;
     let salt = words.number()?;
-    let number = words.number()?;
-    given.print(&identifier(kind, salt, short(number)?, words.last_number()?)?);
+    let number = words.short()?;
+    given.print(&identifier(kind, salt, number, words.last_number()?)?);
     given.push("\n");
     Ok(())
 }

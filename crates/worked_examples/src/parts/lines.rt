@@ -82,6 +82,11 @@ impl<'a> Words<'a> {
         number_of(self.next())
     }
 
+    /// The number of 32 bits that the next word says.
+    pub fn short(&mut self) -> Result<u32, LineFault> {
+        short_of(self.next())
+    }
+
     /// The number that all other words say.
     pub fn last_number(self) -> Result<u64, LineFault> {
         number_of(self.rest)
@@ -89,7 +94,7 @@ impl<'a> Words<'a> {
 
     /// The number of 32 bits that all other words say.
     pub fn last_short(self) -> Result<u32, LineFault> {
-        short(self.last_number()?)
+        short_of(self.rest)
     }
 
     /// The other words, as they stand.
@@ -111,9 +116,17 @@ pub fn number_of(text: &str) -> Result<u64, LineFault> {
     }
 }
 
-/// A number that has 32 bits.
-pub fn short(number: u64) -> Result<u32, LineFault> {
-    match u32::try_from(number) {
+/// The number that a text says; none for a dash.
+pub fn number_if_given(text: &str) -> Result<Option<u64>, LineFault> {
+    match text {
+        "-" => Ok(None),
+        _ => Ok(Some(number_of(text)?)),
+    }
+}
+
+/// The number of 32 bits that a text says.
+pub fn short_of(text: &str) -> Result<u32, LineFault> {
+    match text.parse::<u32>() {
         Ok(number) => Ok(number),
         Err(_) => Err(LineFault::Malformed),
     }

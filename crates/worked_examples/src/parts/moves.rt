@@ -1,9 +1,8 @@
 //! The answers of an entry, in the order of their tickets.
 
 use crate::parts::answers::{answer_of, say_answers};
-use crate::parts::lines::{Calls, LineFault, Words, make_calls, number_of};
+use crate::parts::lines::{Calls, LineFault, Words, make_calls, number_if_given};
 use crate::shown::tell;
-use call_model::Ticket;
 use case_tables::{Case, CaseFault, Given};
 use extension_set::Moves;
 
@@ -13,16 +12,9 @@ struct Entry {
     moves: Moves,
 }
 
-fn ticket_of(word: &str) -> Result<Option<Ticket>, LineFault> {
-    match word {
-        "-" => Ok(None),
-        _ => Ok(Some(number_of(word)?)),
-    }
-}
-
 fn put(moves: &mut Moves, words: Words<'_>) -> Result<(), LineFault> {
     let mut words = words;
-    let ticket = ticket_of(words.next())?;
+    let ticket = number_if_given(words.next())?;
     let answer = answer_of(words.rest())?;
     if moves.as_slice().len() >= 32 {
         return Err(LineFault::Malformed);

@@ -1,6 +1,6 @@
 //! Places: which environment takes the next invocation.
 
-use crate::parts::lines::{Calls, LineFault, Opens, Words, call_opened, short};
+use crate::parts::lines::{Calls, LineFault, Opens, Words, call_opened};
 use crate::shown::tell;
 use arn_ids::{Checked, EnvNo};
 use call_model::{Phase, Reason};
@@ -83,7 +83,7 @@ fn note(places: &mut Places, env: EnvNo, class: Class) -> Result<(), LineFault> 
 
 fn note_one(places: &mut Places, words: Words<'_>) -> Result<(), LineFault> {
     let mut words = words;
-    let env = short(words.number()?)?;
+    let env = words.short()?;
     note(places, env, class_of(words.rest())?)
 }
 
@@ -94,24 +94,34 @@ fn note_all(places: &mut Places, class: Class) -> Result<(), LineFault> {
     Ok(())
 }
 
+/// Asks places for what a word and what stands behind it say.
+fn ask(places: &Places, word: &str, words: Words<'_>, given: &mut Given) -> Result<(), LineFault> {
+    match word {
+        "choose" => tell(given, &places.choose(words.last_short()?)),
+        "class" => tell(given, &Class::of(phase_of(words.rest())?)),
+        "environments" => tell(given, &places.environments()),
+        _ => return Err(LineFault::Malformed),
+    }
+    Ok(())
+}
+
 impl Calls for Places {
     fn call(&mut self, line: &str, given: &mut Given) -> Result<(), LineFault> {
         let mut words = Words::of(line);
         match words.next() {
-            "note" => note_one(self, words)?,
-            "note-all" => note_all(self, class_of(words.rest())?)?,
-            "choose" => tell(given, &self.choose(words.last_short()?)),
-            "class" => tell(given, &Class::of(phase_of(words.rest())?)),
-            "environments" => tell(given, &self.environments()),
-            _ => return Err(LineFault::Malformed),
+            "note" => note_one(self, words),
+            "note-all" => note_all(self, class_of(words.rest())?),
+            word => ask(self, word, words, given),
         }
-        Ok(())
     }
 }
 
 impl Opens for Places {
     fn open(alloc: Global, config: Checked) -> Result<Places, LineFault> {
-        Ok(Places::open(alloc, &config)?)
+        match Places::open(alloc, &config) {
+            Ok(places) => Ok(places),
+            Err(_) => Err(LineFault::Memory),
+        }
     }
 }
 

@@ -2,7 +2,7 @@
 
 ghost use Rattle.std.specs.Prelude.{◌≤◌, length};
 
-use crate::parts::lines::{Calls, LineFault, Opens, Words, call_opened, short};
+use crate::parts::lines::{Calls, LineFault, Opens, Words, call_opened};
 use crate::shown::tell;
 use arn_ids::{Checked, FnNo};
 use case_tables::{Case, CaseFault, Given};
@@ -61,13 +61,13 @@ fn call_function(
     given: &mut Given,
 ) -> Result<(), LineFault> {
     let mut words = words;
-    let function = short(words.number()?)?;
+    let function = words.short()?;
     if function < 1 || pool.functions() < function {
         return Err(LineFault::Malformed);
     }
     match word {
         "invoke" => invoke(pool, function, given),
-        "release" => release(pool, function)?,
+        "release" => return release(pool, function),
         "reserve" => reserve(pool, function, count_of(words)?, given),
         "in-flight" => tell(given, &pool.in_flight(function)),
         "reservation" => tell(given, &pool.reservation(function)),
@@ -90,7 +90,10 @@ impl Calls for Pool {
 
 impl Opens for Pool {
     fn open(alloc: Global, config: Checked) -> Result<Pool, LineFault> {
-        Ok(Pool::open(alloc, &config)?)
+        match Pool::open(alloc, &config) {
+            Ok(pool) => Ok(pool),
+            Err(_) => Err(LineFault::Memory),
+        }
     }
 }
 

@@ -1,11 +1,11 @@
 //! Lines of scripts, and the calls that they stand for.
 
-use crate::parts::lines::{Calls, LineFault, Opens, Words, call_opened, short};
+use crate::parts::lines::{Calls, LineFault, Opens, Words, call_opened};
 use crate::shown::tell;
 use arn_ids::Checked;
 use call_model::Call;
 use case_tables::{Case, CaseFault, Given};
-use std::alloc::Global;
+use std::alloc::{AllocError, Global};
 
 /// The account whose scripts are read.
 #[derive(Drop)]
@@ -13,26 +13,23 @@ struct Account {
     config: Checked,
 }
 
-/// The line between the bars.
-fn line_of(alloc: Global, words: &str) -> Result<String, LineFault> {
-    let Some(rest) = words.strip_prefix('|') else {
-        return Err(LineFault::Malformed);
-    };
-    let Some(line) = rest.strip_suffix('|') else {
-        return Err(LineFault::Malformed);
-    };
-    let line = line.replace(alloc, "<tab>", "\t")?;
-    Ok(line.as_str().replace(alloc, "<return>", "\r")?)
+/// What stands between the bars.
+fn between_bars(words: &str) -> Option<&str> {
+    words.strip_prefix('|')?.strip_suffix('|')
 }
 
-/// What a line of a script stands for, in a form that has `reserve` or not.
-fn read(
-    alloc: Global,
-    config: &Checked,
-    reserves: bool,
-    line: &str,
-) -> Result<Option<(u64, Call)>, LineFault> {
-    Ok(script::read_call(alloc, config, reserves, line.as_bytes())?)
+/// A text with the bytes that `<tab>` and `<return>` stand for.
+fn with_bytes(alloc: Global, text: &str) -> Result<String, AllocError> {
+    let line = text.replace(alloc, "<tab>", "\t")?;
+    line.as_str().replace(alloc, "<return>", "\r")
+}
+
+/// The line between the bars.
+fn line_of(alloc: Global, words: &str) -> Result<String, LineFault> {
+    match between_bars(words) {
+        Some(text) => Ok(with_bytes(alloc, text)?),
+        None => Err(LineFault::Malformed),
+    }
 }
 
 fn say_whether(call: &Option<(u64, Call)>, given: &mut Given) {
@@ -51,13 +48,18 @@ fn say_call(call: &Option<(u64, Call)>, otherwise: &str, given: &mut Given) {
     }
 }
 
+/// A line with so many letters in place of `<letters>`.
+fn put_letters(alloc: Global, line: &str, count: usize) -> Result<String, LineFault> {
+    let letters = "x".repeat(alloc, count)?;
+    Ok(line.replace(alloc, "<letters>", letters.as_str())?)
+}
+
 /// A line with so many letters.
 fn with_letters(alloc: Global, words: Words<'_>) -> Result<String, LineFault> {
     let mut words = words;
-    let count = short(words.number()?)?;
-    let letters = "x".repeat(alloc, count as usize)?;
+    let count = words.short()?;
     let line = line_of(alloc, words.rest())?;
-    Ok(line.as_str().replace(alloc, "<letters>", letters.as_str())?)
+    put_letters(alloc, line.as_str(), count as usize)
 }
 
 /// What a line says, in its bars.
@@ -79,13 +81,20 @@ fn say(word: &str, call: &Option<(u64, Call)>, given: &mut Given) -> Result<(), 
     Ok(())
 }
 
+/// Reads a line of a script, in a form that has `reserve` or not, and says of it what a word asks.
+fn read(config: &Checked, word: &str, line: &str, given: &mut Given) -> Result<(), LineFault> {
+    match script::read_call(given.alloc(), config, word != "form-1", line.as_bytes()) {
+        Ok(call) => say(word, &call, given),
+        Err(_) => Err(LineFault::Memory),
+    }
+}
+
 impl Calls for Account {
     fn call(&mut self, line: &str, given: &mut Given) -> Result<(), LineFault> {
         let mut words = Words::of(line);
         let word = words.next();
         let text = text_of(given.alloc(), word, words)?;
-        let call = read(given.alloc(), &self.config, word != "form-1", text.as_str())?;
-        say(word, &call, given)
+        read(&self.config, word, text.as_str(), given)
     }
 }
 

@@ -7,7 +7,7 @@ use crate::routes::port::Door;
 use arn_ids::Checked;
 use bytes::Bytes;
 use call_model::{Answers, Call, Entry};
-use case_tables::{CaseFault, Given};
+use case_tables::Given;
 use entry_blocks::Blocks;
 use http::request::Parts;
 use http_routes::{Decision, Shown};
@@ -49,20 +49,23 @@ fn row_of<T: Drop>(alloc: Global, item: T) -> Result<Blocks<T>, AllocError>
     Ok(row)
 }
 
-/// The line of a script that a call is read from.
-fn line_of(alloc: Global, config: &Checked, call: Call) -> Result<Vec<u8>, AllocError> {
+/// Writes the line of a script that a call is read from.
+fn write_line(
+    line: &mut Vec<u8>,
+    alloc: Global,
+    config: &Checked,
+    call: Call,
+) -> Result<(), AllocError> {
     let entry = Entry {
         moment: 0,
         call,
         answers: Answers::new(Vec::new(alloc)),
         place: None,
     };
-    let mut line = Vec::new(alloc);
     let count = count_of(&entry);
     let entries = row_of(alloc, entry)?;
     let counts = row_of(alloc, count)?;
-    push_entry(&mut line, config, 0, &entries, &counts, 0)?;
-    Ok(line)
+    push_entry(line, config, 0, &entries, &counts, 0)
 }
 
 /// Adds a script's line. Where it ends with the request's body, and that is long, it is told how
@@ -83,8 +86,9 @@ fn push_line(line: &[u8], body: &[u8], given: &mut Given) {
 /// Adds the line of a call.
 fn push_call(config: &Checked, call: Call, body: &[u8], given: &mut Given) {
     given.push("submit ");
-    match line_of(given.alloc(), config, call) {
-        Ok(line) => push_line(line.as_slice(), body, given),
+    let mut line = Vec::new(given.alloc());
+    match write_line(&mut line, given.alloc(), config, call) {
+        Ok(()) => push_line(line.as_slice(), body, given),
         Err(_) => given.cut(),
     }
 }
@@ -115,18 +119,20 @@ fn push_shown(shown: Shown, given: &mut Given) {
     }
 }
 
-/// Adds the line of what a port does with a request.
-pub fn push_decided(
-    door: &Door,
-    head: &Parts,
-    body: &Bytes,
-    given: &mut Given,
-) -> Result<(), CaseFault> {
-    match decided(given.alloc(), door, head, body)? {
-        Decision::Submit(call) => push_call(&door.config, call, body.as_slice(), given),
+/// Adds what a decision says.
+fn push_decision(config: &Checked, decision: Decision, body: &[u8], given: &mut Given) {
+    match decision {
+        Decision::Submit(call) => push_call(config, call, body, given),
         Decision::Reply(reply) => push_refusal(&reply, given),
         Decision::Show(shown) => push_shown(shown, given),
     }
+}
+
+/// Adds the line of what a port does with a request.
+pub fn push_decided(door: &Door, head: &Parts, body: &Bytes, given: &mut Given) {
+    match decided(given.alloc(), door, head, body) {
+        Ok(decision) => push_decision(&door.config, decision, body.as_slice(), given),
+        Err(_) => given.cut(),
+    }
     given.push("\n");
-    Ok(())
 }

@@ -7,7 +7,6 @@ use bytes::Bytes;
 use case_tables::{CaseFault, Given, Part};
 use http::request::Parts;
 use http_routes::Decision;
-use std::alloc::{AllocError, Global};
 
 /// The word for what is done with a request: 404 where there is no such path, 405 where it takes
 /// other methods, and `yes` where it takes this one.
@@ -25,10 +24,12 @@ fn word_of(decision: &Decision) -> &'static str {
     }
 }
 
-/// The word for what is done with a request of this head and no body.
-fn word_for(alloc: Global, door: &Door, head: &Parts) -> Result<&'static str, AllocError> {
-    let decision = decided(alloc, door, head, &Bytes::new())?;
-    Ok(word_of(&decision))
+/// Adds the word for what is done with a request of this head and no body.
+fn push_word(door: &Door, head: &Parts, given: &mut Given) {
+    match decided(given.alloc(), door, head, &Bytes::new()) {
+        Ok(decision) => given.push(word_of(&decision)),
+        Err(_) => given.cut(),
+    }
 }
 
 /// Adds the word of a method.
@@ -40,7 +41,7 @@ fn push_method(
     given: &mut Given,
 ) -> Result<(), CaseFault> {
     let head = head_of(given.alloc(), part, method, target)?;
-    given.push(word_for(given.alloc(), door, &head)?);
+    push_word(door, &head, given);
     Ok(())
 }
 

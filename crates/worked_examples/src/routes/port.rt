@@ -47,8 +47,11 @@ fn open(
 
 /// Opens the port that a part names, of the configuration that another one says.
 pub fn door_of(alloc: Global, config_part: &Part, port_part: &Part) -> Result<Door, CaseFault> {
+    let port = port_of(port_part)?;
     let Account { config, salt } = account_of(alloc, config_part)?;
     let config = Arc::new(alloc, config)?;
-    let side = open(alloc, &config, salt, port_of(port_part)?, port_part)?;
-    Ok(Door { config, side })
+    match open(alloc, &config, salt, port, port_part) {
+        Ok(side) => Ok(Door { config, side }),
+        Err(fault) => Err(fault),
+    }
 }

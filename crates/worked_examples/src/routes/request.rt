@@ -53,8 +53,10 @@ fn bare_head(alloc: Global, method: Method, target: Uri) -> Parts {
 /// The head of a request of this method and this target, without headers.
 pub fn head_of(alloc: Global, part: &Part, method: &str, target: &str) -> Result<Parts, CaseFault> {
     let method = method_of(alloc, part, method)?;
-    let target = target_of(alloc, part, target)?;
-    Ok(bare_head(alloc, method, target))
+    match target_of(alloc, part, target) {
+        Ok(target) => Ok(bare_head(alloc, method, target)),
+        Err(fault) => Err(fault),
+    }
 }
 
 /// The head that a request's first line says, without headers.
@@ -103,8 +105,10 @@ fn add_headers(
 pub fn read_head(alloc: Global, part: &Part, lines: &str) -> Result<Parts, CaseFault> {
     let first = lines.split('\n').next().unwrap_or("");
     let mut head = first_head(alloc, part, first)?;
-    add_headers(alloc, part, &mut head.headers, lines)?;
-    Ok(head)
+    match add_headers(alloc, part, &mut head.headers, lines) {
+        Ok(()) => Ok(head),
+        Err(fault) => Err(fault),
+    }
 }
 
 /// Whether a part adds bytes to the body of the request before it.
@@ -112,14 +116,20 @@ fn is_of_body(part: &Part) -> bool {
     part.word() != "request" && part.word() != "methods"
 }
 
-/// The body of a request that begins so: further bytes are those of the parts up to the next request.
-pub fn read_body(alloc: Global, begun: &str, parts: &[Part]) -> Result<Bytes, CaseFault> {
-    let mut body = Vec::from_slice(alloc, begun.as_bytes())?;
+/// Adds the bytes of the parts up to the next request.
+fn add_bytes(body: &mut Vec<u8>, parts: &[Part]) -> Result<(), CaseFault> {
     for part in parts {
         if !is_of_body(part) {
             break;
         }
-        push_bytes(&mut body, part)?;
+        push_bytes(body, part)?;
     }
+    Ok(())
+}
+
+/// The body of a request that begins so: further bytes are those of the parts up to the next request.
+pub fn read_body(alloc: Global, begun: &str, parts: &[Part]) -> Result<Bytes, CaseFault> {
+    let mut body = Vec::from_slice(alloc, begun.as_bytes())?;
+    add_bytes(&mut body, parts)?;
     Ok(Bytes::from_vec(body)?)
 }

@@ -43,24 +43,25 @@ fn take_in_the_end(alloc: Global, book: &mut Book, line: &str) -> Result<Taken, 
 }
 
 /// Adds what a book says to the question of a line. Says whether it is one.
-fn ask(book: &Book, line: &str, given: &mut Given) -> Result<bool, AllocError> {
+fn ask(book: &Book, line: &str, given: &mut Given) -> bool {
     match question_of(line) {
         Some(question) => {
-            push_reading(book, question, given)?;
-            Ok(true)
+            push_reading(book, question, given);
+            true
         }
-        None => Ok(false),
+        None => false,
     }
 }
 
 /// Adds whether the call of a line would come too early. Says whether it is one.
-fn hold(book: &Book, line: &str, given: &mut Given) -> Result<bool, AllocError> {
-    match is_early(given.alloc(), book, line.as_bytes())? {
-        Some(true) => given.push("early\n"),
-        Some(false) => given.push("in time\n"),
-        None => return Ok(false),
+fn hold(book: &Book, line: &str, given: &mut Given) -> bool {
+    match is_early(given.alloc(), book, line.as_bytes()) {
+        Ok(Some(true)) => given.push("early\n"),
+        Ok(Some(false)) => given.push("in time\n"),
+        Ok(None) => return false,
+        Err(_) => given.cut(),
     }
-    Ok(true)
+    true
 }
 
 /// Hands a book a line of a part that is called so. Says whether it is one of such a part.
@@ -71,8 +72,8 @@ fn follow_line(
     given: &mut Given,
 ) -> Result<bool, AllocError> {
     match word {
-        "ask" => ask(book, line, given),
-        "would" => hold(book, line, given),
+        "ask" => Ok(ask(book, line, given)),
+        "would" => Ok(hold(book, line, given)),
         _ => {
             let taken = take_in_the_end(given.alloc(), book, line)?;
             Ok(push_taken(given, taken))

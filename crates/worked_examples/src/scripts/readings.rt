@@ -19,11 +19,20 @@ fn push_number(given: &mut Given, number: Option<u64>, behind: &str) {
     given.push(behind);
 }
 
-/// Adds bytes as lines; where there are none, `-`.
-fn push_text(given: &mut Given, text: &Option<Vec<u8>>) {
+/// Adds bytes as lines, if there was memory for them; where there are none, `-`.
+fn push_text(given: &mut Given, text: Result<Option<Vec<u8>>, AllocError>) {
     match text {
-        Some(bytes) => push_bytes(given, bytes.as_slice()),
-        None => given.push("-\n"),
+        Ok(Some(bytes)) => push_bytes(given, bytes.as_slice()),
+        Ok(None) => given.push("-\n"),
+        Err(_) => given.cut(),
+    }
+}
+
+/// Adds the text of a book's history before its first entry.
+fn push_opening(book: &Book, given: &mut Given) {
+    match book.opening() {
+        Ok(text) => push_bytes(given, text.as_slice()),
+        Err(_) => given.cut(),
     }
 }
 
@@ -89,25 +98,30 @@ fn push_config(book: &Book, given: &mut Given) {
     given.push("\n");
 }
 
-/// Adds a reply; where there is none, `-`.
-fn push_reply(given: &mut Given, reply: &Option<Reply>) {
-    let Some(reply) = reply else {
-        given.push("-\n");
-        return;
-    };
+/// Adds a reply.
+fn push_reply(given: &mut Given, reply: &Reply) {
     push_number(given, Some(u64::from(reply.status)), "\n");
     push_headers(given, &reply.headers);
     given.push("=");
     push_line(given, reply.body.as_slice());
 }
 
+/// Adds the reply to a ticket; where there is none, `-`.
+fn push_rendered(book: &Book, ticket: Ticket, given: &mut Given) {
+    match book.render(ticket) {
+        Ok(Some(reply)) => push_reply(given, &reply),
+        Ok(None) => given.push("-\n"),
+        Err(_) => given.cut(),
+    }
+}
+
 /// Adds what a book says to a question.
-pub fn push_reading(book: &Book, question: Question, given: &mut Given) -> Result<(), AllocError> {
+pub fn push_reading(book: &Book, question: Question, given: &mut Given) {
     match question {
         Question::Entries => push_entries(book, given),
-        Question::Opening => push_bytes(given, book.opening()?.as_slice()),
-        Question::History(ticket) => push_text(given, &book.history(ticket)?),
-        Question::Render(ticket) => push_reply(given, &book.render(ticket)?),
+        Question::Opening => push_opening(book, given),
+        Question::History(ticket) => push_text(given, book.history(ticket)),
+        Question::Render(ticket) => push_rendered(book, ticket, given),
         Question::Stats => tell(given, &book.stats()),
         Question::Due(moment) => tell(given, &book.due(moment)),
         Question::Life => tell(given, &book.life()),
@@ -115,5 +129,4 @@ pub fn push_reading(book: &Book, question: Question, given: &mut Given) -> Resul
         Question::Salt => push_number(given, Some(book.salt()), "\n"),
         Question::Config => push_config(book, given),
     }
-    Ok(())
 }

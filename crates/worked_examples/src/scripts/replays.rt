@@ -1,6 +1,6 @@
 //! Scripts: each is replayed whole, byte by byte, in form 2, and from the text of its history.
 
-use crate::scripts::histories::{entries_answers, history_behind, shown_answers};
+use crate::scripts::histories::{history_behind, push_entries_answers, shows};
 use crate::scripts::pieces::{Page, Pieces};
 use crate::scripts::texts::{number_of, push_bytes, script_of};
 use case_tables::{Case, CaseFault, Given};
@@ -50,54 +50,50 @@ fn push_fault(text: &mut Given, fault: ReplayFault) {
     text.push("\n");
 }
 
-/// The text of a replay: what it wrote, and at a fault the line of the fault. Where memory ran out,
-/// what was written has to be lines from the front of what is wanted.
-fn text_of(alloc: Global, wanted: &str, way: &Way<'_>) -> Result<Given, CaseFault> {
-    let Played { ended, page } = play(alloc, way)?;
-    let mut text = Given::new(alloc);
-    if ended == Err(ReplayFault::OutOfMemory) {
-        if is_front(wanted, page.written()) {
+/// Adds what a replay wrote, and at a fault the line of the fault. Where memory ran out, what was
+/// written has to be lines from the front of what is wanted.
+fn push_played(text: &mut Given, wanted: &str, played: &Played) -> Result<(), CaseFault> {
+    let written = played.page.written();
+    if played.ended == Err(ReplayFault::OutOfMemory) {
+        if is_front(wanted, written) {
             return Err(CaseFault::Memory);
         }
         text.push("(memory ran out behind other lines)\n");
     }
-    push_bytes(&mut text, page.written());
-    if let Err(fault) = ended {
-        push_fault(&mut text, fault);
+    push_bytes(text, written);
+    if let Err(fault) = played.ended {
+        push_fault(text, fault);
     }
-    Ok(text)
+    text.end()
 }
 
-/// Adds what a way gives, where it is something else than is wanted.
-fn push_other(
-    given: &mut Given,
-    title: &str,
-    wanted: &Given,
-    other: &Given,
-) -> Result<(), CaseFault> {
-    wanted.end()?;
-    other.end()?;
-    if wanted.as_str() != other.as_str() {
-        given.push(title);
-        given.push(":\n");
-        given.push(other.as_str());
+/// The text of a replay.
+fn text_of(alloc: Global, wanted: &str, way: &Way<'_>) -> Result<Given, CaseFault> {
+    let played = play(alloc, way)?;
+    let mut text = Given::new(alloc);
+    match push_played(&mut text, wanted, &played) {
+        Ok(()) => Ok(text),
+        Err(fault) => Err(fault),
     }
-    Ok(())
 }
 
 /// Adds what a way of a script gives, where it is something else than the whole replay gave.
-fn push_way(title: &str, way: &Way<'_>, whole: &Given, given: &mut Given) -> Result<(), CaseFault> {
-    let text = text_of(given.alloc(), whole.as_str(), way)?;
-    push_other(given, title, whole, &text)
+fn push_way(title: &str, way: &Way<'_>, whole: &str, given: &mut Given) -> Result<(), CaseFault> {
+    let text = text_of(given.alloc(), whole, way)?;
+    if text.as_str() != whole {
+        given.push(title);
+        given.push(":\n");
+        given.push(text.as_str());
+    }
+    Ok(())
 }
 
 /// Adds what a history shows, where that is not what the script's entries were answered.
-fn push_shown(history: &[u8], kept: &[u8], given: &mut Given) -> Result<(), AllocError> {
-    if shown_answers(given.alloc(), history)?.as_slice() != kept {
+fn push_shown(history: &[u8], kept: &[u8], given: &mut Given) {
+    if !shows(history, kept) {
         given.push("the history shows other answers:\n");
         push_bytes(given, history);
     }
-    Ok(())
 }
 
 /// Adds what the replay of a history gives, where it is something else than its answers.
@@ -111,19 +107,29 @@ fn push_again(history: &[u8], kept: &[u8], given: &mut Given) -> Result<(), Case
     };
     let mut wanted = Given::new(given.alloc());
     push_bytes(&mut wanted, kept);
-    push_way("from its history", &way, &wanted, given)
+    wanted.end()?;
+    push_way("from its history", &way, wanted.as_str(), given)
 }
 
 /// Adds what a script's history shows, where that is not what the script's entries were answered,
 /// and what the replay of its text gives, where that is something else.
-fn push_history(script: &[u8], whole: &Given, given: &mut Given) -> Result<(), CaseFault> {
-    let Some(history) = history_behind(given.alloc(), script)? else {
-        given.push("no history\n");
-        return Ok(());
-    };
-    let kept = entries_answers(given.alloc(), whole.as_str().as_bytes())?;
-    push_shown(history.as_slice(), kept.as_slice(), given)?;
-    push_again(history.as_slice(), kept.as_slice(), given)
+fn push_entries(history: &[u8], whole: &str, given: &mut Given) -> Result<(), CaseFault> {
+    let mut kept = Vec::new(given.alloc());
+    push_entries_answers(&mut kept, whole.as_bytes())?;
+    push_shown(history, kept.as_slice(), given);
+    push_again(history, kept.as_slice(), given)
+}
+
+/// The same of a script, where it has a history.
+fn push_history(script: &[u8], whole: &str, given: &mut Given) -> Result<(), CaseFault> {
+    match history_behind(given.alloc(), script) {
+        Ok(Some(history)) => push_entries(history.as_slice(), whole, given),
+        Ok(None) => {
+            given.push("no history\n");
+            Ok(())
+        }
+        Err(_) => Err(CaseFault::Memory),
+    }
 }
 
 /// How a case's script is replayed whole.
@@ -142,7 +148,7 @@ fn whole_way<'a>(case: &Case, script: &'a [u8]) -> Result<Way<'a>, CaseFault> {
 }
 
 /// Adds what a script gives in form 2, where it is not in that form.
-fn push_later(way: &Way<'_>, whole: &Given, given: &mut Given) -> Result<(), CaseFault> {
+fn push_later(way: &Way<'_>, whole: &str, given: &mut Given) -> Result<(), CaseFault> {
     if way.script.starts_with(b"form 2") {
         return Ok(());
     }
@@ -154,14 +160,29 @@ fn push_later(way: &Way<'_>, whole: &Given, given: &mut Given) -> Result<(), Cas
 }
 
 /// Adds what the other ways give.
-fn push_others(way: &Way<'_>, whole: &Given, given: &mut Given) -> Result<(), CaseFault> {
+fn push_others(way: &Way<'_>, whole: &str, given: &mut Given) -> Result<(), CaseFault> {
     let slow = Way { at_once: 1, ..*way };
     push_way("byte by byte", &slow, whole, given)?;
-    if whole.as_str().contains(", status ") {
+    if whole.contains(", status ") {
         return Ok(());
     }
     push_later(way, whole, given)?;
     push_history(way.script, whole, given)
+}
+
+/// Adds what a script gives that is replayed whole, and where it is to be, in every way.
+fn push_whole(
+    way: &Way<'_>,
+    wanted: &str,
+    in_every_way: bool,
+    given: &mut Given,
+) -> Result<(), CaseFault> {
+    let whole = text_of(given.alloc(), wanted, way)?;
+    given.push(whole.as_str());
+    match in_every_way {
+        true => push_others(way, whole.as_str(), given),
+        false => Ok(()),
+    }
 }
 
 /// What a script is answered, replayed whole, and in every way byte by byte, in form 2 and from its
@@ -171,11 +192,5 @@ fn push_others(way: &Way<'_>, whole: &Given, given: &mut Given) -> Result<(), Ca
 pub fn give(case: &Case, in_every_way: bool, given: &mut Given) -> Result<(), CaseFault> {
     let script = script_of(given.alloc(), case, &["reader-fails", "room"])?;
     let way = whole_way(case, script.as_slice())?;
-    let whole = text_of(given.alloc(), case.wanted(), &way)?;
-    whole.end()?;
-    given.push(whole.as_str());
-    match in_every_way {
-        true => push_others(&way, &whole, given),
-        false => Ok(()),
-    }
+    push_whole(&way, case.wanted(), in_every_way, given)
 }

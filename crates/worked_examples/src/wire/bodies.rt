@@ -7,7 +7,7 @@ use lambda_wire::{
     status_body, write_fault, write_invoke_event, write_invoke_fault, write_registered,
     write_reservation, write_shutdown_event, write_throttle,
 };
-use std::alloc::Global;
+use std::alloc::{AllocError, Global};
 
 /// The calls, and the arguments that each wants.
 const CALLS: [(&str, &[&str]); 8] = [
@@ -21,68 +21,57 @@ const CALLS: [(&str, &[&str]); 8] = [
     ("invoke-fault", &["form", "message"]),
 ];
 
-fn status(alloc: Global) -> Result<Vec<u8>, CaseFault> {
-    Ok(status_body().as_slice().to_vec(alloc)?)
-}
-
-fn reservation(alloc: Global, arguments: &Arguments) -> Result<Vec<u8>, CaseFault> {
-    let count = match arguments.number_if_given("count") {
-        None => None,
-        Some(count) => Some(count_in(arguments, count)?),
+/// The count of a reservation, where it is given.
+fn count_of(arguments: &Arguments) -> Result<Option<u32>, CaseFault> {
+    let Some(count) = arguments.number_if_given("count") else {
+        return Ok(None);
     };
-    Ok(write_reservation(alloc, count)?)
-}
-
-fn count_in(arguments: &Arguments, count: u64) -> Result<u32, CaseFault> {
     match u32::try_from(count) {
-        Ok(count) => Ok(count),
+        Ok(count) => Ok(Some(count)),
         Err(_) => Err(arguments.fault("a count is too large")),
     }
 }
 
-fn throttle(alloc: Global, arguments: &Arguments) -> Result<Vec<u8>, CaseFault> {
-    Ok(write_throttle(alloc, arguments.text("reason"))?)
-}
-
-fn invoke_event(alloc: Global, arguments: &Arguments) -> Result<Vec<u8>, CaseFault> {
+fn invoke_event(alloc: Global, arguments: &Arguments) -> Result<Vec<u8>, AllocError> {
     let deadline = arguments.number("deadline");
     let arn = arguments.text("arn");
     let request = arguments.text("request");
     let trace = arguments.text("trace");
-    Ok(write_invoke_event(alloc, deadline, arn, request, trace)?)
+    write_invoke_event(alloc, deadline, arn, request, trace)
 }
 
-fn shutdown_event(alloc: Global, arguments: &Arguments) -> Result<Vec<u8>, CaseFault> {
+fn shutdown_event(alloc: Global, arguments: &Arguments) -> Result<Vec<u8>, AllocError> {
     let deadline = arguments.number("deadline");
-    Ok(write_shutdown_event(alloc, deadline, arguments.text("reason"))?)
+    write_shutdown_event(alloc, deadline, arguments.text("reason"))
 }
 
-fn registered(alloc: Global, arguments: &Arguments) -> Result<Vec<u8>, CaseFault> {
+fn registered(alloc: Global, arguments: &Arguments) -> Result<Vec<u8>, AllocError> {
     let account = arguments.text_if_given("account");
     let function = arguments.text("function");
-    Ok(write_registered(alloc, account, function, arguments.text("handler"))?)
+    write_registered(alloc, account, function, arguments.text("handler"))
 }
 
-fn fault(alloc: Global, arguments: &Arguments) -> Result<Vec<u8>, CaseFault> {
-    Ok(write_fault(alloc, arguments.text("message"), arguments.text("type"))?)
+fn fault(alloc: Global, arguments: &Arguments) -> Result<Vec<u8>, AllocError> {
+    write_fault(alloc, arguments.text("message"), arguments.text("type"))
 }
 
-fn invoke_fault(alloc: Global, arguments: &Arguments) -> Result<Vec<u8>, CaseFault> {
-    let form = arguments.form()?;
-    Ok(write_invoke_fault(alloc, form, arguments.text("message"))?)
-}
-
-/// The body that a call writes, whose arguments are there.
-fn body(alloc: Global, word: &str, arguments: &Arguments) -> Result<Vec<u8>, CaseFault> {
+/// The body that a call writes for arguments of which each is right that is there.
+fn plain_body(alloc: Global, word: &str, arguments: &Arguments) -> Result<Vec<u8>, AllocError> {
     match word {
-        "status" => status(alloc),
-        "reservation" => reservation(alloc, arguments),
-        "throttle" => throttle(alloc, arguments),
+        "status" => status_body().as_slice().to_vec(alloc),
+        "throttle" => write_throttle(alloc, arguments.text("reason")),
         "invoke-event" => invoke_event(alloc, arguments),
         "shutdown-event" => shutdown_event(alloc, arguments),
         "registered" => registered(alloc, arguments),
-        "fault" => fault(alloc, arguments),
-        _ => invoke_fault(alloc, arguments),
+        _ => fault(alloc, arguments),
+    }
+}
+
+/// Adds a body that was written, if there was memory for it, as a line.
+fn push_written(given: &mut Given, body: Result<Vec<u8>, AllocError>) {
+    match body {
+        Ok(body) => push_line(given, body.as_slice()),
+        Err(_) => given.cut(),
     }
 }
 
@@ -100,7 +89,17 @@ fn body(alloc: Global, word: &str, arguments: &Arguments) -> Result<Vec<u8>, Cas
 /// | `invoke-fault` | `form`, which is `User`, `NotFound` or `Service`, and `message` |
 pub fn push_body(word: &str, arguments: &Arguments, given: &mut Given) -> Result<(), CaseFault> {
     arguments.check_call(&CALLS, word)?;
-    let body = body(given.alloc(), word, arguments)?;
-    push_line(given, body.as_slice());
+    let alloc = given.alloc();
+    match word {
+        "reservation" => push_written(given, write_reservation(alloc, count_of(arguments)?)),
+        "invoke-fault" => {
+            let form = arguments.form()?;
+            push_written(
+                given,
+                write_invoke_fault(alloc, form, arguments.text("message")),
+            );
+        }
+        _ => push_written(given, plain_body(alloc, word, arguments)),
+    }
     Ok(())
 }

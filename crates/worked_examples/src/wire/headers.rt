@@ -1,6 +1,6 @@
 //! The headers of replies.
 
-ghost use Rattle.std.specs.Prelude.{IfOk, string_bytes};
+ghost use Rattle.std.specs.Prelude.{IfOk};
 ghost use Rattle.http_header.specs.FieldValue.{IsFieldValue};
 
 use crate::shown;
@@ -11,8 +11,7 @@ use lambda_wire::{
     Headers, error_headers, event_headers, invoke_headers, json_headers, next_headers,
     registered_headers,
 };
-use std::alloc::Global;
-use std::str;
+use std::alloc::{AllocError, Global};
 
 /// The calls, and the arguments that each wants.
 const CALLS: [(&str, &[&str]); 7] = [
@@ -25,39 +24,24 @@ const CALLS: [(&str, &[&str]); 7] = [
     ("request-error", &["type", "request"]),
 ];
 
-/// The argument that a header is to hold.
-pub fn value_in(
-    alloc: Global,
-    arguments: &Arguments,
-    name: &str,
-) -> Result<HeaderValue, CaseFault> {
-    match HeaderValue::from_str(alloc, arguments.text(name)) {
-        Ok(value) => Ok(value),
+/// The argument that a header is to hold, as a text.
+pub fn field<'a>(alloc: Global, arguments: &'a Arguments, name: &str) -> Result<&'a str, CaseFault>
+    ensures { IfOk result (λ text. IsFieldValue text.now) }
+{
+    let text = arguments.text(name);
+    match HeaderValue::from_str(alloc, text) {
+        Ok(_value) => Ok(text),
         Err(HeaderValueError::OutOfMemory) => Err(CaseFault::Memory),
         Err(HeaderValueError::Invalid) => Err(arguments.fault("no header holds this text")),
     }
 }
 
-/// The text of a header.
-pub fn text_of<'v>(arguments: &Arguments, value: &'v HeaderValue) -> Result<&'v str, CaseFault>
-    ensures { IfOk result (λ text. IsFieldValue text.now) }
-{
-    match str::from_utf8(value.as_bytes()) {
-        Ok(text) => Ok(text),
-        Err(_) => Err(arguments.fault("a text is wanted")),
+/// Headers, if there was memory for them.
+fn made(headers: Result<Headers, AllocError>) -> Result<Headers, CaseFault> {
+    match headers {
+        Ok(headers) => Ok(headers),
+        Err(_) => Err(CaseFault::Memory),
     }
-}
-
-/// The argument that a header is to hold, as a text.
-fn field(alloc: Global, arguments: &Arguments, name: &str) -> Result<String, CaseFault>
-    ensures { IfOk result (λ text. IsFieldValue (string_bytes text)) }
-{
-    let value = value_in(alloc, arguments, name)?;
-    Ok(String::from_str(alloc, text_of(arguments, &value)?)?)
-}
-
-fn json(alloc: Global) -> Result<Headers, CaseFault> {
-    Ok(json_headers(alloc)?)
 }
 
 fn next(alloc: Global, arguments: &Arguments) -> Result<Headers, CaseFault> {
@@ -65,39 +49,37 @@ fn next(alloc: Global, arguments: &Arguments) -> Result<Headers, CaseFault> {
     let arn = field(alloc, arguments, "arn")?;
     let trace = field(alloc, arguments, "trace")?;
     let deadline = arguments.number("deadline");
-    Ok(next_headers(alloc, request.as_str(), deadline, arn, trace.as_str())?)
+    let arn = String::from_str(alloc, arn)?;
+    made(next_headers(alloc, request, deadline, arn, trace))
 }
 
 fn event(alloc: Global, arguments: &Arguments) -> Result<Headers, CaseFault> {
-    let event = field(alloc, arguments, "event")?;
-    Ok(event_headers(alloc, event.as_str())?)
+    made(event_headers(alloc, field(alloc, arguments, "event")?))
 }
 
 fn registered(alloc: Global, arguments: &Arguments) -> Result<Headers, CaseFault> {
-    let extension = field(alloc, arguments, "extension")?;
-    Ok(registered_headers(alloc, extension.as_str())?)
+    made(registered_headers(alloc, field(alloc, arguments, "extension")?))
 }
 
 fn invoke(alloc: Global, arguments: &Arguments) -> Result<Headers, CaseFault> {
     let request = field(alloc, arguments, "request")?;
-    Ok(invoke_headers(alloc, request.as_str(), arguments.is_true("failed"))?)
+    made(invoke_headers(alloc, request, arguments.is_true("failed")))
 }
 
 fn error(alloc: Global, arguments: &Arguments) -> Result<Headers, CaseFault> {
-    let kind = field(alloc, arguments, "type")?;
-    Ok(error_headers(alloc, None, kind.as_str())?)
+    made(error_headers(alloc, None, field(alloc, arguments, "type")?))
 }
 
 fn request_error(alloc: Global, arguments: &Arguments) -> Result<Headers, CaseFault> {
     let kind = field(alloc, arguments, "type")?;
     let request = field(alloc, arguments, "request")?;
-    Ok(error_headers(alloc, Some(request.as_str()), kind.as_str())?)
+    made(error_headers(alloc, Some(request), kind))
 }
 
 /// The headers that a call writes, whose arguments are there.
 fn headers(alloc: Global, word: &str, arguments: &Arguments) -> Result<Headers, CaseFault> {
     match word {
-        "json" => json(alloc),
+        "json" => made(json_headers(alloc)),
         "next" => next(alloc, arguments),
         "event" => event(alloc, arguments),
         "registered" => registered(alloc, arguments),

@@ -1,11 +1,11 @@
 //! Whole replies that refuse.
 
 use crate::wire::arguments::Arguments;
-use crate::wire::headers::{text_of, value_in};
+use crate::wire::headers::field;
 use crate::wire::reply_text::push_reply;
 use case_tables::{CaseFault, Given};
 use lambda_wire::{Reply, fault_reply, invoke_fault_reply};
-use std::alloc::Global;
+use std::alloc::{AllocError, Global};
 
 fn status_of(arguments: &Arguments) -> Result<u16, CaseFault> {
     match u16::try_from(arguments.number("status")) {
@@ -14,16 +14,23 @@ fn status_of(arguments: &Arguments) -> Result<u16, CaseFault> {
     }
 }
 
+/// A reply, if there was memory for it.
+fn made(reply: Result<Reply, AllocError>) -> Result<Reply, CaseFault> {
+    match reply {
+        Ok(reply) => Ok(reply),
+        Err(_) => Err(CaseFault::Memory),
+    }
+}
+
 fn fault(alloc: Global, status: u16, arguments: &Arguments) -> Result<Reply, CaseFault> {
     let message = arguments.text("message");
-    Ok(fault_reply(alloc, status, message, arguments.text("type"))?)
+    made(fault_reply(alloc, status, message, arguments.text("type")))
 }
 
 fn invoke_fault(alloc: Global, status: u16, arguments: &Arguments) -> Result<Reply, CaseFault> {
     let form = arguments.form()?;
-    let kind = value_in(alloc, arguments, "type")?;
-    let kind = text_of(arguments, &kind)?;
-    Ok(invoke_fault_reply(alloc, status, kind, form, arguments.text("message"))?)
+    let kind = field(alloc, arguments, "type")?;
+    made(invoke_fault_reply(alloc, status, kind, form, arguments.text("message")))
 }
 
 /// The reply that a call makes.

@@ -53,7 +53,7 @@ fn push_rendered(
     call: (&Call, u64),
     source: (&Call, u64),
     given: &mut Given,
-) -> Result<(), CaseFault>
+)
     requires { IsTraced source.0.now }
 {
     let gist = Gist {
@@ -63,8 +63,24 @@ fn push_rendered(
         source: source.0,
         source_count: source.1,
     };
-    let reply = reply(given.alloc(), &account.config, account.salt, &gist)?;
-    push_reply(given, &reply);
+    match reply(given.alloc(), &account.config, account.salt, &gist) {
+        Ok(reply) => push_reply(given, &reply),
+        Err(_) => given.cut(),
+    }
+}
+
+/// Adds the reply to a call whose answer names the call of a part.
+fn push_sourced(
+    account: &Account,
+    config: &Checked,
+    answer: Answer,
+    call: (&Call, u64),
+    named: &Part,
+    given: &mut Given,
+) -> Result<(), CaseFault> {
+    let count = count_of(named)?;
+    let source = call_of(given.alloc(), config, named)?;
+    push_rendered(account, answer, call, (&source, count), given);
     Ok(())
 }
 
@@ -79,16 +95,22 @@ fn push_answered(
     let part = part_of(case, "call")?;
     let named = case.part("source").unwrap_or(part);
     let count = count_of(part)?;
-    let source_count = count_of(named)?;
     let call = call_of(given.alloc(), config, part)?;
-    let source = call_of(given.alloc(), config, named)?;
-    push_rendered(
-        account,
-        answer,
-        (&call, count),
-        (&source, source_count),
-        given,
-    )
+    push_sourced(account, config, answer, (&call, count), named, given)
+}
+
+/// Adds the reply to the call of a case, whose lines may be read by a configuration of their own.
+fn push_read(
+    case: &Case,
+    account: &Account,
+    answer: Answer,
+    given: &mut Given,
+) -> Result<(), CaseFault> {
+    let Some(part) = case.part("lines-of") else {
+        return push_answered(case, account, &account.config, answer, given);
+    };
+    let reader = account_of(given.alloc(), part)?;
+    push_answered(case, account, &reader.config, answer, given)
 }
 
 /// Whether no part of a case before this one is called as it is.
@@ -126,6 +148,5 @@ pub fn give(case: &Case, given: &mut Given) -> Result<(), CaseFault> {
     let config = part_of(case, "config")?;
     let answer = answer_of(part_of(case, "answer")?)?;
     let account = account_of(given.alloc(), config)?;
-    let reader = account_of(given.alloc(), case.part("lines-of").unwrap_or(config))?;
-    push_answered(case, &account, &reader.config, answer, given)
+    push_read(case, &account, answer, given)
 }
