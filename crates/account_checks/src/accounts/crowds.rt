@@ -124,14 +124,18 @@ fn work<R: Wait, S: Identity, K: Keep>(
     }
 }
 
-/// The job for an environment: a tally with a part of the first one.
-fn job_at<K: Keep, L: Ledgers>(
+/// Adds the job for an environment, which has a part of the first tally.
+fn push_job<K: Keep, L: Ledgers>(
+    jobs: &mut Vec<Job<K, L>>,
     tallies: &mut [Tally<K, L>],
     env: u64,
-) -> Result<Job<K, L>, CaseFault> {
-    match part_of(tallies.first_mut()) {
-        Ok(tally) => Ok(Job { tally, env }),
-        Err(_) => Err(malformed(0, "a tally with parts is wanted")),
+) -> Result<(), CaseFault> {
+    let Ok(tally) = part_of(tallies.first_mut()) else {
+        return Err(malformed(0, "a tally with parts is wanted"));
+    };
+    match jobs.push(Job { tally, env }) {
+        Ok(()) => Ok(()),
+        Err(_) => Err(CaseFault::Memory),
     }
 }
 
@@ -142,7 +146,7 @@ fn jobs_of<K: Keep, L: Ledgers>(
 ) -> Result<Vec<Job<K, L>>, CaseFault> {
     let mut jobs = Vec::with_capacity(alloc, 4)?;
     for env in 1..5 {
-        jobs.push(job_at(tallies, env)?)?;
+        push_job(&mut jobs, tallies, env)?;
     }
     Ok(jobs)
 }

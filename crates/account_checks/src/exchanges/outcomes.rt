@@ -218,16 +218,18 @@ fn push_told(given: &mut Given, text: &str, reply: &Reply, open: &OpenPoll) {
     push_open(given, open);
 }
 
-/// The same for three requests.
+/// The same for three requests, where all were answered.
 pub fn push_three(
     given: &mut Given,
     texts: (&str, &str, &str),
-    replies: &(Reply, Reply, Reply),
+    came: Result<(Reply, Reply, Reply), CaseFault>,
     open: &OpenPoll,
-) {
+) -> Result<(), CaseFault> {
+    let replies = came?;
     push_told(given, texts.0, &replies.0, open);
     push_told(given, texts.1, &replies.1, open);
     push_told(given, texts.2, &replies.2, open);
+    Ok(())
 }
 
 /// Adds what came of a poll for the answer of a ticket.

@@ -4,7 +4,7 @@ ghost use Rattle.std.specs.Prelude.{◌≡◌, ⊤, IfOk};
 ghost use Rattle.std.specs.Arc.{arc_value};
 ghost use Rattle.long_poll.specs.Stages.{CanGoOn};
 
-use crate::exchanges::asks::{Ask, Pieces, ask_in, three_in};
+use crate::exchanges::asks::{Pieces, ask_in, three_in};
 use crate::exchanges::outcomes::{
     finished, made_at_once, push_collected, push_made, push_open, push_poll, push_three,
 };
@@ -220,9 +220,8 @@ impl<
     fn ask_three(&self, part: &Part, given: &mut Given) -> Result<(), CaseFault> {
         let texts = three_in(part);
         let open = arc_of(self.alloc, OpenPoll::new())?;
-        let replies = self.make_three(part.line(), texts, &open)?;
-        push_three(given, texts, &replies, &open);
-        Ok(())
+        let came = self.make_three(part.line(), texts, &open);
+        push_three(given, texts, came, &open)
     }
 
     /// Polls for the answer of a ticket; what came of that.
