@@ -64,11 +64,17 @@ fn run_case<
     R: Wait + Threads + Copy + Send + Sync + Drop + 'static,
     S: Identity + Send + Sync + Drop,
     K: Keep + Send + Sync,
->(case: &Case, seats: Seats<R, S, K>, given: &mut Given) -> Result<(), CaseFault> {
+>(
+    case: &Case,
+    seats: Seats<R, S, K>,
+    bells: &mut Bells,
+    given: &mut Given,
+) -> Result<(), CaseFault> {
     let mut seats = seats;
-    let mut bells = Bells::new(given.alloc())?;
-    play_parts(&mut seats, &mut bells, case, given)?;
-    end_case(case, seats, given)
+    match play_parts(&mut seats, bells, case, given) {
+        Ok(()) => end_case(case, seats, given),
+        Err(fault) => Err(fault),
+    }
 }
 
 /// Tells why nothing was opened.
@@ -93,6 +99,7 @@ fn play<
     way: Way,
     opening: Opening,
     blanks: Blanks,
+    bells: &mut Bells,
     given: &mut Given,
 ) -> Result<(), CaseFault>
     requires configured { arc_value opening.config ≡ S.config }
@@ -100,7 +107,7 @@ fn play<
     requires named { blanks ≡ S.names }
 {
     match open::<R, S, K>(rt, given.alloc(), way, opening, blanks) {
-        Ok(opened) => run_case(case, Seats::new(opened, way)?, given),
+        Ok(opened) => run_case(case, Seats::new(opened, way)?, bells, given),
         Err(fault) => push_unopened(fault, given),
     }
 }
@@ -111,10 +118,11 @@ fn play_by_brand<R: Wait + Threads + Copy + Send + Sync + Drop + 'static, K: Kee
     case: &Case,
     way: Way,
     opening: Opening,
+    bells: &mut Bells,
     given: &mut Given,
 ) -> Result<(), CaseFault> {
     let blanks = Blanks::new(given.alloc())?;
-    play::<R, Brand, K>(rt, case, way, opening, blanks, given)
+    play::<R, Brand, K>(rt, case, way, opening, blanks, bells, given)
 }
 
 /// Whether the tallies of a case keep everything.
@@ -134,11 +142,12 @@ fn run_in<R: Wait + Threads + Copy + Send + Sync + Drop + 'static>(
     given: &mut Given,
 ) -> Result<(), CaseFault> {
     let keeps_all = keeps_all(case)?;
+    let mut bells = Bells::new(given.alloc())?;
     let opening = opening_of(given.alloc(), case)?;
     if keeps_all {
-        play_by_brand::<R, KeepAll>(rt, case, way, opening, given)
+        play_by_brand::<R, KeepAll>(rt, case, way, opening, &mut bells, given)
     } else {
-        play_by_brand::<R, KeepNone>(rt, case, way, opening, given)
+        play_by_brand::<R, KeepNone>(rt, case, way, opening, &mut bells, given)
     }
 }
 

@@ -41,7 +41,7 @@ fn mood_in(part: &Part) -> Result<Mood, CaseFault> {
 }
 
 /// What a case says of its service and of its connections.
-#[derive(Drop)]
+#[derive(Clone, Copy)]
 struct Terms {
     /// What becomes of the calls of its board, if it has one.
     mood: Option<Mood>,
@@ -99,10 +99,8 @@ fn play_over_account<
     case: &Case,
     given: &mut Given,
 ) -> Result<(), CaseFault> {
-    let alloc = rt.alloc();
-    let (account, tally) = opened;
-    let service = Arc::new(alloc, account)?;
-    let shared = Shared::new(alloc, service, rows, tally)?;
+    let alloc = given.alloc();
+    let shared = Shared::new(alloc, opened.0, rows, opened.1)?;
     scene::play(&Scene::new(rt, alloc, shared, patience), case, given)
 }
 
@@ -119,13 +117,17 @@ fn play_over_board<
     case: &Case,
     given: &mut Given,
 ) -> Result<(), CaseFault> {
-    let alloc = rt.alloc();
-    let (account, tally) = opened;
-    let board = Arc::new(alloc, Board::new(alloc, mood, account))?;
-    let shared = Shared::new(alloc, Arc::try_clone(&board)?, rows, tally)?;
-    scene::play(&Scene::new(rt, alloc, shared, patience), case, given)?;
-    board.push_noted(given);
-    Ok(())
+    let alloc = given.alloc();
+    let board = Board::new(alloc, mood, opened.0);
+    let scene = Scene::new(
+        rt,
+        alloc,
+        Shared::new(alloc, board, rows, opened.1)?,
+        patience,
+    );
+    let played = scene::play(&scene, case, given);
+    scene.service().push_noted(given);
+    played
 }
 
 /// Runs a case with a new account, over it or over a board.
@@ -144,24 +146,18 @@ fn play<
     requires salted { opening.salt ≡ S.salt }
     requires named { blanks ≡ S.names }
 {
-    let Terms { mood, patience } = terms;
-    let Opening {
-        config,
-        salt,
-        max_entries,
-        ..
-    } = opening;
-    let rows = rows_of::<S>(rt.alloc(), case.line(), &config)?;
+    let rows = rows_of::<S>(given.alloc(), case.line(), &opening.config)?;
     let opened = Account::<S, OneShotBell>::open::<KeepNone>(
-        rt.alloc(),
-        config,
-        salt,
-        max_entries,
+        given.alloc(),
+        opening.config,
+        opening.salt,
+        opening.max_entries,
         blanks,
     );
+    let patience = terms.patience;
     match opened {
         Err(fault) => Err(not_opened(case.line(), fault)),
-        Ok(opened) => match mood {
+        Ok(opened) => match terms.mood {
             None => play_over_account(rt, patience, rows, opened, case, given),
             Some(mood) => play_over_board(rt, patience, rows, opened, mood, case, given),
         },
@@ -196,7 +192,7 @@ pub fn give<R: Wait + Threads + Clock + RandomSource + AllocGlobal + Copy + Send
     given: &mut Given,
 ) -> Result<(), CaseFault> {
     let terms = terms_of(case)?;
-    let opening = opening_of(rt.alloc(), case)?;
-    let blanks = Blanks::new(rt.alloc())?;
+    let opening = opening_of(given.alloc(), case)?;
+    let blanks = Blanks::new(given.alloc())?;
     play::<R, Brand>(rt, terms, case, opening, blanks, given)
 }

@@ -1,10 +1,18 @@
-//! Numbers in the lines of cases.
+//! Words and numbers in the lines of cases.
 
 use case_tables::{CaseFault, Part};
 
 /// That a line does not hold what it is to hold.
 pub fn malformed(line: u64, what: &'static str) -> CaseFault {
     CaseFault::Malformed { line, what }
+}
+
+/// The first word of a text, and what stands behind it.
+pub fn split_word(text: &str) -> (&str, &str) {
+    match text.split_once(' ') {
+        Some(words) => words,
+        None => (text, ""),
+    }
 }
 
 /// The number that a text of a line says.

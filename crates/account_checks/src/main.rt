@@ -45,11 +45,12 @@ const TABLES: [(&str, Table); 9] = [
 fn tell<
     R: Wait + Threads + Clock + RandomSource + AllocGlobal + Copy + Send + Sync + Drop + 'static,
 >(rt: R, table: Table, case: &Case, given: &mut Given) -> Result<(), CaseFault> {
-    match table {
-        Table::Accounts => accounts::give(rt, case, given)?,
-        Table::Ledgers => ledgers::give(case, given)?,
-        Table::Exchanges => exchanges::give(rt, case, given)?,
-    }
+    let told = match table {
+        Table::Accounts => accounts::give(rt, case, given),
+        Table::Ledgers => ledgers::give(case, given),
+        Table::Exchanges => exchanges::give(rt, case, given),
+    };
+    told?;
     given.end()
 }
 
@@ -98,6 +99,28 @@ fn run_cases<
     Ok(agree)
 }
 
+/// Reads a table and runs its cases, and says whether all agree.
+fn run_table<
+    R: Wait
+        + Threads
+        + Clock
+        + RandomSource
+        + Files
+        + Print
+        + AllocGlobal
+        + Copy
+        + Send
+        + Sync
+        + Drop
+        + 'static,
+>(rt: R, file: &'static str, table: Table) -> Result<bool, TableFault>
+where
+    R::File: Read + Drop,
+{
+    let cases = read_file(&rt, file)?;
+    run_cases(rt, file, table, cases.as_slice())
+}
+
 /// Runs the tables, and says whether all of their cases agree.
 fn run<
     R: Wait
@@ -118,8 +141,7 @@ where
 {
     let mut agree = true;
     for (file, table) in TABLES {
-        let cases = read_file(&rt, file)?;
-        if !run_cases(rt, file, table, cases.as_slice())? {
+        if !run_table(rt, file, table)? {
             agree = false;
         }
     }

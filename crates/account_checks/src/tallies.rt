@@ -1,12 +1,12 @@
 //! Tallies, by which callers keep their shares of the counts: what cases do to them, and what is
 //! seen of them.
 
-ghost use Rattle.std.specs.Prelude.{◌<◌, OnOk};
+ghost use Rattle.std.specs.Prelude.{◌<◌, ◌≤◌, ◌+◌, OnOk, vec_len, vec_capacity};
 
 use crate::lines::malformed;
 use call_model::{Answer, Head, Ticket};
 use case_tables::{CaseFault, Given};
-use std::alloc::{AllocError, AllocFailed};
+use std::alloc::{AllocError, AllocFailed, Global};
 use usage_ledger::{JoinFault, Keep, Ledgers, Tally};
 
 /// Why something was not done to tallies.
@@ -69,6 +69,16 @@ pub fn seat_at<K: Keep, L: Ledgers>(tallies: &[Tally<K, L>], seat: usize) -> Opt
     })
 }
 
+/// Tallies of which this one is the first.
+pub fn first_of<K: Keep, L: Ledgers>(
+    alloc: Global,
+    tally: Tally<K, L>,
+) -> Result<Vec<Tally<K, L>>, AllocError> {
+    let mut tallies = Vec::with_capacity(alloc, 1)?;
+    tallies.push_reserved(tally);
+    Ok(tallies)
+}
+
 /// A new tally with a part of another one.
 pub fn part_of<K: Keep, L: Ledgers>(
     tally: Option<&mut Tally<K, L>>,
@@ -82,25 +92,43 @@ pub fn part_of<K: Keep, L: Ledgers>(
     Ok(tally.split())
 }
 
-/// Takes a tally out of these.
+/// Takes a tally out of these. There is then room for it.
 pub fn taken_out<K: Keep, L: Ledgers>(
     tallies: &mut Vec<Tally<K, L>>,
     seat: usize,
-) -> Result<Tally<K, L>, SeatFault> {
+) -> Result<Tally<K, L>, SeatFault>
+    ensures { OnOk result (vec_len tallies.new + 1 ≤ vec_capacity tallies.new) }
+{
     if seat >= tallies.len() {
         return Err(SeatFault::NoTally);
     }
     Ok(tallies.remove(seat))
 }
 
-/// Takes a tally and the next one out of these.
+/// Puts a tally with a part of another one behind these.
+pub fn split_off<K: Keep, L: Ledgers>(
+    tallies: &mut Vec<Tally<K, L>>,
+    seat: usize,
+) -> Result<(), SeatFault> {
+    let part = part_of(tallies.get_mut(seat))?;
+    match tallies.push(part) {
+        Ok(()) => Ok(()),
+        Err(_) => Err(SeatFault::Memory),
+    }
+}
+
+/// Takes a tally and the next one out of these. There is then room for both.
 pub fn two_taken_out<K: Keep, L: Ledgers>(
     tallies: &mut Vec<Tally<K, L>>,
     seat: usize,
-) -> Result<(Tally<K, L>, Tally<K, L>), SeatFault> {
-    let one = taken_out(tallies, seat)?;
-    let other = taken_out(tallies, seat)?;
-    Ok((one, other))
+) -> Result<(Tally<K, L>, Tally<K, L>), SeatFault>
+    ensures { OnOk result (vec_len tallies.new + 2 ≤ vec_capacity tallies.new) }
+{
+    if seat.saturating_add(1) >= tallies.len() {
+        return Err(SeatFault::NoTally);
+    }
+    let one = tallies.remove(seat);
+    Ok((one, tallies.remove(seat)))
 }
 
 /// Joins a tally and the next one, and puts them behind the others.
@@ -110,27 +138,30 @@ pub fn join_next<K: Keep, L: Ledgers>(
 ) -> Result<(), SeatFault> {
     let (one, other) = two_taken_out(tallies, seat)?;
     match one.join(other) {
-        Ok(joined) => Ok(tallies.push(joined)?),
+        Ok(joined) => {
+            tallies.push_reserved(joined);
+            Ok(())
+        }
         Err(JoinFault::OutOfMemory { .. }) => Err(SeatFault::Memory),
     }
 }
 
 /// Makes room for one receipt and one call, and asks again where it was refused.
-fn make_room<K: Keep, L: Ledgers>(tally: &mut Tally<K, L>) -> Result<(), AllocError>
+fn make_room<K: Keep, L: Ledgers>(tally: &mut Tally<K, L>) -> Result<(), SeatFault>
     ensures notes { OnOk result (0 < tally.new.spare_notes) }
     ensures calls { OnOk result (0 < tally.new.spare_calls) }
 {
-    if tally.room(1).is_ok() {
+    if tally.room(1).is_ok() || tally.room(1).is_ok() {
         return Ok(());
     }
-    tally.room(1)
+    Err(SeatFault::Memory)
 }
 
 /// Notes receipts.
 pub fn note_receipts<K: Keep, L: Ledgers>(
     tally: &mut Tally<K, L>,
     receipts: &[(Ticket, Answer)],
-) -> Result<(), AllocError> {
+) -> Result<(), SeatFault> {
     for receipt in receipts {
         make_room(tally)?;
         tally.note(receipt.0, receipt.1);
@@ -142,7 +173,7 @@ pub fn note_receipts<K: Keep, L: Ledgers>(
 pub fn note_calls<K: Keep, L: Ledgers>(
     tally: &mut Tally<K, L>,
     calls: &[(Ticket, Head)],
-) -> Result<(), AllocError> {
+) -> Result<(), SeatFault> {
     for call in calls {
         make_room(tally)?;
         tally.made(call.0, call.1);

@@ -15,8 +15,8 @@ const LONGEST_SHOWN: usize = 1_000;
 struct Answer {
     head: Given,
     body: Given,
-    /// In how many chunks the body came; none where it had a length or ended with the connection.
-    chunks: Option<usize>,
+    /// In how many chunks the body came; 0 where it had a length or ended with the connection.
+    chunks: usize,
 }
 
 /// What is shown of the responses of a connection.
@@ -36,12 +36,15 @@ struct Run {
     times: u64,
 }
 
+/// The value of a field, if this line of a head is one of this name.
+fn value_in<'a>(line: &'a str, name: &str) -> Option<&'a str> {
+    line.strip_prefix(name)?.strip_prefix(": ")
+}
+
 /// The value of a field of a head.
 fn field<'a>(head: &'a str, name: &str) -> Option<&'a str> {
     for line in head.split("\r\n") {
-        if let Some((first, value)) = line.split_once(": ")
-            && first == name
-        {
+        if let Some(value) = value_in(line, name) {
             return Some(value);
         }
     }
@@ -74,21 +77,6 @@ fn take_chunk<'a>(rest: &mut &'a str) -> Option<&'a str> {
     Some(chunk)
 }
 
-/// Takes the chunks of a body off the front of a text, and gives how many they are; none where the
-/// last one doesn't come.
-fn take_chunks(rest: &mut &str, body: &mut Given) -> Option<usize> {
-    let mut count = 0usize;
-    for _ in 0..rest.len() {
-        let chunk = take_chunk(rest)?;
-        if chunk.is_empty() {
-            return Some(count);
-        }
-        body.push(chunk);
-        count = count.saturating_add(1);
-    }
-    None
-}
-
 /// Takes the body behind a head off the front of a text, which has a length or ends with the connection;
 /// none where it didn't come whole.
 fn take_whole<'a>(head: &str, rest: &mut &'a str) -> Option<&'a str> {
@@ -102,18 +90,35 @@ fn take_whole<'a>(head: &str, rest: &mut &'a str) -> Option<&'a str> {
 }
 
 impl Answer {
+    /// Takes the chunks of its body off the front of a text. Gives whether the last one came.
+    fn take_chunks(&mut self, rest: &mut &str) -> bool {
+        for _ in 0..rest.len() {
+            let Some(chunk) = take_chunk(rest) else {
+                return false;
+            };
+            if chunk.is_empty() {
+                return true;
+            }
+            self.body.push(chunk);
+            self.chunks = self.chunks.saturating_add(1);
+        }
+        false
+    }
+
+    /// Takes a body that has no chunks off the front of a text. Gives whether it came whole.
+    fn take_piece(&mut self, rest: &mut &str) -> bool {
+        let Some(body) = take_whole(self.head.as_str(), rest) else {
+            return false;
+        };
+        self.body.push(body);
+        true
+    }
+
     /// Takes the body behind its head off the front of a text. Gives whether it came whole.
     fn take_body(&mut self, rest: &mut &str) -> bool {
-        if field(self.head.as_str(), "transfer-encoding").is_some() {
-            self.chunks = take_chunks(rest, &mut self.body);
-            return self.chunks.is_some();
-        }
-        match take_whole(self.head.as_str(), rest) {
-            Some(body) => {
-                self.body.push(body);
-                true
-            }
-            None => false,
+        match field(self.head.as_str(), "transfer-encoding") {
+            Some(_) => self.take_chunks(rest),
+            None => self.take_piece(rest),
         }
     }
 }
@@ -125,7 +130,7 @@ fn take_answer(alloc: Global, rest: &mut &str) -> Option<Answer> {
     let mut answer = Answer {
         head: Given::new(alloc),
         body: Given::new(alloc),
-        chunks: None,
+        chunks: 0,
     };
     answer.head.push(head);
     match answer.take_body(rest) {
@@ -158,18 +163,22 @@ fn tell_body(given: &mut Given, body: &Given) {
     cut_with(given, body);
 }
 
+/// Adds a field of the head on a line of its own.
+fn tell_field(given: &mut Given, name: &str, answer: &Answer) {
+    given.push("\n  ");
+    given.push(name);
+    given.push(": ");
+    match name {
+        "chunks" => given.print(&answer.chunks),
+        _ => given.push(field(answer.head.as_str(), name).unwrap_or("-")),
+    }
+}
+
 /// Adds the fields of the head that are shown.
 fn tell_fields(given: &mut Given, fields: &str, answer: &Answer) {
     for name in fields.split(' ') {
-        if name == "chunks" {
-            given.push("\n  chunks: ");
-            given.print(&answer.chunks.unwrap_or(0));
-        } else if !name.is_empty() {
-            let value = field(answer.head.as_str(), name).unwrap_or("-");
-            given.push("\n  ");
-            given.push(name);
-            given.push(": ");
-            given.push(value);
+        if !name.is_empty() {
+            tell_field(given, name, answer);
         }
     }
     cut_with(given, &answer.head);
@@ -200,6 +209,19 @@ fn next_text(alloc: Global, rest: &mut &str, fields: &str) -> Given {
     text
 }
 
+impl Run {
+    /// Takes the text of the response that is next. Where it reads otherwise, the lines of the run
+    /// before it are added.
+    fn take(&mut self, given: &mut Given, name: &str, text: Given) {
+        cut_with(given, &text);
+        if text.as_str() != self.text.as_str() {
+            tell_run(given, name, self);
+            *self = Run { text, times: 0 };
+        }
+        self.times = self.times.saturating_add(1);
+    }
+}
+
 /// Adds the lines of a run.
 fn tell_run(given: &mut Given, name: &str, run: &Run) {
     if run.times == 0 {
@@ -226,12 +248,7 @@ fn tell_answers(given: &mut Given, view: &View<'_>, whole: &str) {
             break;
         }
         let text = next_text(given.alloc(), &mut rest, view.fields);
-        cut_with(given, &text);
-        if text.as_str() != run.text.as_str() {
-            tell_run(given, view.name, &run);
-            run = Run { text, times: 0 };
-        }
-        run.times = run.times.saturating_add(1);
+        run.take(given, view.name, text);
     }
     tell_run(given, view.name, &run);
 }

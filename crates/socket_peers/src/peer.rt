@@ -38,6 +38,13 @@ pub struct Peer {
     stream: TcpStream,
 }
 
+/// Has a connection send at once, and wait no longer than it may.
+fn prepare(stream: &TcpStream) -> io::Result<()> {
+    stream.set_nodelay(true)?;
+    stream.set_read_timeout(Some(Duration::from_millis(TURN_MS)))?;
+    stream.set_write_timeout(Some(Duration::from_secs(WRITE_SECONDS)))
+}
+
 impl Peer {
     /// Connects.
     pub fn connect<N>(net: &N, port: u16) -> io::Result<Peer>
@@ -46,9 +53,7 @@ impl Peer {
     {
         let address = SocketAddr::new(IpAddr::V4(Ipv4Addr::LOCALHOST), port);
         let stream = TcpStream::connect(net, address)?;
-        stream.set_nodelay(true)?;
-        stream.set_read_timeout(Some(Duration::from_millis(TURN_MS)))?;
-        stream.set_write_timeout(Some(Duration::from_secs(WRITE_SECONDS)))?;
+        prepare(&stream)?;
         Ok(Peer { stream })
     }
 

@@ -1,7 +1,7 @@
 //! The peers of a check, by their names, and the steps that are theirs alone.
 
 use crate::answers::{View, push_heard};
-use crate::peer::Peer;
+use crate::peer::{Heard, Peer};
 use crate::ports::Ports;
 use crate::steps::{Progress, bytes_of, number, push_line, split_word};
 use case_tables::{CaseFault, Given, Part};
@@ -22,6 +22,43 @@ const MOMENT: u32 = 5;
 struct Named {
     name: String,
     peer: Peer,
+}
+
+impl Named {
+    /// It sends these bytes so many times.
+    fn send_times(&mut self, given: &mut Given, bytes: &[u8], times: u32) {
+        for _ in 0..times {
+            if self.peer.send(bytes).is_err() {
+                push_line(given, self.name.as_str(), "not sent");
+                break;
+            }
+        }
+    }
+}
+
+/// Adds what a peer has heard.
+fn push_came(
+    given: &mut Given,
+    ports: &Ports,
+    view: &View<'_>,
+    heard: &Heard,
+) -> Result<Progress, CaseFault> {
+    let mut lines = Given::new(given.alloc());
+    push_heard(&mut lines, view, heard);
+    lines.end()?;
+    given.push(ports.named(given.alloc(), lines.as_str())?.as_str());
+    match heard.has_ended {
+        true => Ok(Progress::On),
+        false => Ok(Progress::Stuck),
+    }
+}
+
+/// What is told of a peer that was to hear nothing.
+fn silence_of(heard: &Heard) -> &'static str {
+    match heard.bytes.is_empty() && !heard.has_ended {
+        true => "nothing yet",
+        false => "something came, or the end",
+    }
 }
 
 /// The peers that are connected.
@@ -45,8 +82,19 @@ impl Peers {
 
     /// The place of the peer that is called so.
     fn place(&self, part: &Part, name: &str) -> Result<usize, CaseFault> {
-        match self.named.iter().position(|it| it.name.as_str() == name) {
-            Some(place) => Ok(place),
+        for (place, named) in self.named.iter().enumerate() {
+            if named.name.as_str() == name {
+                return Ok(place);
+            }
+        }
+        Err(part.malformed("no peer of this name is connected"))
+    }
+
+    /// The peer that is called so.
+    fn named(&mut self, part: &Part, name: &str) -> Result<&mut Named, CaseFault> {
+        let place = self.place(part, name)?;
+        match self.named.get_mut(place) {
+            Some(named) => Ok(named),
             None => Err(part.malformed("no peer of this name is connected")),
         }
     }
@@ -67,13 +115,10 @@ impl Peers {
         peer: Peer,
         bytes: &[u8],
     ) -> Result<Progress, CaseFault> {
-        let place = self.named.len();
-        let own_name = String::from_str(self.alloc, name)?;
-        self.named.push(Named {
-            name: own_name,
-            peer,
-        })?;
-        self.send_times(place, given, bytes, 1);
+        let name = String::from_str(self.alloc, name)?;
+        let mut named = Named { name, peer };
+        named.send_times(given, bytes, 1);
+        self.named.push(named)?;
         Ok(Progress::On)
     }
 
@@ -105,44 +150,30 @@ impl Peers {
         }
     }
 
-    /// A peer sends these bytes so many times.
-    fn send_times(&mut self, place: usize, given: &mut Given, bytes: &[u8], times: u32) {
-        for _ in 0..times {
-            if let Some(named) = self.named.get_mut(place)
-                && named.peer.send(bytes).is_err()
-            {
-                push_line(given, named.name.as_str(), "not sent");
-                break;
-            }
-        }
-    }
-
     /// A peer sends the lines of the part.
     fn send(&mut self, part: &Part, given: &mut Given) -> Result<Progress, CaseFault> {
-        let place = self.place(part, part.arguments())?;
-        let bytes = bytes_of(self.alloc, part)?;
-        self.send_times(place, given, bytes.as_slice(), 1);
+        let named = self.named(part, part.arguments())?;
+        let bytes = bytes_of(given.alloc(), part)?;
+        named.send_times(given, bytes.as_slice(), 1);
         Ok(Progress::On)
     }
 
     /// A peer sends the lines of the part so many times.
     fn repeat(&mut self, part: &Part, given: &mut Given) -> Result<Progress, CaseFault> {
         let (name, times) = split_word(part.arguments());
-        let place = self.place(part, name)?;
-        let bytes = bytes_of(self.alloc, part)?;
+        let named = self.named(part, name)?;
         let times = number(part, times)?;
-        self.send_times(place, given, bytes.as_slice(), times);
+        let bytes = bytes_of(given.alloc(), part)?;
+        named.send_times(given, bytes.as_slice(), times);
         Ok(Progress::On)
     }
 
     /// A peer sends so many letters.
     fn fill(&mut self, part: &Part, given: &mut Given) -> Result<Progress, CaseFault> {
         let (name, count) = split_word(part.arguments());
-        let place = self.place(part, name)?;
+        let named = self.named(part, name)?;
         let count = number(part, count)?;
-        if let Some(named) = self.named.get_mut(place)
-            && named.peer.fill(count as usize).is_err()
-        {
+        if named.peer.fill(count as usize).is_err() {
             push_line(given, name, "not filled");
         }
         Ok(Progress::On)
@@ -150,11 +181,9 @@ impl Peers {
 
     /// A peer ends its own side.
     fn end_side(&mut self, part: &Part, given: &mut Given) -> Result<Progress, CaseFault> {
-        let place = self.place(part, part.arguments())?;
-        if let Some(named) = self.named.get(place)
-            && named.peer.end_side().is_err()
-        {
-            push_line(given, part.arguments(), "no end of its side");
+        let name = part.arguments();
+        if self.named(part, name)?.peer.end_side().is_err() {
+            push_line(given, name, "no end of its side");
         }
         Ok(Progress::On)
     }
@@ -176,33 +205,22 @@ impl Peers {
         given: &mut Given,
     ) -> Result<Progress, CaseFault> {
         let (name, fields) = split_word(part.arguments());
-        let place = self.place(part, name)?;
-        let Some(named) = self.named.get_mut(place) else {
-            return Ok(Progress::Stuck);
-        };
-        let Ok(heard) = named.peer.hear(self.alloc, self.turns) else {
-            push_line(given, name, "not heard");
-            return Ok(Progress::Stuck);
-        };
-        let mut lines = Given::new(self.alloc);
-        push_heard(&mut lines, &View { name, fields }, &heard);
-        lines.end()?;
-        given.push(ports.named(self.alloc, lines.as_str())?.as_str());
-        match heard.has_ended {
-            true => Ok(Progress::On),
-            false => Ok(Progress::Stuck),
+        let turns = self.turns;
+        let named = self.named(part, name)?;
+        match named.peer.hear(given.alloc(), turns) {
+            Ok(heard) => push_came(given, ports, &View { name, fields }, &heard),
+            Err(_) => {
+                push_line(given, name, "not heard");
+                Ok(Progress::Stuck)
+            }
         }
     }
 
     /// A peer waits until bytes have come.
-    fn wait_for_bytes(&self, part: &Part, given: &mut Given) -> Result<Progress, CaseFault> {
+    fn wait_for_bytes(&mut self, part: &Part, given: &mut Given) -> Result<Progress, CaseFault> {
         let name = part.arguments();
-        let place = self.place(part, name)?;
-        let has_come = self
-            .named
-            .get(place)
-            .is_some_and(|named| named.peer.await_bytes(self.turns));
-        if has_come {
+        let turns = self.turns;
+        if self.named(part, name)?.peer.await_bytes(turns) {
             return Ok(Progress::On);
         }
         push_line(given, name, "nothing came");
@@ -212,14 +230,9 @@ impl Peers {
     /// A peer hears nothing for a moment.
     fn stay(&mut self, part: &Part, given: &mut Given) -> Result<Progress, CaseFault> {
         let name = part.arguments();
-        let place = self.place(part, name)?;
-        let Some(named) = self.named.get_mut(place) else {
-            return Ok(Progress::Stuck);
-        };
-        let heard = named.peer.hear(self.alloc, MOMENT);
-        let what = match &heard {
-            Ok(heard) if heard.bytes.is_empty() && !heard.has_ended => "nothing yet",
-            Ok(_) => "something came, or the end",
+        let named = self.named(part, name)?;
+        let what = match named.peer.hear(given.alloc(), MOMENT) {
+            Ok(heard) => silence_of(&heard),
             Err(_) => "not heard",
         };
         push_line(given, name, what);

@@ -14,9 +14,10 @@ const ACCOUNT: &str = "123456789012";
 /// How many ports are tried at most.
 const TRIES: u32 = 100;
 
-/// A port that was free, its number in text, and the listener that keeps it.
+/// A port that was free, its name, its number in text, and the listener that keeps it.
 #[derive(Drop)]
 struct Found {
+    name: &'static str,
     number: u16,
     text: String,
     listener: Option<TcpListener>,
@@ -28,8 +29,8 @@ pub struct Ports {
     found: Vec<Found>,
 }
 
-/// A port of this machine that nobody has.
-fn find<N>(net: &N, alloc: Global) -> io::Result<Found>
+/// A port of this machine that nobody has, for this name.
+fn find<N>(net: &N, alloc: Global, name: &'static str) -> io::Result<Found>
 where
     N: Net<Listener = TcpListener, Stream = TcpStream>,
 {
@@ -37,10 +38,17 @@ where
     let listener = TcpListener::bind(net, any)?;
     let number = listener.local_addr()?.port();
     Ok(Found {
+        name,
         number,
         text: format!(in alloc; "{number}")?,
         listener: Some(listener),
     })
+}
+
+/// Adds two texts.
+fn push_both(made: &mut String, first: &str, second: &str) -> Result<(), AllocError> {
+    made.push_str(first)?;
+    made.push_str(second)
 }
 
 /// The text in which each place of one piece has another one.
@@ -48,13 +56,18 @@ fn replaced(alloc: Global, text: &str, from: &str, to: &str) -> Result<String, A
     let mut made = String::new(alloc);
     let mut is_first = true;
     for piece in text.split(from) {
-        if !is_first {
-            made.push_str(to)?;
-        }
-        made.push_str(piece)?;
+        let before = if is_first { "" } else { to };
+        push_both(&mut made, before, piece)?;
         is_first = false;
     }
     Ok(made)
+}
+
+impl Found {
+    /// Whether the port is called so, without the sign of its name.
+    fn is_called(&self, name: &str) -> bool {
+        self.name.strip_prefix('$') == Some(name)
+    }
 }
 
 impl Ports {
@@ -65,10 +78,10 @@ impl Ports {
     {
         let mut found = Vec::new(alloc);
         for _ in 0..TRIES {
-            if found.len() == NAMES.len() {
+            let Some(name) = NAMES.get(found.len()) else {
                 return Ok(Ports { found });
-            }
-            let port = find(net, alloc)?;
+            };
+            let port = find(net, alloc, *name)?;
             if !ACCOUNT.contains(port.text.as_str()) {
                 found.push(port).map_err(AllocError::from)?;
             }
@@ -76,23 +89,21 @@ impl Ports {
         Err(io::ErrorKind::AddrInUse.into())
     }
 
-    /// The place of the port that is called so, without its sign.
-    fn place(name: &str) -> Option<usize> {
-        NAMES
-            .iter()
-            .position(|sign| sign.strip_prefix('$') == Some(name))
-    }
-
-    /// The number of the port that is called so.
+    /// The number of the port that is called so, without the sign of its name.
     pub fn number(&self, name: &str) -> Option<u16> {
-        Some(self.found.get(Ports::place(name)?)?.number)
+        for port in self.found.iter() {
+            if port.is_called(name) {
+                return Some(port.number);
+            }
+        }
+        None
     }
 
     /// Lets the others have all ports but the one that is called so.
     pub fn release(&mut self, kept: Option<&str>) {
-        let kept = kept.and_then(Ports::place);
-        for (place, port) in self.found.iter_mut().enumerate() {
-            if kept != Some(place) {
+        let kept = kept.unwrap_or("");
+        for port in self.found.iter_mut() {
+            if !port.is_called(kept) {
                 port.listener = None;
             }
         }
@@ -101,8 +112,8 @@ impl Ports {
     /// A text with the numbers of the ports in place of their names.
     pub fn filled(&self, alloc: Global, text: &str) -> Result<String, AllocError> {
         let mut made = String::from_str(alloc, text)?;
-        for (port, name) in self.found.iter().zip(NAMES) {
-            made = replaced(alloc, made.as_str(), name, port.text.as_str())?;
+        for port in self.found.iter() {
+            made = replaced(alloc, made.as_str(), port.name, port.text.as_str())?;
         }
         Ok(made)
     }
@@ -110,8 +121,8 @@ impl Ports {
     /// A text with the names of the ports in place of their numbers.
     pub fn named(&self, alloc: Global, text: &str) -> Result<String, AllocError> {
         let mut made = String::from_str(alloc, text)?;
-        for (port, name) in self.found.iter().zip(NAMES) {
-            made = replaced(alloc, made.as_str(), port.text.as_str(), name)?;
+        for port in self.found.iter() {
+            made = replaced(alloc, made.as_str(), port.text.as_str(), port.name)?;
         }
         Ok(made)
     }

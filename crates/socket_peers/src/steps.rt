@@ -25,8 +25,12 @@ pub fn number(part: &Part, text: &str) -> Result<u32, CaseFault> {
     }
 }
 
-/// Adds a line and its end.
-fn push_with_end(bytes: &mut Vec<u8>, line: &str, end: &str) -> Result<(), AllocError> {
+/// Adds a line with its end: a carriage return and a line feed, or none where it ends with `\`.
+fn push_with_end(bytes: &mut Vec<u8>, line: &str) -> Result<(), AllocError> {
+    let (line, end) = match line.strip_suffix('\\') {
+        Some(line) => (line, ""),
+        None => (line, "\r\n"),
+    };
     bytes.extend_from_slice(line.as_bytes())?;
     bytes.extend_from_slice(end.as_bytes())
 }
@@ -36,10 +40,7 @@ fn push_with_end(bytes: &mut Vec<u8>, line: &str, end: &str) -> Result<(), Alloc
 pub fn bytes_of(alloc: Global, part: &Part) -> Result<Vec<u8>, AllocError> {
     let mut bytes = Vec::new(alloc);
     for line in part.text().split_terminator('\n') {
-        match line.strip_suffix('\\') {
-            Some(line) => bytes.extend_from_slice(line.as_bytes())?,
-            None => push_with_end(&mut bytes, line, "\r\n")?,
-        }
+        push_with_end(&mut bytes, line)?;
     }
     Ok(bytes)
 }

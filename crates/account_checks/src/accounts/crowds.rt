@@ -55,43 +55,54 @@ fn line_with(alloc: Global, line: &str, words: Words) -> Given {
     text
 }
 
-/// Makes the call of a line; its ticket.
-fn one_call<R: Wait, S: Identity, K: Keep>(
-    place: &Place<R, S>,
-    tally: &mut Tally<K, S>,
-    front: &mut Front<S>,
-    bells: &Bells,
-    number: u64,
-    line: &Given,
-) -> Result<Ticket, CaseFault> {
-    line.end()?;
-    let bell = bells.unnumbered(0)?;
-    match place.submit(tally, front, line.as_str().as_bytes(), bell)? {
-        Taken::At(ticket) => Ok(ticket),
-        _ => Err(malformed(number, "a call that is taken is wanted")),
-    }
+/// A thread of a crowd: the account, the bells, its tally, and its token.
+#[derive(Drop)]
+struct Worker<'a, R, S: Identity, K: Keep> {
+    place: &'a Place<R, S>,
+    bells: &'a Bells,
+    tally: Tally<K, S>,
+    front: Front<S>,
 }
 
-/// Makes the calls of all lines once; the ticket of the last Next.
-fn one_turn<R: Wait, S: Identity, K: Keep>(
-    place: &Place<R, S>,
-    tally: &mut Tally<K, S>,
-    front: &mut Front<S>,
-    bells: &Bells,
-    turns: Turns<'_>,
-    words: Words,
-) -> Result<Ticket, CaseFault> {
-    let mut words = words;
-    let mut number = turns.first;
-    for line in turns.lines.split('\n') {
-        let text = line_with(place.alloc, line, words);
-        let ticket = one_call(place, tally, front, bells, number, &text)?;
-        if line.contains(" next ") {
-            words.parked = ticket;
+impl<R: Wait, S: Identity, K: Keep> Worker<'_, R, S, K> {
+    /// Makes the call of a line; its ticket.
+    fn call(&mut self, number: u64, line: &Given) -> Result<Ticket, CaseFault> {
+        line.end()?;
+        let bell = self.bells.unnumbered(0)?;
+        let line = line.as_str().as_bytes();
+        match self
+            .place
+            .submit(&mut self.tally, &mut self.front, line, bell)
+        {
+            Taken::At(ticket) => Ok(ticket),
+            Taken::NoMemory => Err(CaseFault::Memory),
+            _ => Err(malformed(number, "a call that is taken is wanted")),
         }
-        number = number.saturating_add(1);
     }
-    Ok(words.parked)
+
+    /// Makes the calls of all lines once; the ticket of the last Next.
+    fn turn(&mut self, turns: Turns<'_>, words: Words) -> Result<Ticket, CaseFault> {
+        let mut words = words;
+        let mut number = turns.first;
+        for line in turns.lines.split('\n') {
+            let ticket = self.call(number, &line_with(self.place.alloc, line, words))?;
+            if line.contains(" next ") {
+                words.parked = ticket;
+            }
+            number = number.saturating_add(1);
+        }
+        Ok(words.parked)
+    }
+
+    /// Makes the calls of all turns, at this environment.
+    fn all_turns(&mut self, turns: Turns<'_>, env: u64) -> Result<(), CaseFault> {
+        let mut parked = 0;
+        for turn in 0..turns.count {
+            let now = turn.wrapping_mul(TURN);
+            parked = self.turn(turns, Words { now, env, parked })?;
+        }
+        Ok(())
+    }
 }
 
 /// The calls of a thread; its tally.
@@ -101,19 +112,31 @@ fn work<R: Wait, S: Identity, K: Keep>(
     turns: Turns<'_>,
     job: Job<K, S>,
 ) -> Result<Tally<K, S>, CaseFault> {
-    let Job { tally, env } = job;
-    let mut tally = tally;
-    let mut front = place.account.front(&place.rt);
-    let mut parked = 0;
-    for turn in 0..turns.count {
-        let words = Words {
-            now: turn.wrapping_mul(TURN),
-            env,
-            parked,
-        };
-        parked = one_turn(place, &mut tally, &mut front, bells, turns, words)?;
+    let mut worker = Worker {
+        place,
+        bells,
+        tally: job.tally,
+        front: place.account.front(&place.rt),
+    };
+    match worker.all_turns(turns, job.env) {
+        Ok(()) => Ok(worker.tally),
+        Err(fault) => Err(fault),
     }
-    Ok(tally)
+}
+
+/// Adds the job for an environment, which has a part of the first tally.
+fn push_job<K: Keep, L: Ledgers>(
+    jobs: &mut Vec<Job<K, L>>,
+    tallies: &mut [Tally<K, L>],
+    env: u64,
+) -> Result<(), CaseFault> {
+    let Ok(tally) = part_of(tallies.first_mut()) else {
+        return Err(malformed(0, "a tally with parts is wanted"));
+    };
+    match jobs.push(Job { tally, env }) {
+        Ok(()) => Ok(()),
+        Err(_) => Err(CaseFault::Memory),
+    }
 }
 
 /// A job for each of four environments.
@@ -123,12 +146,31 @@ fn jobs_of<K: Keep, L: Ledgers>(
 ) -> Result<Vec<Job<K, L>>, CaseFault> {
     let mut jobs = Vec::with_capacity(alloc, 4)?;
     for env in 1..5 {
-        let Ok(tally) = part_of(tallies.first_mut()) else {
-            return Err(malformed(0, "a tally with parts is wanted"));
-        };
-        jobs.push(Job { tally, env })?;
+        push_job(&mut jobs, tallies, env)?;
     }
     Ok(jobs)
+}
+
+/// Puts the tally of a thread behind the others.
+fn put_behind<K: Keep, L: Ledgers>(
+    tallies: &mut Vec<Tally<K, L>>,
+    worked: Result<Tally<K, L>, CaseFault>,
+) -> Result<(), CaseFault> {
+    match tallies.push(worked?) {
+        Ok(()) => Ok(()),
+        Err(_) => Err(CaseFault::Memory),
+    }
+}
+
+/// Puts the tallies of all threads behind the others.
+fn put_all<K: Keep, L: Ledgers>(
+    tallies: &mut Vec<Tally<K, L>>,
+    worked: Vec<Result<Tally<K, L>, CaseFault>>,
+) -> Result<(), CaseFault> {
+    for tally in worked {
+        put_behind(tallies, tally)?;
+    }
+    Ok(())
 }
 
 /// Makes the calls of four threads at once. Their tallies are put behind the others.
@@ -139,9 +181,8 @@ pub fn crowd_of<R: Wait + Threads + Sync, S: Identity + Send + Sync, K: Keep + S
     turns: Turns<'_>,
 ) -> Result<(), CaseFault> {
     let jobs = jobs_of(place.alloc, tallies)?;
-    let worked = thread::map_vec(&place.rt, jobs, &|job| work(place, bells, turns, job))?;
-    for tally in worked {
-        tallies.push(tally?)?;
+    match thread::map_vec(&place.rt, jobs, &|job| work(place, bells, turns, job)) {
+        Ok(worked) => put_all(tallies, worked),
+        Err(_) => Err(CaseFault::Memory),
     }
-    Ok(())
 }

@@ -13,7 +13,7 @@ use lambda_wire::Reply;
 use script::read_call;
 use std::alloc::{AllocError, Global};
 use std::sync::{Arc, Wait};
-use usage_ledger::{Blanks, Front, Keep, Start, Tally, root};
+use usage_ledger::{Blanks, Front, Keep, Tally, root};
 
 /// What became of a line.
 #[derive(Clone, Copy)]
@@ -26,6 +26,8 @@ pub enum Taken {
     BellGone,
     /// It stands for no call.
     NoCall,
+    /// There was no memory.
+    NoMemory,
 }
 
 /// What an account is asked.
@@ -49,8 +51,9 @@ pub enum Said {
     Life(Life),
     Stats(Stats),
     Reservation(Option<u32>),
-    Reply(Option<Reply>),
-    Text(Option<Vec<u8>>),
+    Reply(Result<Option<Reply>, AllocError>),
+    Opening(Result<Vec<u8>, AllocError>),
+    Entry(Result<Option<Vec<u8>>, AllocError>),
     /// The configuration has no such function.
     NoFunction,
 }
@@ -66,11 +69,11 @@ pub struct Place<R, S: Identity> {
 }
 
 /// What comes of a call that was not taken.
-fn untaken(refused: &Refused<Numbered>) -> Result<Taken, AllocError> {
+fn untaken(refused: &Refused<Numbered>) -> Taken {
     match (refused.refusal, refused.bell.is_some()) {
-        (Refusal::OutOfMemory, _) => Err(AllocError),
-        (Refusal::JournalFull, true) => Ok(Taken::Full),
-        (Refusal::JournalFull, false) => Ok(Taken::BellGone),
+        (Refusal::OutOfMemory, _) => Taken::NoMemory,
+        (Refusal::JournalFull, true) => Taken::Full,
+        (Refusal::JournalFull, false) => Taken::BellGone,
     }
 }
 
@@ -111,16 +114,27 @@ impl<R: Wait, S: Identity> Place<R, S> {
         front: &mut Front<S>,
         line: &[u8],
         bell: Numbered,
-    ) -> Result<Taken, AllocError> {
-        let refused = match self.submit_once(tally, front, line, Some(bell)) {
-            Ok(taken) => return Ok(taken),
-            Err(refused) => refused,
-        };
+    ) -> Taken {
+        match self.submit_once(tally, front, line, Some(bell)) {
+            Ok(taken) => taken,
+            Err(refused) => self.submit_again(tally, front, line, refused),
+        }
+    }
+
+    /// Submits the call of a line once more where memory was refused; what came of it, or of the first
+    /// time.
+    fn submit_again<K: Keep>(
+        &self,
+        tally: &mut Tally<K, S>,
+        front: &mut Front<S>,
+        line: &[u8],
+        refused: Refused<Numbered>,
+    ) -> Taken {
         if refused.refusal != Refusal::OutOfMemory {
             return untaken(&refused);
         }
         match self.submit_once(tally, front, line, refused.bell) {
-            Ok(taken) => Ok(taken),
+            Ok(taken) => taken,
             Err(refused) => untaken(&refused),
         }
     }
@@ -134,18 +148,18 @@ impl<R: Wait, S: Identity> Place<R, S> {
     }
 
     /// Asks the account, with a token, which then has seen the history that was read.
-    pub fn ask(&self, front: &mut Front<S>, question: Question) -> Result<Said, AllocError> {
+    pub fn ask(&self, front: &mut Front<S>, question: Question) -> Said {
         let (rt, account) = (&self.rt, &self.account);
-        Ok(match question {
+        match question {
             Question::Look(ticket) => Said::Look(account.look(rt, front, ticket)),
             Question::Due(now) => Said::Due(account.due(rt, now)),
             Question::Life => Said::Life(account.life(rt)),
             Question::Stats => Said::Stats(account.stats(rt)),
             Question::Reservation(function) => self.reservation(function),
-            Question::Render(ticket) => Said::Reply(account.render(rt, front, ticket)?),
-            Question::Opening => Said::Text(Some(account.opening(rt)?)),
-            Question::History(ticket) => Said::Text(account.history(rt, front, ticket)?),
-        })
+            Question::Render(ticket) => Said::Reply(account.render(rt, front, ticket)),
+            Question::Opening => Said::Opening(account.opening(rt)),
+            Question::History(ticket) => Said::Entry(account.history(rt, front, ticket)),
+        }
     }
 }
 
@@ -182,14 +196,9 @@ fn open_desk<S: Identity, K: Keep>(
         Ok(book) => book,
         Err(fault) => return Err(fault),
     };
-    let Start {
-        totals,
-        tally,
-        line,
-        pen,
-    } = root(alloc, blanks);
-    let desk = Desk::open(alloc, book, totals);
-    Ok((Account::share(desk, line, pen), tally))
+    let start = root(alloc, blanks);
+    let desk = Desk::open(alloc, book, start.totals);
+    Ok((Account::share(desk, start.line, start.pen), start.tally))
 }
 
 /// Opens an account in a way.

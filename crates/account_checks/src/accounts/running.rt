@@ -4,12 +4,12 @@ use crate::accounts::bells::Bells;
 use crate::accounts::forging::FORGERIES;
 use crate::accounts::places::{Question, Said, Taken};
 use crate::accounts::stand::{Stand, Turns};
-use crate::accounts::texts::{push_ending, push_look, push_rings, push_said};
-use crate::lines::{malformed, number_behind, number_of, seat_in};
+use crate::accounts::texts::{push_all_rings, push_ending, push_look, push_rings, push_said};
+use crate::lines::{malformed, number_behind, number_of, seat_in, split_word};
 use crate::tallies::{SeatFault, push_receipts, push_seat};
 use account_lock::SettleFault;
 use case_tables::{Case, CaseFault, Given, Part, value_of};
-use std::alloc::{AllocError, Global};
+use std::alloc::Global;
 
 /// Adds what became of a call: its ticket, or that the journal is full.
 fn push_taken(given: &mut Given, line: u64, taken: Taken) -> Result<(), CaseFault> {
@@ -18,6 +18,7 @@ fn push_taken(given: &mut Given, line: u64, taken: Taken) -> Result<(), CaseFaul
         Taken::Full => given.push("the journal is full, and the bell came back"),
         Taken::BellGone => given.push("the journal is full, and the bell is gone"),
         Taken::NoCall => return Err(malformed(line, "a call is wanted")),
+        Taken::NoMemory => return Err(CaseFault::Memory),
     }
     Ok(())
 }
@@ -85,22 +86,21 @@ fn all_calls<P: Stand>(
 }
 
 /// How many entries an account has.
-fn entries_of<P: Stand>(stand: &mut P) -> Result<u64, AllocError> {
-    match stand.ask(Question::Stats)? {
-        Said::Stats(stats) => Ok(stats.entries),
-        _ => Ok(0),
+fn entries_of<P: Stand>(stand: &mut P) -> u64 {
+    match stand.ask(Question::Stats) {
+        Said::Stats(stats) => stats.entries,
+        _ => 0,
     }
 }
 
 /// Adds what each ticket was answered, and the first one behind the history.
-fn push_looks<P: Stand>(stand: &mut P, given: &mut Given) -> Result<(), AllocError> {
+fn push_looks<P: Stand>(stand: &mut P, given: &mut Given) {
     given.push("\n");
-    for ticket in 0..entries_of(stand)?.saturating_add(1) {
-        if let Said::Look(look) = stand.ask(Question::Look(ticket))? {
+    for ticket in 0..entries_of(stand).saturating_add(1) {
+        if let Said::Look(look) = stand.ask(Question::Look(ticket)) {
             push_look(given, ticket, look);
         }
     }
-    Ok(())
 }
 
 /// The questions that have no number.
@@ -142,8 +142,7 @@ fn push_answer<P: Stand>(
     given: &mut Given,
 ) -> Result<(), CaseFault> {
     let question = question_of(line, word, number)?;
-    let said = stand.ask(question)?;
-    push_said(given, &said);
+    push_said(given, &stand.ask(question));
     Ok(())
 }
 
@@ -170,20 +169,16 @@ fn one_question<P: Stand>(
     text: &str,
     given: &mut Given,
 ) -> Result<(), CaseFault> {
-    let (word, number) = text.split_once(' ').unwrap_or((text, ""));
+    let (word, number) = split_word(text);
     given.push(text);
     given.push(":");
     match word {
-        "looks" => Ok(push_looks(stand, given)?),
-        "tally" => push_tally(stand, line, number, given),
-        "bells" => {
-            given.push(" ");
-            given.print(&bells.all());
-            given.push(" rang\n");
-            Ok(())
-        }
-        _ => push_answer(stand, line, word, number, given),
+        "looks" => push_looks(stand, given),
+        "bells" => push_all_rings(given, bells),
+        "tally" => return push_tally(stand, line, number, given),
+        _ => return push_answer(stand, line, word, number, given),
     }
+    Ok(())
 }
 
 /// Asks what the lines of a part ask.

@@ -6,7 +6,8 @@ use crate::accounts::forging::{Forgery, Kept};
 use crate::accounts::places::{Opened, Place, Question, Said, Taken, Way};
 use crate::accounts::stand::{Ending, Stand, Turns};
 use crate::tallies::{
-    Seat, SeatFault, join_next, note_calls, note_receipts, part_of, seat_at, taken_out,
+    Seat, SeatFault, first_of, join_next, note_calls, note_receipts, part_of, seat_at, split_off,
+    taken_out,
 };
 use account_lock::{Account, Identity, SettleFault, Settled};
 use call_model::Stats;
@@ -30,10 +31,16 @@ pub struct Seats<R, S: Identity, K: Keep> {
 /// What a tally keeps, forged.
 fn forged_of<K: Keep, L: Ledgers>(
     alloc: Global,
-    tally: &Tally<K, L>,
+    tally: Option<&Tally<K, L>>,
     forgery: Forgery,
-) -> Result<Kept, AllocError> {
-    let mut kept = Kept::copy(alloc, tally.kept(), tally.calls())?;
+) -> Result<Kept, SeatFault> {
+    let Some(tally) = tally else {
+        return Err(SeatFault::NoTally);
+    };
+    let Ok(kept) = Kept::copy(alloc, tally.kept(), tally.calls()) else {
+        return Err(SeatFault::Memory);
+    };
+    let mut kept = kept;
     kept.forge(forgery);
     Ok(kept)
 }
@@ -47,6 +54,29 @@ fn part_with<K: Keep, L: Ledgers>(
     note_receipts(&mut part, kept.receipts.as_slice())?;
     note_calls(&mut part, kept.calls.as_slice())?;
     Ok(part)
+}
+
+/// A part of tally 0 that keeps what tally 1 does, forged.
+fn forged_part<K: Keep, L: Ledgers>(
+    alloc: Global,
+    tallies: &mut Vec<Tally<K, L>>,
+    forgery: Forgery,
+) -> Result<Tally<K, L>, SeatFault> {
+    let kept = forged_of(alloc, tallies.get(1), forgery)?;
+    part_with(tallies.first_mut(), &kept)
+}
+
+/// Puts a tally in place of tally 1, whose share tally 0 takes over.
+fn replace_second<K: Keep, L: Ledgers>(
+    tallies: &mut Vec<Tally<K, L>>,
+    forged: Tally<K, L>,
+) -> Result<(), SeatFault> {
+    let honest = taken_out(tallies, 1)?;
+    if let Some(root) = tallies.first_mut() {
+        root.absorb(honest);
+    }
+    tallies.push_reserved(forged);
+    Ok(())
 }
 
 /// The counts of what is settled.
@@ -65,24 +95,23 @@ fn parts_in<K: Keep, L: Ledgers>(tally: &Option<Tally<K, L>>) -> Option<u64> {
     }
 }
 
-/// Settles an account, or its desk.
+/// Settles an account, or its desk; the counts.
 fn settle_account<S: Identity, K: Keep>(
     account: Account<S, Numbered>,
     way: Way,
     tallies: Vec<Tally<K, S>>,
-) -> Result<Settled, SettleFault> {
-    match way {
+) -> Result<(Stats, u64), SettleFault> {
+    counted(match way {
         Way::Account => account.settle(tallies),
         Way::Desk => account.into_desk().settle(tallies),
-    }
+    })
 }
 
 impl<R: Wait + Drop, S: Identity + Drop, K: Keep> Seats<R, S, K> {
     /// An account with its first tally.
     pub fn new(opened: Opened<R, S, K>, way: Way) -> Result<Seats<R, S, K>, AllocError> {
         let Opened { place, root } = opened;
-        let mut tallies = Vec::with_capacity(place.alloc, 1)?;
-        tallies.push(root)?;
+        let tallies = first_of(place.alloc, root)?;
         Ok(Seats {
             front: place.account.front(&place.rt),
             place,
@@ -105,8 +134,7 @@ pub fn crowd<R: Wait + Threads + Sync, S: Identity + Send + Sync, K: Keep + Send
 impl<R: Wait + Drop, S: Identity + Drop, K: Keep> Stand for Seats<R, S, K> {
     fn make_seat(&mut self, seat: usize) -> Result<(), SeatFault> {
         for _ in self.tallies.len()..seat.saturating_add(1) {
-            let tally = part_of(self.tallies.first_mut())?;
-            self.tallies.push(tally)?;
+            split_off(&mut self.tallies, 0)?;
         }
         Ok(())
     }
@@ -118,11 +146,11 @@ impl<R: Wait + Drop, S: Identity + Drop, K: Keep> Stand for Seats<R, S, K> {
     fn take(&mut self, seat: usize, line: &[u8], bell: Numbered) -> Result<Taken, SeatFault> {
         match self.tallies.get_mut(seat) {
             None => Err(SeatFault::NoTally),
-            Some(tally) => Ok(self.place.submit(tally, &mut self.front, line, bell)?),
+            Some(tally) => Ok(self.place.submit(tally, &mut self.front, line, bell)),
         }
     }
 
-    fn ask(&mut self, question: Question) -> Result<Said, AllocError> {
+    fn ask(&mut self, question: Question) -> Said {
         self.place.ask(&mut self.front, question)
     }
 
@@ -136,14 +164,8 @@ impl<R: Wait + Drop, S: Identity + Drop, K: Keep> Stand for Seats<R, S, K> {
     }
 
     fn forge(&mut self, forgery: Forgery) -> Result<(), SeatFault> {
-        let honest = taken_out(&mut self.tallies, 1)?;
-        let kept = forged_of(self.place.alloc, &honest, forgery)?;
-        let forged = part_with(self.tallies.first_mut(), &kept)?;
-        if let Some(root) = self.tallies.first_mut() {
-            root.absorb(honest);
-        }
-        self.tallies.push(forged)?;
-        Ok(())
+        let forged = forged_part(self.place.alloc, &mut self.tallies, forgery)?;
+        replace_second(&mut self.tallies, forged)
     }
 
     fn settle(self) -> Ending {
@@ -155,7 +177,7 @@ impl<R: Wait + Drop, S: Identity + Drop, K: Keep> Stand for Seats<R, S, K> {
             ..
         } = self;
         Ending {
-            settled: counted(settle_account(place.account, way, tallies)),
+            settled: settle_account(place.account, way, tallies),
             held_back: parts_in(&held_back),
         }
     }

@@ -6,7 +6,6 @@ use crate::accounts::places::{Question, Said, Taken};
 use crate::tallies::{Seat, SeatFault};
 use account_lock::SettleFault;
 use call_model::Stats;
-use std::alloc::AllocError;
 
 /// What a settlement came to.
 #[derive(Clone, Copy)]
@@ -38,7 +37,7 @@ pub trait Stand: Drop {
     fn take(&mut self, seat: usize, line: &[u8], bell: Numbered) -> Result<Taken, SeatFault>;
 
     /// Asks the account.
-    fn ask(&mut self, question: Question) -> Result<Said, AllocError>;
+    fn ask(&mut self, question: Question) -> Said;
 
     /// Joins the tallies 1 and 2.
     fn join(&mut self) -> Result<(), SeatFault>;

@@ -8,6 +8,7 @@ use account_lock::Look;
 use call_model::{Stats, Ticket};
 use case_tables::Given;
 use lambda_wire::Reply;
+use std::alloc::AllocError;
 use std::fmt::Debug;
 
 /// Adds the bells that rang in this step.
@@ -21,6 +22,13 @@ pub fn push_rings(given: &mut Given, bells: &Bells) {
         given.print(&bells.rang(before));
     }
     given.push("\n");
+}
+
+/// Adds how many bells rang in all.
+pub fn push_all_rings(given: &mut Given, bells: &Bells) {
+    given.push(" ");
+    given.print(&bells.all());
+    given.push(" rang\n");
 }
 
 /// Adds what a ticket was answered, or that it waits.
@@ -55,25 +63,38 @@ fn push_shown<T: Debug>(given: &mut Given, value: &T) {
 }
 
 /// Adds what is told of a reply.
-fn push_reply(given: &mut Given, reply: &Option<Reply>) {
+fn push_reply(given: &mut Given, reply: &Result<Option<Reply>, AllocError>) {
     match reply {
-        Some(reply) => {
+        Ok(Some(reply)) => {
             given.push(" a reply of status ");
             given.print(&reply.status);
             given.push("\n");
         }
-        None => given.push(" no reply\n"),
+        Ok(None) => given.push(" no reply\n"),
+        Err(_) => given.cut(),
     }
 }
 
 /// Adds a text as lines.
-fn push_text(given: &mut Given, text: &Option<Vec<u8>>) {
+fn push_text(given: &mut Given, text: &Vec<u8>) {
+    given.push("\n");
+    given.push_bytes(text.as_slice());
+}
+
+/// Adds the text of an opening.
+fn push_opening(given: &mut Given, text: &Result<Vec<u8>, AllocError>) {
     match text {
-        Some(bytes) => {
-            given.push("\n");
-            given.push_bytes(bytes.as_slice());
-        }
-        None => given.push(" no entry\n"),
+        Ok(text) => push_text(given, text),
+        Err(_) => given.cut(),
+    }
+}
+
+/// Adds the text of an entry.
+fn push_entry(given: &mut Given, text: &Result<Option<Vec<u8>>, AllocError>) {
+    match text {
+        Ok(Some(text)) => push_text(given, text),
+        Ok(None) => given.push(" no entry\n"),
+        Err(_) => given.cut(),
     }
 }
 
@@ -89,7 +110,8 @@ pub fn push_said(given: &mut Given, said: &Said) {
         }
         Said::Reservation(count) => push_shown(given, count),
         Said::Reply(reply) => push_reply(given, reply),
-        Said::Text(text) => push_text(given, text),
+        Said::Opening(text) => push_opening(given, text),
+        Said::Entry(text) => push_entry(given, text),
         Said::NoFunction => given.push(" no function\n"),
     }
 }

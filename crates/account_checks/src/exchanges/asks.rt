@@ -1,14 +1,14 @@
 //! The requests in the lines of a part.
 
 use crate::exchanges::rows::At;
-use crate::lines::{malformed, number_of};
+use crate::lines::{malformed, number_of, split_word};
 use bytes::Bytes;
 use case_tables::{CaseFault, Part};
 use futures::task::{Context, Poll};
 use http::request::Parts;
 use http_body::{Body, Frame};
 use http_uri::{Uri, UriError};
-use std::alloc::Global;
+use std::alloc::{AllocError, Global};
 
 /// The most letters of a piece.
 const MOST_LETTERS: u64 = 1 << 24;
@@ -54,33 +54,36 @@ pub fn three_in(part: &Part) -> (&str, &str, &str) {
     (first, second, third)
 }
 
+/// So many letters.
+fn letters(alloc: Global, count: u64) -> Result<Bytes, AllocError> {
+    let mut piece = Vec::new(alloc);
+    piece.resize(count as usize, b'x')?;
+    Ok(Bytes::from_vec(piece)?)
+}
+
 /// A piece of a body: `=TEXT` or `letters N`.
 fn piece_in(alloc: Global, line: u64, text: &str) -> Result<Bytes, CaseFault> {
-    let mut piece = Vec::new(alloc);
     if let Some(count) = text.strip_prefix("letters ") {
         let count = number_of(line, count)?.min(MOST_LETTERS);
-        piece.resize(count as usize, b'x')?;
-    } else {
-        let text = text.strip_prefix('=').unwrap_or(text);
-        piece.extend_from_slice(text.as_bytes())?;
+        return Ok(letters(alloc, count)?);
     }
-    Ok(Bytes::from_vec(piece)?)
+    let text = text.strip_prefix('=').unwrap_or(text);
+    Ok(Bytes::from_vec(Vec::from_slice(alloc, text.as_bytes())?)?)
 }
 
 /// A body: a piece, or so many of them behind `pieces N` or `broken N`.
 fn body_in(alloc: Global, line: u64, text: &str) -> Result<Pieces, CaseFault> {
-    let (word, rest) = text.split_once(' ').unwrap_or((text, ""));
-    let is_broken = word == "broken";
-    let (count, text) = if is_broken || word == "pieces" {
-        rest.split_once(' ').unwrap_or((rest, ""))
-    } else {
-        ("1", text)
+    let (word, rest) = split_word(text);
+    let (count, text) = match word {
+        "pieces" | "broken" => split_word(rest),
+        _ => ("1", text),
     };
     let left = number_of(line, count)?;
+    let piece = piece_in(alloc, line, text)?;
     Ok(Pieces {
-        piece: piece_in(alloc, line, text)?,
+        piece,
         left,
-        is_broken,
+        is_broken: word == "broken",
     })
 }
 
@@ -98,10 +101,12 @@ fn head_in(alloc: Global, line: u64, path: &str) -> Result<Parts, CaseFault> {
 
 /// What a line asks: a moment, a path and a body.
 pub fn ask_in(alloc: Global, line: u64, text: &str) -> Result<Ask, CaseFault> {
-    let (moment, rest) = text.split_once(' ').unwrap_or((text, ""));
-    let (path, body) = rest.split_once(' ').unwrap_or((rest, ""));
+    let (moment, rest) = split_word(text);
+    let (path, body) = split_word(rest);
     let at = At(number_of(line, moment)?);
     let body = body_in(alloc, line, body)?;
-    let parts = head_in(alloc, line, path)?;
-    Ok(Ask { at, parts, body })
+    match head_in(alloc, line, path) {
+        Ok(parts) => Ok(Ask { at, parts, body }),
+        Err(fault) => Err(fault),
+    }
 }

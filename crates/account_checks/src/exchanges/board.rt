@@ -17,7 +17,7 @@ use usage_ledger::{Front, KeepNone, Tally};
 const TICKET: Ticket = 7;
 
 /// What becomes of its calls.
-#[derive(Drop)]
+#[derive(Clone, Copy)]
 pub enum Mood {
     /// They are refused.
     Refuses,

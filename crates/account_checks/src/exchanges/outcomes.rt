@@ -7,9 +7,10 @@ use call_model::{Answer, Ticket};
 use case_tables::{CaseFault, Given};
 use futures::executor::block_on;
 use futures::future::{Future, FutureExt, poll_immediate, try_join3};
+use http_body_util::Collected;
 use lambda_wire::Reply;
 use long_poll::{BellLost, ExchangeFault, OpenPoll, Outcome};
-use std::alloc::AllocGlobal;
+use std::alloc::{AllocError, AllocGlobal};
 use std::random::RandomSource;
 use std::str;
 use std::sync::Wait;
@@ -28,7 +29,7 @@ pub fn finished<R: Wait + RandomSource + AllocGlobal, F: Future>(
 }
 
 /// Runs a future to its end, or lets it go once it waits: none where it does.
-pub fn made<R: Wait + RandomSource + AllocGlobal, F: Future>(
+fn made<R: Wait + RandomSource + AllocGlobal, F: Future>(
     rt: &R,
     future: F,
     drops: bool,
@@ -38,7 +39,10 @@ pub fn made<R: Wait + RandomSource + AllocGlobal, F: Future>(
     if drops {
         return finished(rt, poll_immediate(future));
     }
-    Ok(Some(finished(rt, future)?))
+    match finished(rt, future) {
+        Ok(output) => Ok(Some(output)),
+        Err(fault) => Err(fault),
+    }
 }
 
 /// Whether a reply says that its call was refused for want of memory.
@@ -145,22 +149,57 @@ fn push_reply(given: &mut Given, reply: &Reply) {
 }
 
 /// Adds the reply of a request.
-pub fn push_answer(given: &mut Given, reply: &Reply) -> Result<(), CaseFault> {
-    if lacks_memory(reply) {
-        return Err(CaseFault::Memory);
+fn push_answer(given: &mut Given, reply: &Reply) {
+    match lacks_memory(reply) {
+        true => given.cut(),
+        false => push_reply(given, reply),
     }
-    push_reply(given, reply);
-    Ok(())
 }
 
 /// Adds why a request has no reply.
-pub fn push_fault(given: &mut Given, fault: ExchangeFault) -> Result<(), CaseFault> {
+fn push_fault(given: &mut Given, fault: ExchangeFault) {
     match fault {
-        ExchangeFault::OutOfMemory => return Err(CaseFault::Memory),
+        ExchangeFault::OutOfMemory => given.cut(),
         ExchangeFault::BodyFailed => given.push("  BodyFailed\n"),
         ExchangeFault::BellLost => given.push("  BellLost\n"),
     }
-    Ok(())
+}
+
+/// Adds what came of an exchange. A history is given back.
+fn push_came<H: Drop>(given: &mut Given, came: Result<Outcome<H>, ExchangeFault>) -> Option<H> {
+    match came {
+        Ok(Outcome::Reply(reply)) => push_answer(given, &reply),
+        Ok(Outcome::History(history)) => return Some(history),
+        Err(fault) => push_fault(given, fault),
+    }
+    None
+}
+
+/// Makes an exchange, or lets it go once it waits, and adds what came of it. A history is given back.
+pub fn push_made<
+    R: Wait + RandomSource + AllocGlobal,
+    H: Drop,
+    F: Future<Output = Result<Outcome<H>, ExchangeFault>>,
+>(rt: &R, exchange: F, drops: bool, given: &mut Given) -> Option<H>
+    requires { F.can_poll exchange }
+{
+    match made(rt, exchange, drops) {
+        Ok(Some(came)) => return push_came(given, came),
+        Ok(None) => given.push("  waits\n"),
+        Err(_) => given.cut(),
+    }
+    None
+}
+
+/// Adds the data of a body.
+pub fn push_collected(given: &mut Given, came: Result<Result<Collected, AllocError>, CaseFault>) {
+    match came {
+        Ok(Ok(body)) => match body.to_bytes() {
+            Ok(bytes) => given.push_bytes(bytes.as_slice()),
+            Err(_) => given.cut(),
+        },
+        _ => given.cut(),
+    }
 }
 
 /// Adds the Next that the connection of a request has open.
@@ -179,16 +218,18 @@ fn push_told(given: &mut Given, text: &str, reply: &Reply, open: &OpenPoll) {
     push_open(given, open);
 }
 
-/// The same for three requests.
+/// The same for three requests, where all were answered.
 pub fn push_three(
     given: &mut Given,
     texts: (&str, &str, &str),
-    replies: &(Reply, Reply, Reply),
+    came: Result<(Reply, Reply, Reply), CaseFault>,
     open: &OpenPoll,
-) {
+) -> Result<(), CaseFault> {
+    let replies = came?;
     push_told(given, texts.0, &replies.0, open);
     push_told(given, texts.1, &replies.1, open);
     push_told(given, texts.2, &replies.2, open);
+    Ok(())
 }
 
 /// Adds what came of a poll for the answer of a ticket.

@@ -19,13 +19,21 @@ use std::sync::Wait;
 use usage_ledger::{Front, KeepNone, Tally};
 
 /// A clock that stands.
-#[derive(Drop)]
+#[derive(Clone, Copy)]
 pub struct At(pub u64);
 
 impl Clock for At {
     fn now(&self) -> u64 {
         self.0
     }
+}
+
+/// A call that was submitted with a bell: its ticket, who hears the bell, and its token.
+#[derive(Drop)]
+pub struct Parked<S: Identity> {
+    pub ticket: Ticket,
+    pub heard: Heard,
+    pub front: Front<S>,
 }
 
 /// Decides for a configuration that has an environment and a function.
@@ -81,6 +89,11 @@ fn shown(alloc: Global, body: Bytes) -> Result<Reply, AllocError> {
     })
 }
 
+/// Gives a body back.
+fn echo_of(alloc: Global, body: &Bytes) -> Result<Reply, AllocError> {
+    shown(alloc, body.clone()?)
+}
+
 /// Says how long a body is.
 fn length_of(alloc: Global, body: &Bytes) -> Result<Reply, AllocError> {
     shown(
@@ -105,15 +118,30 @@ impl<S: Identity> Rows<S> {
         alloc: Global,
         service: &X,
         tally: &mut Tally<KeepNone, S>,
-    ) -> Result<(Ticket, Heard, Front<S>), CaseFault>
+    ) -> Result<Parked<S>, CaseFault>
         requires { X.serves service.now ≡ S.config }
     {
         let _of = &self.of;
         let (bell, heard) = OneShotBell::pair(alloc)?;
         let call = Call::RuntimeNext { env: 1 };
         match service.submit(rt, tally, 500, call, Some(bell)) {
-            Ok((ticket, front)) => Ok((ticket, heard, front)),
+            Ok((ticket, front)) => Ok(Parked {
+                ticket,
+                heard,
+                front,
+            }),
             Err(_) => Err(CaseFault::Memory),
+        }
+    }
+
+    /// Gives a reply.
+    fn replied(&self, reply: Result<Reply, AllocError>) -> Result<Decision, AllocError>
+        ensures { IfOk result (IsAllowed S.config) }
+    {
+        let _of = &self.of;
+        match reply {
+            Ok(reply) => Ok(Decision::Reply(reply)),
+            Err(fault) => Err(fault),
         }
     }
 
@@ -123,7 +151,7 @@ impl<S: Identity> Rows<S> {
     {
         let _of = &self.of;
         let Some(body) = payload(body)? else {
-            return Ok(Decision::Reply(fault_reply(alloc, 413, "too large", "TooLarge")?));
+            return self.replied(fault_reply(alloc, 413, "too large", "TooLarge"));
         };
         if is_response {
             let (env, id) = (1, 1);
@@ -159,8 +187,8 @@ impl<S: Identity> Decide for Rows<S> {
             Asked::Stats => Ok(Decision::Show(Shown::Stats)),
             Asked::History => Ok(Decision::Show(Shown::History)),
             Asked::Reservation => Ok(Decision::Show(Shown::Reservation { function: 1 })),
-            Asked::Echo => Ok(Decision::Reply(shown(alloc, body.clone()?)?)),
-            Asked::Length => Ok(Decision::Reply(length_of(alloc, body)?)),
+            Asked::Echo => self.replied(echo_of(alloc, body)),
+            Asked::Length => self.replied(length_of(alloc, body)),
         }
     }
 }

@@ -4,27 +4,26 @@ ghost use Rattle.std.specs.Prelude.{◌≡◌, ⊤, IfOk};
 ghost use Rattle.std.specs.Arc.{arc_value};
 ghost use Rattle.long_poll.specs.Stages.{CanGoOn};
 
-use crate::exchanges::asks::{Ask, Pieces, ask_in, three_in};
+use crate::exchanges::asks::{Pieces, ask_in, three_in};
 use crate::exchanges::outcomes::{
-    finished, made, made_at_once, push_answer, push_fault, push_open, push_poll, push_three,
+    finished, made_at_once, push_collected, push_made, push_open, push_poll, push_three,
 };
-use crate::exchanges::rows::{At, Rows};
+use crate::exchanges::rows::{At, Parked, Rows};
 use crate::lines::number_behind;
 use account_lock::Identity;
-use call_model::{Answer, Ticket};
+use call_model::Answer;
 use case_tables::{Case, CaseFault, Given, Part, value_of};
 use http_body_util::BodyExt;
 use lambda_wire::Reply;
 use long_poll::{
-    BellLost, Connection, Exchange, ExchangeFault, Heard, HistoryBody, OneShotBell, OpenPoll,
-    Outcome, Poll, Service,
+    BellLost, Connection, Exchange, Heard, HistoryBody, OneShotBell, OpenPoll, Poll, Service,
 };
 use std::alloc::{AllocError, AllocGlobal, Global};
 use std::random::RandomSource;
 use std::sync::{Arc, Mutex, Wait};
 use std::thread::{self, Threads};
 use std::time::Clock;
-use usage_ledger::{Front, KeepNone, Tally};
+use usage_ledger::{KeepNone, Tally};
 
 /// How often a call is withdrawn that another thread waits for, since memory may be refused.
 const TRIES: u32 = 2;
@@ -47,23 +46,38 @@ pub struct Scene<R, X: Service<KeepNone, S>, S: Identity> {
     patience: u32,
 }
 
-/// What came of an exchange.
-type Came<R, X, S> = Result<Outcome<HistoryBody<R, X, KeepNone, S>>, ExchangeFault>;
-
 /// What came of a poll.
 type Polled = Result<Answer, BellLost>;
+
+/// A value that several have.
+fn arc_of<T: Drop>(alloc: Global, value: T) -> Result<Arc<T>, AllocError>
+    ensures { IfOk result (λ it. arc_value it ≡ value) }
+{
+    match Arc::new(alloc, value) {
+        Ok(shared) => Ok(shared),
+        Err(_) => Err(AllocError),
+    }
+}
+
+/// Who hears a bell that was dropped.
+fn heard_lost(alloc: Global) -> Result<Heard, AllocError> {
+    let (bell, heard) = OneShotBell::pair(alloc)?;
+    drop(bell);
+    Ok(heard)
+}
 
 impl<X: Service<KeepNone, S>, S: Identity> Shared<X, S> {
     /// What the connections to this service share.
     pub fn new(
         alloc: Global,
-        service: Arc<X>,
+        service: X,
         rows: Arc<Rows<S>>,
         tally: Tally<KeepNone, S>,
     ) -> Result<Shared<X, S>, AllocError>
-        requires { X.serves (arc_value service) ≡ S.config }
+        requires { X.serves service ≡ S.config }
     {
-        let tally = Arc::new(alloc, Mutex::new(tally))?;
+        let service = arc_of(alloc, service)?;
+        let tally = arc_of(alloc, Mutex::new(tally))?;
         Ok(Shared {
             service,
             rows,
@@ -99,28 +113,29 @@ impl<
         }
     }
 
+    /// The service of which it is asked.
+    pub fn service(&self) -> &X {
+        &self.shared.service
+    }
+
     /// A connection with this clock and this note of its open Next.
     fn connected(
         &self,
         clock: Arc<At>,
         open: Arc<OpenPoll>,
     ) -> Result<Arc<Connection<R, X, Rows<S>, At, KeepNone, S>>, AllocError> {
-        let Shared {
-            service,
-            rows,
-            tally,
-        } = self.shared.again()?;
+        let own = self.shared.again()?;
         let connection = Connection::new(
             self.rt,
             self.alloc,
-            service,
-            rows,
+            own.service,
+            own.rows,
             clock,
-            tally,
+            own.tally,
             open,
             self.patience,
         );
-        Ok(Arc::new(self.alloc, connection)?)
+        arc_of(self.alloc, connection)
     }
 
     /// A new connection, whose clock stands at a moment, with the note of its open Next.
@@ -129,7 +144,7 @@ impl<
         at: At,
         open: &Arc<OpenPoll>,
     ) -> Result<Arc<Connection<R, X, Rows<S>, At, KeepNone, S>>, AllocError> {
-        let clock = Arc::new(self.alloc, at)?;
+        let clock = arc_of(self.alloc, at)?;
         let open = Arc::try_clone(open)?;
         self.connected(clock, open)
     }
@@ -143,28 +158,16 @@ impl<
     ) -> Result<Exchange<R, X, Rows<S>, At, Pieces, KeepNone, S>, CaseFault>
         ensures { IfOk result (λ exchange. CanGoOn (λ _. ⊤) exchange.stage) }
     {
-        let Ask { at, parts, body } = ask_in(self.alloc, line, text)?;
-        Ok(Exchange::new(self.connection(at, open)?, parts, body))
+        let ask = ask_in(self.alloc, line, text)?;
+        match self.connection(ask.at, open) {
+            Ok(connection) => Ok(Exchange::new(connection, ask.parts, ask.body)),
+            Err(_) => Err(CaseFault::Memory),
+        }
     }
 
     /// Adds the history.
-    fn push_history(
-        &self,
-        given: &mut Given,
-        body: HistoryBody<R, X, KeepNone, S>,
-    ) -> Result<(), CaseFault> {
-        let text = finished(&self.rt, body.collect(self.alloc))??;
-        given.push_bytes(text.to_bytes()?.as_slice());
-        Ok(())
-    }
-
-    /// Adds what came of an exchange.
-    fn push_came(&self, given: &mut Given, came: Came<R, X, S>) -> Result<(), CaseFault> {
-        match came {
-            Ok(Outcome::Reply(reply)) => push_answer(given, &reply),
-            Ok(Outcome::History(body)) => self.push_history(given, body),
-            Err(fault) => push_fault(given, fault),
-        }
+    fn push_history(&self, given: &mut Given, history: HistoryBody<R, X, KeepNone, S>) {
+        push_collected(given, finished(&self.rt, history.collect(self.alloc)));
     }
 
     /// Makes the request of a line, or lets it go once it waits, and adds what came of it.
@@ -177,22 +180,19 @@ impl<
         given: &mut Given,
     ) -> Result<(), CaseFault> {
         let exchange = self.exchange(line, text, open)?;
-        match made(&self.rt, exchange, drops)? {
-            None => {
-                given.push("  waits\n");
-                Ok(())
-            }
-            Some(came) => self.push_came(given, came),
+        if let Some(history) = push_made(&self.rt, exchange, drops, given) {
+            self.push_history(given, history);
         }
+        Ok(())
     }
 
     /// Adds the line of a request, what comes of it, and the Next that its connection has open then.
     fn ask(&self, line: u64, text: &str, drops: bool, given: &mut Given) -> Result<(), CaseFault> {
         given.line(text);
-        let open = Arc::new(self.alloc, OpenPoll::new())?;
+        let open = arc_of(self.alloc, OpenPoll::new())?;
         self.make(line, text, drops, &open, given)?;
         push_open(given, &open);
-        Ok(())
+        given.end()
     }
 
     /// Makes the requests of a part's lines one after another.
@@ -219,17 +219,20 @@ impl<
     /// Makes the requests of a part's three lines at once.
     fn ask_three(&self, part: &Part, given: &mut Given) -> Result<(), CaseFault> {
         let texts = three_in(part);
-        let open = Arc::new(self.alloc, OpenPoll::new())?;
-        let replies = self.make_three(part.line(), texts, &open)?;
-        push_three(given, texts, &replies, &open);
-        Ok(())
+        let open = arc_of(self.alloc, OpenPoll::new())?;
+        let came = self.make_three(part.line(), texts, &open);
+        push_three(given, texts, came, &open)
     }
 
     /// Polls for the answer of a ticket; what came of that.
-    fn poll(&self, ticket: Ticket, heard: Heard, front: Front<S>) -> Result<Polled, CaseFault> {
+    fn poll(&self, parked: Parked<S>) -> Result<Polled, CaseFault> {
         let service = Arc::try_clone(&self.shared.service)?;
         let poll: Poll<R, X, Heard, KeepNone, S> = Poll::new(
-            self.rt, service, ticket, heard, front,
+            self.rt,
+            service,
+            parked.ticket,
+            parked.heard,
+            parked.front,
         );
         finished(&self.rt, poll)
     }
@@ -237,15 +240,19 @@ impl<
     /// Polls for the answer of a ticket, whose bell was dropped.
     fn poll_lost(&self, part: &Part, given: &mut Given) -> Result<(), CaseFault> {
         let ticket = number_behind(part)?;
-        let (bell, heard) = OneShotBell::pair(self.alloc)?;
-        drop(bell);
-        let came = self.poll(ticket, heard, self.shared.service.front(&self.rt))?;
+        let heard = heard_lost(self.alloc)?;
+        let front = self.shared.service.front(&self.rt);
+        let came = self.poll(Parked {
+            ticket,
+            heard,
+            front,
+        })?;
         push_poll(given, ticket, came);
         Ok(())
     }
 
     /// Submits a runtime's Next with a bell.
-    fn park(&self) -> Result<(Ticket, Heard, Front<S>), CaseFault> {
+    fn park(&self) -> Result<Parked<S>, CaseFault> {
         let mut tally = self.shared.tally.lock(&self.rt);
         self.shared
             .rows
@@ -271,10 +278,11 @@ fn poll_across<
     X: Service<KeepNone, S> + Send + Sync,
     S: Identity + Drop + Send + Sync,
 >(scene: &Scene<R, X, S>, part: &Part, given: &mut Given) -> Result<(), CaseFault> {
-    let (ticket, heard, front) = scene.park()?;
+    let parked = scene.park()?;
+    let ticket = parked.ticket;
     let (came, asked) = thread::join(
         &scene.rt,
-        move || scene.poll(ticket, heard, front),
+        move || scene.poll(parked),
         || scene.ask_for_other(part, given),
     );
     asked?;

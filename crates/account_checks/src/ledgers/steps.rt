@@ -2,10 +2,10 @@
 
 ghost use Rattle.std.specs.Prelude.{◌≡◌, ◌^◌};
 
-use crate::lines::seat_in;
+use crate::lines::{seat_in, split_word};
 use crate::tallies::{
-    SeatFault, join_next, note_calls, note_receipts, part_of, push_receipts, push_seat, seat_at,
-    two_taken_out,
+    SeatFault, first_of, join_next, note_calls, note_receipts, push_receipts, push_seat, seat_at,
+    split_off, two_taken_out,
 };
 use call_model::{Answer, Head, Kind, Ticket};
 use case_tables::{CaseFault, Given, value_of};
@@ -84,33 +84,20 @@ pub struct Bench<K: Keep, L: Ledgers> {
     tallies: Vec<Tally<K, L>>,
 }
 
-/// Notes the receipt of a word.
-fn note<K: Keep, L: Ledgers>(tally: &mut Tally<K, L>, word: &str) -> Result<(), SeatFault> {
-    match value_of(&RECEIPTS, word) {
-        Some(receipt) => Ok(note_receipts(tally, &[receipt])?),
-        None => Err(SeatFault::NoWord),
-    }
-}
-
-/// Notes the call of a word.
-fn make<K: Keep, L: Ledgers>(tally: &mut Tally<K, L>, word: &str) -> Result<(), SeatFault> {
+/// The call of a word.
+fn call_of(word: &str) -> Result<(Ticket, Head), SeatFault> {
     let Some((ticket, kind, count)) = value_of(&CALLS, word) else {
         return Err(SeatFault::NoWord);
     };
-    let head = Head {
-        kind,
-        number: 1,
-        count,
-    };
-    Ok(note_calls(tally, &[(ticket, head)])?)
-}
-
-/// Tells that a tally has not so much room.
-fn push_room<K: Keep, L: Ledgers>(tally: &mut Tally<K, L>, given: &mut Given) {
-    given.push(match tally.room(TOO_MUCH) {
-        Ok(()) => " made\n",
-        Err(AllocError) => " refused\n",
-    });
+    let number = 1;
+    Ok((
+        ticket,
+        Head {
+            kind,
+            number,
+            count,
+        },
+    ))
 }
 
 /// Tells why two tallies were not joined.
@@ -134,8 +121,8 @@ fn push_refused<K: Keep, L: Ledgers>(
     };
     push_fault(&fault, given);
     let JoinFault::OutOfMemory { one, other } = fault;
-    tallies.push(one)?;
-    tallies.push(other)?;
+    tallies.push_reserved(one);
+    tallies.push_reserved(other);
     Ok(())
 }
 
@@ -164,20 +151,51 @@ fn tally_at<K: Keep, L: Ledgers>(
     }
 }
 
+/// Notes the receipt of a word.
+fn note<K: Keep, L: Ledgers>(
+    tallies: &mut Vec<Tally<K, L>>,
+    seat: usize,
+    word: &str,
+) -> Result<(), SeatFault> {
+    let tally = tally_at(tallies, seat)?;
+    match value_of(&RECEIPTS, word) {
+        Some(receipt) => note_receipts(tally, &[receipt]),
+        None => Err(SeatFault::NoWord),
+    }
+}
+
+/// Notes the call of a word.
+fn make<K: Keep, L: Ledgers>(
+    tallies: &mut Vec<Tally<K, L>>,
+    seat: usize,
+    word: &str,
+) -> Result<(), SeatFault> {
+    let tally = tally_at(tallies, seat)?;
+    let call = call_of(word)?;
+    note_calls(tally, &[call])
+}
+
+/// Tells that a tally has not so much room.
+fn push_room<K: Keep, L: Ledgers>(
+    tallies: &mut Vec<Tally<K, L>>,
+    seat: usize,
+    given: &mut Given,
+) -> Result<(), SeatFault> {
+    given.push(match tally_at(tallies, seat)?.room(TOO_MUCH) {
+        Ok(()) => " made\n",
+        Err(AllocError) => " refused\n",
+    });
+    Ok(())
+}
+
 impl<K: Keep, L: Ledgers> Bench<K, L> {
     /// The ledgers with their first tally.
     pub fn new(alloc: Global, start: Start<K, L>) -> Result<Bench<K, L>, AllocError> {
-        let Start { totals, tally, .. } = start;
-        let mut tallies = Vec::with_capacity(alloc, 1)?;
-        tallies.push(tally)?;
-        Ok(Bench { totals, tallies })
-    }
-
-    /// Puts a tally with a part of another one behind the others.
-    fn split(&mut self, seat: usize) -> Result<(), SeatFault> {
-        let part = part_of(self.tallies.get_mut(seat))?;
-        self.tallies.push(part)?;
-        Ok(())
+        let tallies = first_of(alloc, start.tally)?;
+        Ok(Bench {
+            totals: start.totals,
+            tallies,
+        })
     }
 
     /// Counts three calls, of which one was admitted.
@@ -205,9 +223,9 @@ impl<K: Keep, L: Ledgers> Bench<K, L> {
     /// Changes a tally, with the word behind its number.
     fn change(&mut self, change: Change, seat: usize, word: &str) -> Result<(), SeatFault> {
         match change {
-            Change::Note => note(tally_at(&mut self.tallies, seat)?, word),
-            Change::Make => make(tally_at(&mut self.tallies, seat)?, word),
-            Change::Split => self.split(seat),
+            Change::Note => note(&mut self.tallies, seat, word),
+            Change::Make => make(&mut self.tallies, seat, word),
+            Change::Split => split_off(&mut self.tallies, seat),
             Change::Join => join_next(&mut self.tallies, seat),
             Change::Count => self.count(seat),
             Change::Audit => self.audit(seat),
@@ -218,10 +236,7 @@ impl<K: Keep, L: Ledgers> Bench<K, L> {
     fn ask(&mut self, question: Question, seat: usize, given: &mut Given) -> Result<(), SeatFault> {
         match question {
             Question::Look => push_look(self.tallies.as_slice(), seat, given),
-            Question::Room => {
-                push_room(tally_at(&mut self.tallies, seat)?, given);
-                Ok(())
-            }
+            Question::Room => push_room(&mut self.tallies, seat, given),
             Question::Refuse => push_refused(&mut self.tallies, seat, given),
         }
     }
@@ -247,8 +262,8 @@ impl<K: Keep, L: Ledgers> Bench<K, L> {
 
     /// Does what a line says.
     pub fn step(&mut self, number: u64, line: &str, given: &mut Given) -> Result<(), CaseFault> {
-        let (word, rest) = line.split_once(' ').unwrap_or((line, ""));
-        let (seat, behind) = rest.split_once(' ').unwrap_or((rest, ""));
+        let (word, rest) = split_word(line);
+        let (seat, behind) = split_word(rest);
         let seat = seat_in(number, seat)?;
         match self.act(line, (word, behind), seat, given) {
             Ok(()) => Ok(()),
