@@ -3,7 +3,6 @@
 ghost use Rattle.hyper.specs.ServerDispatch.{GivesBodies};
 
 use crate::ending::{Ending, Signals, Watched};
-use crate::machine::Machine;
 use crate::park::Park;
 use crate::pulse::Pulse;
 use crate::wire::Wire;
@@ -17,7 +16,7 @@ use hyper::service::Service;
 use std::alloc::{AllocGlobal, Global};
 use std::hash::RandomState;
 use std::io;
-use std::net::TcpStream;
+use std::net::{Net, TcpStream};
 use std::random::RandomSource;
 use std::sync::{Arc, Wait};
 use std::time::Clock;
@@ -36,11 +35,12 @@ impl EventLoop {
     ///
     /// # Errors
     /// Where memory, a descriptor or the machine's randomness is refused.
-    pub fn open<R: Machine>(rt: &R) -> io::Result<EventLoop> {
-        let mut http = Builder::new(rt.alloc(), RandomState::new(rt)?);
+    pub fn open<R: Clock + Net + RandomSource + AllocGlobal>(rt: &R) -> io::Result<EventLoop> {
+        let keys = RandomState::new(rt)?;
+        let runtime = LocalRuntime::new(rt)?;
+        let mut http = Builder::new(rt.alloc(), keys);
         // A caller who has ended its own side, as `nc -N` does, still gets its answer.
         http.half_close(true);
-        let runtime = LocalRuntime::new(rt)?;
         Ok(EventLoop { runtime, http })
     }
 
@@ -60,7 +60,7 @@ impl EventLoop {
         pulse: Arc<Pulse>,
     ) -> io::Result<()>
     where
-        R: Machine,
+        R: Wait + Clock + RandomSource + AllocGlobal,
         V: Service<Request<Incoming<Wire>>, Response = Response<B>>,
         V::Error: Into<anyhow::Error>,
         B: Body,
@@ -80,7 +80,7 @@ impl EventLoop {
     fn wires(&self, alloc: Global, socket: TcpStream) -> io::Result<(Wire, Wire)> {
         socket.set_nodelay(true)?;
         let stream = tokio::net::TcpStream::from_std(socket, self.runtime.handle().reactor())?;
-        Ok(Wire::pair(alloc, stream)?)
+        Wire::pair(alloc, stream)
     }
 
     /// Waits until a connection has ended. Its type is a parameter here: `hyper`'s own, once more in the

@@ -10,7 +10,7 @@ ghost use Rattle.http_connection.specs.Standing.{standing, after_read, after_rea
 use crate::pulse::{Awaited, Pulse};
 use bytes::BytesMut;
 use futures::task::{Context, Poll};
-use std::alloc::{AllocError, Global};
+use std::alloc::Global;
 use std::cell::RefCell;
 use std::io;
 use std::rc::Rc;
@@ -138,8 +138,8 @@ pub struct Wire {
 }
 
 impl Wire {
-    /// Both holders of a socket.
-    pub(crate) fn pair(alloc: Global, stream: TcpStream) -> Result<(Wire, Wire), AllocError> {
+    /// Both holders of a socket. The only error is want of memory.
+    pub(crate) fn pair(alloc: Global, stream: TcpStream) -> io::Result<(Wire, Wire)> {
         let socket = Rc::new(alloc, RefCell::new(Socket::new(alloc, stream)))?;
         let other = socket.clone()?;
         Ok((Wire { socket }, Wire { socket: other }))

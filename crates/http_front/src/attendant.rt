@@ -15,10 +15,10 @@ use connection_places::{Post, Worker};
 use decisions::Decide;
 use http_connection::{EventLoop, Machine, Park, Pulse, Signals};
 use long_poll::{Clock, Connection, OneShotBell, OpenPoll, Service};
-use std::alloc::AllocError;
+use std::alloc::{AllocError, AllocGlobal};
 use std::net::TcpStream;
-use std::sync::{Arc, Mutex};
-use std::{io, thread};
+use std::sync::{Arc, Mutex, Wait};
+use std::{io, thread, time};
 use usage_ledger::{Keep, Ledgers, Tally};
 
 /// The stack of a thread, in bytes. The deepest chain of calls takes some 80 KB.
@@ -36,14 +36,39 @@ impl Park for OpenNext {
     }
 }
 
-/// A connection that is to be served: its socket and its port, the signals that end it, and where it
-/// tells how it stands.
+/// The socket of a connection, the signals that end it, and where it tells how it stands.
 #[derive(Drop)]
-pub(crate) struct Visit<S: Identity> {
+pub(crate) struct Line {
     pub(crate) socket: TcpStream,
-    pub(crate) door: Door<S>,
     pub(crate) signals: Signals,
     pub(crate) pulse: Arc<Pulse>,
+}
+
+/// A connection that is to be served, and at which port.
+#[derive(Drop)]
+pub(crate) struct Visit<S: Identity> {
+    pub(crate) line: Line,
+    pub(crate) door: Door<S>,
+}
+
+/// What a thread serves its connections with: its event loop, and who decided the last one's requests.
+#[derive(Drop)]
+struct Tools<S: Identity> {
+    event_loop: EventLoop,
+    sides: Sides<S>,
+}
+
+impl<S: Identity> Tools<S> {
+    /// Those of the thread that opens them.
+    fn open<R: Machine>(rt: &R) -> io::Result<Tools<S>> {
+        match EventLoop::open(rt) {
+            Ok(event_loop) => Ok(Tools {
+                event_loop,
+                sides: Sides::new(),
+            }),
+            Err(fault) => Err(fault),
+        }
+    }
 }
 
 /// Who serves the connections of a place: what is served, the place, with the tally in which their calls
@@ -69,13 +94,11 @@ fn serve_by<
 >(
     event_loop: &mut EventLoop,
     rt: &R,
-    socket: TcpStream,
+    line: Line,
     front: Front<R, A, D, N, K, L>,
-    signals: Signals,
     open: O,
-    pulse: Arc<Pulse>,
 ) -> io::Result<()> {
-    event_loop.serve(rt, socket, front, signals, open, pulse)
+    event_loop.serve(rt, line.socket, front, line.signals, open, line.pulse)
 }
 
 impl<
@@ -85,13 +108,16 @@ impl<
     K: Keep + Send + 'static,
 > Attendant<R, S, N, K> {
     /// Starts the thread, with its first connection. Where no thread can be made that is closed.
-    pub(crate) fn start(self, first: Visit<S>) -> io::Result<Worker<Visit<S>>> {
+    pub(crate) fn start(self, first: Visit<S>) -> Option<Worker<Visit<S>>> {
         let rt = self.rt;
-        let mailbox = Arc::try_clone(&self.post.mailbox)?;
-        let thread = thread::Builder::new()
-            .stack_size(STACK)
-            .spawn(&rt, move || self.work(first))?;
-        Ok(Worker { thread, mailbox })
+        let Ok(mailbox) = Arc::try_clone(&self.post.mailbox) else {
+            return None;
+        };
+        let builder = thread::Builder::new().stack_size(STACK);
+        match builder.spawn(&rt, move || self.work(first)) {
+            Ok(thread) => Some(Worker { thread, mailbox }),
+            Err(_) => None,
+        }
     }
 }
 
@@ -99,60 +125,65 @@ impl<R: Machine, S: Identity + Drop, N: Clock + Drop, K: Keep> Attendant<R, S, N
     /// Serves this connection and those that come, until none comes any more. It leaves its place
     /// earlier where its event loop can't be opened, or has failed.
     fn work(self, first: Visit<S>) {
-        if self.attend_all(first).is_err() {
+        if !self.attend_all(first) {
             self.post.leave(&self.rt);
         }
     }
 
-    /// Serves this connection and those that come.
-    fn attend_all(&self, first: Visit<S>) -> io::Result<()> {
-        let mut event_loop = EventLoop::open(&self.rt)?;
-        let mut sides = Sides::new();
+    /// Serves this connection and those that come. Gives whether none comes any more.
+    fn attend_all(&self, first: Visit<S>) -> bool {
+        match Tools::open(&self.rt) {
+            Ok(mut tools) => self.attend_in_turn(&mut tools, first),
+            Err(_) => false,
+        }
+    }
+
+    /// Serves this connection and those that come. Gives whether none comes any more.
+    fn attend_in_turn(&self, tools: &mut Tools<S>, first: Visit<S>) -> bool {
         let mut visit = first;
         for _ in self.rt.forever() {
-            self.attend(&mut event_loop, &mut sides, visit)?;
+            if !self.attend(tools, visit) {
+                return false;
+            }
             match self.post.next(&self.rt) {
                 Some(next) => visit = next,
-                None => return Ok(()),
+                None => return true,
             }
         }
         unreachable!()
     }
 
-    /// Serves a connection, and then withdraws its open Next (Runtime API, Next invocation).
-    fn attend(
-        &self,
-        event_loop: &mut EventLoop,
-        sides: &mut Sides<S>,
-        visit: Visit<S>,
-    ) -> io::Result<()> {
-        let open = Arc::new(self.rt.alloc(), OpenPoll::new()).map_err(AllocError::from)?;
-        let served = self.serve(event_loop, sides, visit, &open);
-        self.withdraw(&open);
-        served
-    }
-
-    /// Serves a connection.
-    fn serve(
-        &self,
-        event_loop: &mut EventLoop,
-        sides: &mut Sides<S>,
-        visit: Visit<S>,
-        open: &Arc<OpenPoll>,
-    ) -> io::Result<()> {
-        let parked = OpenNext {
-            open: Arc::try_clone(open)?,
+    /// Serves a connection, and then withdraws its open Next (Runtime API, Next invocation). Gives
+    /// whether the event loop can serve another one.
+    fn attend(&self, tools: &mut Tools<S>, visit: Visit<S>) -> bool {
+        let Ok(open) = Arc::new(self.rt.alloc(), OpenPoll::new()) else {
+            return false;
         };
-        let Visit {
-            socket,
-            door,
-            signals,
-            pulse,
-        } = visit;
-        let front = self.front(sides, door, open)?;
-        serve_by(event_loop, &self.rt, socket, front, signals, parked, pulse)
+        let is_served = self.serve(tools, visit, &open);
+        self.withdraw(&open);
+        is_served
     }
 
+    /// Serves a connection. Gives whether the event loop can serve another one.
+    fn serve(&self, tools: &mut Tools<S>, visit: Visit<S>, open: &Arc<OpenPoll>) -> bool {
+        let Visit { line, door } = visit;
+        let front = self.front(&mut tools.sides, door, open);
+        match (front, Arc::try_clone(open)) {
+            (Ok(front), Ok(open)) => {
+                let parked = OpenNext { open };
+                serve_by(&mut tools.event_loop, &self.rt, line, front, parked).is_ok()
+            }
+            _ => false,
+        }
+    }
+}
+
+impl<
+    R: Wait + time::Clock + AllocGlobal + Copy + Drop,
+    S: Identity + Drop,
+    N: Clock + Drop,
+    K: Keep,
+> Attendant<R, S, N, K> {
     /// What answers the requests of a connection at a port.
     fn front(
         &self,
@@ -161,8 +192,13 @@ impl<R: Machine, S: Identity + Drop, N: Clock + Drop, K: Keep> Attendant<R, S, N
         open: &Arc<OpenPoll>,
     ) -> Result<Front<R, Account<S, OneShotBell>, Side, N, K, S>, AllocError> {
         let alloc = self.rt.alloc();
-        let decider = sides.of(alloc, door)?;
-        Ok(Front::new(alloc, self.connection(decider, open)?))
+        let Ok(decider) = sides.of(alloc, door) else {
+            return Err(AllocError);
+        };
+        match self.connection(decider, open) {
+            Ok(connection) => Ok(Front::new(alloc, connection)),
+            Err(refused) => Err(refused),
+        }
     }
 
     /// What the exchanges of a connection share.

@@ -3,6 +3,7 @@
 ghost use Rattle.std.specs.Prelude.{◌≡◌, ◌++◌, ◌∷◌, [], map, IfOk, IfErr, OnOk};
 ghost use Rattle.std.specs.Arc.{arc_value};
 ghost use Rattle.http_routes.specs.Decisions.{IsPortOf};
+ghost use Rattle.http_routes.specs.declared.side.Port.TheVariants.{Account};
 ghost use Rattle.http_front.specs.Hosts.{IsOfMachine};
 ghost use Rattle.http_front.specs.Ports.{ports_of, environment_ports, doors_of};
 
@@ -14,17 +15,21 @@ use arn_ids::{Checked, Slot};
 use mio::net::TcpListener;
 use mio::{Events, Interest, Poll, Token};
 use std::alloc::{AllocError, Global};
+use std::io;
 use std::net::{IpAddr, Ipv4Addr, Net, SocketAddr};
 use std::sync::Arc;
+use std::time::Duration;
 
 /// How many events one wait reports at most.
 const MOST_EVENTS: usize = 256;
 
-/// A port that is listened on, and who decides its requests.
+/// A port that is listened on, who decides its requests, and whether newcomers may wait at it: a port
+/// tells once that they do, so that is kept until it has been seen empty.
 #[derive(Drop)]
 pub(crate) struct Gate<S: Identity> {
     pub(crate) listener: TcpListener,
     pub(crate) door: Door<S>,
+    pub(crate) is_waited_at: bool,
 }
 
 /// The ports of a host: the account's, and one of each environment. The token of each is its place.
@@ -71,18 +76,30 @@ impl<S: Identity> Entrance<S> {
         ensures doors { OnOk result (map (λ gate. gate.door) self.new.gates.items ≡ map (λ gate. gate.door) self.old.gates.items ++ (record { config = arc_value config.now; salt = salt; port = port } ∷ [])) }
         ensures fault { IfErr result IsOfMachine }
     {
-        let door = Door::new(port, Arc::try_clone(config)?, salt);
         let address = SocketAddr::new(IpAddr::V4(Ipv4Addr::new(127, 0, 0, 1)), number);
+        let listener = self.bind(net, address)?;
+        let door = Door::new(port, Arc::try_clone(config)?, salt);
+        let gate = Gate {
+            listener,
+            door,
+            is_waited_at: false,
+        };
+        match self.gates.push(gate) {
+            Ok(()) => Ok(()),
+            Err(_refused) => Err(HostFault::OutOfMemory),
+        }
+    }
+
+    /// Listens at an address, for the gate that is made next.
+    fn bind(&self, net: &impl Net, address: SocketAddr) -> Result<TcpListener, HostFault>
+        ensures { IfErr result IsOfMachine }
+    {
         let mut listener = TcpListener::bind(net, address).map_err(at_socket)?;
-        let token = Token(self.gates.len());
         self.poll
             .registry()
-            .register(&mut listener, token, Interest::READABLE)
+            .register(&mut listener, Token(self.gates.len()), Interest::READABLE)
             .map_err(at_socket)?;
-        self.gates
-            .push(Gate { listener, door })
-            .map_err(AllocError::from)?;
-        Ok(())
+        Ok(listener)
     }
 
     /// Listens at every port of a configuration on 127.0.0.1: the account's first, and then one of
@@ -90,7 +107,6 @@ impl<S: Identity> Entrance<S> {
     ///
     /// # Errors
     /// `Network` where a port can't be listened on, else `OutOfMemory`. No port is then listened on.
-    #[tactic(auto, using(crate::proofs::PortLemmas::as_many_ports))]
     pub(crate) fn open(
         net: &impl Net,
         alloc: Global,
@@ -101,17 +117,68 @@ impl<S: Identity> Entrance<S> {
         ensures doors { IfOk result (λ entrance. map (λ gate. gate.door) entrance.gates.items ≡ doors_of (arc_value config.now) salt) }
         ensures fault { IfErr result IsOfMachine }
     {
-        let mut entrance = Entrance {
-            poll: Poll::new(net).map_err(at_socket)?,
+        let mut entrance = Entrance::new(net, alloc)?;
+        entrance.listen(net, config.invoke_port(), config, salt, Port::Account)?;
+        entrance.listen_for_environments(net, alloc, config, salt)?;
+        Ok(entrance)
+    }
+
+    /// One without a port.
+    fn new(net: &impl Net, alloc: Global) -> Result<Entrance<S>, HostFault>
+        ensures gates { IfOk result (λ entrance. entrance.gates.items ≡ []) }
+        ensures fault { IfErr result IsOfMachine }
+    {
+        let poll = Poll::new(net).map_err(at_socket)?;
+        Ok(Entrance {
+            poll,
             events: Events::with_capacity(alloc, MOST_EVENTS)?,
             gates: Vec::new(alloc),
-        };
-        entrance.listen(net, config.invoke_port(), config, salt, Port::Account)?;
+        })
+    }
+
+    /// Listens at the port of each environment, in the order of their numbers, behind the account's.
+    #[tactic(auto, using(crate::proofs::PortLemmas::as_many_ports))]
+    fn listen_for_environments(
+        &mut self,
+        net: &impl Net,
+        alloc: Global,
+        config: &Arc<Checked>,
+        salt: u64,
+    ) -> Result<(), HostFault>
+        requires configured { arc_value config.now ≡ S.config }
+        requires account { map (λ gate. gate.door) self.old.gates.items ≡ record { config = arc_value config.now; salt = salt; port = Account } ∷ [] }
+        ensures doors { OnOk result (map (λ gate. gate.door) self.new.gates.items ≡ doors_of (arc_value config.now) salt) }
+        ensures fault { IfErr result IsOfMachine }
+    {
         let ports = ports_in_order(alloc, config)?;
         for place in 0..config.environments() {
             let number = ports[place as usize];
-            entrance.listen(net, number, config, salt, Port::Environment(place + 1))?;
+            self.listen(net, number, config, salt, Port::Environment(place + 1))?;
         }
-        Ok(entrance)
+        Ok(())
+    }
+
+    /// Waits until newcomers wait at a port, for so many milliseconds at most.
+    ///
+    /// # Errors
+    /// `Network` where the ports failed.
+    pub(crate) fn wait(&mut self, round: u64) -> Result<(), HostFault> {
+        let round = Some(Duration::from_millis(round));
+        if let Err(fault) = self.poll.poll(&mut self.events, round)
+            && fault.kind() != io::ErrorKind::Interrupted
+        {
+            return Err(HostFault::Network);
+        }
+        self.note_newcomers();
+        Ok(())
+    }
+
+    /// Notes at which ports newcomers wait.
+    fn note_newcomers(&mut self) {
+        for event in &self.events {
+            if let Some(gate) = self.gates.get_mut(event.token().0) {
+                gate.is_waited_at = true;
+            }
+        }
     }
 }

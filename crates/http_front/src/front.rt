@@ -13,6 +13,7 @@ use bytes::Bytes;
 use decisions::Decide;
 use http::request::Parts;
 use http::{Request, Response};
+use http_body::Body;
 use http_body_util::{Either, Full};
 use hyper::body::Incoming;
 use hyper::service;
@@ -50,37 +51,36 @@ impl<
     }
 
     /// The exchange of a request of this head and body; none where there is no memory for it.
-    fn exchange<I: Drop>(
-        &self,
-        parts: Parts,
-        body: Incoming<I>,
-    ) -> Option<Exchange<R, S, D, N, Incoming<I>, K, L>>
+    fn exchange<B: Body>(&self, parts: Parts, body: B) -> Option<Exchange<R, S, D, N, B, K, L>>
+    where
+        B::Data: Into<Bytes>,
         ensures { IfSome result (λ e. (arc_value e.connection ≡ arc_value self.now.connection) × (e.stage ≡ Collecting parts (record { alloc = (arc_value self.now.connection).alloc; body = body; held = [] }))) }
     {
-        let connection = Arc::try_clone(&self.connection).ok()?;
-        Some(Exchange::new(connection, parts, body))
+        match Arc::try_clone(&self.connection) {
+            Ok(connection) => Some(Exchange::new(connection, parts, body)),
+            Err(_refused) => None,
+        }
     }
 
     /// The response to a request of this head and body. There is no exchange where the body is coded
     /// in a way that isn't served, so it never becomes a call (RFC 9112, section 6.1).
-    fn respond<I: Drop>(
-        &self,
-        parts: Parts,
-        body: Incoming<I>,
-    ) -> Responding<R, S, D, N, Incoming<I>, K, L>
+    fn respond<B: Body>(&self, parts: Parts, body: B) -> Responding<R, S, D, N, B, K, L>
+    where
+        B::Data: Into<Bytes>,
         ensures coding { result.is_foreign ≡ not (coded parts) }
         ensures exchange { IfSome result.exchange (λ e. IsTrue (coded parts) × (arc_value e.connection ≡ arc_value self.now.connection) × (e.stage ≡ Collecting parts (record { alloc = (arc_value self.now.connection).alloc; body = body; held = [] }))) }
     {
-        let is_foreign = !is_plainly_coded(&parts);
-        let exchange = if is_foreign {
-            None
-        } else {
-            self.exchange(parts, body)
-        };
+        if !is_plainly_coded(&parts) {
+            return Responding {
+                alloc: self.alloc,
+                exchange: None,
+                is_foreign: true,
+            };
+        }
         Responding {
             alloc: self.alloc,
-            exchange,
-            is_foreign,
+            exchange: self.exchange(parts, body),
+            is_foreign: false,
         }
     }
 }

@@ -1,20 +1,21 @@
 //! The server: its ports, and the threads of its connections.
 
-ghost use Rattle.std.specs.Prelude.{◌≡◌, ◌+◌, ◌^◌, ◌≤◌, ◌↔◌, length, IsErrOf};
+ghost use Rattle.std.specs.Prelude.{◌≡◌, ◌+◌, ◌^◌, ◌≤◌, ◌↔◌, length, IfErr, IsErrOf};
 ghost use Rattle.std.specs.Arc.{arc_value};
 ghost use Rattle.arn_ids.specs.Environments.{owners};
 ghost use Rattle.arn_ids.specs.declared.faults.ConfigFault.TheVariants.{BadEntries};
+ghost use Rattle.http_front.specs.Hosts.{IsOfMachine};
 ghost use Rattle.http_front.specs.declared.host_fault.HostFault.TheVariants.{Config};
 
 use crate::entrance::Entrance;
 use crate::reception::Reception;
-use crate::served::Served;
 use crate::ticker::Ticker;
 use crate::{HostFault, Plan};
 use account_lock::{Account, Identity};
+use arn_ids::Checked;
 use http_connection::Machine;
 use long_poll::{Clock, OneShotBell};
-use std::alloc::AllocError;
+use std::sync::Arc;
 use usage_ledger::{Blanks, Keep, Tally};
 
 /// An account that is served over HTTP/1.1 on 127.0.0.1: on the invoke port for callers, and on a
@@ -65,40 +66,57 @@ impl<
         requires named { blanks ≡ S.names }
         ensures range { IsErrOf result (Config BadEntries) ↔ ((length (owners (arc_value plan.config)) + 1 ≤ plan.max_entries) × (plan.max_entries ≤ 2 ^ 32) → ⊥) }
     {
-        let alloc = rt.alloc();
         let Plan {
             config,
             shared,
             salt,
             max_entries,
         } = plan;
-        let (account, mut root) = match Account::open(alloc, config, salt, max_entries, blanks) {
-            Ok(opened) => opened,
-            Err(fault) => return Err(HostFault::from(fault)),
-        };
-        let entrance = Entrance::open(&rt, alloc, &shared, salt)?;
-        let ticking = root.split();
-        let served = Served::new(alloc, account, clock)?;
-        Ok(Host::of(rt, served, root, ticking, entrance, most, patience)?)
+        match Account::open(rt.alloc(), config, salt, max_entries, blanks) {
+            Ok(opened) => Host::listen(rt, opened, clock, &shared, salt, most, patience),
+            Err(fault) => Err(HostFault::from(fault)),
+        }
     }
 
-    /// The host of what is served, whose ports are listened on, with the tally from which those of the
-    /// connections are split, and the ticker's. The only error is want of memory.
+    /// Listens on every port for an account that is open, with its tally.
+    fn listen(
+        rt: R,
+        opened: (Account<S, OneShotBell>, Tally<K, S>),
+        clock: N,
+        config: &Arc<Checked>,
+        salt: u64,
+        most: u32,
+        patience: u32,
+    ) -> Result<Host<R, S, N, K>, HostFault>
+        requires configured { arc_value config.now ≡ S.config }
+        requires parts { 2 ≤ opened.1.held.parts }
+        ensures { IfErr result IsOfMachine }
+    {
+        match Entrance::open(&rt, rt.alloc(), config, salt) {
+            Ok(entrance) => Host::of(rt, opened, clock, entrance, most, patience),
+            Err(fault) => Err(fault),
+        }
+    }
+
+    /// The host of an account that is open, with its tally, whose ports are listened on. The only error
+    /// is want of memory.
     fn of(
         rt: R,
-        served: Served<S, N>,
-        root: Tally<K, S>,
-        ticking: Tally<K, S>,
+        opened: (Account<S, OneShotBell>, Tally<K, S>),
+        clock: N,
         entrance: Entrance<S>,
         most: u32,
         patience: u32,
-    ) -> Result<Host<R, S, N, K>, AllocError> {
-        let ticker = Ticker {
-            rt,
-            served: served.share()?,
-            tally: ticking,
+    ) -> Result<Host<R, S, N, K>, HostFault>
+        requires { 2 ≤ opened.1.held.parts }
+        ensures { IfErr result IsOfMachine }
+    {
+        let Ok(mut reception) = Reception::open(rt, opened, clock, most, patience) else {
+            return Err(HostFault::OutOfMemory);
         };
-        let reception = Reception::new(rt, served, root, most, patience)?;
+        let Ok(ticker) = reception.ticker() else {
+            return Err(HostFault::OutOfMemory);
+        };
         Ok(Host {
             reception,
             ticker,
@@ -122,12 +140,16 @@ impl<
         let rt = ticker.rt;
         let mut reception = reception;
         let mut entrance = entrance;
-        let ticker = ticker.start()?;
+        let Ok(ticker) = ticker.start() else {
+            return Err(HostFault::OutOfMemory);
+        };
         let served = reception.serve(&mut entrance);
         drop(entrance);
         reception.finish();
         let ticked = ticker.join(&rt);
-        served?;
-        reception.into_hosted(ticked)
+        match served {
+            Ok(()) => reception.into_hosted(ticked),
+            Err(fault) => Err(fault),
+        }
     }
 }

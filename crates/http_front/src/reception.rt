@@ -1,25 +1,27 @@
 //! Who takes connections in, and sees them out.
 
-ghost use Rattle.std.specs.Prelude.{◌≡◌, IfErr};
+ghost use Rattle.std.specs.Prelude.{◌≡◌, ◌≤◌, IfErr, IfOk};
 ghost use Rattle.http_front.specs.declared.host_fault.HostFault.TheVariants.{StillShared};
 
-use crate::attendant::{Attendant, Visit};
+use crate::attendant::{Attendant, Line, Visit};
 use crate::door::Door;
 use crate::entrance::{Entrance, Gate};
 use crate::served::Served;
+use crate::ticker::Ticker;
 use crate::{HostFault, Hosted};
-use account_lock::Identity;
+use account_lock::{Account, Identity};
 use connection_places::{Running, Slots};
 use futures::channel::oneshot;
 use http_connection::{Machine, Pulse, Signals};
-use long_poll::Clock;
+use long_poll::{Clock, OneShotBell};
 use mio::Poll;
 use std::alloc::{AllocError, Global};
 use std::net::TcpStream;
-use std::sync::Arc;
 use std::sync::atomic::Ordering::SeqCst;
+use std::sync::{Arc, Wait};
+use std::thread::Threads;
 use std::time::Duration;
-use std::{io, thread};
+use std::{io, thread, time};
 use usage_ledger::{Keep, Tally};
 
 /// How long the ports are waited for, in milliseconds, before it is looked whether the service is
@@ -47,27 +49,33 @@ fn is_of_newcomer(kind: io::ErrorKind) -> bool {
     kind == io::ErrorKind::ConnectionAborted || kind == io::ErrorKind::Interrupted
 }
 
+/// The line of a connection over a socket, and what is known of it beside its thread.
+fn line(alloc: Global, socket: TcpStream) -> Result<(Line, Running), AllocError> {
+    let pulse = Arc::new(alloc, Pulse::new()).map_err(AllocError::from)?;
+    let told = Arc::try_clone(&pulse)?;
+    let (soft, soft_end) = oneshot::channel(alloc)?;
+    let (hard, hard_end) = oneshot::channel(alloc)?;
+    let signals = Signals {
+        soft: soft_end,
+        hard: hard_end,
+    };
+    let line = Line {
+        socket,
+        signals,
+        pulse,
+    };
+    Ok((line, Running::new(soft, hard, told)))
+}
+
 /// A connection that is to be served at a port, and what is known of it beside its thread.
 fn admit<S: Identity>(
     alloc: Global,
     socket: TcpStream,
     door: &Door<S>,
 ) -> Result<(Visit<S>, Running), AllocError> {
-    let (soft, soft_end) = oneshot::channel(alloc)?;
-    let (hard, hard_end) = oneshot::channel(alloc)?;
-    let pulse = Arc::new(alloc, Pulse::new()).map_err(AllocError::from)?;
-    let running = Running::new(soft, hard, Arc::try_clone(&pulse)?);
-    let signals = Signals {
-        soft: soft_end,
-        hard: hard_end,
-    };
-    let visit = Visit {
-        socket,
-        door: door.share()?,
-        signals,
-        pulse,
-    };
-    Ok((visit, running))
+    let door = door.share()?;
+    let (line, running) = line(alloc, socket)?;
+    Ok((Visit { line, door }, running))
 }
 
 /// Takes connections in, each on a thread of its own, and sees them out: what is served, the tally from
@@ -86,21 +94,38 @@ pub(crate) struct Reception<R, S: Identity, N, K: Keep> {
     looked: Duration,
 }
 
-impl<
-    R: Machine,
-    S: Identity + Drop + Send + Sync + 'static,
-    N: Clock + Drop + Send + Sync + 'static,
-    K: Keep + Send + 'static,
-> Reception<R, S, N, K> {
+impl<R: Machine, S: Identity + Drop, N: Drop, K: Keep> Reception<R, S, N, K> {
+    /// For so many connections at once to an account that is open, with its tally. The only error is
+    /// want of memory. The account is then gone.
+    pub(crate) fn open(
+        rt: R,
+        opened: (Account<S, OneShotBell>, Tally<K, S>),
+        clock: N,
+        most: u32,
+        patience: u32,
+    ) -> Result<Reception<R, S, N, K>, AllocError>
+        ensures { IfOk result (λ reception. reception.root ≡ opened.1) }
+    {
+        let (account, root) = opened;
+        match Served::new(rt.alloc(), account, clock) {
+            Ok(served) => Reception::new(rt, served, root, most, patience),
+            Err(refused) => Err(refused),
+        }
+    }
+
     /// For so many connections at once. The only error is want of memory.
-    pub(crate) fn new(
+    fn new(
         rt: R,
         served: Served<S, N>,
         root: Tally<K, S>,
         most: u32,
         patience: u32,
-    ) -> Result<Reception<R, S, N, K>, AllocError> {
-        let slots = Slots::new(rt.alloc(), most)?;
+    ) -> Result<Reception<R, S, N, K>, AllocError>
+        ensures { IfOk result (λ reception. reception.root ≡ root) }
+    {
+        let Ok(slots) = Slots::new(rt.alloc(), most) else {
+            return Err(AllocError);
+        };
         let spare = Poll::new(&rt).ok();
         Ok(Reception {
             rt,
@@ -111,6 +136,37 @@ impl<
             patience,
             looked: Duration::ZERO,
         })
+    }
+
+    /// Where no descriptor is left for the next newcomer, the spare one is given up for it, and it is
+    /// closed.
+    fn turn_away(&mut self, gate: &Gate<S>) {
+        self.spare = None;
+        let _ = gate.listener.accept();
+        self.spare = Poll::new(&self.rt).ok();
+        thread::sleep(&self.rt, Duration::from_millis(PAUSE));
+        self.slots.reap(&self.rt);
+    }
+}
+
+impl<R: Wait + Threads + time::Clock + Copy + Drop, S: Identity + Drop, N: Drop, K: Keep> Reception<
+    R,
+    S,
+    N,
+    K,
+> {
+    /// The ticker of the same account, with a tally of its own. The only error is want of memory.
+    pub(crate) fn ticker(&mut self) -> Result<Ticker<R, S, N, K>, AllocError>
+        requires { 2 ≤ self.old.root.held.parts }
+    {
+        match self.served.share() {
+            Ok(served) => Ok(Ticker {
+                rt: self.rt,
+                served,
+                tally: self.root.split(),
+            }),
+            Err(refused) => Err(refused),
+        }
     }
 
     /// A place for a newcomer: one that is free, or else another one with a tally of its own.
@@ -130,73 +186,17 @@ impl<
         }
     }
 
-    /// Starts the thread of a place, with its first connection.
-    fn start(&mut self, at: usize, visit: Visit<S>) -> io::Result<()> {
-        let attendant = Attendant {
-            rt: self.rt,
-            served: self.served.share()?,
-            post: self.slots.post(at)?,
-            patience: self.patience,
-        };
-        let worker = attendant.start(visit)?;
-        self.slots.employ(at, worker);
-        Ok(())
-    }
-
-    /// Gives a connection to the thread of a place: to the one that waits there, else to a new one.
-    fn begin(&mut self, at: usize, socket: TcpStream, door: &Door<S>) -> io::Result<()> {
-        let (visit, running) = admit(self.rt.alloc(), socket, door)?;
-        if let Err(visit) = self.slots.offer(&self.rt, at, visit) {
-            self.start(at, visit)?;
+    /// Who serves the connections of a place.
+    fn attendant(&self, at: usize) -> Result<Attendant<R, S, N, K>, AllocError> {
+        match (self.served.share(), self.slots.post(at)) {
+            (Ok(served), Ok(post)) => Ok(Attendant {
+                rt: self.rt,
+                served,
+                post,
+                patience: self.patience,
+            }),
+            _ => Err(AllocError),
         }
-        self.slots.fill(at, running);
-        Ok(())
-    }
-
-    /// Takes a newcomer in; where there is no place for it, or no thread, it is closed.
-    fn take_in(&mut self, socket: TcpStream, door: &Door<S>) {
-        self.slots.reap(&self.rt);
-        let Some(at) = self.place() else {
-            return;
-        };
-        if self.begin(at, socket, door).is_err() {
-            self.slots.give_back(at);
-        }
-    }
-
-    /// Where no descriptor is left for the next newcomer, the spare one is given up for it, and it is
-    /// closed.
-    fn turn_away(&mut self, gate: &Gate<S>) {
-        self.spare = None;
-        let _ = gate.listener.accept();
-        self.spare = Poll::new(&self.rt).ok();
-        thread::sleep(&self.rt, Duration::from_millis(PAUSE));
-        self.slots.reap(&self.rt);
-    }
-
-    /// Takes in those who wait at a port, so many at most in one turn. Gives whether more may wait.
-    fn take_in_some(&mut self, gate: &Gate<S>) -> bool {
-        for _ in 0..MOST_IN_A_TURN {
-            match gate.listener.accept() {
-                Ok((socket, _)) => self.take_in(TcpStream::from(socket), &gate.door),
-                Err(fault) if fault.kind() == io::ErrorKind::WouldBlock => return false,
-                Err(fault) if is_of_newcomer(fault.kind()) => {}
-                Err(_) => self.turn_away(gate),
-            }
-        }
-        true
-    }
-
-    /// Gives each port at which newcomers may wait a turn. Gives whether more may wait at one.
-    fn take_turns(&mut self, gates: &[Gate<S>], waiting: &mut [bool]) -> bool {
-        let mut more = false;
-        for (gate, waits) in gates.iter().zip(waiting.iter_mut()) {
-            if *waits {
-                *waits = self.take_in_some(gate);
-                more = more || *waits;
-            }
-        }
-        more
     }
 
     /// Once a second, ends the connections that have stood still for too long, and joins the threads
@@ -209,37 +209,6 @@ impl<
             self.slots.end_the_idle();
             self.slots.join_the_ended(&self.rt);
         }
-    }
-
-    /// Takes connections in until the service is over. A port tells once that newcomers wait at it, so
-    /// `waiting` keeps which ports have not been seen empty since; they take turns, so that a crowd at
-    /// one keeps nobody at another waiting.
-    pub(crate) fn serve(&mut self, entrance: &mut Entrance<S>) -> Result<(), HostFault> {
-        let rt = self.rt;
-        let mut waiting = vec![in rt.alloc(); false; entrance.gates.len()]?;
-        let mut more = false;
-        for _ in rt.forever() {
-            if self.served.is_over.load(SeqCst) {
-                return Ok(());
-            }
-            let round = if more { 0 } else { ROUND };
-            if let Err(fault) = entrance
-                .poll
-                .poll(&mut entrance.events, Some(Duration::from_millis(round)))
-                && fault.kind() != io::ErrorKind::Interrupted
-            {
-                return Err(HostFault::Network);
-            }
-            for event in &entrance.events {
-                if let Some(waits) = waiting.get_mut(event.token().0) {
-                    *waits = true;
-                }
-            }
-            self.slots.reap(&self.rt);
-            self.look_round();
-            more = self.take_turns(entrance.gates.as_slice(), waiting.as_mut_slice());
-        }
-        unreachable!()
     }
 
     /// Ends every connection: those that are idle or have been answered softly, the others at once
@@ -293,5 +262,100 @@ impl<
             Some(account) => Ok(Hosted { account, tallies }),
             None => Err(HostFault::StillShared),
         }
+    }
+}
+
+impl<
+    R: Machine,
+    S: Identity + Drop + Send + Sync + 'static,
+    N: Clock + Drop + Send + Sync + 'static,
+    K: Keep + Send + 'static,
+> Reception<R, S, N, K> {
+    /// Starts the thread of a place, with its first connection. Gives whether there is one.
+    fn start(&mut self, at: usize, visit: Visit<S>) -> bool {
+        let Ok(attendant) = self.attendant(at) else {
+            return false;
+        };
+        let Some(worker) = attendant.start(visit) else {
+            return false;
+        };
+        self.slots.employ(at, worker);
+        true
+    }
+
+    /// Gives a connection to the thread of a place: to the one that waits there, else to a new one.
+    /// Gives whether there is one.
+    fn hand_over(&mut self, at: usize, visit: Visit<S>) -> bool {
+        match self.slots.offer(&self.rt, at, visit) {
+            Ok(()) => true,
+            Err(visit) => self.start(at, visit),
+        }
+    }
+
+    /// Begins a connection at a place. Gives whether there was memory and a thread for it.
+    fn begin(&mut self, at: usize, socket: TcpStream, door: &Door<S>) -> bool {
+        let Ok((visit, running)) = admit(self.rt.alloc(), socket, door) else {
+            return false;
+        };
+        let is_begun = self.hand_over(at, visit);
+        if is_begun {
+            self.slots.fill(at, running);
+        }
+        is_begun
+    }
+
+    /// Takes a newcomer in; where there is no place for it, or no thread, it is closed.
+    fn take_in(&mut self, socket: TcpStream, door: &Door<S>) {
+        self.slots.reap(&self.rt);
+        let Some(at) = self.place() else {
+            return;
+        };
+        if !self.begin(at, socket, door) {
+            self.slots.give_back(at);
+        }
+    }
+
+    /// Takes in those who wait at a port, so many at most in one turn. Gives whether more may wait.
+    fn take_in_some(&mut self, gate: &Gate<S>) -> bool {
+        for _ in 0..MOST_IN_A_TURN {
+            match gate.listener.accept() {
+                Ok((socket, _)) => self.take_in(TcpStream::from(socket), &gate.door),
+                Err(fault) if fault.kind() == io::ErrorKind::WouldBlock => return false,
+                Err(fault) if is_of_newcomer(fault.kind()) => {}
+                Err(_) => self.turn_away(gate),
+            }
+        }
+        true
+    }
+
+    /// Gives each port at which newcomers may wait a turn. Gives whether more may wait at one.
+    fn take_turns(&mut self, gates: &mut [Gate<S>]) -> bool {
+        let mut more = false;
+        for gate in gates {
+            if gate.is_waited_at {
+                gate.is_waited_at = self.take_in_some(gate);
+                more = more || gate.is_waited_at;
+            }
+        }
+        more
+    }
+
+    /// Takes connections in until the service is over. The ports take turns, so that a crowd at one
+    /// keeps nobody at another waiting.
+    pub(crate) fn serve(&mut self, entrance: &mut Entrance<S>) -> Result<(), HostFault> {
+        let rt = self.rt;
+        let mut more = false;
+        for _ in rt.forever() {
+            if self.served.is_over.load(SeqCst) {
+                return Ok(());
+            }
+            if let Err(fault) = entrance.wait(if more { 0 } else { ROUND }) {
+                return Err(fault);
+            }
+            self.slots.reap(&rt);
+            self.look_round();
+            more = self.take_turns(entrance.gates.as_mut_slice());
+        }
+        unreachable!()
     }
 }

@@ -40,9 +40,10 @@ fn with_head<B: Drop>(
     let Ok(status) = StatusCode::from_u16(status) else {
         return Err(ResponseFault::BadStatus);
     };
+    let headers = header_map(alloc, headers)?;
     let mut parts = Parts::new(alloc);
     parts.status = status;
-    parts.headers = header_map(alloc, headers)?;
+    parts.headers = headers;
     Ok(Response::from_parts(parts, body))
 }
 
