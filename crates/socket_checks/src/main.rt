@@ -16,7 +16,7 @@ use case_tables::{
     Case, CaseFault, Given, TableFault, end, judge_case, read_file, run_file, tell_count,
 };
 use http_connection::Machine;
-use std::alloc::AllocError;
+use std::alloc::{AllocError, Global};
 use std::io::Read;
 use std::marker::PhantomData;
 use std::net::{TcpListener, TcpStream};
@@ -58,6 +58,18 @@ fn tell_check<R: Print>(
     judge_case(rt, file, case, came, given)
 }
 
+/// Runs a check of a file, which is told at once, and says whether it agrees.
+fn run_check<R: Machine + Print>(
+    rt: &R,
+    file: &'static str,
+    checks: &Checks<R>,
+    case: &Case,
+) -> Result<bool, TableFault> {
+    let mut given = Given::new(rt.alloc());
+    let came = checks.give(case, &mut given);
+    tell_check(rt, file, case, came, given.as_str())
+}
+
 /// Runs the checks of a file, each of which is told at once, and says whether all agree.
 fn run_checks<R: Machine + Files + Print>(
     rt: R,
@@ -70,9 +82,7 @@ where
     let cases = read_file(&rt, file)?;
     let mut agree = true;
     for case in cases.iter() {
-        let mut given = Given::new(rt.alloc());
-        let came = checks.give(case, &mut given);
-        if !tell_check(&rt, file, case, came, given.as_str())? {
+        if !run_check(&rt, file, checks, case)? {
             agree = false;
         }
     }
@@ -111,28 +121,35 @@ struct Slow {
     ran: Result<Vec<Ran>, AllocError>,
 }
 
-/// Runs checks.
-fn ran_of<R: Machine>(rt: R, cases: &[Case]) -> Result<Vec<Ran>, AllocError> {
+/// Runs a check, of which nothing is told.
+fn ran_of<R: Machine>(alloc: Global, checks: &Checks<R>, case: &Case) -> Ran {
+    let mut given = Given::new(alloc);
+    let came = checks.give(case, &mut given);
+    Ran { came, given }
+}
+
+/// Runs checks, of which nothing is told.
+fn all_ran<R: Machine>(rt: R, cases: &[Case]) -> Result<Vec<Ran>, AllocError> {
     let checks = Checks::new(rt);
     let mut ran = Vec::with_capacity(rt.alloc(), cases.len())?;
     for case in cases {
-        let mut given = Given::new(rt.alloc());
-        let came = checks.give(case, &mut given);
-        ran.push(Ran { came, given })?;
+        ran.push(ran_of(rt.alloc(), &checks, case))?;
     }
     Ok(ran)
 }
 
 /// Runs checks, and gives them back.
 fn run_slow<R: Machine>(rt: R, cases: Vec<Case>) -> Slow {
-    let ran = ran_of(rt, cases.as_slice());
+    let ran = all_ran(rt, cases.as_slice());
     Slow { cases, ran }
 }
 
 /// Starts a thread that runs checks.
 fn start_slow<R: Machine>(rt: R, cases: Vec<Case>) -> Result<JoinHandle<Slow>, AllocError> {
-    let slow = thread::spawn(&rt, move || run_slow(rt, cases))?;
-    Ok(slow)
+    match thread::spawn(&rt, move || run_slow(rt, cases)) {
+        Ok(slow) => Ok(slow),
+        Err(_) => Err(AllocError),
+    }
 }
 
 /// Tells checks that were run, and says whether all agree.
@@ -156,10 +173,14 @@ fn run<R: Machine + Files + Print>(rt: R) -> Result<bool, TableFault>
 where
     R::File: Read + Drop,
 {
-    let slow = start_slow(rt, read_file(&rt, SLOW_CHECKS)?)?;
+    let cases = read_file(&rt, SLOW_CHECKS)?;
+    let slow = start_slow(rt, cases)?;
     let quick = run_quick(rt);
     let slow = slow.join(&rt);
-    Ok(quick? && tell_slow(&rt, &slow)?)
+    match quick {
+        Ok(true) => tell_slow(&rt, &slow),
+        _ => quick,
+    }
 }
 
 fn main(rt: HostRuntime) -> ExitCode {

@@ -1,6 +1,6 @@
 //! What is shown of bytes that came over a connection: how the checks read, checked without one.
 
-use case_tables::{Case, CaseFault, Given, Subject};
+use case_tables::{Case, CaseFault, Given, Part, Subject};
 use socket_peers::{Heard, View, bytes_of, push_heard};
 use std::alloc::Global;
 
@@ -8,22 +8,25 @@ use std::alloc::Global;
 /// `came-so-far` what came without an end; the fields of the head that are shown stand behind the word.
 pub struct Readings;
 
+/// What came, as a part says.
+fn heard_in(alloc: Global, part: &Part) -> Result<Heard, CaseFault> {
+    let has_ended = match part.word() {
+        "came" => true,
+        "came-so-far" => false,
+        _ => return Err(CaseFault::Unknown { line: part.line() }),
+    };
+    let bytes = bytes_of(alloc, part)?;
+    Ok(Heard { bytes, has_ended })
+}
+
 impl Subject for Readings {
     fn give(&self, alloc: Global, case: &Case, given: &mut String) -> Result<(), CaseFault> {
         let mut told = Given::new(alloc);
         for part in case.parts() {
-            let has_ended = match part.word() {
-                "came" => true,
-                "came-so-far" => false,
-                _ => return Err(CaseFault::Unknown { line: part.line() }),
-            };
+            let heard = heard_in(alloc, part)?;
             let view = View {
                 name: "peer",
                 fields: part.arguments(),
-            };
-            let heard = Heard {
-                bytes: bytes_of(alloc, part)?,
-                has_ended,
             };
             push_heard(&mut told, &view, &heard);
         }

@@ -3,12 +3,12 @@
 ghost use Rattle.std.specs.Prelude.{◌≡◌, ◌^◌};
 ghost use Rattle.std.specs.Arc.{arc_value};
 
-use account_lock::{Identity, SettleFault};
+use account_lock::{Account, Identity, SettleFault};
 use call_model::Stats;
 use case_tables::{CaseFault, Part};
 use http_front::{Host, HostFault, Hosted, Machine, Plan};
 use lambda_wire::read_config;
-use long_poll::Clock;
+use long_poll::{Clock, OneShotBell};
 use socket_peers::{Progress, number};
 use std::alloc::{AllocError, Global};
 use std::marker::Brand;
@@ -40,6 +40,18 @@ pub struct Board {
     pub moment: AtomicU64,
     listens: AtomicBool,
     has_ended: AtomicBool,
+}
+
+impl Board {
+    /// With the clock at this moment, before the service begins.
+    fn at(alloc: Global, moment: u64) -> Result<Arc<Board>, AllocError> {
+        let board = Board {
+            moment: AtomicU64::new(moment),
+            listens: AtomicBool::new(false),
+            has_ended: AtomicBool::new(false),
+        };
+        Ok(Arc::new(alloc, board)?)
+    }
 }
 
 /// How a service is opened, and settled.
@@ -114,6 +126,17 @@ fn count<K: Keep, L: Ledgers>(tallies: &[Tally<K, L>]) -> (u64, u64) {
     (calls, receipts)
 }
 
+/// The counts with which an account settles.
+fn settled_by<S: Identity>(
+    account: Account<S, OneShotBell>,
+    tallies: Vec<Tally<KeepAll, S>>,
+) -> Result<Stats, SettleFault> {
+    match account.settle(tallies) {
+        Ok(settled) => Ok(settled.stats),
+        Err(fault) => Err(fault),
+    }
+}
+
 /// What a host left that ran to its end.
 fn left_by<R: Machine, S: Identity + Drop>(
     rt: &R,
@@ -129,12 +152,23 @@ fn left_by<R: Machine, S: Identity + Drop>(
         hold_one_back(&mut tallies);
     }
     let (calls, receipts) = count(tallies.as_slice());
-    let settled = account.settle(tallies).map(|settled| settled.stats);
     Left {
         entries,
         calls,
         receipts,
-        settled,
+        settled: settled_by(account, tallies),
+    }
+}
+
+/// Runs a host to its end, and settles its account.
+fn run_host<R: Machine, S: Identity + Drop + Send + Sync + 'static>(
+    rt: &R,
+    host: Host<R, S, SetClock, KeepAll>,
+    holds_back: bool,
+) -> Result<Left, HostFault> {
+    match host.run() {
+        Ok(hosted) => Ok(left_by(rt, hosted, holds_back)),
+        Err(fault) => Err(fault),
     }
 }
 
@@ -151,16 +185,21 @@ fn run<R: Machine, S: Identity + Drop + Send + Sync + 'static>(
     requires salted { plan.salt ≡ S.salt }
     requires named { blanks ≡ S.names }
 {
-    let host: Host<R, S, SetClock, KeepAll> = Host::open(
+    let opened: Result<Host<R, S, SetClock, KeepAll>, HostFault> = Host::open(
         rt,
         plan,
         clock,
         terms.places,
         terms.patience,
         blanks,
-    )?;
-    board.listens.store(true, SeqCst);
-    Ok(left_by(&rt, host.run()?, terms.holds_back))
+    );
+    match opened {
+        Ok(host) => {
+            board.listens.store(true, SeqCst);
+            run_host(&rt, host, terms.holds_back)
+        }
+        Err(fault) => Err(fault),
+    }
 }
 
 /// What a text says is to be served.
@@ -171,14 +210,28 @@ fn plan_of(alloc: Global, text: &str) -> Result<Plan, HostFault> {
     }
 }
 
-/// Serves until it is stopped, and settles.
-fn serve<R: Machine>(rt: R, order: &Order, board: Arc<Board>) -> Result<Left, HostFault> {
-    let clock = SetClock {
-        board: Arc::try_clone(&board)?,
-    };
+/// Serves by this clock until it is stopped, and settles.
+fn serve<R: Machine>(
+    rt: R,
+    order: &Order,
+    clock: SetClock,
+    board: &Board,
+) -> Result<Left, HostFault> {
     let blanks = Blanks::new(rt.alloc())?;
     let plan = plan_of(rt.alloc(), order.config.as_str())?;
-    run::<R, Brand>(rt, plan, order.terms, clock, &board, blanks)
+    run::<R, Brand>(rt, plan, order.terms, clock, board, blanks)
+}
+
+/// Serves, and tells that it has come to its end.
+fn serve_to_end<R: Machine>(
+    rt: R,
+    order: &Order,
+    clock: SetClock,
+    board: &Board,
+) -> Result<Left, HostFault> {
+    let left = serve(rt, order, clock, board);
+    board.has_ended.store(true, SeqCst);
+    left
 }
 
 /// A service on a thread of its own.
@@ -191,21 +244,12 @@ pub struct Server {
 impl Server {
     /// Begins to serve, with the clock at this moment.
     pub fn start<R: Machine>(rt: R, order: Order, moment: u64) -> Result<Server, AllocError> {
-        let board = Arc::new(
-            rt.alloc(),
-            Board {
-                moment: AtomicU64::new(moment),
-                listens: AtomicBool::new(false),
-                has_ended: AtomicBool::new(false),
-            },
-        )?;
-        let shared = Arc::try_clone(&board)?;
+        let board = Board::at(rt.alloc(), moment)?;
         let told = Arc::try_clone(&board)?;
-        let thread = thread::spawn(&rt, move || {
-            let left = serve(rt, &order, shared);
-            told.has_ended.store(true, SeqCst);
-            left
-        })?;
+        let clock = SetClock {
+            board: Arc::try_clone(&board)?,
+        };
+        let thread = thread::spawn(&rt, move || serve_to_end(rt, &order, clock, &told))?;
         Ok(Server { board, thread })
     }
 

@@ -131,13 +131,18 @@ impl<R: Machine> Stage<R> {
         };
         self.ports.release(taken);
         let server = Server::start(self.rt, order, self.moment)?;
+        self.wait_for(&server);
+        Ok(server)
+    }
+
+    /// Waits until a service listens or has come to its end.
+    fn wait_for(&self, server: &Server) {
         for _ in 0..TURNS {
             if server.listens() || server.has_ended() {
                 break;
             }
             self.pause();
         }
-        Ok(server)
     }
 
     /// The port that another program has: what stands behind `taken`.
@@ -149,19 +154,33 @@ impl<R: Machine> Stage<R> {
         }
     }
 
+    /// Starts a service, and says whether that is all: it serves, or its end is told. Else another
+    /// program was faster to take a port.
+    fn serve_once(
+        &mut self,
+        part: &Part,
+        taken: Option<&str>,
+        given: &mut Given,
+    ) -> Result<bool, CaseFault> {
+        let server = self.start(part.text(), taken)?;
+        if !server.has_ended() {
+            self.server = Some(server);
+            return Ok(true);
+        }
+        let left = server.join(&self.rt);
+        if taken.is_none() && matches!(left, Err(HostFault::Network)) {
+            return Ok(false);
+        }
+        push_ending(given, left);
+        Ok(true)
+    }
+
     /// Serves the configuration that a part says. Where the service doesn't open, that is its end.
     pub fn serve(&mut self, part: &Part, given: &mut Given) -> Result<Progress, CaseFault> {
         self.expect_no_service(part)?;
         let taken = self.taken(part)?;
         for _ in 0..TRIES {
-            let server = self.start(part.text(), taken)?;
-            if !server.has_ended() {
-                self.server = Some(server);
-                return Ok(Progress::On);
-            }
-            let left = server.join(&self.rt);
-            if taken.is_some() || !matches!(left, Err(HostFault::Network)) {
-                push_ending(given, left);
+            if self.serve_once(part, taken, given)? {
                 return Ok(Progress::On);
             }
             self.look_for_ports(part)?;
@@ -182,10 +201,10 @@ impl<R: Machine> Stage<R> {
 
     /// Asks the service to stop, and says whether it does; none where it keeps silent.
     fn is_stopped(&self) -> Result<Option<bool>, CaseFault> {
-        let request = request_of(self.alloc, "POST", "/_local/stop", "")?;
         let Some(port) = self.ports.number("invoke") else {
             return Ok(None);
         };
+        let request = request_of(self.alloc, "POST", "/_local/stop", "")?;
         match exchange(&self.rt, port, request.as_str(), TURNS) {
             Ok(heard) if !heard.has_ended => Ok(None),
             Ok(heard) => Ok(Some(heard.bytes.as_slice().starts_with(b"HTTP/1.1 202 "))),
