@@ -1,6 +1,5 @@
-//! Checks the service over sockets: each file of checks in the folder that it is run in. A check
-//! serves a configuration on ports that are free, lets peers send and hear bytes, and gives what they
-//! heard.
+//! Checks of the service over sockets, in the tables below `sockets`. A check serves a configuration
+//! on ports that are free, lets peers send and hear bytes, and gives what they heard.
 #![tactic(auto)]
 
 mod acts;
@@ -13,35 +12,32 @@ mod stage;
 use crate::checks::Checks;
 use crate::readings::Readings;
 use case_tables::{
-    Case, CaseFault, Given, TableFault, end, judge_case, read_file, run_file, tell_count,
+    Case, CaseFault, Given, TableFault, judge_case, read_file, run_file, tell_count,
 };
-use http_connection::Machine;
+pub use http_connection::Machine;
 use std::alloc::{AllocError, Global};
 use std::io::Read;
-use std::marker::PhantomData;
-use std::net::{TcpListener, TcpStream};
-use std::process::ExitCode;
 use std::rt::Files;
 use std::thread;
 use std::thread::JoinHandle;
 
 /// The file of readings.
-const READING_CASES: &str = "readings.txt";
+const READING_CASES: &str = "sockets/readings.txt";
 
 /// The files of checks that take no long time.
 const QUICK_CHECKS: [&str; 7] = [
-    "calls.txt",
-    "words.txt",
-    "identifiers.txt",
-    "departures.txt",
-    "bodies.txt",
-    "hosts.txt",
-    "history.txt",
+    "sockets/calls.txt",
+    "sockets/words.txt",
+    "sockets/identifiers.txt",
+    "sockets/departures.txt",
+    "sockets/bodies.txt",
+    "sockets/hosts.txt",
+    "sockets/history.txt",
 ];
 
 /// The checks of peers that stand still, whom the service bears with for twenty seconds. They run
 /// beside the others, and tell what they saw behind them.
-const SLOW_CHECKS: &str = "standing_still.txt";
+const SLOW_CHECKS: &str = "sockets/standing_still.txt";
 
 /// Tells the last line of what a check gave, and says whether it gave what it is to give.
 fn tell_check<R: Print>(
@@ -169,7 +165,12 @@ fn tell_slow<R: Print>(rt: &R, slow: &Slow) -> Result<bool, TableFault> {
     Ok(agree)
 }
 
-fn run<R: Machine + Files + Print>(rt: R) -> Result<bool, TableFault>
+/// Runs the checks in the current folder, and says whether all agree. It prints how each ended and how
+/// many a table has, or the first line that differs of each that gives something else.
+///
+/// # Errors
+/// As the fault says; the tables behind it are not run.
+pub fn run<R: Machine + Files + Print>(rt: R) -> Result<bool, TableFault>
 where
     R::File: Read + Drop,
 {
@@ -181,10 +182,4 @@ where
         Ok(true) => tell_slow(&rt, &slow),
         _ => quick,
     }
-}
-
-fn main(rt: HostRuntime) -> ExitCode {
-    // (so that the types of the machine's sockets, which `run` asks for, are among those of `main`)
-    let _: PhantomData<(TcpListener, TcpStream)> = PhantomData;
-    end(&rt, run(rt))
 }

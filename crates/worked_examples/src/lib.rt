@@ -1,4 +1,5 @@
-//! Runs the worked examples: each file of cases, below the folder that it is run in.
+//! The worked examples of what needs no threads: the tables below `parts`, `wire`, `routes` and
+//! `scripts`, run through the public calls.
 #![tactic(auto)]
 
 mod accounts;
@@ -9,9 +10,10 @@ mod scripts;
 mod shown;
 mod wire;
 
-use case_tables::{Case, CaseFault, Given, Subject, end, run_files};
-use std::alloc::Global;
-use std::process::ExitCode;
+use case_tables::{Case, CaseFault, Given, Subject, TableFault, run_files};
+use std::alloc::{AllocGlobal, Global};
+use std::io::Read;
+use std::rt::Files;
 
 /// What the cases of a file are about.
 #[derive(Clone, Copy)]
@@ -139,6 +141,14 @@ impl Subject for Table {
     }
 }
 
-fn main(rt: HostRuntime) -> ExitCode {
-    end(&rt, run_files(&rt, &TABLES))
+/// Runs the tables in the current folder, and says whether all of their cases agree. It prints how
+/// many cases a table has, or the first line that differs of each case that gives something else.
+///
+/// # Errors
+/// As the fault says; the tables behind it are not run.
+pub fn run<R: Files + Print + AllocGlobal>(rt: &R) -> Result<bool, TableFault>
+where
+    R::File: Read + Drop,
+{
+    run_files(rt, &TABLES)
 }

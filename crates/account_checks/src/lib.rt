@@ -1,4 +1,4 @@
-//! Runs what is checked of accounts in memory: desks behind their locks, the bells of those who
+//! What is checked of accounts in memory, in the tables below `accounts`, `ledgers` and `exchanges`: desks behind their locks, the bells of those who
 //! wait, threads that share an account, and settlements of true and of forged tallies; the ledgers
 //! of their counts; and the polls and exchanges of `long_poll`, over an account and over a service
 //! that does as a case says.
@@ -11,9 +11,8 @@ mod lines;
 mod opening;
 mod tallies;
 
-use case_tables::{Case, CaseFault, Given, TableFault, end, judge_case, read_file, tell_count};
+use case_tables::{Case, CaseFault, Given, TableFault, judge_case, read_file, tell_count};
 use std::io::Read;
-use std::process::ExitCode;
 use std::random::RandomSource;
 use std::rt::Files;
 use std::sync::Wait;
@@ -121,8 +120,12 @@ where
     run_cases(rt, file, table, cases.as_slice())
 }
 
-/// Runs the tables, and says whether all of their cases agree.
-fn run<
+/// Runs the tables in the current folder, and says whether all of their cases agree. It prints how
+/// many cases a table has, or the first line that differs of each case that gives something else.
+///
+/// # Errors
+/// As the fault says; the tables behind it are not run.
+pub fn run<
     R: Wait
         + Threads
         + Clock
@@ -146,8 +149,4 @@ where
         }
     }
     Ok(agree)
-}
-
-fn main(rt: HostRuntime) -> ExitCode {
-    end(&rt, run(rt))
 }
