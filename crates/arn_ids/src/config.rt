@@ -15,7 +15,7 @@ pub type FnNo = u32;
 pub type EnvNo = u32;
 
 /// Where this service stands.
-#[derive(Debug, Drop)]
+#[derive(Drop)]
 pub struct Home {
     /// The account: 12 digits.
     pub account: Text,
@@ -31,7 +31,7 @@ pub struct Slot {
 }
 
 /// A function and its environments.
-#[derive(Debug, Drop)]
+#[derive(Drop)]
 pub struct Function {
     /// 1 to 64 of ASCII letters, digits, `-` and `_`.
     pub name: Text,
@@ -49,7 +49,7 @@ pub struct Function {
 }
 
 /// What an account is configured with, before any of it was looked at.
-#[derive(Debug, Drop)]
+#[derive(Drop)]
 pub struct Config {
     /// Where the service stands.
     pub home: Home,
@@ -77,7 +77,7 @@ impl Config {
 }
 
 /// A configuration without a fault.
-#[derive(Debug, Drop)]
+#[derive(Drop)]
 pub struct Checked {
     config: Config,
 }

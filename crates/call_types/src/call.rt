@@ -12,7 +12,7 @@ pub type Ticket = u64;
 
 /// One call of a client, of an operator or of the clock. Its function and its environment are
 /// numbers of the configuration, from 1.
-#[derive(Debug, Drop)]
+#[derive(Drop)]
 pub enum Call {
     /// A caller invokes a function (Lambda API, Invoke).
     Invoke {
@@ -112,7 +112,7 @@ pub enum Call {
 }
 
 /// The answers that an entry gave, each with the ticket that got it, in rising ticket order.
-#[derive(Debug, Drop)]
+#[derive(Drop)]
 pub struct Answers {
     answers: Vec<(Ticket, Answer)>,
 }
@@ -143,7 +143,7 @@ impl Answers {
 }
 
 /// One call of the history with what it caused.
-#[derive(Debug, Drop)]
+#[derive(Drop)]
 pub struct Entry {
     /// When it was taken, in milliseconds, at most 2^53 - 1; never before the entry before it.
     pub moment: u64,

@@ -28,7 +28,7 @@ pub enum Shown {
 }
 
 /// What is done with a request.
-#[derive(Debug, Drop)]
+#[derive(Drop)]
 pub enum Decision {
     /// The call is submitted, and its answer is the reply.
     Submit(Call),

@@ -10,7 +10,7 @@ use bytes::Bytes;
 use std::alloc::{AllocError, Global};
 
 /// What a client gets: a status code (RFC 9110, section 15), headers and a body.
-#[derive(Debug, Drop)]
+#[derive(Drop)]
 pub struct Reply {
     /// From 200 to 599.
     pub status: u16,

@@ -4,7 +4,7 @@ use arn_ids::Config;
 
 /// What a configuration says: the account's own part, which `Config::check` is still to look at,
 /// and what the account's history starts from.
-#[derive(Debug, Drop)]
+#[derive(Drop)]
 pub struct Setup {
     /// The account, its limits, and its functions with their ports.
     pub config: Config,
