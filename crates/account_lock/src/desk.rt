@@ -138,13 +138,12 @@ impl<B: Bell, L: Ledgers> Desk<B, L> {
         // One count of the environments that are due serves the room for bells and the book's own.
         let expiries = self.book.count_due(now);
         let most = most_given(&self.book, expiries, &call);
-        let Ok(rings) = make_room(self.alloc, &mut self.bells, tally, most) else {
+        let Ok(mut rings) = make_room(self.alloc, &mut self.bells, tally, most) else {
             return Err(Refused {
                 refusal: Refusal::OutOfMemory,
                 bell,
             });
         };
-        let mut rings = rings;
         let head = call.head();
         // The counts are kept: to read them before the step and after it costs a copy of five numbers.
         let before = self.book.stats();

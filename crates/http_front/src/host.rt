@@ -133,13 +133,11 @@ impl<
     /// `StillShared`. The account and the tallies are then gone.
     pub fn run(self) -> Result<Hosted<S, K>, HostFault> {
         let Host {
-            reception,
+            mut reception,
             ticker,
-            entrance,
+            mut entrance,
         } = self;
         let rt = ticker.rt;
-        let mut reception = reception;
-        let mut entrance = entrance;
         let Ok(ticker) = ticker.start() else {
             return Err(HostFault::OutOfMemory);
         };
