@@ -3,7 +3,7 @@
 use Rattle.std.proofs.Common.{◌≡◌, ℕ, suc, ◌<◌, ◌≤◌, length, List, [], ◌∷◌, ◌++◌, take, drop, set, get_or, ltb, true, false, arith, refl, sym, ◌∙◌, ap, append_assoc}
 use Rattle.std.proofs.lemmas.Bool.Decides.{nat_tests}
 use Rattle.std.proofs.Math.Seq.{take-suc, take-suc-set}
-use Rattle.std.proofs.lemmas.List.{drop-set-lt, length-set}
+use Rattle.std.proofs.lemmas.List.{drop-set-lt, drop_all, length-set, length-take}
 use Rattle.call_types.specs.declared.answer.Answer.{Answer}
 use Rattle.environment_step.specs.After.{put}
 use Rattle.extension_set.proofs.Lists.{drop_take_one, same_rest}
@@ -61,3 +61,14 @@ carry_on i n m pair carried d old now b lt len le = record {
 
     one : carried ∷ put (get_or now i d) (drop (suc i) (take n old)) ≡ put carried (drop i (take n old))
     one = rw (drop_take_one old i n d lt len, sym both.0, yes) refl
+
+-- no pair is left, and the carried one is laid down behind all
+pub carry_end : (place count first_count : ℕ) (pair carried : ℕ × Answer) (old now : List (ℕ × Answer)) → IsCarrying place count first_count pair carried old now → place ≡ count → count < length old
+    → take (suc count) (set now count carried) ≡ put pair (take count old)
+carry_end i n m pair carried old now b end len =
+    take-suc-set now n carried (omega (arith, len, b.same_length))
+    ∙ ap (λ xs. take n now ++ put carried xs) (sym none)
+    ∙ rw end at b.so_far
+  where
+    none : drop n (take n old) ≡ []
+    none = drop_all n (take n old) (omega (arith, length-take n old))
