@@ -32,6 +32,9 @@ expire_due-requires-clause-as_many c =
     let moment : c.max-moment.result ≡ moment_at j.history c.args.now = c.max-moment.ensures ∙ ap (max c.args.now) c.last_moment.ensures.value in
     rw (c.in_ok-rooms.ensures.same.0, c.in_ok-rooms.ensures.same.1, moment) (c.in_ok-rooms.ensures.as_many ∙ rw (sym c.self.view_is) at c.requires.expiries)
 
+pub expire_due-requires-clause-later : goal.expire_due-requires-clause-later
+expire_due-requires-clause-later c = rw (c.in_ok-rooms.ensures.same.1, c.max-moment.ensures) (omega (arith, c.last_moment.ensures.value))
+
 pub take-requires-clause-later : goal.take-requires-clause-later
 take-requires-clause-later c =
     let j = c.self.inside.journal in
