@@ -15,3 +15,8 @@ load-requires g c =
     let joined = c.join_seat.ensures in
     let both = ap₂ (λ (m o : Known g.row.T.Denot). (heard m.0 o.0, m.1)) c.self.invariant.1 c.copy-copy.ensures.seen in
     (joined.0 ∙ (c.self.invariant.0 ∙ sym line.0), line.1, compares_as _ _ _ _ _ _ (joined.2 ∙ both))
+
+pub returns-clause-all : goal.returns-clause-all
+returns-clause-all g c =
+    let all = λ (m : Known g.row.T.Denot). m.0.all in
+    c.front.ensures.all ∙ ap all c.load.ensures.2.0 ∙ ap all c.join_seat.ensures.2 ∙ c.self.view_is
