@@ -12,3 +12,6 @@ returns-then-keep_nothing-clause-none g c =
     let all : g.K.Keep.ALL ≡ false = search rules in
     let nothing : list_all keeps_nothing tallies ≡ true = search rules in
     subst (λ (all : Bool). IsKept all h tallies) (sym all) (nothing_is_right h tallies nothing)
+
+pub returns-clause-none : goal.returns-clause-none
+returns-clause-none g c = search rules
