@@ -37,28 +37,28 @@ read_stuck text stuck = read_by_parts text ∙ go (json.value max_depth (tokens 
     go (Some (j, [])) false e = refl
     go (Some (j, t ∷ more)) ranged e = refl
 
--- what the check of the first value tells of the text
-abbrev Checked : List ℕ → List Token → Result (Unit {0}) Invalid → Type 0
-Checked text rest r = MatchResult r (λ _. json.skip_value max_depth (tokens text) ≡ Some rest) (λ _. all_in_range (tokens text) ≡ true → json.skip_value max_depth (tokens text) ≡ None)
+-- what the check of the first value, at most d deep, tells of the text
+abbrev Checked : ℕ → List ℕ → List Token → Result (Unit {0}) Invalid → Type 0
+Checked d text rest r = MatchResult r (λ _. json.skip_value d (tokens text) ≡ Some rest) (λ _. all_in_range (tokens text) ≡ true → json.skip_value d (tokens text) ≡ None)
 
-passed : (text : List ℕ) (rest next : List Token) (r : Result (Unit {0}) Invalid) (last : Option GivenToken) (none : Bool) → is_ok r ≡ true → Checked text rest r → OnOk r (all_in_range (tokens text) ≡ all_in_range rest)
-    → MatchOption last ((rest ≡ []) × (next ≡ [])) (λ t. rest ≡ token_of t ∷ next) → is_some last ≡ not none → none ≡ is_some (read text)
-passed text rest next (Ok u) None true ok e ranged m is = sym (read_ended text (e ∙ ap Some m.0) (ranged ∙ ap all_in_range m.0))
-passed text rest next (Ok u) (Some t) false ok e ranged m is = sym (read_longer text (token_of t) next (e ∙ ap Some m))
-passed text rest next (Ok u) None false ok e ranged m is = cc
-passed text rest next (Ok u) (Some t) true ok e ranged m is = cc
-passed text rest next (Err x) last none ok e ranged m is = cc
+passed : (d : ℕ) (text : List ℕ) (rest next : List Token) (r : Result (Unit {0}) Invalid) (last : Option GivenToken) (none : Bool) → is_ok r ≡ true → Checked d text rest r → OnOk r (all_in_range (tokens text) ≡ all_in_range rest)
+    → MatchOption last ((rest ≡ []) × (next ≡ [])) (λ t. rest ≡ token_of t ∷ next) → is_some last ≡ not none → d ≡ max_depth → none ≡ is_some (read text)
+passed d text rest next (Ok u) None true ok e ranged m is deep = sym (read_ended text (rw deep at e ∙ ap Some m.0) (ranged ∙ ap all_in_range m.0))
+passed d text rest next (Ok u) (Some t) false ok e ranged m is deep = sym (read_longer text (token_of t) next (rw deep at e ∙ ap Some m))
+passed d text rest next (Ok u) None false ok e ranged m is deep = cc
+passed d text rest next (Ok u) (Some t) true ok e ranged m is deep = cc
+passed d text rest next (Err x) last none ok e ranged m is deep = cc
 
-stuck : (text : List ℕ) (rest : List Token) (r : Result (Unit {0}) Invalid) → is_ok r ≡ false → Checked text rest r → is_some (read text) ≡ false
-stuck text rest (Ok u) ok e = cc
-stuck text rest (Err x) ok e = read_stuck text e
+stuck : (d : ℕ) (text : List ℕ) (rest : List Token) (r : Result (Unit {0}) Invalid) → is_ok r ≡ false → Checked d text rest r → d ≡ max_depth → is_some (read text) ≡ false
+stuck d text rest (Ok u) ok e deep = cc
+stuck d text rest (Err x) ok e deep = read_stuck text (rw deep at e)
 
 pub returns-then-is_ok : goal.returns-then-is_ok
 returns-then-is_ok c =
     let checked = rw c.in_ok-reader.ensures.ok at c.check_value.ensures in
-    passed c.args.text.now c.check_value.new.reader c.next.new.self c.check_value.result c.next.result c.is_none.result (sym c.if-is_ok.ensures.value) checked.value checked.numbers c.next.ensures.value c.is_none.ensures
+    passed _ c.args.text.now c.check_value.new.reader c.next.new.self c.check_value.result c.next.result c.is_none.result (sym c.if-is_ok.ensures.value) checked.value checked.numbers c.next.ensures.value c.is_none.ensures refl
 
 pub returns-else-is_ok : goal.returns-else-is_ok
 returns-else-is_ok c =
     let checked = rw c.in_ok-reader.ensures.ok at c.check_value.ensures in
-    c.if-is_ok.false ∙ sym (stuck c.args.text.now c.check_value.new.reader c.check_value.result (sym c.if-is_ok.ensures.value) checked.value)
+    c.if-is_ok.false ∙ sym (stuck _ c.args.text.now c.check_value.new.reader c.check_value.result (sym c.if-is_ok.ensures.value) checked.value refl)
