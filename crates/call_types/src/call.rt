@@ -12,7 +12,7 @@ pub type Ticket = u64;
 
 /// One call of a client, of an operator or of the clock. Its function and its environment are
 /// numbers of the configuration, from 1.
-#[derive(Drop)]
+#[derive(Debug, Drop)]
 pub enum Call {
     /// A caller invokes a function (Lambda API, Invoke).
     Invoke {
