@@ -1,5 +1,6 @@
 -- A desk as contracts see it, what is always true of it, and what one call makes of it.
-use Rattle.std.specs.Prelude.{◌≡◌, ℕ, ◌++◌, Bool, true, List, Option}
+use Rattle.std.specs.Prelude.{◌≡◌, ℕ, ◌++◌, Bool, true, not, is_some, List, Option}
+use Rattle.arn_ids.specs.Limits.{greatest_moment}
 use Rattle.std.specs.List.{list_all}
 use Rattle.account_book.specs.Book.{Kept as Booked}
 use Rattle.account_book.specs.Premature.{premature}
@@ -7,7 +8,8 @@ use Rattle.call_types.specs.declared.call.Call.{Call}
 use Rattle.call_types.specs.declared.call.Entry.{Entry}
 use Rattle.call_model.specs.Counts.{full}
 use Rattle.call_model.specs.History.{pending}
-use Rattle.call_model.specs.Next.{IsLegal, added, next}
+use Rattle.call_model.specs.Next.{IsLegal, added, due, next}
+use Rattle.deadlines.specs.Due.{first}
 use Rattle.usage_ledger.specs.Counts.{plus}
 use Rattle.usage_ledger.specs.Keeping.{Kept}
 use Rattle.usage_ledger.specs.Tallies.{Held}
@@ -59,6 +61,10 @@ held_after entries before kept =
 -- whether a book has no room for a call
 abbrev pub is_full : Booked → Call → Bool
 is_full book call = full book.config book.max_entries book.history call
+
+-- whether no deadline is running: none is due at the greatest moment
+abbrev pub rests : Booked → Bool
+rests book = not (is_some (first (due book.config book.history greatest_moment)))
 
 -- whether a call would come too early to it
 abbrev pub comes_early : Booked → ℕ → Call → Bool

@@ -1,7 +1,8 @@
 //! The account: a desk that threads share.
 
 ghost use Rattle.std.specs.Prelude.{◌≡◌, ◌≢◌, ◌⊎◌, [], ◌+◌, ◌<◌, ◌≤◌, ◌^◌, ◌↔◌, ℕ, false, is_some};
-ghost use Rattle.std.specs.Prelude.{true, length, option_map, IfOk, IfErr, OnOk, IsErrOf};
+ghost use Rattle.std.specs.Prelude.{true, length, option_map, if◌then◌else◌, IfOk, IfErr, IfSome, IfNone};
+ghost use Rattle.std.specs.Prelude.{OnOk, IsErrOf};
 ghost use Rattle.std.specs.Arc.{arc_value};
 ghost use Rattle.std.specs.List.{list_all};
 ghost use Rattle.arn_ids.specs.Environments.{owners};
@@ -12,6 +13,7 @@ ghost use Rattle.call_model.specs.Limits.{reservation};
 ghost use Rattle.call_model.specs.Next.{due};
 ghost use Rattle.deadlines.specs.Due.{first};
 ghost use Rattle.call_types.specs.Within.{IsWithin};
+ghost use Rattle.call_types.specs.declared.call.Call.TheVariants.{Tick};
 ghost use Rattle.account_book.specs.Books.{life};
 ghost use Rattle.account_book.specs.HistoryText.{opening_text};
 ghost use Rattle.account_book.specs.ReplyText.{reply_text};
@@ -161,6 +163,35 @@ impl<S: Identity, B: Bell> Locked<S, B> {
         };
         self.pen.write::<Desk<B, S>, OfDesk>(line, &self.desk);
         Ok((step, self.pen.front(line)))
+    }
+
+    /// A Tick that is taken only while no deadline is running.
+    #[tactic(auto, using(crate::proofs::Stepping::one_call_within))]
+    fn tick_at_rest<K: Keep>(
+        &mut self,
+        line: &Line<S>,
+        tally: &mut Tally<K, S>,
+        now: u64,
+    ) -> Result<Option<(Step<B>, Front<S>)>, Refused<B>>
+        requires moment { now < 2 ^ 53 }
+        ensures taken { IfOk result (λ made. IfSome made (λ step.
+            IsTaken S.config now Tick step.0.ticket step.1)) }
+        ensures counted { IfOk result (λ made. tally.new.held.counts.calls
+            ≡ tally.old.held.counts.calls + (if is_some made then 1 else 0)) }
+        ensures parts { HasPartsOf tally.old.held tally.new.held }
+        ensures made { IfOk result (λ made. IfSome made (λ step.
+            KeepsCall K.notes K.makes tally.old.held Tick step.0.ticket tally.new.held)) }
+        ensures none { IfOk result (λ made. IfNone made (tally.new.held ≡ tally.old.held)) }
+        ensures refused { IfErr result (λ back. tally.new.held ≡ tally.old.held) }
+    {
+        self.desk.facts();
+        let step = match self.desk.tick_at_rest(tally, now) {
+            Ok(Some(step)) => step,
+            Ok(None) => return Ok(None),
+            Err(refused) => return Err(refused),
+        };
+        self.pen.write::<Desk<B, S>, OfDesk>(line, &self.desk);
+        Ok(Some((step, self.pen.front(line))))
     }
 
     /// A token that has seen the history as it is.
@@ -360,6 +391,37 @@ impl<S: Identity, B: Bell> Account<S, B> {
         }
     }
 
+    /// Submits a Tick at a moment in milliseconds, below 2^53, if no deadline is running: it is looked at,
+    /// and taken, under one lock. So nothing expires by it, however far ahead the moment is. None if a
+    /// deadline is running; nothing has changed then.
+    ///
+    /// # Errors
+    /// As [`Desk::apply`]; the tally is then as it was.
+    pub fn tick_at_rest<K: Keep>(
+        &self,
+        rt: &impl Wait,
+        tally: &mut Tally<K, S>,
+        now: u64,
+    ) -> Result<Option<(Ticket, Front<S>)>, Refused<B>>
+        requires moment { now < 2 ^ 53 }
+        ensures taken { IfOk result (λ made. IfSome made (λ taken.
+            IsTaken S.config now Tick taken.0 taken.1)) }
+        ensures counted { IfOk result (λ made. tally.new.held.counts.calls
+            ≡ tally.old.held.counts.calls + (if is_some made then 1 else 0)) }
+        ensures parts { HasPartsOf tally.old.held tally.new.held }
+        ensures made { IfOk result (λ made. IfSome made (λ taken.
+            KeepsCall K.notes K.makes tally.old.held Tick taken.0 tally.new.held)) }
+        ensures none { IfOk result (λ made. IfNone made (tally.new.held ≡ tally.old.held)) }
+        ensures refused { IfErr result (λ back. tally.new.held ≡ tally.old.held) }
+    {
+        let made = self.locked.lock(rt).tick_at_rest(&self.line, tally, now);
+        match made {
+            Ok(Some((step, front))) => Ok(Some((ring_out(step), front))),
+            Ok(None) => Ok(None),
+            Err(refused) => Err(refused),
+        }
+    }
+
     /// A token that has seen the history as it is.
     pub fn front(&self, rt: &impl Wait) -> Front<S>
         ensures { Sees S.config [] result }
@@ -463,10 +525,12 @@ impl<S: Identity, B: Bell> Account<S, B> {
     /// As `Desk::settle`; account and tallies are then gone. The fault is one of a history that calls
     /// led to, and where no tally was missing, of one whose counts the tallies have. Where nothing is
     /// kept and nothing need be, a missing tally is the only one.
-    pub fn settle<K: Keep>(self, tallies: Vec<Tally<K, S>>) -> Result<Settled, SettleFault>
+    pub fn settle<K: Keep>(self, tallies: Vec<Tally<K, S>>) -> Result<Settled<K, S>, SettleFault>
         ensures book { IfOk result (λ settled.
             (settled.book.config ≡ S.config) × (settled.stats ≡ stats S.config settled.book.history)) }
         ensures settled { IfOk result (λ settled. IsSettled K.ALL settled.book.history tallies.items) }
+        ensures tally { IfOk result (λ settled. (settled.tally.held.parts ≡ 2 ^ 32)
+            × (settled.tally.held.counts ≡ counts_of settled.book.history)) }
         ensures fault { IfErr result (λ fault. Shown S.config (λ h. IsFault K.ALL fault h tallies.items
             × (fault ≢ TallyMissing → counts_in tallies.items ≡ counts_of h))) }
         ensures nothing { IfErr result (λ fault.

@@ -13,7 +13,7 @@ ghost use Rattle.call_types.specs.Within.{IsWithin};
 ghost use Rattle.script.specs.AnswerText.{entry_text};
 ghost use Rattle.account_book.specs.Books.{life};
 ghost use Rattle.account_book.specs.HistoryText.{opening_text};
-ghost use Rattle.account_book.specs.Reached.{IsReached};
+ghost use Rattle.account_book.specs.Reached.{IsBooked, IsReached};
 ghost use Rattle.account_book.specs.ReplyText.{reply_text};
 ghost use Rattle.account_book.specs.declared.book.Refusal.TheVariants.{JournalFull};
 ghost use Rattle.usage_ledger.specs.Counts.{no_counts};
@@ -247,10 +247,13 @@ impl<B: Bell, L: Ledgers> Desk<B, L> {
         self.book.history(ticket)
     }
 
-    /// What its type keeps: its history is one that calls led to, each of which its book took; its bells
-    /// belong to those who wait; and its totals are what the history counts.
+    /// What its type keeps: its configuration, salt and greatest number of entries are ones that a book can
+    /// have; its history is one that calls led to, each of which its book took, so that
+    /// `account_book::laws::replays` applies to it; its bells belong to those who wait; and its totals are
+    /// what the history counts.
     pub fn facts(&self)
         ensures desk { IsDesk self.now }
+        ensures booked { IsBooked self.now.book.config self.now.book.salt self.now.book.max_entries }
         ensures reached { IsReached self.now.book.config self.now.book.max_entries self.now.book.history }
     {
         let _bells = &self.bells;

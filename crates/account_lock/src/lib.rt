@@ -13,6 +13,7 @@ mod least;
 mod marks;
 mod offering;
 mod receipts;
+mod resting;
 mod rises;
 mod room;
 mod serving;

@@ -22,11 +22,13 @@ use usage_ledger::{Keep, Ledgers, Tally, Totals};
 
 /// A settled account: what was counted is what its book says.
 #[derive(Drop)]
-pub struct Settled {
+pub struct Settled<K: Keep, L: Ledgers> {
     /// The book, with its history.
     pub book: Book,
     /// The counts of the book.
     pub stats: Stats,
+    /// The shares of all tallies in one, which has all parts.
+    pub tally: Tally<K, L>,
 }
 
 /// Whether the tallies have all parts.
@@ -54,16 +56,18 @@ fn gather<K: Keep, L: Ledgers>(tallies: Vec<Tally<K, L>>) -> Option<Tally<K, L>>
     Some(all)
 }
 
-/// All shares in one tally show that the tallies counted what the totals say.
-fn audit<K: Keep, L: Ledgers>(totals: Totals<L>, tallies: Vec<Tally<K, L>>)
+/// All shares in one tally, which show that the tallies counted what the totals say.
+fn audit<K: Keep, L: Ledgers>(totals: Totals<L>, tallies: Vec<Tally<K, L>>) -> Tally<K, L>
     requires parts { parts_in tallies.items ≡ 2 ^ 32 }
-    ensures { counts_in tallies.items ≡ totals }
+    ensures counted { counts_in tallies.items ≡ totals }
+    ensures all { (result.held.parts ≡ 2 ^ 32) × (result.held.counts ≡ totals) }
 {
     let Some(mut all) = gather(tallies) else {
         unreachable!();
     };
     let mut totals = totals;
     totals.audit(&mut all);
+    all
 }
 
 /// The first fault of the receipts and calls, in the order in which the faults are declared. All
@@ -133,15 +137,16 @@ fn fault_of_keeping<K: Keep, L: Ledgers>(
 }
 
 impl<B: Bell, L: Ledgers> Desk<B, L> {
-    /// The book, once all shares in one tally have shown that the tallies counted what it counts.
-    fn audited<K: Keep>(self, tallies: Vec<Tally<K, L>>) -> Book
+    /// The book, and all shares in one tally, which have shown that the tallies counted what it counts.
+    fn audited<K: Keep>(self, tallies: Vec<Tally<K, L>>) -> (Book, Tally<K, L>)
         requires parts { parts_in tallies.items ≡ 2 ^ 32 }
-        ensures book { result ≡ self.book }
+        ensures book { result.0 ≡ self.book }
         ensures counted { counts_in tallies.items ≡ counts_of self.book.history }
+        ensures all { (result.1.held.parts ≡ 2 ^ 32) × (result.1.held.counts ≡ counts_of self.book.history) }
     {
         let Desk { book, totals, .. } = self;
-        audit(totals, tallies);
-        book
+        let tally = audit(totals, tallies);
+        (book, tally)
     }
 
     /// Adds the shares of all tallies up, and compares what they keep with the history. The time is
@@ -152,10 +157,12 @@ impl<B: Bell, L: Ledgers> Desk<B, L> {
     /// are then gone. Where no tally was missing, they have counted what the history counts all the
     /// same. Where nothing is kept and nothing need be, no memory is asked for, and a missing tally is
     /// the only fault.
-    pub fn settle<K: Keep>(self, tallies: Vec<Tally<K, L>>) -> Result<Settled, SettleFault>
+    pub fn settle<K: Keep>(self, tallies: Vec<Tally<K, L>>) -> Result<Settled<K, L>, SettleFault>
         ensures book { IfOk result (λ settled. (settled.book ≡ self.book)
             × (settled.stats ≡ stats self.book.config self.book.history)) }
         ensures settled { IfOk result (λ settled. IsSettled K.ALL self.book.history tallies.items) }
+        ensures tally { IfOk result (λ settled. (settled.tally.held.parts ≡ 2 ^ 32)
+            × (settled.tally.held.counts ≡ counts_of self.book.history)) }
         ensures fault { IfErr result (λ fault. IsFault K.ALL fault self.book.history tallies.items) }
         ensures counted { IfErr result
             (λ fault. fault ≢ TallyMissing → counts_in tallies.items ≡ counts_of self.book.history) }
@@ -166,12 +173,12 @@ impl<B: Bell, L: Ledgers> Desk<B, L> {
             return Err(SettleFault::TallyMissing);
         }
         let fault = fault_of_keeping(self.alloc, &self.book, &tallies);
-        let book = self.audited(tallies);
+        let (book, tally) = self.audited(tallies);
         match fault {
             Some(fault) => Err(fault),
             None => {
                 let stats = book.stats();
-                Ok(Settled { book, stats })
+                Ok(Settled { book, stats, tally })
             }
         }
     }

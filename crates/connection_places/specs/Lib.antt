@@ -1,1 +1,3 @@
+pub mod Choices
+pub mod Looks
 pub mod Places

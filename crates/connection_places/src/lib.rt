@@ -3,12 +3,14 @@
 //! a connection is served.
 #![tactic(auto)]
 
+mod choice;
 mod mailbox;
 mod post;
 mod running;
+mod seen;
 mod slots;
 
 pub use mailbox::Mailbox;
 pub use post::{Post, Worker};
-pub use running::Running;
+pub use running::{Enders, Running};
 pub use slots::{Slots, StillShared};

@@ -1,56 +1,68 @@
 //! What is known of a connection that is open, beside its thread.
 
+use crate::seen::Seen;
 use futures::channel::oneshot::Sender;
-use http_connection::{Pulse, patience};
+use http_connection::{PortKind, Pulse};
 use std::sync::Arc;
 
-/// The signals that end a connection, and where it tells how it stands.
+/// The senders of the signals that end a connection.
+#[derive(Drop)]
+pub struct Enders {
+    /// It ends after its exchange.
+    pub soft: Sender<()>,
+    /// It ends at once.
+    pub hard: Sender<()>,
+    /// It ends at once if it serves no request.
+    pub room: Sender<()>,
+}
+
+/// The signals that end a connection, and what is seen of it.
 #[derive(Drop)]
 pub struct Running {
+    // None once it was told so.
     soft: Option<Sender<()>>,
     hard: Option<Sender<()>>,
+    room: Option<Sender<()>>,
     pulse: Arc<Pulse>,
-    // What it had told at the last look, and at how many looks since it had told nothing else.
-    told: u64,
-    looks: u32,
+    pub(crate) seen: Seen,
+}
+
+/// Sends a signal, unless it was sent before.
+fn send(sender: &mut Option<Sender<()>>) {
+    if let Some(sender) = sender.take() {
+        let _ = sender.send(());
+    }
 }
 
 impl Running {
-    /// A connection that has just begun.
-    pub fn new(soft: Sender<()>, hard: Sender<()>, pulse: Arc<Pulse>) -> Running {
+    /// A connection that has just begun at such a port.
+    pub fn new(enders: Enders, pulse: Arc<Pulse>, kind: PortKind) -> Running {
+        let Enders { soft, hard, room } = enders;
         Running {
             soft: Some(soft),
             hard: Some(hard),
-            told: pulse.told(),
+            room: Some(room),
+            seen: Seen::first(kind, pulse.told()),
             pulse,
-            looks: 0,
         }
     }
 
     /// Tells the connection to end: after its exchange, or at once.
     pub(crate) fn tell(&mut self, at_once: bool) {
-        let sender = if at_once {
-            self.hard.take()
+        if at_once {
+            send(&mut self.hard);
         } else {
-            self.soft.take()
-        };
-        if let Some(sender) = sender {
-            let _ = sender.send(());
+            send(&mut self.soft);
         }
     }
 
-    /// Looks whether the connection has stood still for as long as it may, at one look a second.
-    pub(crate) fn has_stood_too_long(&mut self) -> bool {
-        let told = self.pulse.told();
-        if told != self.told {
-            self.told = told;
-            self.looks = 0;
-            return false;
-        }
-        self.looks = self.looks.saturating_add(1);
-        match patience(told) {
-            Some(seconds) => self.looks >= seconds,
-            None => false,
-        }
+    /// Tells the connection to end at once if it serves no request.
+    pub(crate) fn ask_for_room(&mut self) {
+        send(&mut self.room);
+    }
+
+    /// Looks at the connection, so many looks behind the last one.
+    pub(crate) fn look(&mut self, looks: u32) {
+        self.seen = self.seen.later(self.pulse.told(), looks);
     }
 }

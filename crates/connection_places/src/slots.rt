@@ -3,9 +3,11 @@
 ghost use Rattle.std.specs.Prelude.{◌≡◌, ◌+◌, ◌<◌, nat_lt, vec_len, IfOk, IfErr};
 ghost use Rattle.connection_places.specs.Places.{Places};
 
+use crate::choice::{admits, best_of, reserve_of};
 use crate::mailbox::Mailbox;
 use crate::post::{End, Ended, Post, Worker};
 use crate::running::Running;
+use http_connection::PortKind;
 use std::alloc::{AllocError, Global};
 use std::marker::Model;
 use std::sync::{Arc, Mutex, Wait};
@@ -15,10 +17,10 @@ use std::thread::Threads;
 /// and there are no more of them than connections that were open at once. Its thread may wait for the
 /// next connection.
 #[derive(Drop)]
-struct Slot<Y, V> {
+pub(crate) struct Slot<Y, V> {
     tally: Arc<Mutex<Y>>,
     worker: Option<Worker<V>>,
-    running: Option<Running>,
+    pub(crate) running: Option<Running>,
 }
 
 impl<Y, V: Drop> Slot<Y, V> {
@@ -280,18 +282,57 @@ impl<Y: Drop, V: Drop> Slots<Y, V> {
         }
     }
 
-    /// Tells each connection to end at once that has stood still for as long as it may: so nobody keeps
-    /// a place who asks for nothing. Called once a second.
+    /// Looks at each connection, and tells each to end at once that has stood for longer than it may: so
+    /// nobody keeps a place who asks for nothing. Called once a second.
     pub fn end_the_idle(&mut self)
         ensures { self.new ≡ self.old }
     {
         for slot in self.slots.iter_mut() {
-            if let Some(running) = &mut slot.running
-                && running.has_stood_too_long()
-            {
-                running.tell(true);
+            if let Some(running) = &mut slot.running {
+                running.look(1);
+                if running.seen.has_outstayed() {
+                    running.tell(true);
+                }
             }
         }
+    }
+
+    /// Whether a newcomer at such a port may have a place: one in sixteen, and 64 at most, are kept for
+    /// the account's port.
+    pub fn admits(&self, kind: PortKind) -> bool {
+        admits(self.most, kind, self.slots.as_slice())
+    }
+
+    /// Looks at each connection, between two looks.
+    fn look_again(&mut self)
+        ensures { self.new ≡ self.old }
+    {
+        for slot in self.slots.iter_mut() {
+            if let Some(running) = &mut slot.running {
+                running.look(0);
+            }
+        }
+    }
+
+    /// Where no place is left, and some are kept for the account's port: asks the connection at that port
+    /// which has been longest without a complete request to make room. Gives whether there is one. It
+    /// ends if it serves no request when it is asked; its place is free once it has ended.
+    pub fn ask_for_room(&mut self) -> bool
+        ensures { self.new ≡ self.old }
+    {
+        if self.has_room() || reserve_of(self.most) == 0 {
+            return false;
+        }
+        self.look_again();
+        let Some((at, _)) = best_of(self.slots.as_slice()) else {
+            return false;
+        };
+        if let Some(slot) = self.slots.get_mut(at)
+            && let Some(running) = &mut slot.running
+        {
+            running.ask_for_room();
+        }
+        true
     }
 
     /// These two tallies and those of all places, once every thread was joined.

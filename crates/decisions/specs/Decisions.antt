@@ -1,4 +1,6 @@
 -- Which decisions an account can carry out.
+use Rattle.std.specs.Prelude.{ℕ, ◌<◌, List, length}
+use Rattle.arn_ids.specs.Limits.{longest_body}
 use Rattle.arn_ids.specs.declared.config.Config.{Config}
 use Rattle.call_types.specs.Within.{IsWithin, IsFunction}
 use Rattle.decisions.specs.declared.decide.Shown.{Shown}
@@ -9,7 +11,7 @@ use Rattle.decisions.specs.declared.decide.Decision.TheVariants.{Submit, Reply, 
 -- what is shown is there
 abbrev pub IsThere : Config → Shown → Type 0
 IsThere config Stats = Unit {0}
-IsThere config History = Unit {0}
+IsThere config (History from) = Unit {0}
 IsThere config (Reservation f) = IsFunction config f
 
 -- A call is within the limits of the configuration, as a book requires it of each call; what is shown is there.
@@ -17,3 +19,7 @@ abbrev pub IsAllowed : Config → Decision → Type 0
 IsAllowed config (Submit call) = IsWithin config call
 IsAllowed config (Reply reply) = Unit {0}
 IsAllowed config (Show shown) = IsThere config shown
+
+-- It is what is decided by each body that is longer than a body may be.
+abbrev pub IsForTooLong : (List ℕ → Decision → Type 0) → Decision → Type 0
+IsForTooLong decides decision = (body : List ℕ) → longest_body < length body → decides body decision

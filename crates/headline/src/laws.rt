@@ -1,6 +1,6 @@
 //! The laws: functions with no work in them, whose contracts are proved.
 
-ghost use Rattle.std.specs.Prelude.{◌≡◌, ℕ, true, List, ◌∷◌, Some, None};
+ghost use Rattle.std.specs.Prelude.{◌≡◌, ℕ, true, List, [], ◌∷◌, Some, None};
 ghost use Rattle.arn_ids.specs.Faults.{first_fault};
 ghost use Rattle.arn_ids.specs.declared.config.Config.{Config};
 ghost use Rattle.call_types.specs.declared.answer.Throttle.TheVariants.{Environments as ByEnvironments};
@@ -11,12 +11,29 @@ ghost use Rattle.call_model.specs.Life.{stand};
 ghost use Rattle.call_model.specs.Limits.{reservation, verdict, Refuses};
 ghost use Rattle.call_model.specs.Next.{IsLegal};
 ghost use Rattle.call_model.specs.Own.{own, own_ticket};
+ghost use Rattle.call_types.specs.declared.stats.Stats.{Stats};
+ghost use Rattle.call_model.specs.Sample.{one};
 ghost use Rattle.account_book.specs.ReplyText.{reply_text};
-ghost use Rattle.headline.specs.Headline.{Headline};
+ghost use Rattle.account_lock.specs.Shown.{Sees};
+ghost use Rattle.headline.specs.Headline.{Headline, HasOneFate, IsWithinLimits};
+ghost use Rattle.headline.specs.Refused.{admitted, answered_twice, shut};
 
 /// The headline holds of every legal history, with its own counts.
 pub fn headline()
     ensures { (config : Config) (h : List Entry) → IsLegal config h → Headline config h (stats config h) }
+{}
+
+/// The headline holds of whatever a token of a running account has seen.
+pub fn seen()
+    ensures { (config : Config) (before h : List Entry) → Sees config before h → Headline config h (stats config h) }
+{}
+
+/// The headline can fail: an invocation that was answered twice has no fate, an admission past a
+/// reservation is within no limits, and no counts but the history's own are told.
+pub fn refuses()
+    ensures twice { HasOneFate one answered_twice 0 1 → ⊥ }
+    ensures past { IsWithinLimits shut [] admitted 1 → ⊥ }
+    ensures counts { (config : Config) (h : List Entry) (told : Stats) → Headline config h told → told ≡ stats config h }
 {}
 
 /// A function whose reservation is in force is never refused for want of an environment, in a

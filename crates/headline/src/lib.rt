@@ -5,4 +5,4 @@
 pub mod laws;
 mod readers;
 
-pub use readers::{of_book, of_desk, settle};
+pub use readers::{of_account, of_book, of_desk, settle};

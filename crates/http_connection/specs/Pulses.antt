@@ -1,22 +1,57 @@
--- What a connection tells as one number, and how long it may stand still.
-use Rattle.std.specs.Prelude.{ℕ, ◌+◌, ◌*◌, Option, Some, None}
+-- What a connection tells of how it stands, as one number.
+use Rattle.std.specs.Prelude.{ℕ, ◌+◌, ◌*◌, ◌^◌, Bool, true, false, ◌&&◌, ◌==◌}
 use Rattle.http_connection.specs.declared.pulse.Awaited.{Awaited}
-use Rattle.http_connection.specs.declared.pulse.Awaited.TheVariants.{Answer, Request, Next, End}
+use Rattle.http_connection.specs.declared.pulse.Awaited.TheVariants.{Answer, First, Head, Body, Taking, Next, End}
+use Rattle.http_connection.specs.declared.pulse.Told.{Told}
 
 -- the number of what is waited for
 abbrev pub number_of : Awaited → ℕ
 number_of Answer = 0
-number_of Request = 1
-number_of Next = 2
-number_of End = 3
+number_of First = 1
+number_of Head = 2
+number_of Body = 3
+number_of Taking = 4
+number_of Next = 5
+number_of End = 6
 
--- what is told after so many moves
-abbrev pub told_of : ℕ → Awaited → ℕ
-told_of moves awaited = moves * 4 + number_of awaited
+-- the number of what is told
+abbrev pub told_of : Told → ℕ
+told_of told = told.moved * 2 ^ 32 + told.answers * 2 ^ 16 + number_of told.awaited
 
--- How many seconds a connection may stand still that waits for it; none where it may for ever.
-abbrev pub patience_for : Awaited → Option ℕ
-patience_for Answer = None
-patience_for Request = Some 20
-patience_for Next = Some 300
-patience_for End = Some 2
+-- the stages of an exchange: none has begun, its head, its body and its service, its response; and the connection's end
+abbrev pub stage_of : Awaited → ℕ
+stage_of First = 0
+stage_of Next = 0
+stage_of Head = 1
+stage_of Body = 2
+stage_of Answer = 2
+stage_of Taking = 3
+stage_of End = 4
+
+-- It waits for its peer to send a request.
+abbrev pub is_unserved : Awaited → Bool
+is_unserved Answer = false
+is_unserved First = true
+is_unserved Head = true
+is_unserved Body = true
+is_unserved Taking = false
+is_unserved Next = true
+is_unserved End = false
+
+-- It is between two requests.
+abbrev pub is_between : Awaited → Bool
+is_between Answer = false
+is_between First = false
+is_between Head = false
+is_between Body = false
+is_between Taking = false
+is_between Next = true
+is_between End = false
+
+-- Nothing has happened between the two.
+abbrev pub is_same : Told → Told → Bool
+is_same one other = (number_of one.awaited == number_of other.awaited) && (one.answers == other.answers) && (one.moved == other.moved)
+
+-- the same stage of the same exchange
+abbrev pub is_in_stage_of : Told → Told → Bool
+is_in_stage_of one other = (stage_of one.awaited == stage_of other.awaited) && (one.answers == other.answers)

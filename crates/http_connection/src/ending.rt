@@ -13,13 +13,15 @@ use hyper::server::graceful::GracefulConnection;
 use std::alloc::{AllocError, Global};
 use std::sync::Arc;
 
-/// The two signals that end a connection.
+/// The signals that end a connection.
 #[derive(Drop)]
 pub struct Signals {
     /// It ends softly, after the exchange that has begun.
     pub soft: Receiver<()>,
     /// It ends at once.
     pub hard: Receiver<()>,
+    /// It ends at once if it serves no request; else the signal says nothing.
+    pub room: Receiver<()>,
 }
 
 /// A connection until it ends of itself or by a signal.
@@ -38,11 +40,11 @@ impl<C: Drop> Ending<C> {
     pub(crate) fn boxed(
         alloc: Global,
         conn: C,
-        signals: Signals,
+        soft: Receiver<()>,
+        hard: Receiver<()>,
     ) -> Result<Box<Ending<C>>, AllocError>
         ensures { IfOk result (λ ending. ending.value.conn ≡ conn) }
     {
-        let Signals { soft, hard } = signals;
         let ending = Ending {
             conn,
             soft: Some(soft),
@@ -90,10 +92,12 @@ impl<C: GracefulConnection<Output = hyper::Result<()>>> Future for Ending<C> {
 
 /// A connection that ends too where its peer does while a request is parked, though bytes lie behind
 /// that request; and that, once it has ended of itself, lets its peer read the answer before the
-/// socket is closed. It tells how it stands.
+/// socket is closed. It ends if its place is wanted while it serves no request. It tells how it stands.
 #[derive(Drop)]
 pub(crate) struct Watched<C, O> {
     ending: Box<Ending<C>>,
+    // None once its place was wanted.
+    room: Option<Receiver<()>>,
     peer: Wire,
     open: O,
     pulse: Arc<Pulse>,
@@ -101,10 +105,11 @@ pub(crate) struct Watched<C, O> {
 }
 
 impl<C, O> Watched<C, O> {
-    /// The connection, its socket, where it is noted that a request is parked, and where it tells how
-    /// it stands.
+    /// The connection, the signal that its place is wanted, its socket, where it is noted that a request
+    /// is parked, and where it tells how it stands.
     pub(crate) fn new(
         ending: Box<Ending<C>>,
+        room: Receiver<()>,
         peer: Wire,
         open: O,
         pulse: Arc<Pulse>,
@@ -114,11 +119,28 @@ impl<C, O> Watched<C, O> {
     {
         Watched {
             ending,
+            room: Some(room),
             peer,
             open,
             pulse,
             has_ended: false,
         }
+    }
+
+    /// Whether it makes room: its place is wanted, and it served no request when its last turn ended.
+    fn makes_room(&mut self, cx: &mut Context<'_>) -> bool
+        ensures same { (self.new.ending ≡ self.old.ending) × (self.new.has_ended ≡ self.old.has_ended) }
+        ensures kept { Keeps cx.old cx.new }
+    {
+        let is_wanted = match &mut self.room {
+            Some(room) => room.poll(cx).is_ready(),
+            None => false,
+        };
+        if !is_wanted {
+            return false;
+        }
+        self.room = None;
+        self.peer.is_unserved()
     }
 }
 
@@ -131,6 +153,9 @@ impl<C: GracefulConnection<Output = hyper::Result<()>>, O: Park> Future for Watc
 
     fn poll(&mut self, cx: &mut Context<'_>) -> Poll<()> {
         if !self.has_ended {
+            if self.makes_room(cx) {
+                return Poll::Ready(());
+            }
             self.peer.begin_turn();
             if self.ending.poll(cx).is_pending() {
                 self.peer.end_turn(&self.pulse);

@@ -3,17 +3,20 @@
 ghost use Rattle.hyper.specs.ServerDispatch.{GivesBodies};
 
 use crate::ending::{Ending, Signals, Watched};
+use crate::limits::PortKind;
+use crate::noting::{Noting, Pace};
 use crate::park::Park;
 use crate::pulse::Pulse;
 use crate::wire::Wire;
 use bytes::Bytes;
+use futures::channel::oneshot::Receiver;
 use http::{Request, Response};
 use http_body::Body;
 use hyper::body::Incoming;
 use hyper::server::conn::http1::Builder;
 use hyper::server::graceful::GracefulConnection;
 use hyper::service::Service;
-use std::alloc::{AllocGlobal, Global};
+use std::alloc::AllocGlobal;
 use std::hash::RandomState;
 use std::io;
 use std::net::{Net, TcpStream};
@@ -30,6 +33,16 @@ pub struct EventLoop {
     http: Builder,
 }
 
+/// The holders of a connection's socket: the connection, its service, with its pace, and who watches for
+/// the peer's end.
+#[derive(Drop)]
+struct Ends<R> {
+    wire: Wire,
+    noting: Wire,
+    peer: Wire,
+    pace: Pace<R>,
+}
+
 impl EventLoop {
     /// For the connections of the thread that opens it.
     ///
@@ -44,8 +57,8 @@ impl EventLoop {
         Ok(EventLoop { runtime, http })
     }
 
-    /// Serves the requests of a connection, one after the other, until the connection ends, a signal
-    /// ends it, or its peer ends while a request is parked. It blocks its thread.
+    /// Serves the requests of a connection at such a port, one after the other, until the connection
+    /// ends, a signal ends it, or its peer ends while a request is parked. It blocks its thread.
     ///
     /// # Errors
     /// Where the socket can't be watched, or memory is refused; nothing was read of it then. Or where
@@ -54,13 +67,14 @@ impl EventLoop {
         &mut self,
         rt: &R,
         socket: TcpStream,
+        kind: PortKind,
         service: V,
         signals: Signals,
         open: O,
         pulse: Arc<Pulse>,
     ) -> io::Result<()>
     where
-        R: Wait + Clock + RandomSource + AllocGlobal,
+        R: Wait + Clock + RandomSource + AllocGlobal + Copy + Drop,
         V: Service<Request<Incoming<Wire>>, Response = Response<B>>,
         V::Error: Into<anyhow::Error>,
         B: Body,
@@ -70,17 +84,47 @@ impl EventLoop {
         requires can_call { V.can_call service }
         requires bodies { (request : _) (future : _) → V.calls service request future → GivesBodies V.Future.gives B.can_poll future }
     {
-        let (wire, peer) = self.wires(rt.alloc(), socket)?;
+        let Ends {
+            wire,
+            noting,
+            peer,
+            pace,
+        } = self.ends(rt, socket, kind)?;
+        let service = Noting {
+            service,
+            wire: noting,
+            pace,
+        };
         let conn = self.http.serve_connection(wire, service);
-        let ending = Ending::boxed(rt.alloc(), conn, signals)?;
-        self.wait_for(rt, ending, peer, open, pulse)
+        let Signals { soft, hard, room } = signals;
+        let ending = Ending::boxed(rt.alloc(), conn, soft, hard)?;
+        self.wait_for(rt, ending, room, peer, open, pulse)
     }
 
-    /// Both holders of a socket, which is watched.
-    fn wires(&self, alloc: Global, socket: TcpStream) -> io::Result<(Wire, Wire)> {
+    /// The ends of a socket at such a port, which is watched. The polls at an environment's port are kept
+    /// to a pace.
+    fn ends<R: AllocGlobal + Copy>(
+        &self,
+        rt: &R,
+        socket: TcpStream,
+        kind: PortKind,
+    ) -> io::Result<Ends<R>> {
         socket.set_nodelay(true)?;
+        let time = self.runtime.handle().time().clone()?;
         let stream = tokio::net::TcpStream::from_std(socket, self.runtime.handle().reactor())?;
-        Wire::pair(alloc, stream)
+        let wire = Wire::new(rt.alloc(), stream)?;
+        let noting = wire.share()?;
+        let peer = wire.share()?;
+        Ok(Ends {
+            wire,
+            noting,
+            peer,
+            pace: Pace {
+                rt: *rt,
+                time,
+                is_kept: matches!(kind, PortKind::Environment),
+            },
+        })
     }
 
     /// Waits until a connection has ended. Its type is a parameter here: `hyper`'s own, once more in the
@@ -89,6 +133,7 @@ impl EventLoop {
         &mut self,
         rt: &R,
         ending: Box<Ending<C>>,
+        room: Receiver<()>,
         peer: Wire,
         open: O,
         pulse: Arc<Pulse>,
@@ -100,6 +145,6 @@ impl EventLoop {
         requires { C.can_poll ending.value.conn }
     {
         self.runtime
-            .block_on(rt, Watched::new(ending, peer, open, pulse))
+            .block_on(rt, Watched::new(ending, room, peer, open, pulse))
     }
 }

@@ -4,14 +4,19 @@
 
 mod ending;
 mod event_loop;
+mod input;
+mod limits;
 mod machine;
+mod noting;
 mod park;
 mod pulse;
+mod stand;
 mod wire;
 
 pub use ending::Signals;
 pub use event_loop::EventLoop;
+pub use limits::{PortKind, has_outstayed};
 pub use machine::Machine;
 pub use park::Park;
-pub use pulse::{Pulse, patience};
+pub use pulse::{Awaited, Pulse, Told};
 pub use wire::Wire;

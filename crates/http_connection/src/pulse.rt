@@ -1,72 +1,142 @@
-//! Whether a connection moves: its own thread tells it, and whoever keeps connections reads it.
+//! What a connection tells of how it stands: its own thread tells it, and who keeps connections reads
+//! it.
 
-ghost use Rattle.std.specs.Prelude.{◌≡◌, ℕ};
-ghost use Rattle.http_connection.specs.Pulses.{number_of, told_of, patience_for};
-ghost use Rattle.http_connection.specs.declared.pulse.Awaited.{Awaited};
+ghost use Rattle.std.specs.Prelude.{◌≡◌, ◌<◌, ◌^◌};
+ghost use Rattle.http_connection.specs.Pulses.{number_of, told_of, stage_of, is_unserved, is_between, is_same, is_in_stage_of};
+ghost use Rattle.http_connection.specs.declared.pulse.Told.{Told};
 
 use std::sync::atomic::AtomicU64;
 use std::sync::atomic::Ordering::SeqCst;
 
 /// What a connection waits for.
 #[derive(Clone, Copy, Drop)]
-pub(crate) enum Awaited {
-    /// An answer, or nothing: a request that is parked and a caller that waits have no limit.
+pub enum Awaited {
+    /// An answer: a request has come whole, and is being served.
     Answer,
-    /// More of a request that has begun, or the first one.
-    Request,
-    /// The next request, or that the peer takes what was sent.
+    /// The first byte of the first request.
+    First,
+    /// The rest of a request's head.
+    Head,
+    /// The rest of a request's body.
+    Body,
+    /// That the peer takes a response.
+    Taking,
+    /// The first byte of the next request.
     Next,
-    /// The peer's end, behind an answer that ends the connection.
+    /// The peer's end, behind a response that ends the connection.
     End,
 }
 
 impl Awaited {
     /// Its number in a pulse.
-    fn number(self) -> u64
+    fn number(self) -> u16
         ensures { result ≡ number_of self }
     {
         match self {
             Awaited::Answer => 0,
-            Awaited::Request => 1,
-            Awaited::Next => 2,
-            Awaited::End => 3,
+            Awaited::First => 1,
+            Awaited::Head => 2,
+            Awaited::Body => 3,
+            Awaited::Taking => 4,
+            Awaited::Next => 5,
+            Awaited::End => 6,
         }
     }
 
-    /// What a connection tells that has moved so often.
-    fn told(self, moves: u32) -> u64
-        ensures { result ≡ told_of moves self }
+    /// What has this number.
+    fn of(number: u64) -> Awaited
+        ensures { (awaited : Awaited) → number ≡ number_of awaited → result ≡ awaited }
     {
-        u64::from(moves) * 4 + self.number()
-    }
-
-    /// What a connection waits for that told this.
-    fn of(told: u64) -> Awaited
-        ensures { (moves : ℕ) (awaited : Awaited) → told ≡ told_of moves awaited → result ≡ awaited }
-    {
-        match told % 4 {
+        match number {
             0 => Awaited::Answer,
-            1 => Awaited::Request,
-            2 => Awaited::Next,
+            1 => Awaited::First,
+            2 => Awaited::Head,
+            3 => Awaited::Body,
+            4 => Awaited::Taking,
+            5 => Awaited::Next,
             _ => Awaited::End,
         }
     }
-}
 
-/// How many seconds a connection that told this may stand still; none where it may for ever.
-pub fn patience(told: u64) -> Option<u32>
-    ensures { (moves : ℕ) (awaited : Awaited) → told ≡ told_of moves awaited → result ≡ patience_for awaited }
-{
-    match Awaited::of(told) {
-        Awaited::Answer => None,
-        Awaited::Request => Some(20),
-        Awaited::Next => Some(300),
-        Awaited::End => Some(2),
+    /// The number of the stage of an exchange that it belongs to.
+    fn stage(self) -> u8
+        ensures { result ≡ stage_of self }
+    {
+        match self {
+            Awaited::First | Awaited::Next => 0,
+            Awaited::Head => 1,
+            Awaited::Body | Awaited::Answer => 2,
+            Awaited::Taking => 3,
+            Awaited::End => 4,
+        }
     }
 }
 
-/// What a connection waits for, and how often it has moved: a number that stays the same while the
-/// connection stands still.
+/// How a connection stands: what it waits for, how many responses its service has given (counted on
+/// from 0 past the greatest number), and how many bytes of the present request have come.
+#[derive(Clone, Copy, Drop)]
+pub struct Told {
+    pub awaited: Awaited,
+    pub answers: u16,
+    pub moved: u32,
+}
+
+impl Told {
+    /// As one number.
+    fn number(self) -> u64
+        ensures { result ≡ told_of self }
+    {
+        u64::from(self.moved) * 4_294_967_296
+            + u64::from(self.answers) * 65_536
+            + u64::from(self.awaited.number())
+    }
+
+    /// What was told by this number.
+    fn of(number: u64) -> Told
+        ensures { (told : Told) → told.answers < 2 ^ 16 → told.moved < 2 ^ 32 → number ≡ told_of told → result ≡ told }
+    {
+        Told {
+            awaited: Awaited::of(number % 65_536),
+            answers: (number / 65_536 % 65_536) as u16,
+            moved: (number / 4_294_967_296) as u32,
+        }
+    }
+
+    /// Whether the connection waits for its peer to send a request, and so serves none.
+    pub fn is_unserved(self) -> bool
+        ensures { result ≡ is_unserved self.awaited }
+    {
+        matches!(
+            self.awaited,
+            Awaited::First | Awaited::Head | Awaited::Body | Awaited::Next
+        )
+    }
+
+    /// Whether the connection is between two requests.
+    pub fn is_between(self) -> bool
+        ensures { result ≡ is_between self.awaited }
+    {
+        matches!(self.awaited, Awaited::Next)
+    }
+
+    /// Whether nothing has happened since the other was told.
+    pub fn is_same(self, other: Told) -> bool
+        ensures { result ≡ is_same self other }
+    {
+        self.awaited.number() == other.awaited.number()
+            && self.answers == other.answers
+            && self.moved == other.moved
+    }
+
+    /// Whether the connection is in the same stage of the same exchange as when the other was told.
+    pub fn is_in_stage_of(self, other: Told) -> bool
+        ensures { result ≡ is_in_stage_of self other }
+    {
+        self.awaited.stage() == other.awaited.stage() && self.answers == other.answers
+    }
+}
+
+/// How a connection stands, for other threads to read.
 #[derive(Drop)]
 pub struct Pulse {
     told: AtomicU64,
@@ -75,18 +145,23 @@ pub struct Pulse {
 impl Pulse {
     /// That of a connection which waits for its first request.
     pub fn new() -> Pulse {
+        let told = Told {
+            awaited: Awaited::First,
+            answers: 0,
+            moved: 0,
+        };
         Pulse {
-            told: AtomicU64::new(Awaited::Request.told(0)),
+            told: AtomicU64::new(told.number()),
         }
     }
 
     /// Tells how the connection stands.
-    pub(crate) fn tell(&self, moves: u32, awaited: Awaited) {
-        self.told.store(awaited.told(moves), SeqCst);
+    pub(crate) fn tell(&self, told: Told) {
+        self.told.store(told.number(), SeqCst);
     }
 
     /// What was told last.
-    pub fn told(&self) -> u64 {
-        self.told.load(SeqCst)
+    pub fn told(&self) -> Told {
+        Told::of(self.told.load(SeqCst))
     }
 }

@@ -1,19 +1,20 @@
 //! A socket whose end is seen while nobody reads it: what came meanwhile is kept for the next read.
-//! It notes whether it moves, and what is waited for.
+//! It notes how its connection stands.
 
-ghost use Rattle.std.specs.Prelude.{⊤, ◌≡◌, ◌≤◌, length};
+ghost use Rattle.std.specs.Prelude.{⊤, ◌≤◌, length, IfOk};
 ghost use Rattle.futures.specs.Poll.{OnPending};
 ghost use Rattle.futures.specs.Task.{IsArmed, Keeps};
 ghost use Rattle.tokio.specs.Io.Moved.{count_moved};
-ghost use Rattle.http_connection.specs.Standing.{standing, after_read, after_reading, after_writing, awaited_by};
 
-use crate::pulse::{Awaited, Pulse};
+use crate::input::Input;
+use crate::pulse::Pulse;
+use crate::stand::Stand;
 use bytes::BytesMut;
 use futures::task::{Context, Poll};
-use std::alloc::Global;
+use std::alloc::{AllocError, Global};
 use std::cell::RefCell;
-use std::io;
 use std::rc::Rc;
+use std::{io, mem};
 use tokio::io::{AsyncRead, AsyncWrite, poll_read_buf};
 use tokio::net::TcpStream;
 
@@ -25,16 +26,15 @@ const MOST_DRAINED: u64 = 67_108_864;
 
 const DRAINED_AT_ONCE: usize = 16_384;
 
+/// A socket, what was read of it and not handed on yet, and how its connection stands.
 #[derive(Drop)]
 struct Socket {
     stream: TcpStream,
     ahead: BytesMut,
-    // How often bytes came or went, counted on from 0 past its greatest number.
-    moves: u32,
-    // Whether nothing has come since something went out.
-    has_answered: bool,
-    // Whether the connection has asked in this turn for what the socket has not.
-    is_awaited: bool,
+    input: Input,
+    stand: Stand,
+    // Whether the last request was a poll that was refused.
+    is_refused: bool,
     drained: u64,
 }
 
@@ -44,109 +44,121 @@ impl Socket {
         Socket {
             stream,
             ahead: BytesMut::new(alloc),
-            moves: 0,
-            has_answered: false,
-            is_awaited: false,
+            input: Input::new(),
+            stand: Stand::new(),
+            is_refused: false,
             drained: 0,
         }
     }
 
-    /// Notes a read, of so many bytes.
-    fn note_read(&mut self, count: usize)
-        ensures { standing self.new ≡ after_read (standing self.old) count }
+    /// Hands on what was read ahead, up to the end of a request.
+    fn read_ahead(&mut self, buf: &mut [u8]) -> usize
+        ensures { result ≤ length buf.new }
     {
-        if count > 0 {
-            self.moves = self.moves.wrapping_add(1);
-            self.has_answered = false;
-        }
+        let most = self.ahead.len().min(buf.len());
+        let count = self.input.take(&self.ahead.as_slice()[..most]);
+        buf[..count].copy_from_slice(&self.ahead.as_slice()[..count]);
+        self.ahead.advance(count);
+        count
     }
 
-    /// Notes what came of an attempt to read.
-    fn note_reading(&mut self, polled: &Poll<io::Result<usize>>)
-        ensures { standing self.new ≡ after_reading (standing self.old) polled.now }
+    /// Keeps what lies behind the end of a request of what was read. Gives how many bytes are left.
+    fn keep_behind(&mut self, bytes: &[u8]) -> io::Result<usize>
+        ensures { IfOk result (λ count. count ≤ length bytes.now) }
     {
-        match polled {
-            Poll::Ready(Ok(count)) => self.note_read(*count),
-            Poll::Ready(Err(_)) => {}
-            Poll::Pending => self.is_awaited = true,
-        }
+        let count = self.input.take(bytes);
+        self.ahead.extend_from_slice(&bytes[count..])?;
+        Ok(count)
     }
 
-    /// Notes what came of an attempt to write.
-    fn note_writing(&mut self, polled: &Poll<io::Result<usize>>)
-        ensures { standing self.new ≡ after_writing (standing self.old) polled.now }
-    {
-        match polled {
-            Poll::Ready(Ok(_)) => {
-                self.moves = self.moves.wrapping_add(1);
-                self.has_answered = true;
-            }
-            Poll::Ready(Err(_)) => {}
-            Poll::Pending => self.is_awaited = true,
-        }
-    }
-
-    /// Reads what was read ahead, or else what comes, and notes it.
+    /// Reads what was read ahead, or else what comes, up to the end of a request, and notes it.
     fn read(&mut self, cx: &mut Context<'_>, buf: &mut [u8]) -> Poll<io::Result<usize>>
         ensures bound { count_moved result ≤ length buf.new }
         ensures registered { OnPending result (IsArmed cx.new) }
         ensures kept { Keeps cx.old cx.new }
     {
-        let count = self.ahead.len().min(buf.len());
-        if count > 0 {
-            buf[..count].copy_from_slice(&self.ahead.as_slice()[..count]);
-            self.ahead.advance(count);
-            self.note_read(count);
+        if !self.ahead.is_empty() && !buf.is_empty() {
+            let count = self.read_ahead(buf);
+            self.stand.note_read(small(count));
             return Poll::Ready(Ok(count));
         }
-        let polled = self.stream.poll_read(cx, buf);
-        self.note_reading(&polled);
-        polled
-    }
-
-    /// Writes, and notes it.
-    fn write(&mut self, cx: &mut Context<'_>, buf: &[u8]) -> Poll<io::Result<usize>>
-        ensures bound { count_moved result ≤ length buf.now }
-        ensures registered { OnPending result (IsArmed cx.new) }
-        ensures kept { Keeps cx.old cx.new }
-    {
-        let polled = self.stream.poll_write(cx, buf);
-        self.note_writing(&polled);
-        polled
-    }
-
-    /// What it waits for at the end of a turn: its peer, where the connection asked it for more than
-    /// was there.
-    fn awaited(&self) -> Awaited
-        ensures { result ≡ awaited_by (standing self.now) }
-    {
-        if !self.is_awaited {
-            Awaited::Answer
-        } else if self.has_answered {
-            Awaited::Next
-        } else {
-            Awaited::Request
+        match self.stream.poll_read(cx, buf) {
+            Poll::Pending => {
+                self.stand.note_short();
+                Poll::Pending
+            }
+            Poll::Ready(Err(fault)) => Poll::Ready(Err(fault)),
+            Poll::Ready(Ok(read)) => {
+                let kept = self.keep_behind(&buf[..read]);
+                if let Ok(count) = &kept {
+                    self.stand.note_read(small(*count));
+                }
+                Poll::Ready(kept)
+            }
         }
     }
 }
 
-/// One of the two holders of a connection's socket: the connection itself, and who watches for the
-/// peer's end.
+/// So many bytes, up to the greatest number.
+fn small(count: usize) -> u32 {
+    u32::try_from(count).unwrap_or(u32::MAX)
+}
+
+/// One of the holders of a connection's socket: the connection itself, its service, the responses that
+/// are to come, and who watches for the peer's end.
 #[derive(Drop)]
 pub struct Wire {
     socket: Rc<RefCell<Socket>>,
 }
 
 impl Wire {
-    /// Both holders of a socket. The only error is want of memory.
-    pub(crate) fn pair(alloc: Global, stream: TcpStream) -> io::Result<(Wire, Wire)> {
+    /// The first holder of a socket. The only error is want of memory.
+    pub(crate) fn new(alloc: Global, stream: TcpStream) -> io::Result<Wire> {
         let socket = Rc::new(alloc, RefCell::new(Socket::new(alloc, stream)))?;
-        let other = socket.clone()?;
-        Ok((Wire { socket }, Wire { socket: other }))
+        Ok(Wire { socket })
+    }
+
+    /// Another holder.
+    pub(crate) fn share(&self) -> Result<Wire, AllocError> {
+        let socket = self.socket.clone()?;
+        Ok(Wire { socket })
+    }
+
+    /// Notes that a request is taken up, whose head has come.
+    pub(crate) fn take_up(&self) {
+        if let Ok(mut socket) = self.socket.try_borrow_mut() {
+            socket.stand.take_up();
+        }
+    }
+
+    /// Notes that the service has given the response, and whether that refuses a poll.
+    pub(crate) fn note_response(&self, is_refused: bool) {
+        if let Ok(mut socket) = self.socket.try_borrow_mut() {
+            socket.stand.note_response();
+            socket.is_refused = is_refused;
+        }
+    }
+
+    /// Whether the last request was a poll that was refused, which is then forgotten.
+    pub(crate) fn takes_refusal(&self) -> bool {
+        match self.socket.try_borrow_mut() {
+            Ok(mut socket) => mem::take(&mut socket.is_refused),
+            Err(_) => false,
+        }
+    }
+
+    /// Whether the connection waited for its peer to send a request when its last turn ended, and so
+    /// serves none.
+    pub(crate) fn is_unserved(&self) -> bool {
+        match self.socket.try_borrow_mut() {
+            Ok(socket) => socket.stand.told().is_unserved(),
+            Err(_) => false,
+        }
     }
 
     /// Ready once the peer has ended its side, or the socket failed. What comes before the end is
-    /// read, up to `MOST_AHEAD` bytes; behind them the end isn't seen.
+    /// read; a peer that has sent `MOST_AHEAD` bytes behind a request that is parked is taken to have
+    /// ended, since its end would not be seen behind them.
     pub(crate) fn poll_ended(&self, cx: &mut Context<'_>) -> Poll<()>
         ensures kept { Keeps cx.old cx.new }
     {
@@ -155,7 +167,7 @@ impl Wire {
         };
         let socket = &mut *guard;
         if socket.ahead.len() >= MOST_AHEAD {
-            return Poll::Pending;
+            return Poll::Ready(());
         }
         match poll_read_buf(&mut socket.stream, cx, &mut socket.ahead) {
             Poll::Ready(Ok(count)) if count > 0 => cx.yield_now(),
@@ -183,7 +195,7 @@ impl Wire {
         let mut thrown_away = [0; DRAINED_AT_ONCE];
         match socket.stream.poll_read(cx, &mut thrown_away) {
             Poll::Ready(Ok(count)) if count > 0 => {
-                socket.note_read(count);
+                socket.stand.note_read(small(count));
                 socket.drained = socket.drained.saturating_add(count as u64);
                 cx.yield_now()
             }
@@ -195,21 +207,21 @@ impl Wire {
     /// Begins a turn of the connection, in which nothing has been asked for yet.
     pub(crate) fn begin_turn(&self) {
         if let Ok(mut socket) = self.socket.try_borrow_mut() {
-            socket.is_awaited = false;
+            socket.stand.begin_turn();
         }
     }
 
     /// Tells how the connection stands at the end of a turn.
     pub(crate) fn end_turn(&self, pulse: &Pulse) {
         if let Ok(socket) = self.socket.try_borrow_mut() {
-            pulse.tell(socket.moves, socket.awaited());
+            pulse.tell(socket.stand.told());
         }
     }
 
     /// Tells that the connection waits for its peer's end.
     pub(crate) fn await_end(&self, pulse: &Pulse) {
         if let Ok(socket) = self.socket.try_borrow_mut() {
-            pulse.tell(socket.moves, Awaited::End);
+            pulse.tell(socket.stand.told_at_end());
         }
     }
 }
@@ -240,7 +252,7 @@ impl AsyncWrite for Wire {
 
     fn poll_write(&mut self, cx: &mut Context<'_>, buf: &[u8]) -> Poll<io::Result<usize>> {
         match self.socket.try_borrow_mut() {
-            Ok(mut socket) => socket.write(cx, buf),
+            Ok(mut socket) => socket.stream.poll_write(cx, buf),
             Err(_) => cx.yield_now(),
         }
     }

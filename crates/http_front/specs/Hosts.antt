@@ -6,7 +6,7 @@ use Rattle.arn_ids.specs.declared.faults.ConfigFault.TheVariants.{BadEntries}
 use Rattle.account_book.specs.declared.book.OpenFault.{OpenFault}
 use Rattle.account_book.specs.declared.book.OpenFault.TheVariants as opening
 use Rattle.http_front.specs.declared.host_fault.HostFault.{HostFault}
-use Rattle.http_front.specs.declared.host_fault.HostFault.TheVariants.{Config, Network, StillShared, OutOfMemory}
+use Rattle.http_front.specs.declared.host_fault.HostFault.TheVariants.{Config, Network, TooFewDescriptors, StillShared, OutOfMemory}
 
 -- what it says of a history that is not opened
 abbrev pub fault_of_opening : OpenFault → HostFault
@@ -17,12 +17,14 @@ fault_of_opening opening.OutOfMemory = OutOfMemory
 abbrev pub IsFaultOf : Configured → HostFault → Type 0
 IsFaultOf config (Config fault) = first_fault config ≡ Some fault
 IsFaultOf config Network = ⊥
+IsFaultOf config TooFewDescriptors = ⊥
 IsFaultOf config StillShared = ⊥
 IsFaultOf config OutOfMemory = first_fault config ≡ None
 
--- A fault of the machine: a port that can't be listened on, or memory that was refused.
+-- A fault of the machine: a port that can't be listened on, too few descriptors, or memory that was refused.
 abbrev pub IsOfMachine : HostFault → Type 0
 IsOfMachine (Config fault) = ⊥
 IsOfMachine Network = Unit {0}
+IsOfMachine TooFewDescriptors = Unit {0}
 IsOfMachine StillShared = ⊥
 IsOfMachine OutOfMemory = Unit {0}

@@ -1,4 +1,5 @@
-pub mod Codings
 pub mod Responses
+pub mod Courses
 pub mod Hosts
 pub mod Ports
+pub mod Notices

@@ -1,10 +1,25 @@
 -- The ports of a configuration.
-use Rattle.std.specs.Prelude.{ℕ, zero, suc, List, [], ◌∷◌, ◌++◌, length, flat_map, map}
+use Rattle.std.specs.Prelude.{ℕ, zero, suc, ◌+◌, ◌*◌, ◌-◌, ◌^◌, min, max, List, [], ◌∷◌, ◌++◌, length, flat_map, map}
 use Rattle.arn_ids.specs.Environments.{owners}
 use Rattle.arn_ids.specs.declared.config.Config.{Config}
 use Rattle.arn_ids.specs.declared.config.Slot.{Slot}
 use Rattle.http_routes.specs.Decisions.{Served}
+use Rattle.http_routes.specs.declared.side.Port.{Port}
 use Rattle.http_routes.specs.declared.side.Port.TheVariants.{Account, Environment}
+use Rattle.request_guard.specs.declared.refusal.Api.{Api}
+use Rattle.request_guard.specs.declared.refusal.Api.TheVariants.{Lambda, Runtime}
+use Rattle.http_connection.specs.declared.limits.PortKind.{PortKind}
+use Rattle.http_connection.specs.declared.limits.PortKind.TheVariants as limits
+
+-- the kind of a port, by which its connections are kept
+abbrev pub kind_of : Port → PortKind
+kind_of Account = limits.Account
+kind_of (Environment e) = limits.Environment
+
+-- How many connections there may be at once: 1,024 at least, and as many as the polls of all environments, each with its
+-- runtime and ten extensions, and 64 for callers. (A configuration has 256 environments at most.)
+abbrev pub places_for : Config → ℕ
+places_for config = max 1024 (min (11 * length (owners config) + 64) (2 ^ 32 - 1))
 
 -- the ports of environments
 abbrev pub ports_of : List Slot → List ℕ
@@ -22,3 +37,8 @@ environment_doors config salt (suc n) = environment_doors config salt n ++ (reco
 -- who decides at the doors of a host: the account's door, and one of each environment
 abbrev pub doors_of : Config → ℕ → List Served
 doors_of config salt = record { config = config; salt = salt; port = Account } ∷ environment_doors config salt (length (owners config))
+
+-- whose API a port speaks, and so which form its refusals have
+abbrev pub api_of : Port → Api
+api_of Account = Lambda
+api_of (Environment e) = Runtime

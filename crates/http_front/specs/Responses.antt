@@ -1,5 +1,5 @@
 -- The response that an outcome is sent as.
-use Rattle.std.specs.Prelude.{◌≡◌, ℕ, List, [], ◌==◌, if◌then◌else◌, length, fold, Option, Some, None}
+use Rattle.std.specs.Prelude.{◌≡◌, ℕ, List, [], ◌==◌, if◌then◌else◌, length, fold, Option, Some, None, Result, Ok, Err}
 use Rattle.http.specs.Response.{head_of, body_of}
 use Rattle.http.specs.declared.response.Response.{Response}
 use Rattle.http.specs.declared.version.TheConstants.Version.{HTTP_11}
@@ -9,8 +9,14 @@ use Rattle.http_body_util.specs.declared.full.Full.{Full}
 use Rattle.http_header.specs.FieldValue.{FieldValue}
 use Rattle.http_header.specs.HeaderMap.{Entries, append}
 use Rattle.long_poll.specs.Views.{history_headers}
+use Rattle.long_poll.specs.declared.fault.ExchangeFault.{ExchangeFault}
+use Rattle.long_poll.specs.declared.fault.ExchangeFault.TheVariants as fault
 use Rattle.long_poll.specs.declared.outcome.Outcome.{Outcome}
 use Rattle.long_poll.specs.declared.outcome.Outcome.TheVariants.{Reply, History}
+use Rattle.request_guard.specs.Refusals.{refusal_reply}
+use Rattle.request_guard.specs.declared.refusal.Api.{Api}
+use Rattle.request_guard.specs.declared.refusal.Refusal.{Refusal}
+use Rattle.request_guard.specs.declared.refusal.Refusal.TheVariants.{BrokenBody, OutOfMemory}
 
 -- header fields, added in their order
 abbrev pub fields : List (List ℕ × FieldValue) → Entries FieldValue
@@ -36,3 +42,16 @@ IsWhole bytes (Right body) = ⊥
 abbrev pub IsResponseTo : {H : Type 0} → Outcome H → Response (Either (Full (List ℕ)) H) → Type 0
 IsResponseTo (Reply reply) response = HasHead reply.status reply.headers response × IsWhole reply.body (body_of response)
 IsResponseTo (History body) response = HasHead 200 history_headers response × (body_of response ≡ Right body)
+
+-- A response is that of a refusal, in the form of its port's API.
+abbrev pub IsRefusal : {H : Type 0} → Api → Refusal → Response (Either (Full (List ℕ)) H) → Type 0
+IsRefusal api refusal response = IsResponseTo (Reply (refusal_reply api refusal)) response
+
+-- A response is that of what an exchange came to: a body that failed is answered 400, memory that was refused 500. Of a
+-- lost bell there is none.
+abbrev pub IsAnswerTo : {H : Type 0} → Api → Result (Outcome H) ExchangeFault
+    → Response (Either (Full (List ℕ)) H) → Type 0
+IsAnswerTo api (Ok outcome) response = IsResponseTo outcome response
+IsAnswerTo api (Err fault.BodyFailed) response = IsRefusal api BrokenBody response
+IsAnswerTo api (Err fault.OutOfMemory) response = IsRefusal api OutOfMemory response
+IsAnswerTo api (Err fault.BellLost) response = ⊥

@@ -13,7 +13,7 @@ use account_lock::{Account, Identity};
 use call_model::Call;
 use connection_places::{Post, Worker};
 use decisions::Decide;
-use http_connection::{EventLoop, Machine, Park, Pulse, Signals};
+use http_connection::{EventLoop, Machine, Park, PortKind, Pulse, Signals};
 use long_poll::{Clock, Connection, OneShotBell, OpenPoll, Service};
 use std::alloc::{AllocError, AllocGlobal};
 use std::net::TcpStream;
@@ -81,7 +81,7 @@ pub(crate) struct Attendant<R, S: Identity, N, K: Keep> {
     pub(crate) patience: u32,
 }
 
-/// Serves a connection by a front. Its service and who decides are parameters here: their own types, once
+/// Serves a connection at such a port by a front. Its service and who decides are parameters here: their own types, once
 /// more in each of those that `hyper` makes of a connection, are large to prove anything about.
 fn serve_by<
     R: Machine,
@@ -95,10 +95,11 @@ fn serve_by<
     event_loop: &mut EventLoop,
     rt: &R,
     line: Line,
+    kind: PortKind,
     front: Front<R, A, D, N, K, L>,
     open: O,
 ) -> io::Result<()> {
-    event_loop.serve(rt, line.socket, front, line.signals, open, line.pulse)
+    event_loop.serve(rt, line.socket, kind, front, line.signals, open, line.pulse)
 }
 
 impl<
@@ -167,11 +168,12 @@ impl<R: Machine, S: Identity + Drop, N: Clock + Drop, K: Keep> Attendant<R, S, N
     /// Serves a connection. Gives whether the event loop can serve another one.
     fn serve(&self, tools: &mut Tools<S>, visit: Visit<S>, open: &Arc<OpenPoll>) -> bool {
         let Visit { line, door } = visit;
+        let kind = door.kind();
         let front = self.front(&mut tools.sides, door, open);
         match (front, Arc::try_clone(open)) {
             (Ok(front), Ok(open)) => {
                 let parked = OpenNext { open };
-                serve_by(&mut tools.event_loop, &self.rt, line, front, parked).is_ok()
+                serve_by(&mut tools.event_loop, &self.rt, line, kind, front, parked).is_ok()
             }
             _ => false,
         }
@@ -192,11 +194,13 @@ impl<
         open: &Arc<OpenPoll>,
     ) -> Result<Front<R, Account<S, OneShotBell>, Side, N, K, S>, AllocError> {
         let alloc = self.rt.alloc();
+        let api = door.api();
+        let hosts = Arc::try_clone(&self.served.hosts)?;
         let Ok(decider) = sides.of(alloc, door) else {
             return Err(AllocError);
         };
         match self.connection(decider, open) {
-            Ok(connection) => Ok(Front::new(alloc, connection)),
+            Ok(connection) => Ok(Front::new(alloc, api, hosts, connection)),
             Err(refused) => Err(refused),
         }
     }

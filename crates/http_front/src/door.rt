@@ -2,11 +2,15 @@
 
 ghost use Rattle.std.specs.Prelude.{◌≡◌, IfOk, IsTrue};
 ghost use Rattle.std.specs.Arc.{arc_value};
+ghost use Rattle.http_front.specs.Ports.{api_of};
 ghost use Rattle.http_routes.specs.Decisions.{IsPortOf};
+ghost use Rattle.http_front.specs.Ports.{kind_of};
 
 use crate::{Port, Side};
 use account_lock::Identity;
 use arn_ids::Checked;
+use http_connection::PortKind;
+use request_guard::Api;
 use std::alloc::{AllocError, Global};
 use std::marker::{Model, PhantomData};
 use std::sync::Arc;
@@ -53,6 +57,26 @@ impl<S: Identity> Door<S> {
         ensures { result ≡ self.now.port }
     {
         self.port
+    }
+
+    /// Whose API it speaks.
+    pub(crate) fn api(&self) -> Api
+        ensures { result ≡ api_of self.now.port }
+    {
+        match self.port {
+            Port::Account => Api::Lambda,
+            Port::Environment(_) => Api::Runtime,
+        }
+    }
+
+    /// Which kind of port it is.
+    pub(crate) fn kind(&self) -> PortKind
+        ensures { result ≡ kind_of self.now.port }
+    {
+        match self.port {
+            Port::Account => PortKind::Account,
+            Port::Environment(_) => PortKind::Environment,
+        }
     }
 
     /// Whether it is that port.

@@ -1,13 +1,12 @@
 //! What answers the requests of a port.
 
-ghost use Rattle.std.specs.Prelude.{◌≡◌, [], not, IfSome, IsTrue};
+ghost use Rattle.std.specs.Prelude.{◌≡◌, [], IfSome};
 ghost use Rattle.std.specs.Arc.{arc_value};
 ghost use Rattle.http.specs.Request.{head_of, body_of};
 ghost use Rattle.long_poll.specs.declared.exchange.Stage.TheVariants.{Collecting};
-ghost use Rattle.http_front.specs.Codings.{is_plainly_coded as coded};
+ghost use Rattle.http_front.specs.Courses.{Takes};
 
 use crate::ResponseFault;
-use crate::codings::is_plainly_coded;
 use crate::responding::Responding;
 use bytes::Bytes;
 use decisions::Decide;
@@ -18,6 +17,7 @@ use http_body_util::{Either, Full};
 use hyper::body::Incoming;
 use hyper::service;
 use long_poll::{Clock, Connection, Exchange, HistoryBody, Service};
+use request_guard::{Api, Hosts, Refusal};
 use std::alloc::Global;
 use std::sync::{Arc, Wait};
 use std::time;
@@ -29,6 +29,8 @@ use usage_ledger::{Keep, Ledgers};
 #[derive(Drop)]
 pub struct Front<R, S: Service<K, L>, D: Decide, N, K: Keep, L: Ledgers> {
     alloc: Global,
+    api: Api,
+    hosts: Arc<Hosts>,
     connection: Arc<Connection<R, S, D, N, K, L>>,
 }
 
@@ -40,14 +42,23 @@ impl<
     K: Keep,
     L: Ledgers,
 > Front<R, S, D, N, K, L> {
-    /// The port for a connection. It takes no memory.
+    /// The port for a connection, which speaks this API and answers for these hosts beside the local
+    /// ones. It takes no memory.
     pub fn new(
         alloc: Global,
+        api: Api,
+        hosts: Arc<Hosts>,
         connection: Arc<Connection<R, S, D, N, K, L>>,
     ) -> Front<R, S, D, N, K, L>
-        ensures { result.connection ≡ connection }
+        ensures connection { result.connection ≡ connection }
+        ensures guarded { (result.api ≡ api) × (result.hosts ≡ hosts) }
     {
-        Front { alloc, connection }
+        Front {
+            alloc,
+            api,
+            hosts,
+            connection,
+        }
     }
 
     /// The exchange of a request of this head and body; none where there is no memory for it.
@@ -62,25 +73,21 @@ impl<
         }
     }
 
-    /// The response to a request of this head and body. There is no exchange where the body is coded
-    /// in a way that isn't served, so it never becomes a call (RFC 9112, section 6.1).
+    /// The response to a request of this head and body. There is no exchange where the head is refused, so
+    /// it never becomes a call.
     fn respond<B: Body>(&self, parts: Parts, body: B) -> Responding<R, S, D, N, B, K, L>
     where
         B::Data: Into<Bytes>,
-        ensures coding { result.is_foreign ≡ not (coded parts) }
-        ensures exchange { IfSome result.exchange (λ e. IsTrue (coded parts) × (arc_value e.connection ≡ arc_value self.now.connection) × (e.stage ≡ Collecting parts (record { alloc = (arc_value self.now.connection).alloc; body = body; held = [] }))) }
+        ensures takes { Takes self.now parts body result }
+        ensures begins { IfSome result.exchange (λ e. e.stage ≡ Collecting parts
+            (record { alloc = (arc_value self.now.connection).alloc; body = body; held = [] })) }
     {
-        if !is_plainly_coded(&parts) {
-            return Responding {
-                alloc: self.alloc,
-                exchange: None,
-                is_foreign: true,
-            };
+        if let Some(refusal) = self.hosts.refusal(&parts) {
+            return Responding::refused(self.alloc, self.api, refusal);
         }
-        Responding {
-            alloc: self.alloc,
-            exchange: self.exchange(parts, body),
-            is_foreign: false,
+        match self.exchange(parts, body) {
+            Some(exchange) => Responding::exchanging(self.alloc, self.api, exchange),
+            None => Responding::refused(self.alloc, self.api, Refusal::OutOfMemory),
         }
     }
 }
@@ -100,7 +107,10 @@ impl<
 
     type Future = Responding<R, S, D, N, Incoming<I>, K, L>;
 
-    ghost calls = { λ port request future. (future.is_foreign ≡ not (coded (head_of request))) × IfSome future.exchange (λ e. IsTrue (coded (head_of request)) × (arc_value e.connection ≡ arc_value port.connection) × (e.stage ≡ Collecting (head_of request) (record { alloc = (arc_value port.connection).alloc; body = body_of request; held = [] }))) };
+    ghost use Rattle.http.specs.Request.{head_of, body_of};
+    ghost use Rattle.http_front.specs.Courses.{Takes};
+
+    ghost calls = { λ port request future. Takes port (head_of request) (body_of request) future };
 
     fn call(&self, request: Request<Incoming<I>>) -> Responding<R, S, D, N, Incoming<I>, K, L> {
         let (parts, body) = request.into_parts();

@@ -10,13 +10,23 @@ ghost use Rattle.http_front.specs.declared.host_fault.HostFault.TheVariants.{Con
 use crate::entrance::Entrance;
 use crate::reception::Reception;
 use crate::ticker::Ticker;
-use crate::{HostFault, Plan};
+use crate::{HostFault, Notices, Plan};
 use account_lock::{Account, Identity};
 use arn_ids::Checked;
-use http_connection::Machine;
+use http_connection::{EventLoop, Machine};
 use long_poll::{Clock, OneShotBell};
+use mio::Poll;
+use request_guard::Hosts;
+use std::alloc::AllocError;
 use std::sync::Arc;
 use usage_ledger::{Blanks, Keep, Tally};
+
+/// Whether there are descriptors left for one connection: a socket, and the event loop of its thread.
+fn has_room_for_one<R: Machine>(rt: &R) -> bool {
+    let one = EventLoop::open(rt);
+    let socket = Poll::new(rt);
+    one.is_ok() && socket.is_ok()
+}
 
 /// An account that is served over HTTP/1.1 on 127.0.0.1: on the invoke port for callers, and on a
 /// port of each environment for its runtime and its extensions. `S` names the configuration, the
@@ -27,6 +37,7 @@ pub struct Host<R, S: Identity, N, K: Keep> {
     reception: Reception<R, S, N, K>,
     ticker: Ticker<R, S, N, K>,
     entrance: Entrance<S>,
+    notices: Arc<Notices>,
 }
 
 /// What a host leaves: its account, and all the tallies in which its calls count.
@@ -44,19 +55,23 @@ impl<
     N: Clock + Drop + Send + Sync + 'static,
     K: Keep + Send + 'static,
 > Host<R, S, N, K> {
-    /// Opens the account of a plan and listens on every port. It takes `most` connections at once; a
-    /// further one is closed. An Invoke that would be throttled while an environment that stands in
+    /// Opens the account of a plan and listens on every port. It takes `most` connections at once, of
+    /// which one in sixteen, and 64 at most, are kept for the account's port. If there is no place, and
+    /// some are kept, a newcomer takes that of the connection at the account's port that has been longest
+    /// without a complete request; a further one is closed. An Invoke that would be throttled while an environment that stands in
     /// its way has answered and is about to ask for the next one is held back for `patience`
-    /// milliseconds at most, in which that environment may be ready again.
+    /// milliseconds at most, in which that environment may be ready again. A request that names a host
+    /// which is neither local nor one of `hosts` is refused.
     ///
     /// # Errors
     /// `Config(BadEntries)` exactly where the plan's entries are not from the environments and one
-    /// to 2^32, `Network` where a port can't be listened on, else `OutOfMemory`. No port is then
-    /// listened on.
+    /// to 2^32, `TooFewDescriptors` where there are too few for the ports or for one connection more,
+    /// `Network` where a port can't be listened on, else `OutOfMemory`. No port is then listened on.
     pub fn open(
         rt: R,
         plan: Plan,
         clock: N,
+        hosts: Hosts,
         most: u32,
         patience: u32,
         blanks: Blanks,
@@ -72,8 +87,13 @@ impl<
             salt,
             max_entries,
         } = plan;
+        let notices = Notices::new(max_entries, shared.environments().saturating_add(1));
         match Account::open(rt.alloc(), config, salt, max_entries, blanks) {
-            Ok(opened) => Host::listen(rt, opened, clock, &shared, salt, most, patience),
+            Ok(opened) => {
+                Host::listen(
+                    rt, opened, clock, hosts, &shared, salt, notices, most, patience,
+                )
+            }
             Err(fault) => Err(HostFault::from(fault)),
         }
     }
@@ -83,8 +103,10 @@ impl<
         rt: R,
         opened: (Account<S, OneShotBell>, Tally<K, S>),
         clock: N,
+        hosts: Hosts,
         config: &Arc<Checked>,
         salt: u64,
+        notices: Notices,
         most: u32,
         patience: u32,
     ) -> Result<Host<R, S, N, K>, HostFault>
@@ -93,7 +115,7 @@ impl<
         ensures { IfErr result IsOfMachine }
     {
         match Entrance::open(&rt, rt.alloc(), config, salt) {
-            Ok(entrance) => Host::of(rt, opened, clock, entrance, most, patience),
+            Ok(entrance) => Host::of(rt, opened, clock, hosts, entrance, notices, most, patience),
             Err(fault) => Err(fault),
         }
     }
@@ -104,24 +126,36 @@ impl<
         rt: R,
         opened: (Account<S, OneShotBell>, Tally<K, S>),
         clock: N,
+        hosts: Hosts,
         entrance: Entrance<S>,
+        notices: Notices,
         most: u32,
         patience: u32,
     ) -> Result<Host<R, S, N, K>, HostFault>
         requires { 2 ≤ opened.1.held.parts }
         ensures { IfErr result IsOfMachine }
     {
-        let Ok(mut reception) = Reception::open(rt, opened, clock, most, patience) else {
+        let Ok(mut reception) = Reception::open(rt, opened, clock, hosts, most, patience) else {
             return Err(HostFault::OutOfMemory);
         };
-        let Ok(ticker) = reception.ticker() else {
+        let notices = Arc::new(rt.alloc(), notices).map_err(AllocError::from)?;
+        let Ok(ticker) = reception.ticker(Arc::try_clone(&notices)?) else {
             return Err(HostFault::OutOfMemory);
         };
+        if !has_room_for_one(&rt) {
+            return Err(HostFault::TooFewDescriptors);
+        }
         Ok(Host {
             reception,
             ticker,
             entrance,
+            notices,
         })
+    }
+
+    /// What the service has to say while it runs, for another thread. The only error is want of memory.
+    pub fn notices(&self) -> Result<Arc<Notices>, AllocError> {
+        Arc::try_clone(&self.notices)
     }
 
     /// Serves until the service has come to its end: after a Stop, once every environment is off, or
@@ -136,6 +170,7 @@ impl<
             mut reception,
             ticker,
             mut entrance,
+            ..
         } = self;
         let rt = ticker.rt;
         let Ok(ticker) = ticker.start() else {

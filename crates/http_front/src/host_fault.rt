@@ -17,6 +17,9 @@ pub enum HostFault {
     /// A port couldn't be listened on, as where another program has it, or the listening failed.
     #[error("network failed")]
     Network,
+    /// The process may not open enough descriptors for the ports and one connection (`ulimit -n`).
+    #[error("too few descriptors")]
+    TooFewDescriptors,
     /// The account or a tally was still shared when every thread had ended.
     #[error("still shared")]
     StillShared,
@@ -50,12 +53,19 @@ impl From<OpenFault> for HostFault {
     }
 }
 
+/// The numbers of the errors that no descriptor is left, of the process or of the machine (POSIX, errno.h;
+/// the numbers are Linux's).
+const EMFILE: i32 = 24;
+
+const ENFILE: i32 = 23;
+
 /// What went wrong at a socket.
 pub(crate) fn at_socket(fault: io::Error) -> HostFault
     ensures { IsOfMachine result }
 {
-    match fault.kind() {
-        io::ErrorKind::OutOfMemory => HostFault::OutOfMemory,
+    match (fault.kind(), fault.raw_os_error()) {
+        (io::ErrorKind::OutOfMemory, _) => HostFault::OutOfMemory,
+        (_, Some(EMFILE | ENFILE)) => HostFault::TooFewDescriptors,
         _ => HostFault::Network,
     }
 }

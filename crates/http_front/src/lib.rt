@@ -4,12 +4,12 @@
 #![tactic(auto)]
 
 mod attendant;
-mod codings;
 mod door;
 mod entrance;
 mod front;
 mod host;
 mod host_fault;
+mod notices;
 mod plan;
 mod reception;
 mod responding;
@@ -24,6 +24,8 @@ pub use host::{Host, Hosted};
 pub use host_fault::HostFault;
 pub use http_connection::Machine;
 pub use http_routes::{Decision, Port, Shown, Side, laws};
+pub use notices::{Notices, Room};
 pub use plan::Plan;
+pub use request_guard::{Api, Hosts, Refusal};
 pub use responding::Responding;
 pub use response_fault::ResponseFault;

@@ -4,12 +4,22 @@ ghost use Rattle.std.specs.Prelude.{◌≡◌, MatchResult, None};
 ghost use Rattle.std.specs.Arc.{arc_value};
 ghost use Rattle.arn_ids.specs.Faults.{first_fault};
 ghost use Rattle.http_front.specs.Hosts.{IsFaultOf};
+ghost use Rattle.http_front.specs.Ports.{places_for};
 
 use crate::HostFault;
 use arn_ids::Checked;
 use lambda_wire::Setup;
 use std::alloc::{AllocError, Global};
 use std::sync::Arc;
+
+/// How many polls an environment may have open at once: those of its runtime and of ten extensions.
+const POLLS_OF_ONE: u32 = 11;
+
+/// How many places are kept for callers, where there are as many as polls.
+const FOR_CALLERS: u32 = 64;
+
+/// How many places there are at least.
+const LEAST_PLACES: u32 = 1_024;
 
 /// What a host is opened with: a configuration without a fault, the salt of its identifiers, and how
 /// many entries its history may have. Account and ports share the configuration: there is a handle of
@@ -50,6 +60,15 @@ impl Plan {
             salt,
             max_entries,
         })
+    }
+
+    /// How many connections there may be at once: 1,024 at least, and as many as the polls of all
+    /// environments, each with its runtime and ten extensions, and 64 for callers.
+    pub fn places(&self) -> u32
+        ensures { result ≡ places_for (arc_value self.now.config) }
+    {
+        let polls = self.config.environments().saturating_mul(POLLS_OF_ONE);
+        polls.saturating_add(FOR_CALLERS).max(LEAST_PLACES)
     }
 
     /// What was checked.

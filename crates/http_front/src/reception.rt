@@ -8,13 +8,14 @@ use crate::door::Door;
 use crate::entrance::{Entrance, Gate};
 use crate::served::Served;
 use crate::ticker::Ticker;
-use crate::{HostFault, Hosted};
+use crate::{HostFault, Hosted, Notices};
 use account_lock::{Account, Identity};
-use connection_places::{Running, Slots};
+use connection_places::{Enders, Running, Slots};
 use futures::channel::oneshot;
-use http_connection::{Machine, Pulse, Signals};
+use http_connection::{Machine, PortKind, Pulse, Signals};
 use long_poll::{Clock, OneShotBell};
 use mio::Poll;
+use request_guard::Hosts;
 use std::alloc::{AllocError, Global};
 use std::net::TcpStream;
 use std::sync::atomic::Ordering::SeqCst;
@@ -34,6 +35,9 @@ const PAUSE: u64 = 1;
 /// How many newcomers a port is let take in before it is another port's turn.
 const MOST_IN_A_TURN: u32 = 8;
 
+/// How often it is looked, at a pause between two looks, whether a connection has made room.
+const LOOKS_FOR_ROOM: u32 = 20;
+
 /// How many seconds are between two looks at who stands still.
 const BETWEEN_ROUNDS: u64 = 1;
 
@@ -49,22 +53,30 @@ fn is_of_newcomer(kind: io::ErrorKind) -> bool {
     kind == io::ErrorKind::ConnectionAborted || kind == io::ErrorKind::Interrupted
 }
 
-/// The line of a connection over a socket, and what is known of it beside its thread.
-fn line(alloc: Global, socket: TcpStream) -> Result<(Line, Running), AllocError> {
+/// The signals that end a connection, and their senders.
+fn signals(alloc: Global) -> Result<(Signals, Enders), AllocError> {
+    let (soft_sender, soft) = oneshot::channel(alloc)?;
+    let (hard_sender, hard) = oneshot::channel(alloc)?;
+    let (room_sender, room) = oneshot::channel(alloc)?;
+    let enders = Enders {
+        soft: soft_sender,
+        hard: hard_sender,
+        room: room_sender,
+    };
+    Ok((Signals { soft, hard, room }, enders))
+}
+
+/// The line of a connection over a socket at such a port, and what is known of it beside its thread.
+fn line(alloc: Global, socket: TcpStream, kind: PortKind) -> Result<(Line, Running), AllocError> {
     let pulse = Arc::new(alloc, Pulse::new()).map_err(AllocError::from)?;
     let told = Arc::try_clone(&pulse)?;
-    let (soft, soft_end) = oneshot::channel(alloc)?;
-    let (hard, hard_end) = oneshot::channel(alloc)?;
-    let signals = Signals {
-        soft: soft_end,
-        hard: hard_end,
-    };
+    let (signals, enders) = signals(alloc)?;
     let line = Line {
         socket,
         signals,
         pulse,
     };
-    Ok((line, Running::new(soft, hard, told)))
+    Ok((line, Running::new(enders, told, kind)))
 }
 
 /// A connection that is to be served at a port, and what is known of it beside its thread.
@@ -74,7 +86,7 @@ fn admit<S: Identity>(
     door: &Door<S>,
 ) -> Result<(Visit<S>, Running), AllocError> {
     let door = door.share()?;
-    let (line, running) = line(alloc, socket)?;
+    let (line, running) = line(alloc, socket, door.kind())?;
     Ok((Visit { line, door }, running))
 }
 
@@ -101,13 +113,14 @@ impl<R: Machine, S: Identity + Drop, N: Drop, K: Keep> Reception<R, S, N, K> {
         rt: R,
         opened: (Account<S, OneShotBell>, Tally<K, S>),
         clock: N,
+        hosts: Hosts,
         most: u32,
         patience: u32,
     ) -> Result<Reception<R, S, N, K>, AllocError>
         ensures { IfOk result (λ reception. reception.root ≡ opened.1) }
     {
         let (account, root) = opened;
-        match Served::new(rt.alloc(), account, clock) {
+        match Served::new(rt.alloc(), account, clock, hosts) {
             Ok(served) => Reception::new(rt, served, root, most, patience),
             Err(refused) => Err(refused),
         }
@@ -156,21 +169,22 @@ impl<R: Wait + Threads + time::Clock + Copy + Drop, S: Identity + Drop, N: Drop,
     K,
 > {
     /// The ticker of the same account, with a tally of its own. The only error is want of memory.
-    pub(crate) fn ticker(&mut self) -> Result<Ticker<R, S, N, K>, AllocError>
+    pub(crate) fn ticker(&mut self, notices: Arc<Notices>) -> Result<Ticker<R, S, N, K>, AllocError>
         requires { 2 ≤ self.old.root.held.parts }
     {
         match self.served.share() {
             Ok(served) => Ok(Ticker {
                 rt: self.rt,
                 served,
+                notices,
                 tally: self.root.split(),
             }),
             Err(refused) => Err(refused),
         }
     }
 
-    /// A place for a newcomer: one that is free, or else another one with a tally of its own.
-    fn place(&mut self) -> Option<usize> {
+    /// A place that nobody has: one that is free, or else another one with a tally of its own.
+    fn open_place(&mut self) -> Option<usize> {
         if let Some(at) = self.slots.take() {
             return Some(at);
         }
@@ -183,6 +197,32 @@ impl<R: Wait + Threads + time::Clock + Copy + Drop, S: Identity + Drop, N: Drop,
                 self.root.absorb(tally);
                 None
             }
+        }
+    }
+
+    /// The place of a connection that makes room for a newcomer, once it has ended.
+    fn cleared_place(&mut self) -> Option<usize> {
+        if !self.slots.ask_for_room() {
+            return None;
+        }
+        for _ in 0..LOOKS_FOR_ROOM {
+            self.slots.reap(&self.rt);
+            if let Some(at) = self.slots.take() {
+                return Some(at);
+            }
+            thread::sleep(&self.rt, Duration::from_millis(PAUSE));
+        }
+        None
+    }
+
+    /// A place for a newcomer at such a port.
+    fn place(&mut self, kind: PortKind) -> Option<usize> {
+        if !self.slots.admits(kind) {
+            return None;
+        }
+        match self.open_place() {
+            Some(at) => Some(at),
+            None => self.cleared_place(),
         }
     }
 
@@ -307,7 +347,7 @@ impl<
     /// Takes a newcomer in; where there is no place for it, or no thread, it is closed.
     fn take_in(&mut self, socket: TcpStream, door: &Door<S>) {
         self.slots.reap(&self.rt);
-        let Some(at) = self.place() else {
+        let Some(at) = self.place(door.kind()) else {
             return;
         };
         if !self.begin(at, socket, door) {

@@ -1,12 +1,9 @@
 //! The responses to requests, as futures.
 
-ghost use Rattle.std.specs.Prelude.{IfOk};
-ghost use Rattle.long_poll.specs.declared.outcome.Outcome.TheVariants as outcome;
-ghost use Rattle.http_front.specs.Codings.{foreign_coding_reply};
-ghost use Rattle.http_front.specs.Responses.{IsResponseTo};
+ghost use Rattle.std.specs.Prelude.{◌≡◌, IfOk, Some, None};
+ghost use Rattle.http_front.specs.Responses.{IsAnswerTo, IsRefusal};
 
 use crate::ResponseFault;
-use crate::codings::foreign_coding_reply;
 use crate::response::response_to;
 use bytes::Bytes;
 use decisions::Decide;
@@ -15,20 +12,57 @@ use futures::task::{Context, Poll};
 use http::Response;
 use http_body::Body;
 use http_body_util::{Either, Full};
-use long_poll::{Clock, Exchange, HistoryBody, Outcome, Service};
+use long_poll::{Clock, Exchange, ExchangeFault, HistoryBody, Outcome, Service};
+use request_guard::{Api, Refusal, refusal_reply};
 use std::alloc::Global;
 use std::sync::Wait;
 use std::time;
 use usage_ledger::{Keep, Ledgers};
 
-/// The response to one request, by its exchange.
+/// The response to one request: a refusal, or what its exchange comes to.
 #[derive(Drop)]
 pub struct Responding<R, S: Service<K, L>, D: Decide, N, B, K: Keep, L: Ledgers> {
-    pub(crate) alloc: Global,
-    // None where there was no memory for it, or where the request's body is coded in another way.
-    pub(crate) exchange: Option<Exchange<R, S, D, N, B, K, L>>,
-    // Whether it is the coding.
-    pub(crate) is_foreign: bool,
+    alloc: Global,
+    // Whose API its port speaks.
+    api: Api,
+    // None where it is refused.
+    exchange: Option<Exchange<R, S, D, N, B, K, L>>,
+    // Why it never becomes a call.
+    refusal: Option<Refusal>,
+}
+
+impl<R, S: Service<K, L>, D: Decide, N, B, K: Keep, L: Ledgers> Responding<R, S, D, N, B, K, L> {
+    /// The response to a request that never becomes a call.
+    pub(crate) fn refused(
+        alloc: Global,
+        api: Api,
+        refusal: Refusal,
+    ) -> Responding<R, S, D, N, B, K, L>
+        ensures { (result.api ≡ api) × (result.refusal ≡ Some refusal) × (result.exchange ≡ None) }
+    {
+        Responding {
+            alloc,
+            api,
+            exchange: None,
+            refusal: Some(refusal),
+        }
+    }
+
+    /// The response of an exchange.
+    pub(crate) fn exchanging(
+        alloc: Global,
+        api: Api,
+        exchange: Exchange<R, S, D, N, B, K, L>,
+    ) -> Responding<R, S, D, N, B, K, L>
+        ensures { (result.api ≡ api) × (result.refusal ≡ None) × (result.exchange ≡ Some exchange) }
+    {
+        Responding {
+            alloc,
+            api,
+            exchange: Some(exchange),
+            refusal: None,
+        }
+    }
 }
 
 impl<
@@ -43,37 +77,56 @@ impl<
 where
     B::Data: Into<Bytes>,
 {
-    ghost use Rattle.std.specs.Prelude.{IfOk, IfSome, IsSomeAnd, MatchBool, Ok};
-    ghost use Rattle.http_front.specs.Codings.{foreign_coding_reply};
-    ghost use Rattle.http_front.specs.Responses.{IsResponseTo};
-    ghost use Rattle.long_poll.specs.declared.outcome.Outcome.TheVariants as outcome;
+    ghost use Rattle.std.specs.Prelude.{IfOk, IfSome, IsSomeAnd, MatchOption};
+    ghost use Rattle.http_front.specs.Responses.{IsAnswerTo, IsRefusal};
 
     type Output = Result<Response<Either<Full<Bytes>, HistoryBody<R, S, K, L>>>, ResponseFault>;
 
     ghost can_poll = { λ r. IfSome r.exchange (⟦<Exchange<R, S, D, N, B, K, L> as Future>⟧.can_poll) };
 
-    ghost gives = { λ r answer. IfOk answer (λ response. MatchBool r.is_foreign (IsResponseTo (outcome.Reply foreign_coding_reply) response)
+    ghost gives = { λ r answer. IfOk answer (λ response. MatchOption r.refusal
         (IsSomeAnd r.exchange (λ exchange. (made : _)
-        × ⟦<Exchange<R, S, D, N, B, K, L> as Future>⟧.gives exchange (Ok made) × IsResponseTo made response))) };
+        × ⟦<Exchange<R, S, D, N, B, K, L> as Future>⟧.gives exchange made × IsAnswerTo r.api made response))
+        (λ refusal. IsRefusal r.api refusal response)) };
 
     fn poll(&mut self, cx: &mut Context<'_>) -> Poll<Self::Output> {
-        if self.is_foreign {
-            return Poll::Ready(foreign_coding(self.alloc));
+        if let Some(refusal) = self.refusal {
+            return Poll::Ready(refused(self.alloc, self.api, refusal));
         }
         let Some(exchange) = &mut self.exchange else {
             return Poll::Ready(Err(ResponseFault::OutOfMemory));
         };
         match exchange.poll(cx) {
             Poll::Pending => Poll::Pending,
-            Poll::Ready(Err(fault)) => Poll::Ready(Err(ResponseFault::Exchange(fault))),
-            Poll::Ready(Ok(outcome)) => Poll::Ready(response_to(self.alloc, outcome)),
+            Poll::Ready(made) => Poll::Ready(answer_to(self.alloc, self.api, made)),
         }
     }
 }
 
-/// The response to a request whose body is coded in a way that isn't served.
-fn foreign_coding<H: Drop>(alloc: Global) -> Result<Response<Either<Full<Bytes>, H>>, ResponseFault>
-    ensures { IfOk result (IsResponseTo (outcome.Reply foreign_coding_reply)) }
+/// The response to a request that is refused.
+fn refused<H: Drop>(
+    alloc: Global,
+    api: Api,
+    refusal: Refusal,
+) -> Result<Response<Either<Full<Bytes>, H>>, ResponseFault>
+    ensures { IfOk result (IsRefusal api refusal) }
 {
-    response_to(alloc, Outcome::Reply(foreign_coding_reply(alloc)?))
+    response_to(alloc, Outcome::Reply(refusal_reply(alloc, api, refusal)?))
+}
+
+/// The response to what an exchange came to. Where its body failed or memory was refused there may still be
+/// memory to say so; a bell is never lost.
+fn answer_to<H: Drop>(
+    alloc: Global,
+    api: Api,
+    made: Result<Outcome<H>, ExchangeFault>,
+) -> Result<Response<Either<Full<Bytes>, H>>, ResponseFault>
+    ensures { IfOk result (IsAnswerTo api made) }
+{
+    match made {
+        Ok(outcome) => response_to(alloc, outcome),
+        Err(ExchangeFault::BodyFailed) => refused(alloc, api, Refusal::BrokenBody),
+        Err(ExchangeFault::OutOfMemory) => refused(alloc, api, Refusal::OutOfMemory),
+        Err(ExchangeFault::BellLost) => Err(ResponseFault::Exchange(ExchangeFault::BellLost)),
+    }
 }

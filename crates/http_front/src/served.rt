@@ -2,34 +2,39 @@
 
 use account_lock::{Account, Identity};
 use long_poll::OneShotBell;
+use request_guard::Hosts;
 use std::alloc::{AllocError, Global};
 use std::sync::Arc;
 use std::sync::atomic::AtomicBool;
 
-/// What the threads of a host share: the account that is served, the clock, and whether the service is
-/// over.
+/// What the threads of a host share: the account that is served, the clock, the hosts that are listed
+/// beside the local ones, and whether the service is over.
 #[derive(Drop)]
 pub(crate) struct Served<S: Identity, N> {
     pub(crate) account: Arc<Account<S, OneShotBell>>,
     pub(crate) clock: Arc<N>,
+    pub(crate) hosts: Arc<Hosts>,
     pub(crate) is_over: Arc<AtomicBool>,
 }
 
 impl<S: Identity + Drop, N: Drop> Served<S, N> {
-    /// This account, by this clock; its service is not over.
+    /// This account, by this clock, for these hosts; its service is not over.
     ///
-    /// The only error is want of memory. Account and clock are then gone.
+    /// The only error is want of memory. What is given is then gone.
     pub(crate) fn new(
         alloc: Global,
         account: Account<S, OneShotBell>,
         clock: N,
+        hosts: Hosts,
     ) -> Result<Served<S, N>, AllocError> {
         let account = Arc::new(alloc, account).map_err(AllocError::from)?;
         let clock = Arc::new(alloc, clock).map_err(AllocError::from)?;
+        let hosts = Arc::new(alloc, hosts).map_err(AllocError::from)?;
         let is_over = Arc::new(alloc, AtomicBool::new(false)).map_err(AllocError::from)?;
         Ok(Served {
             account,
             clock,
+            hosts,
             is_over,
         })
     }
@@ -38,10 +43,12 @@ impl<S: Identity + Drop, N: Drop> Served<S, N> {
     pub(crate) fn share(&self) -> Result<Served<S, N>, AllocError> {
         let account = Arc::try_clone(&self.account)?;
         let clock = Arc::try_clone(&self.clock)?;
+        let hosts = Arc::try_clone(&self.hosts)?;
         let is_over = Arc::try_clone(&self.is_over)?;
         Ok(Served {
             account,
             clock,
+            hosts,
             is_over,
         })
     }

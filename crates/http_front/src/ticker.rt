@@ -2,6 +2,7 @@
 
 ghost use Rattle.std.specs.Prelude.{◌<◌, ◌^◌};
 
+use crate::Notices;
 use crate::served::Served;
 use account_book::{Life, Refusal};
 use account_lock::{Account, Identity};
@@ -10,9 +11,9 @@ use call_model::Call;
 use http_connection::Machine;
 use long_poll::{Clock, OneShotBell};
 use std::alloc::AllocError;
-use std::sync::Wait;
 use std::sync::atomic::AtomicBool;
 use std::sync::atomic::Ordering::SeqCst;
+use std::sync::{Arc, Wait};
 use std::thread::JoinHandle;
 use std::time::Duration;
 use std::{thread, time};
@@ -29,44 +30,89 @@ pub(crate) fn moment<N: Clock>(clock: &N) -> u64
     clock.now().min(GREATEST_MOMENT)
 }
 
-/// Submits a `Tick` where something is due. Gives whether that was refused for a full journal.
+/// By how many milliseconds the time of day has to be ahead of the clock before the clock is set forward.
+const MOST_LAG: u64 = 1_000;
+
+/// For how many beats in a row the memory for a tick may be refused after a Stop, before the service ends
+/// without it: ten seconds.
+const MOST_REFUSED: u32 = 200;
+
+/// Sets the clock forward if the time of day is ahead of it, as after the machine has slept, and no
+/// deadline is running: what is due stays measured by the clock, and what a runtime is given from now on
+/// is the time of day again (Runtime API, `Lambda-Runtime-Deadline-Ms`). The account is first told the
+/// later moment, by a Tick that is taken only while it rests: so no call that read the clock before can
+/// begin a deadline that has passed. If a deadline is running, it is tried again at the next beat.
+fn catch_up<S: Identity, N: Clock, K: Keep>(
+    rt: &impl Wait,
+    account: &Account<S, OneShotBell>,
+    clock: &N,
+    tally: &mut Tally<K, S>,
+) {
+    let lag = clock.lag();
+    if lag <= MOST_LAG {
+        return;
+    }
+    let now = clock.now().saturating_add(lag).min(GREATEST_MOMENT);
+    if let Ok(Some(_taken)) = account.tick_at_rest(rt, tally, now) {
+        clock.set_forward(lag);
+    }
+}
+
+/// Submits a `Tick` if something is due. Gives why that was refused, if it was.
 fn tick<S: Identity, N: Clock, K: Keep>(
     rt: &impl Wait,
     account: &Account<S, OneShotBell>,
     clock: &N,
     tally: &mut Tally<K, S>,
-) -> bool {
+) -> Option<Refusal> {
     let now = moment(clock);
     if !account.due(rt, now) {
-        return false;
+        return None;
     }
     match account.submit(rt, tally, now, Call::Tick, None) {
-        Ok(_) => false,
-        Err(refused) => refused.refusal == Refusal::JournalFull,
+        Ok(_) => None,
+        Err(refused) => Some(refused.refusal),
     }
 }
 
-/// Ticks until the service has come to its end, and then says so, or until it is told that it has.
-/// After a Stop the end is there once every environment is off, or where a full journal lets no
-/// more time pass. Gives the tally back.
+/// For how many beats in a row ticks were refused, once this came of one more. A full journal stays full,
+/// so that counts as the most.
+fn refused_after(before: u32, refusal: Option<Refusal>) -> u32 {
+    match refusal {
+        None => 0,
+        Some(Refusal::OutOfMemory) => before.saturating_add(1),
+        Some(Refusal::JournalFull) => MOST_REFUSED,
+    }
+}
+
+/// Whether the service is at its end: after a Stop, once every environment is off, or if ticks were
+/// refused for too long for time to pass.
+fn has_ended(life: Life, refused: u32) -> bool {
+    match life {
+        Life::Open => false,
+        Life::Stopping => refused >= MOST_REFUSED,
+        Life::Off => true,
+    }
+}
+
+/// Ticks until the service has come to its end, and then says so, or until it is told that it has. Notes
+/// how many entries there are. Gives the tally back.
 fn tick_on<R: Wait + time::Clock, S: Identity, N: Clock, K: Keep>(
     rt: &R,
     account: &Account<S, OneShotBell>,
     clock: &N,
+    notices: &Notices,
     tally: Tally<K, S>,
     is_over: &AtomicBool,
 ) -> Tally<K, S> {
     let mut tally = tally;
+    let mut refused = 0;
     for _ in rt.forever() {
-        let is_full = tick(rt, account, clock, &mut tally);
-        match account.life(rt) {
-            Life::Open => {}
-            Life::Stopping => {
-                if is_full {
-                    is_over.store(true, SeqCst);
-                }
-            }
-            Life::Off => is_over.store(true, SeqCst),
+        catch_up(rt, account, clock, &mut tally);
+        refused = refused_after(refused, tick(rt, account, clock, &mut tally));
+        notices.note(account.stats(rt).entries);
+        if has_ended(account.life(rt), refused) {
+            is_over.store(true, SeqCst);
         }
         if is_over.load(SeqCst) {
             return tally;
@@ -76,11 +122,13 @@ fn tick_on<R: Wait + time::Clock, S: Identity, N: Clock, K: Keep>(
     unreachable!()
 }
 
-/// What the ticker's thread has: what is served, and the tally in which its calls count.
+/// What the ticker's thread has: what is served, where it notes what there is to say, and the tally in which
+/// its calls count.
 #[derive(Drop)]
 pub(crate) struct Ticker<R, S: Identity, N, K: Keep> {
     pub(crate) rt: R,
     pub(crate) served: Served<S, N>,
+    pub(crate) notices: Arc<Notices>,
     pub(crate) tally: Tally<K, S>,
 }
 
@@ -92,11 +140,17 @@ impl<
 > Ticker<R, S, N, K> {
     /// Ticks until the service is over.
     fn run(self) -> Tally<K, S> {
-        let Ticker { rt, served, tally } = self;
+        let Ticker {
+            rt,
+            served,
+            notices,
+            tally,
+        } = self;
         tick_on(
             &rt,
             &*served.account,
             &*served.clock,
+            &notices,
             tally,
             &served.is_over,
         )

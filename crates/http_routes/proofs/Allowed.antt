@@ -2,6 +2,7 @@
 use Rattle.std.proofs.Common.{◌≡◌, ℕ, ◌≤◌, Bool, true, false, cond, nat_lt, List, length, codes, Option, Some, None, Result, Ok, Err, refl}
 use Rattle.std.specs.Result.{IfOk}
 use Rattle.http.specs.Uri.{uri_path}
+use Rattle.http_header.specs.FieldValue.{FieldValue}
 use Rattle.http.specs.declared.request.Parts.{Parts}
 use Rattle.arn_ids.specs.Words.{is_label}
 use Rattle.arn_ids.specs.Environments.{function_of}
@@ -12,20 +13,21 @@ use Rattle.lambda_wire.specs.Requests.{read_payload, read_count, read_events}
 use Rattle.lambda_wire.specs.declared.request_reader.Events.{Events}
 use Rattle.lambda_wire.specs.declared.fault.WireFault.{WireFault}
 use Rattle.lambda_wire.specs.declared.fault.WireFault.TheVariants as wire
-use Rattle.arn_ids.specs.Limits.{longest_body, greatest_reservation}
+use Rattle.arn_ids.specs.Limits.{longest_body, greatest_reservation, greatest_ticket}
+use Rattle.arn_ids.specs.Numbers.{number_in}
 use Rattle.call_types.specs.Within.{is_body, IsEnv, IsFunction, IsCount, IsTrace, IsWithin}
 use Rattle.decisions.specs.Decisions.{IsAllowed}
 use Rattle.decisions.specs.declared.decide.Decision.{Decision}
 use Rattle.decisions.specs.declared.decide.Decision.TheVariants.{Submit, Show}
 use Rattle.decisions.specs.declared.decide.Shown.TheVariants as shown
-use Rattle.http_routes.specs.Routes.{environment_rows, account_rows, route_in, is_environment_method, is_account_method, is_put}
-use Rattle.http_routes.specs.Paths.{name_of, qualifier_of}
+use Rattle.http_routes.specs.Routes.{environment_rows, account_rows, route_in, is_environment_method, environment_methods, is_account_method, account_methods, is_put}
+use Rattle.http_routes.specs.Paths.{name_of, qualifier_of, from_of}
 use Rattle.http_routes.specs.Heads.{header, extension_name, trace_of, asks_for_account, is_synchronous}
 use Rattle.http_routes.specs.Identifiers.{request_of, extension_of}
 use Rattle.http_routes.specs.Names.{invoked, reserved}
-use Rattle.http_routes.specs.Refusals.{not_found, wrong_method, wrong_request, unknown_extension, missing_header, too_large, unreadable_registration, wrong_event, malformed_name, unknown_function, wrong_invocation_type, payload_too_large, unreadable_payload, unreadable_reservation}
+use Rattle.http_routes.specs.Refusals.{not_found, wrong_ticket, wrong_method, wrong_request, unknown_extension, missing_header, too_large, unreadable_registration, wrong_event, malformed_name, unknown_function, wrong_invocation_type, payload_too_large, unreadable_payload, unreadable_reservation}
 use Rattle.http_routes.specs.EnvironmentDecisions.{submitted, response, failure, registered, register, ext_next, ext_report, has_error_type, on_environment_route, at_environment, environment_decision}
-use Rattle.http_routes.specs.AccountDecisions.{about, by_payload, invoke, reserve, set_reservation, show_reservation, environment_of, with_method, spindown, at_account, account_decision}
+use Rattle.http_routes.specs.AccountDecisions.{about, by_payload, invoke, reserve, set_reservation, show_reservation, show_from, show_history, environment_of, with_method, spindown, at_account, account_decision}
 use Rattle.http_routes.specs.Decisions.{Served, IsPortOf, decision_on, decision}
 use Rattle.http_routes.specs.declared.names.Target.{Target}
 use Rattle.http_routes.specs.declared.names.Target.TheVariants as target
@@ -43,9 +45,13 @@ not_found-allowed : (config : Config) → IsAllowed config not_found
 unfolding not_found
 not_found-allowed config = tt
 
-wrong_method-allowed : (config : Config) → IsAllowed config wrong_method
+wrong_ticket-allowed : (config : Config) → IsAllowed config wrong_ticket
+unfolding wrong_ticket
+wrong_ticket-allowed config = tt
+
+wrong_method-allowed : (config : Config) (methods : FieldValue) → IsAllowed config (wrong_method methods)
 unfolding wrong_method
-wrong_method-allowed config = tt
+wrong_method-allowed config methods = tt
 
 wrong_request-allowed : (config : Config) → IsAllowed config wrong_request
 unfolding wrong_request
@@ -166,8 +172,8 @@ on_environment_route-allowed config salt e p body environment.ExtExitFailure env
 at_environment-allowed : (config : Config) (salt e : ℕ) (p : Parts) (body : List ℕ) (o : Option EnvironmentRoute) → IsEnv config e → IsAllowed config (at_environment config salt e p body o)
 at_environment-allowed config salt e p body None env = not_found-allowed config
 at_environment-allowed config salt e p body (Some route) env =
-    decided config (is_environment_method route p.method) (on_environment_route config salt e p body route) wrong_method
-    (on_environment_route-allowed config salt e p body route env) (wrong_method-allowed config)
+    decided config (is_environment_method route p.method) (on_environment_route config salt e p body route) (wrong_method (environment_methods route))
+    (on_environment_route-allowed config salt e p body route env) (wrong_method-allowed config (environment_methods route))
 
 environment_decision-allowed : (config : Config) (salt e : ℕ) (p : Parts) (body : List ℕ) → IsEnv config e → IsAllowed config (environment_decision config salt e p body)
 unfolding environment_decision
@@ -208,11 +214,19 @@ about-allowed config target.Unknown then_do h k = unknown_function-allowed confi
 about-allowed config (target.Function f q) then_do h k = k f q h
 
 with_method-allowed : (config : Config) (route : AccountRoute) (p : Parts) (d : Decision) → IsAllowed config d → IsAllowed config (with_method route p d)
-with_method-allowed config route p d h = decided config (is_account_method route p.method) d wrong_method h (wrong_method-allowed config)
+with_method-allowed config route p d h = decided config (is_account_method route p.method) d (wrong_method (account_methods route)) h (wrong_method-allowed config (account_methods route))
 
 spindown-allowed : (config : Config) (p : Parts) (o : Option ℕ) → Gives o (IsEnv config) → IsAllowed config (spindown p o)
 spindown-allowed config p None h = not_found-allowed config
 spindown-allowed config p (Some e) h = with_method-allowed config account.Spindown p (Submit (call.Spindown e)) h.holds
+
+show_from-allowed : (config : Config) (ticket : Option ℕ) → IsAllowed config (show_from ticket)
+show_from-allowed config None = wrong_ticket-allowed config
+show_from-allowed config (Some ticket) = tt
+
+show_history-allowed : (config : Config) (from : Option (List ℕ)) → IsAllowed config (show_history from)
+show_history-allowed config None = tt
+show_history-allowed config (Some text) = show_from-allowed config (number_in greatest_ticket text)
 
 at_account-allowed : (config : Config) (p : Parts) (body : List ℕ) (o : Option AccountRoute) → IsAllowed config (at_account config p body o)
 at_account-allowed config p body None = not_found-allowed config
@@ -228,7 +242,8 @@ at_account-allowed config p body (Some account.ReadConcurrency) =
 at_account-allowed config p body (Some account.Stop) = with_method-allowed config account.Stop p (Submit call.Stop) tt
 at_account-allowed config p body (Some account.Spindown) = spindown-allowed config p (environment_of config p) (environment_within config p)
 at_account-allowed config p body (Some account.Stats) = with_method-allowed config account.Stats p (Show shown.Stats) tt
-at_account-allowed config p body (Some account.History) = with_method-allowed config account.History p (Show shown.History) tt
+at_account-allowed config p body (Some account.History) =
+    with_method-allowed config account.History p (show_history (from_of p)) (show_history-allowed config (from_of p))
 
 account_decision-allowed : (config : Config) (p : Parts) (body : List ℕ) → IsAllowed config (account_decision config p body)
 unfolding account_decision

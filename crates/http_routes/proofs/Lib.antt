@@ -3,3 +3,4 @@ pub mod RouteLemmas
 pub mod HeadLemmas
 pub mod Within
 pub mod Allowed
+pub mod TooLong

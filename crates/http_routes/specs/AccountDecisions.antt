@@ -4,7 +4,8 @@ use Rattle.std.specs.Prelude.{ℕ, Bool, if◌then◌else◌, List, Option, Some
 use Rattle.http.specs.Uri.{uri_path}
 use Rattle.http.specs.declared.request.Parts.{Parts}
 use Rattle.arn_ids.specs.declared.config.Config.{Config}
-use Rattle.arn_ids.specs.Numbers.{env_in}
+use Rattle.arn_ids.specs.Limits.{greatest_ticket}
+use Rattle.arn_ids.specs.Numbers.{number_in, env_in}
 use Rattle.call_types.specs.declared.call.Call.TheVariants as call
 use Rattle.lambda_wire.specs.Requests.{read_payload, read_count}
 use Rattle.lambda_wire.specs.declared.fault.WireFault.{WireFault}
@@ -12,11 +13,11 @@ use Rattle.lambda_wire.specs.declared.fault.WireFault.TheVariants.{TooLong, NotJ
 use Rattle.decisions.specs.declared.decide.Decision.{Decision}
 use Rattle.decisions.specs.declared.decide.Decision.TheVariants.{Submit, Show}
 use Rattle.decisions.specs.declared.decide.Shown.TheVariants as shown
-use Rattle.http_routes.specs.Routes.{account_rows, route_in, is_account_method, is_put}
-use Rattle.http_routes.specs.Paths.{path_part, name_of, qualifier_of}
+use Rattle.http_routes.specs.Routes.{account_rows, route_in, is_account_method, account_methods, is_put}
+use Rattle.http_routes.specs.Paths.{path_part, name_of, qualifier_of, from_of}
 use Rattle.http_routes.specs.Heads.{trace_of, is_synchronous}
 use Rattle.http_routes.specs.Names.{invoked, reserved}
-use Rattle.http_routes.specs.Refusals.{not_found, wrong_method, malformed_name, unknown_function, wrong_invocation_type, payload_too_large, unreadable_payload, unreadable_reservation}
+use Rattle.http_routes.specs.Refusals.{not_found, wrong_ticket, wrong_method, malformed_name, unknown_function, wrong_invocation_type, payload_too_large, unreadable_payload, unreadable_reservation}
 use Rattle.http_routes.specs.declared.names.Target.{Target}
 use Rattle.http_routes.specs.declared.names.Target.TheVariants.{Malformed, Unknown, Function}
 use Rattle.http_routes.specs.declared.routes.AccountRoute.{AccountRoute}
@@ -64,12 +65,23 @@ environment_of config p = option_and_then (env_in config) (path_part 3 (uri_path
 
 -- a request with a method that its route has
 abbrev pub with_method : AccountRoute → Parts → Decision → Decision
-with_method route p decision = if is_account_method route p.method then decision else wrong_method
+with_method route p decision = if is_account_method route p.method then decision else wrong_method (account_methods route)
 
 -- an environment is taken down; one that isn't there is no path
 abbrev pub spindown : Parts → Option ℕ → Decision
 spindown p None = not_found
 spindown p (Some e) = with_method Spindown p (Submit (call.Spindown e))
+
+-- the history from a ticket on
+abbrev pub show_from : Option ℕ → Decision
+show_from None = wrong_ticket
+show_from (Some ticket) = Show (shown.History (Some ticket))
+
+-- The history: from the ticket that the query's first `from` is, or whole if the query has none. A ticket is decimal,
+-- without leading zeros, and below 2^64.
+abbrev pub show_history : Option (List ℕ) → Decision
+show_history None = Show (shown.History None)
+show_history (Some text) = show_from (number_in greatest_ticket text)
 
 -- What is done on a route. The bodies of this service's own routes aren't looked at.
 abbrev pub at_account : Config → Parts → List ℕ → Option AccountRoute → Decision
@@ -80,7 +92,7 @@ at_account config p body (Some ReadConcurrency) = with_method ReadConcurrency p 
 at_account config p body (Some Stop) = with_method Stop p (Submit call.Stop)
 at_account config p body (Some Spindown) = spindown p (environment_of config p)
 at_account config p body (Some Stats) = with_method Stats p (Show shown.Stats)
-at_account config p body (Some History) = with_method History p (Show shown.History)
+at_account config p body (Some History) = with_method History p (show_history (from_of p))
 
 -- What is done with a request on the account's port.
 unfoldable pub account_decision : Config → Parts → List ℕ → Decision

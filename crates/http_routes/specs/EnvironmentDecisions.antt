@@ -14,7 +14,7 @@ use Rattle.lambda_wire.specs.declared.fault.WireFault.{WireFault}
 use Rattle.lambda_wire.specs.declared.fault.WireFault.TheVariants.{TooLong, NotJson, BadShape, BadEvent, OutOfMemory}
 use Rattle.decisions.specs.declared.decide.Decision.{Decision}
 use Rattle.decisions.specs.declared.decide.Decision.TheVariants.{Submit}
-use Rattle.http_routes.specs.Routes.{environment_rows, route_in, is_environment_method}
+use Rattle.http_routes.specs.Routes.{environment_rows, route_in, is_environment_method, environment_methods}
 use Rattle.http_routes.specs.Heads.{has_header, extension_name, asks_for_account}
 use Rattle.http_routes.specs.Identifiers.{request_of, extension_of}
 use Rattle.http_routes.specs.Refusals.{not_found, wrong_method, wrong_request, unknown_extension, missing_header, too_large, unreadable_registration, wrong_event}
@@ -81,7 +81,7 @@ on_environment_route config salt e p body ExtExitFailure = ext_report (has_error
 abbrev pub at_environment : Config → ℕ → ℕ → Parts → List ℕ → Option EnvironmentRoute → Decision
 at_environment config salt e p body None = not_found
 at_environment config salt e p body (Some route) =
-    if is_environment_method route p.method then on_environment_route config salt e p body route else wrong_method
+    if is_environment_method route p.method then on_environment_route config salt e p body route else wrong_method (environment_methods route)
 
 -- What is done with a request on the port of environment e.
 unfoldable pub environment_decision : Config → ℕ → ℕ → Parts → List ℕ → Decision

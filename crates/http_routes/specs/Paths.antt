@@ -33,6 +33,10 @@ qualifier_in query = first_named (codes "Qualifier") (raw_pairs query)
 abbrev pub qualifier_of : Parts → Option (List ℕ)
 qualifier_of p = option_and_then qualifier_in (uri_query p.uri)
 
+-- the first `from` of a request for the history (this service's own)
+abbrev pub from_of : Parts → Option (List ℕ)
+from_of p = option_and_then (λ query. first_named (codes "from") (raw_pairs query)) (uri_query p.uri)
+
 -- the name of a function in a path of the Lambda API, which stands behind three slashes
 abbrev pub name_of : Parts → Option (List ℕ)
 name_of p = option_and_then path_text (path_part 3 (uri_path p.uri))

@@ -1,5 +1,7 @@
 -- Replies that refuse a request before there is a call.
-use Rattle.std.specs.Prelude.{codes}
+use Rattle.std.specs.Prelude.{[], ◌∷◌, ◌++◌, codes}
+use Rattle.http_header.specs.FieldValue.{FieldValue}
+use Rattle.lambda_wire.specs.Headers.{json_headers}
 use Rattle.lambda_wire.specs.Replies.{fault_reply, invoke_fault_reply}
 use Rattle.lambda_wire.specs.declared.body_writer.InvokeFault.TheVariants.{User, NotFound}
 use Rattle.decisions.specs.declared.decide.Decision.{Decision}
@@ -9,9 +11,14 @@ use Rattle.decisions.specs.declared.decide.Decision.TheVariants.{Reply}
 unfoldable pub not_found : Decision
 not_found = Reply (fault_reply 404 (codes "No such resource") (codes "NotFound"))
 
--- The route has another method.
-unfoldable pub wrong_method : Decision
-wrong_method = Reply (fault_reply 405 (codes "Method not allowed") (codes "MethodNotAllowed"))
+-- What the history is to begin with is no ticket.
+unfoldable pub wrong_ticket : Decision
+wrong_ticket = Reply (fault_reply 400 (codes "from is not a ticket") (codes "InvalidTicket"))
+
+-- The route has other methods, and the reply says which (RFC 9110, section 15.5.6).
+unfoldable pub wrong_method : FieldValue → Decision
+wrong_method methods = Reply (record (fault_reply 405 (codes "Method not allowed") (codes "MethodNotAllowed"))
+    { headers = json_headers ++ (codes "allow", methods) ∷ [] })
 
 -- The path names no invocation of this environment's function (Runtime API: InvalidRequestID).
 unfoldable pub wrong_request : Decision

@@ -6,6 +6,7 @@ use Rattle.matchit.specs.Order.{placed}
 use Rattle.matchit.specs.Route.{Scan, parse_route}
 use Rattle.matchit.specs.Seek.{first}
 use Rattle.matchit.specs.declared.error.InsertError.{InsertError}
+use Rattle.http_header.specs.FieldValue.{FieldValue, plain_value}
 use Rattle.http_routes.specs.declared.routes.EnvironmentRoute.{EnvironmentRoute}
 use Rattle.http_routes.specs.declared.routes.EnvironmentRoute.TheVariants.{Next, Response, Failure, InitFailure, Register, ExtNext, ExtInitFailure, ExtExitFailure}
 use Rattle.http_routes.specs.declared.routes.AccountRoute.{AccountRoute}
@@ -89,6 +90,17 @@ is_environment_method ExtNext = is_get
 is_environment_method ExtInitFailure = is_post
 is_environment_method ExtExitFailure = is_post
 
+-- the same methods as the field `Allow` lists them (RFC 9110, section 10.2.1)
+abbrev pub environment_methods : EnvironmentRoute → FieldValue
+environment_methods Next = plain_value (codes "GET")
+environment_methods Response = plain_value (codes "POST")
+environment_methods Failure = plain_value (codes "POST")
+environment_methods InitFailure = plain_value (codes "POST")
+environment_methods Register = plain_value (codes "POST")
+environment_methods ExtNext = plain_value (codes "GET")
+environment_methods ExtInitFailure = plain_value (codes "POST")
+environment_methods ExtExitFailure = plain_value (codes "POST")
+
 -- The methods of the account's routes.
 abbrev pub is_account_method : AccountRoute → List ℕ → Bool
 is_account_method Invoke = is_post
@@ -98,3 +110,13 @@ is_account_method Stop = is_post
 is_account_method Spindown = is_post
 is_account_method Stats = is_get
 is_account_method History = is_get
+
+-- the same methods as the field `Allow` lists them
+abbrev pub account_methods : AccountRoute → FieldValue
+account_methods Invoke = plain_value (codes "POST")
+account_methods Concurrency = plain_value (codes "DELETE, PUT")
+account_methods ReadConcurrency = plain_value (codes "GET")
+account_methods Stop = plain_value (codes "POST")
+account_methods Spindown = plain_value (codes "POST")
+account_methods Stats = plain_value (codes "GET")
+account_methods History = plain_value (codes "GET")

@@ -9,13 +9,13 @@ ghost use Rattle.http_routes.specs.Routes.{account_rows, is_put};
 
 use crate::heads::{is_synchronous, trace};
 use crate::names::{Target, invoked, reserved};
-use crate::path::path_part;
+use crate::path::{from_of, path_part};
 use crate::refusals::{
     malformed_name, not_found, payload_too_large, unknown_function, unreadable_payload,
-    unreadable_reservation, wrong_invocation_type, wrong_method,
+    unreadable_reservation, wrong_invocation_type, wrong_method, wrong_ticket,
 };
 use crate::routes::{AccountRoute, account_route};
-use arn_ids::{Checked, EnvNo, FnNo, read_environment};
+use arn_ids::{Checked, EnvNo, FnNo, read_environment, read_number};
 use bytes::Bytes;
 use call_types::Call;
 use decisions::{Decision, Shown};
@@ -144,9 +144,22 @@ fn spindown(alloc: Global, config: &Checked, parts: &Parts) -> Result<Decision, 
         return not_found(alloc);
     };
     if !AccountRoute::Spindown.allows(parts.method.as_str()) {
-        return wrong_method(alloc);
+        return wrong_method(alloc, AccountRoute::Spindown.methods());
     }
     Ok(Decision::Submit(Call::Spindown { env }))
+}
+
+/// The history is shown: from the ticket that the first `from` of the query is, or whole.
+fn show_history(alloc: Global, parts: &Parts) -> Result<Decision, AllocError>
+    ensures { IfOk result (λ d. d ≡ spec.show_history (paths.from_of parts.now)) }
+{
+    let Some(text) = from_of(alloc, parts)? else {
+        return Ok(Decision::Show(Shown::History { from: None }));
+    };
+    match read_number(text.as_str().as_bytes(), u64::MAX) {
+        Some(ticket) => Ok(Decision::Show(Shown::History { from: Some(ticket) })),
+        None => wrong_ticket(alloc),
+    }
 }
 
 /// What is done on a route. The bodies of this service's own routes aren't looked at.
@@ -164,7 +177,7 @@ fn on_route(
         return spindown(alloc, config, parts);
     }
     if !route.allows(parts.method.as_str()) {
-        return wrong_method(alloc);
+        return wrong_method(alloc, route.methods());
     }
     match route {
         AccountRoute::Invoke => on_invoke(alloc, scratch, config, parts, body),
@@ -173,7 +186,7 @@ fn on_route(
         AccountRoute::Stop => Ok(Decision::Submit(Call::Stop)),
         AccountRoute::Spindown => unreachable!(),
         AccountRoute::Stats => Ok(Decision::Show(Shown::Stats)),
-        AccountRoute::History => Ok(Decision::Show(Shown::History)),
+        AccountRoute::History => show_history(alloc, parts),
     }
 }
 

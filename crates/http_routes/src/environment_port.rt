@@ -234,7 +234,7 @@ pub(crate) fn environment_decision(
         return not_found(alloc);
     };
     if !route.allows(parts.method.as_str()) {
-        return wrong_method(alloc);
+        return wrong_method(alloc, route.methods());
     }
     on_route(alloc, config, salt, env, parts, body, route)
 }

@@ -3,6 +3,7 @@
 ghost use Rattle.std.specs.Prelude.{◌≡◌, ◌==◌, ◌∷◌, [], option_map, IfOk, MatchOption};
 ghost use Rattle.std.specs.List.{slice_split};
 ghost use Rattle.std.specs.Cow.{cow_str_bytes};
+ghost use Rattle.form_urlencoded.specs.Form.{raw_pairs};
 ghost use Rattle.http_routes.specs.Paths as spec;
 
 use form_urlencoded::{decode, raw_pairs};
@@ -56,13 +57,17 @@ pub(crate) fn name_of(alloc: Global, parts: &Parts) -> Result<Option<CowStr<'_>>
     }
 }
 
-/// The first `Qualifier` of a query.
-fn qualifier(alloc: Global, query: &[u8]) -> Result<Option<CowStr<'_>>, AllocError>
-    ensures { IfOk result (λ text. option_map cow_str_bytes text ≡ spec.qualifier_in query.now) }
+/// The first value of a name in a query.
+fn first_named<'q>(
+    alloc: Global,
+    query: &'q [u8],
+    name: &str,
+) -> Result<Option<CowStr<'q>>, AllocError>
+    ensures { IfOk result (λ text. option_map cow_str_bytes text ≡ spec.first_named name.now (raw_pairs query.now)) }
 {
     let mut pairs = raw_pairs(query);
-    while let Some((name, value)) = pairs.next() {
-        if decode(alloc, name)?.as_str() == "Qualifier" {
+    while let Some((other, value)) = pairs.next() {
+        if decode(alloc, other)?.as_str() == name {
             return Ok(Some(decode(alloc, value)?));
         }
     }
@@ -74,7 +79,17 @@ pub(crate) fn qualifier_of(alloc: Global, parts: &Parts) -> Result<Option<CowStr
     ensures { IfOk result (λ text. option_map cow_str_bytes text ≡ spec.qualifier_of parts.now) }
 {
     match parts.uri.query() {
-        Some(query) => qualifier(alloc, query.as_bytes()),
+        Some(query) => first_named(alloc, query.as_bytes(), "Qualifier"),
+        None => Ok(None),
+    }
+}
+
+/// The first `from` of a request for the history (this service's own).
+pub(crate) fn from_of(alloc: Global, parts: &Parts) -> Result<Option<CowStr<'_>>, AllocError>
+    ensures { IfOk result (λ text. option_map cow_str_bytes text ≡ spec.from_of parts.now) }
+{
+    match parts.uri.query() {
+        Some(query) => first_named(alloc, query.as_bytes(), "from"),
         None => Ok(None),
     }
 }

@@ -7,8 +7,10 @@ ghost use Rattle.lambda_wire.specs.Replies as replies;
 ghost use Rattle.http_routes.specs.Refusals as spec;
 ghost use Rattle.decisions.specs.declared.decide.Decision.TheVariants as decisions;
 
+use arn_ids::Row;
 use decisions::Decision;
-use lambda_wire::{InvokeFault, fault_reply, invoke_fault_reply};
+use http_header::{HeaderName, HeaderValue};
+use lambda_wire::{InvokeFault, Reply, fault_reply, invoke_fault_reply};
 use std::alloc::{AllocError, Global};
 
 fn refused(alloc: Global, status: u16, kind: &str, message: &str) -> Result<Decision, AllocError>
@@ -38,12 +40,31 @@ pub(crate) fn not_found(alloc: Global) -> Result<Decision, AllocError>
     refused(alloc, 404, "NotFound", "No such resource")
 }
 
-/// The route has another method.
-#[tactic(auto, unfolding(crate::specs::Refusals::wrong_method))]
-pub(crate) fn wrong_method(alloc: Global) -> Result<Decision, AllocError>
-    ensures { IfOk result (λ d. d ≡ spec.wrong_method) }
+/// What the history is to begin with is no ticket.
+#[tactic(auto, unfolding(crate::specs::Refusals::wrong_ticket))]
+pub(crate) fn wrong_ticket(alloc: Global) -> Result<Decision, AllocError>
+    ensures { IfOk result (λ d. d ≡ spec.wrong_ticket) }
 {
-    refused(alloc, 405, "MethodNotAllowed", "Method not allowed")
+    refused(alloc, 400, "InvalidTicket", "from is not a ticket")
+}
+
+/// The route has other methods, and the reply says which.
+#[tactic(auto, unfolding(crate::specs::Refusals::wrong_method))]
+pub(crate) fn wrong_method(alloc: Global, methods: HeaderValue) -> Result<Decision, AllocError>
+    ensures { IfOk result (λ d. d ≡ spec.wrong_method methods) }
+{
+    let Reply {
+        status,
+        headers,
+        body,
+    } = fault_reply(alloc, 405, "Method not allowed", "MethodNotAllowed")?;
+    let mut headers = headers.into_vec();
+    headers.push((HeaderName::from_static("allow"), methods))?;
+    Ok(Decision::Reply(Reply {
+        status,
+        headers: Row::new(headers),
+        body,
+    }))
 }
 
 /// The path names no invocation of this environment's function.

@@ -1,8 +1,9 @@
 //! The routes of the two kinds of ports.
 
 ghost use Rattle.std.specs.Prelude.{◌≡◌, IfOk, OnOk};
-ghost use Rattle.http_routes.specs.Routes.{with_route, with_runtime_rows, with_extension_rows, environment_rows, with_lambda_rows, with_local_rows, account_rows, route_in, is_environment_method, is_account_method};
+ghost use Rattle.http_routes.specs.Routes.{with_route, with_runtime_rows, with_extension_rows, environment_rows, with_lambda_rows, with_local_rows, account_rows, route_in, is_environment_method, environment_methods, is_account_method, account_methods};
 
+use http_header::HeaderValue;
 use matchit::{InsertError, Router};
 use std::alloc::Global;
 
@@ -61,6 +62,21 @@ impl EnvironmentRoute {
             | EnvironmentRoute::ExtExitFailure => method == "POST",
         }
     }
+
+    /// The methods that the route has, as the field `Allow` lists them (RFC 9110, section 10.2.1).
+    pub(crate) fn methods(self) -> HeaderValue
+        ensures { result ≡ environment_methods self }
+    {
+        match self {
+            EnvironmentRoute::Next | EnvironmentRoute::ExtNext => HeaderValue::from_static("GET"),
+            EnvironmentRoute::Response
+            | EnvironmentRoute::Failure
+            | EnvironmentRoute::InitFailure
+            | EnvironmentRoute::Register
+            | EnvironmentRoute::ExtInitFailure
+            | EnvironmentRoute::ExtExitFailure => HeaderValue::from_static("POST"),
+        }
+    }
 }
 
 impl AccountRoute {
@@ -73,6 +89,21 @@ impl AccountRoute {
             AccountRoute::Concurrency => method == "PUT" || method == "DELETE",
             AccountRoute::ReadConcurrency | AccountRoute::Stats | AccountRoute::History => {
                 method == "GET"
+            }
+        }
+    }
+
+    /// The methods that the route has, as the field `Allow` lists them.
+    pub(crate) fn methods(self) -> HeaderValue
+        ensures { result ≡ account_methods self }
+    {
+        match self {
+            AccountRoute::Invoke | AccountRoute::Stop | AccountRoute::Spindown => {
+                HeaderValue::from_static("POST")
+            }
+            AccountRoute::Concurrency => HeaderValue::from_static("DELETE, PUT"),
+            AccountRoute::ReadConcurrency | AccountRoute::Stats | AccountRoute::History => {
+                HeaderValue::from_static("GET")
             }
         }
     }

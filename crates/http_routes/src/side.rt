@@ -1,15 +1,16 @@
 //! One port of the service, and the decision on its requests.
 
-ghost use Rattle.std.specs.Prelude.{◌≡◌, IfOk};
+ghost use Rattle.std.specs.Prelude.{◌≡◌, ◌<◌, length, IfOk};
 ghost use Rattle.std.specs.Arc.{arc_value};
+ghost use Rattle.arn_ids.specs.Limits.{longest_body};
 ghost use Rattle.http_routes.specs.Decisions.{IsPortOf, decision};
 ghost use Rattle.http_routes.specs.Sides.{AreRoutesOf};
-ghost use Rattle.decisions.specs.Decisions.{IsAllowed};
+ghost use Rattle.decisions.specs.Decisions.{IsAllowed, IsForTooLong};
 
 use crate::account_port::account_decision;
 use crate::environment_port::environment_decision;
 use crate::routes::{AccountRoute, EnvironmentRoute, account_routes, environment_routes};
-use arn_ids::{Checked, EnvNo};
+use arn_ids::{Checked, EnvNo, LONGEST_BODY};
 use bytes::Bytes;
 use decisions::{Decide, Decision};
 use http::request::Parts;
@@ -70,6 +71,15 @@ impl Model for Side {
     ghost invariant = { λ s. IsPortOf (arc_value s.config) (port_of s.routes) × AreWhole s.routes };
 }
 
+/// A body that is too long.
+fn long_body(alloc: Global) -> Result<Bytes, AllocError>
+    ensures { IfOk result (λ body. longest_body < length body) }
+{
+    let mut bytes = Vec::new(alloc);
+    bytes.resize(LONGEST_BODY + 1, 0)?;
+    Ok(Bytes::from_vec(bytes)?)
+}
+
 impl Side {
     /// A port of the configuration, with the salt that the identifiers are made with: the account's,
     /// or that of an environment from 1 to `Checked::environments`. Its routes are made here, once;
@@ -128,6 +138,18 @@ impl Side {
     }
 }
 
+impl Side {
+    /// What is done with a request of this head whose body is longer than 6,291,456 bytes: it is the same
+    /// for each such body, so it is decided by one. The only error is want of memory.
+    pub fn decide_too_long(&self, alloc: Global, parts: &Parts) -> Result<Decision, AllocError>
+        ensures decision_too_long { IfOk result (IsForTooLong (λ body d. d ≡ decision self.now parts.now body)) }
+        ensures allowed_too_long { IfOk result (IsAllowed self.now.config) }
+    {
+        let body = long_body(alloc)?;
+        self.decide(alloc, &mut PayloadScratch::new(), parts, &body)
+    }
+}
+
 impl Decide for Side {
     ghost use Rattle.std.specs.Prelude.{◌≡◌};
     ghost use Rattle.http_routes.specs.Decisions.{decision};
@@ -144,5 +166,9 @@ impl Decide for Side {
         body: &Bytes,
     ) -> Result<Decision, AllocError> {
         Side::decide(self, alloc, scratch, parts, body)
+    }
+
+    fn decide_too_long(&self, alloc: Global, parts: &Parts) -> Result<Decision, AllocError> {
+        Side::decide_too_long(self, alloc, parts)
     }
 }

@@ -1,14 +1,23 @@
 -- What a service ends with.
-use Rattle.std.specs.Prelude.{◌≡◌, List}
+use Rattle.std.specs.Prelude.{◌≡◌, ◌^◌, ℕ, List, ◌++◌, codes, decimal}
 use Rattle.arn_ids.specs.declared.config.Config.{Config}
 use Rattle.call_types.specs.declared.call.Entry.{Entry}
 use Rattle.call_types.specs.declared.stats.Stats.{Stats}
 use Rattle.usage_ledger.specs.Tallies.{Tallied}
 use Rattle.account_lock.specs.Counting.{counts_of}
-use Rattle.account_lock.specs.Gathered.{counts_in}
 use Rattle.headline.specs.Headline.{Headline}
 
--- The counts are those of a history of the configuration, of which the headline holds; and what these tallies have
--- counted together is what that history counts.
-abbrev pub AreSettled : Config → List Tallied → Stats → Type 0
-AreSettled config tallies counts = (h : List Entry) × Headline config h counts × (counts_in tallies ≡ counts_of h)
+-- The counts are those of a history of the configuration, of which the headline holds; and a tally that has all parts of
+-- the account's four ledgers, so that no share of what its threads counted is anywhere else, has counted what that
+-- history counts.
+pub record IsSettled (config : Config) (counts : Stats) (tally : Tallied) : Type 0 where
+  pub history : List Entry
+  pub headline : Headline config history counts
+  pub parts : tally.held.parts ≡ 2 ^ 32
+  pub counted : tally.held.counts ≡ counts_of history
+
+-- The line that a service writes at its end: the three counts.
+abbrev pub closing_line : Stats → List ℕ
+closing_line counts =
+    codes "admitted " ++ decimal counts.admitted ++ codes " throttled " ++ decimal counts.throttled ++ codes " failed "
+    ++ decimal counts.failed

@@ -6,7 +6,7 @@ use Rattle.account_lock.specs.declared.fault.SettleFault.TheVariants as settling
 use Rattle.http_front.specs.declared.host_fault.HostFault.{HostFault}
 use Rattle.http_front.specs.declared.host_fault.HostFault.TheVariants as host
 use Rattle.lambda_local.specs.declared.serve_fault.ServeFault.{ServeFault}
-use Rattle.lambda_local.specs.declared.serve_fault.ServeFault.TheVariants.{Config, Wire, Settlement, Network, OutOfMemory}
+use Rattle.lambda_local.specs.declared.serve_fault.ServeFault.TheVariants.{Config, Wire, Settlement, Network, TooFewDescriptors, OutOfMemory}
 
 -- of a configuration that is not read
 abbrev pub of_wire : WireFault → ServeFault
@@ -17,6 +17,7 @@ of_wire fault = Wire fault
 abbrev pub of_host : HostFault → ServeFault
 of_host (host.Config fault) = Config fault
 of_host host.Network = Network
+of_host host.TooFewDescriptors = TooFewDescriptors
 of_host host.StillShared = Settlement settling.TallyMissing
 of_host host.OutOfMemory = OutOfMemory
 

@@ -1,17 +1,28 @@
 //! The machine's clock.
 
+use std::sync::atomic::AtomicU64;
+use std::sync::atomic::Ordering::SeqCst;
 use std::time::{self, Duration};
 
-/// The machine's clock, as the server reads it: in Unix milliseconds, so that a deadline that is told
-/// is what the Runtime API says it is. It reads the time of day once, when it is made, and counts on
-/// from there by the machine's monotonic clock: where the time of day is set anew, no deadline stands
-/// still, and none comes early.
-#[derive(Clone, Copy, Drop)]
+/// The machine's clock, as the server reads it: in Unix milliseconds, so that a deadline that a runtime
+/// is given is what the Runtime API says it is. It reads the time of day once, when it is made, and counts
+/// on from there by the machine's monotonic clock, which nobody can set: so no deadline comes early or
+/// late. The monotonic clock stands still while the machine sleeps; so whoever keeps the clock may set it
+/// forward to the time of day, while no deadline is running. It never goes back: if the time of day is
+/// set back, it stays ahead.
+#[derive(Drop)]
 pub struct UnixClock<R> {
     rt: R,
     // What the two clocks said when this one was made.
     since_1970: Duration,
     monotonic: Duration,
+    // By how many milliseconds it was set forward since then.
+    forward: AtomicU64,
+}
+
+/// A time in milliseconds.
+fn millis(time: Duration) -> u64 {
+    u64::try_from(time.as_millis()).unwrap_or(u64::MAX)
 }
 
 impl<R: time::Clock> UnixClock<R> {
@@ -23,6 +34,7 @@ impl<R: time::Clock> UnixClock<R> {
             rt,
             since_1970,
             monotonic,
+            forward: AtomicU64::new(0),
         }
     }
 }
@@ -33,10 +45,21 @@ impl<R: time::Clock> long_poll::Clock for UnixClock<R> {
         match self.rt.monotonic() {
             Ok(monotonic) => {
                 let elapsed = monotonic.saturating_sub(self.monotonic);
-                let since_1970 = self.since_1970.saturating_add(elapsed);
-                u64::try_from(since_1970.as_millis()).unwrap_or(u64::MAX)
+                let counted = millis(self.since_1970.saturating_add(elapsed));
+                counted.saturating_add(self.forward.load(SeqCst))
             }
             Err(_fault) => 0,
         }
+    }
+
+    fn lag(&self) -> u64 {
+        match self.rt.since_1970() {
+            Ok(since_1970) => millis(since_1970).saturating_sub(self.now()),
+            Err(_fault) => 0,
+        }
+    }
+
+    fn set_forward(&self, by: u64) {
+        self.forward.fetch_add(by, SeqCst);
     }
 }

@@ -5,13 +5,19 @@
 #![tactic(auto)]
 
 mod clock;
+mod closing;
+mod hosts;
+mod log_writer;
 mod patience;
 mod serve;
 mod serve_fault;
+mod setting_fault;
 
-use crate::patience::{PatienceFault, read_patience};
+use crate::hosts::read_hosts;
+use crate::patience::read_patience;
 use crate::serve::serve;
 use crate::serve_fault::ServeFault;
+use crate::setting_fault::SettingFault;
 use http_front::Machine;
 use log::Log;
 use script_replay::{ReplayFault, replay};
@@ -37,7 +43,8 @@ enum Asked {
 /// Why the program fails. Printed, it is its line on standard error.
 #[derive(Clone, Copy, Debug, PartialEq, Eq, Error)]
 enum ProgramFault {
-    /// The arguments ask for nothing that the program does, or the patience is none.
+    /// The arguments ask for nothing that the program does, or a variable of the
+    /// environment is out of its form.
     #[error("usage: lambda_local [replay | serve PATH]")]
     Usage,
     /// The replay ended before its input.
@@ -59,11 +66,11 @@ impl ProgramFault {
     }
 }
 
-impl From<PatienceFault> for ProgramFault {
-    fn from(fault: PatienceFault) -> ProgramFault {
+impl From<SettingFault> for ProgramFault {
+    fn from(fault: SettingFault) -> ProgramFault {
         match fault {
-            PatienceFault::Malformed => ProgramFault::Usage,
-            PatienceFault::OutOfMemory => ProgramFault::Serve(ServeFault::OutOfMemory),
+            SettingFault::Malformed => ProgramFault::Usage,
+            SettingFault::OutOfMemory => ProgramFault::Serve(ServeFault::OutOfMemory),
         }
     }
 }
@@ -97,7 +104,8 @@ where
         }
         Ok(Asked::Serve(path)) => {
             let patience = read_patience(&rt)?;
-            serve(rt, path.as_str(), patience).map_err(ProgramFault::Serve)
+            let hosts = read_hosts(&rt)?;
+            serve(rt, path.as_str(), patience, hosts).map_err(ProgramFault::Serve)
         }
         Err(error) if error.kind() == io::ErrorKind::OutOfMemory => {
             Err(ProgramFault::Replay(ReplayFault::OutOfMemory))

@@ -2,6 +2,7 @@
 
 ghost use Rattle.std.specs.Prelude.{◌≤◌, IfSome};
 
+use crate::setting_fault::SettingFault;
 use std::env::{self, Env, VarError};
 
 /// The variable that says for how many milliseconds.
@@ -23,25 +24,16 @@ fn patience_of(text: &str) -> Option<u32>
     }
 }
 
-/// Why no patience was read.
-#[derive(Clone, Copy, Debug, PartialEq, Eq)]
-pub enum PatienceFault {
-    /// The variable's value is no number of milliseconds up to the most.
-    Malformed,
-    /// There was no memory.
-    OutOfMemory,
-}
-
 /// For how many milliseconds a premature Invoke is held back at most: what the environment variable
 /// says, from 0, which is not at all, to 2,000; 100 where it is absent.
 ///
 /// # Errors
 /// As the fault says.
-pub fn read_patience<R: Env + AllocGlobal>(rt: &R) -> Result<u32, PatienceFault> {
+pub fn read_patience<R: Env + AllocGlobal>(rt: &R) -> Result<u32, SettingFault> {
     match env::var(rt, NAME) {
-        Ok(text) => patience_of(text.as_str()).ok_or(PatienceFault::Malformed),
+        Ok(text) => patience_of(text.as_str()).ok_or(SettingFault::Malformed),
         Err(VarError::NotPresent) => Ok(USUAL),
-        Err(VarError::NotUnicode) => Err(PatienceFault::Malformed),
-        Err(VarError::OutOfMemory) => Err(PatienceFault::OutOfMemory),
+        Err(VarError::NotUnicode) => Err(SettingFault::Malformed),
+        Err(VarError::OutOfMemory) => Err(SettingFault::OutOfMemory),
     }
 }

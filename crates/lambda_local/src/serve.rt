@@ -1,25 +1,25 @@
 //! Serving a configuration over HTTP.
 
-ghost use Rattle.std.specs.Prelude.{◌≡◌, ◌^◌, List, IfOk};
+ghost use Rattle.std.specs.Prelude.{◌≡◌, IfOk};
 ghost use Rattle.std.specs.Arc.{arc_value};
 ghost use Rattle.usage_ledger.specs.Tallies.{Tallied};
-ghost use Rattle.lambda_local.specs.Ending.{AreSettled};
+ghost use Rattle.lambda_local.specs.Ending.{IsSettled};
 
 use crate::clock::UnixClock;
+use crate::closing::ClosingLine;
+use crate::log_writer::LogWriter;
 use crate::serve_fault::ServeFault;
 use account_lock::{Identity, Settled};
 use call_model::Stats;
 use http_front::{Host, Hosted, Machine, Plan};
 use lambda_wire::read_config;
-use log::{Log, info};
+use log::Log;
+use request_guard::Hosts;
 use std::fs;
 use std::io::{self, Read};
 use std::marker::Brand;
 use std::rt::Files;
-use usage_ledger::{Blanks, KeepNone};
-
-/// How many connections are served at once; a further one is closed.
-const MOST_CONNECTIONS: u32 = 1024;
+use usage_ledger::{Blanks, KeepNone, Ledgers, Tally};
 
 /// How many bytes of a configuration are read: the longest one, and one more.
 const MOST_READ: u64 = 20_000_001;
@@ -37,59 +37,93 @@ where
     Ok(Plan::check(rt.alloc(), setup)?)
 }
 
+/// What a service has counted: the counts of its history, and the shares of all its threads in one tally.
+#[derive(Drop)]
+pub struct Counted<L: Ledgers> {
+    /// The counts.
+    pub counts: Stats,
+    /// The shares.
+    pub tally: Tally<KeepNone, L>,
+}
+
 /// The counts of an account that was served, once what all its threads have counted is found to be what
-/// its history counts.
+/// its history counts, with the shares that show it.
 ///
 /// # Errors
 /// `Settlement` where it is not, else `OutOfMemory`.
-fn settled<S: Identity>(hosted: Hosted<S, KeepNone>) -> Result<Stats, ServeFault>
-    ensures { IfOk result (AreSettled S.config hosted.tallies.items) }
+fn settled<S: Identity>(hosted: Hosted<S, KeepNone>) -> Result<Counted<S>, ServeFault>
+    ensures { IfOk result (λ counted. IsSettled S.config counted.counts counted.tally) }
 {
     let Hosted { account, tallies } = hosted;
-    let Settled { stats, .. } = headline::settle(account, tallies)?;
-    Ok(stats)
+    let Settled { stats, tally, .. } = headline::settle(account, tallies)?;
+    Ok(Counted {
+        counts: stats,
+        tally,
+    })
 }
 
-/// Serves a plan until it is stopped, settles, and gives the account's counts: those that the tallies
-/// of all its threads add up to. `S` names the configuration, the salt, the ledgers and the history of
-/// the account.
+/// Serves a plan until it is stopped, settles, and gives the account's counts with the shares of all its
+/// threads, which add up to them: shares of the account's ledgers come from nowhere else. `S` names the
+/// configuration, the salt, the ledgers and the history of the account.
+fn serve_counted<R: Machine + Log, S: Identity + Drop + Send + Sync + 'static>(
+    rt: R,
+    plan: Plan,
+    patience: u32,
+    hosts: Hosts,
+    blanks: Blanks,
+) -> Result<Counted<S>, ServeFault>
+    requires configured { arc_value plan.config ≡ S.config }
+    requires salted { plan.salt ≡ S.salt }
+    requires named { blanks ≡ S.names }
+    ensures { IfOk result (λ counted. IsSettled (arc_value plan.config) counted.counts counted.tally) }
+{
+    let clock = UnixClock::new(rt);
+    let places = plan.places();
+    let host: Host<R, S, UnixClock<R>, KeepNone> = Host::open(
+        rt, plan, clock, hosts, places, patience, blanks,
+    )?;
+    let log = LogWriter::start(rt, host.notices()?)?;
+    let served = host.run();
+    log.finish(&rt);
+    settled(served?)
+}
+
+/// The same, and the counts alone.
 fn serve_plan<R: Machine + Log, S: Identity + Drop + Send + Sync + 'static>(
     rt: R,
     plan: Plan,
     patience: u32,
+    hosts: Hosts,
     blanks: Blanks,
 ) -> Result<Stats, ServeFault>
     requires configured { arc_value plan.config ≡ S.config }
     requires salted { plan.salt ≡ S.salt }
     requires named { blanks ≡ S.names }
-    ensures { IfOk result (λ counts. (tallies : List Tallied) × AreSettled (arc_value plan.config) tallies counts) }
+    ensures { IfOk result (λ counts. (tally : Tallied) × IsSettled (arc_value plan.config) counts tally) }
 {
-    let clock = UnixClock::new(rt);
-    let host: Host<R, S, UnixClock<R>, KeepNone> = Host::open(
-        rt,
-        plan,
-        clock,
-        MOST_CONNECTIONS,
-        patience,
-        blanks,
-    )?;
-    info!(rt; "listening");
-    let served = host.run();
-    info!(rt; "stopped");
-    settled(served?)
+    match serve_counted::<R, S>(rt, plan, patience, hosts, blanks) {
+        Ok(counted) => Ok(counted.counts),
+        Err(fault) => Err(fault),
+    }
 }
 
 /// Names the configuration, the salt, the ledgers and the history.
-fn serve_by_brand<R: Machine + Log>(rt: R, plan: Plan, patience: u32) -> Result<Stats, ServeFault>
-    ensures { IfOk result (λ counts. (tallies : List Tallied) × AreSettled (arc_value plan.config) tallies counts) }
+fn serve_by_brand<R: Machine + Log>(
+    rt: R,
+    plan: Plan,
+    patience: u32,
+    hosts: Hosts,
+) -> Result<Stats, ServeFault>
+    ensures { IfOk result (λ counts. (tally : Tallied) × IsSettled (arc_value plan.config) counts tally) }
 {
     let blanks = Blanks::new(rt.alloc()).map_err(|_fault| ServeFault::OutOfMemory)?;
-    serve_plan::<R, Brand>(rt, plan, patience, blanks)
+    serve_plan::<R, Brand>(rt, plan, patience, hosts, blanks)
 }
 
 /// Serves the configuration of a file until it is stopped, settles, and writes the account's counts
 /// on standard output. An Invoke that comes too early is held back for `patience` milliseconds at
-/// most ([`Host::open`]).
+/// most, and a request is refused that names a host which is neither local nor one of `hosts`
+/// ([`Host::open`]).
 ///
 /// # Errors
 /// As the fault says; nothing is then written on standard output.
@@ -97,15 +131,13 @@ pub fn serve<R: Machine + Log + Files + Print>(
     rt: R,
     path: &str,
     patience: u32,
+    hosts: Hosts,
 ) -> Result<(), ServeFault>
 where
     R::File: Read + Drop,
 {
     let plan = read_plan(&rt, path)?;
-    let stats = serve_by_brand(rt, plan, patience)?;
-    println!(rt;
-        "admitted {} throttled {} failed {}",
-        stats.admitted, stats.throttled, stats.failed
-    )
-    .map_err(|fault| ServeFault::at_output(&fault))
+    let counts = serve_by_brand(rt, plan, patience, hosts)?;
+    let line = ClosingLine { counts };
+    println!(rt; "{line}").map_err(|fault| ServeFault::at_output(&fault))
 }

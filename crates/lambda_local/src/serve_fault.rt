@@ -7,6 +7,7 @@ use account_lock::SettleFault;
 use arn_ids::ConfigFault;
 use http_front::HostFault;
 use lambda_wire::WireFault;
+use std::alloc::AllocError;
 use std::io;
 use thiserror::Error;
 
@@ -32,6 +33,9 @@ pub enum ServeFault {
     /// A port is taken, or listening failed.
     #[error("network: failed")]
     Network,
+    /// The process may not open enough descriptors for the ports and one connection.
+    #[error("network: too few descriptors (ulimit -n)")]
+    TooFewDescriptors,
     /// There was no memory.
     #[error("out of memory")]
     OutOfMemory,
@@ -46,8 +50,11 @@ impl ServeFault {
         match self {
             ServeFault::Config(_) | ServeFault::Wire(_) => 2,
             ServeFault::Settlement(_) => 3,
-            ServeFault::Read | ServeFault::Write | ServeFault::Network | ServeFault::OutOfMemory =>
-                4,
+            ServeFault::Read
+            | ServeFault::Write
+            | ServeFault::Network
+            | ServeFault::TooFewDescriptors
+            | ServeFault::OutOfMemory => 4,
         }
     }
 
@@ -65,6 +72,17 @@ impl ServeFault {
             io::ErrorKind::OutOfMemory => ServeFault::OutOfMemory,
             _ => ServeFault::Write,
         }
+    }
+}
+
+impl From<AllocError> for ServeFault {
+    ghost use Rattle.std.specs.Prelude.{◌≡◌};
+    ghost use Rattle.lambda_local.specs.declared.serve_fault.ServeFault.TheVariants.{OutOfMemory};
+
+    ghost from_gives = { λ _ made. made ≡ OutOfMemory };
+
+    fn from(_refused: AllocError) -> ServeFault {
+        ServeFault::OutOfMemory
     }
 }
 
@@ -92,6 +110,7 @@ impl From<HostFault> for ServeFault {
         match fault {
             HostFault::Config(fault) => ServeFault::Config(fault),
             HostFault::Network => ServeFault::Network,
+            HostFault::TooFewDescriptors => ServeFault::TooFewDescriptors,
             // What a thread that never ended holds is missing from the account.
             HostFault::StillShared => ServeFault::Settlement(SettleFault::TallyMissing),
             HostFault::OutOfMemory => ServeFault::OutOfMemory,

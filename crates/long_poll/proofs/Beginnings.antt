@@ -1,5 +1,6 @@
 -- What an exchange gives, from where it stands.
-use Rattle.std.proofs.Common.{ℕ, List, Result, Ok, Err, IfOk, inl, inr}
+use Rattle.std.proofs.lemmas.List.{length-replicate}
+use Rattle.std.proofs.Common.{◌≡◌, ℕ, suc, ◌<◌, List, length, replicate, Option, Result, Ok, Err, IfOk, MatchResult, inl, inr, arith}
 use Rattle.call_types.specs.declared.call.Call.{Call}
 use Rattle.call_types.specs.declared.call.Entry.{Entry}
 use Rattle.futures.specs.Poll.{IfReady, OnPending}
@@ -9,19 +10,24 @@ use Rattle.futures.specs.declared.task.Poll.TheVariants.{Ready, Pending}
 use Rattle.http_body.specs.declared.frame.Frame.{Frame}
 use Rattle.decisions.specs.declared.decide.Decision.TheVariants as decision
 use Rattle.http.specs.declared.request.Parts.{Parts}
+use Rattle.lambda_wire.specs.declared.reply.Reply.{Reply}
 use Rattle.long_poll.specs.Bodies.{Collects}
-use Rattle.long_poll.specs.Exchanges.{Awaits, Decides, Exchanges, IsBegun, HasBegun, shown}
+use Rattle.arn_ids.specs.Limits.{longest_body}
+use Rattle.long_poll.specs.Exchanges.{Awaits, ComesOfCall, Decides, Exchanges, IsOfBody, IsBegun, IsHeld, HasBegun, shown}
+use Rattle.long_poll.specs.Outcomes.{IsHistoryOf, ShowsFrom}
 use Rattle.long_poll.specs.Stages.{GivesFrom, StartsFrom}
 use Rattle.long_poll.specs.declared.bell.Heard.{Heard}
 use Rattle.long_poll.specs.declared.clock.Clock as Clock
 use Rattle.long_poll.specs.declared.connection.Begun.{Begun}
-use Rattle.long_poll.specs.declared.connection.Begun.TheVariants.{Replied, AsksForHistory, Parked}
+use Rattle.long_poll.specs.declared.connection.Begun.TheVariants.{Replied, Dozes, AsksForHistory, Parked}
 use Rattle.long_poll.specs.declared.connection.Connection.{Connection}
+use Rattle.long_poll.specs.declared.connection.Dozing.{Dozing}
 use Rattle.decisions.specs.declared.decide.Decide as Decide
 use Rattle.long_poll.specs.declared.exchange.Stage.{Stage}
-use Rattle.long_poll.specs.declared.exchange.Stage.TheVariants.{Collecting, Waiting}
+use Rattle.long_poll.specs.declared.exchange.Stage.TheVariants.{Collecting, Holding, Submitting, Waiting}
 use Rattle.long_poll.specs.declared.fault.ExchangeFault.{ExchangeFault}
 use Rattle.long_poll.specs.declared.fault.ExchangeFault.TheVariants.{BodyFailed, OutOfMemory, BellLost}
+use Rattle.long_poll.specs.declared.history_body.HistoryBody.{HistoryBody}
 use Rattle.long_poll.specs.declared.outcome.Outcome.{Outcome}
 use Rattle.long_poll.specs.declared.outcome.Outcome.TheVariants as outcome
 use Rattle.long_poll.specs.declared.service.Service as Service
@@ -42,6 +48,35 @@ pub if_ok : {X Y : Type 0} {P Q : X → Type 0} (r : Result X Y) → ((x : X) �
 if_ok (Ok x) f h = f x h
 if_ok (Err e) f h = tt
 
+-- what is so of a body, and what follows of it
+pub of_body : {P E : Type 0} (reads : P → List ℕ → Type 0) (source : Runs (Result (Frame P) E)) (head : Parts) (held : List ℕ)
+    (is other : List ℕ → Type 0) → ((body : List ℕ) → is body → other body)
+    → IsOfBody reads source head held is → IsOfBody reads source head held other
+of_body reads source head held is other f (inl (body, read, h)) = inl (body, read, f body h)
+of_body reads source head held is other f (inr (declared, h)) = inr (declared, λ body long. f body (h body long))
+
+-- and what was so of a body of which more was held
+pub of_later : {P E : Type 0} (reads : P → List ℕ → Type 0) (new old : Runs (Result (Frame P) E)) (head : Parts) (later held : List ℕ)
+    (is : List ℕ → Type 0)
+    → ((r : Result (List ℕ) ExchangeFault) → Collects reads new later r → Collects reads old held r)
+    → IsOfBody reads new head later is → IsOfBody reads old head held is
+of_later reads new old head later held is same (inl (body, read, h)) = inl (body, same (Ok body) read, h)
+of_later reads new old head later held is same (inr h) = inr h
+
+-- there are bodies that are longer than any length
+some_longer : {Q : Type 0} (most : ℕ) → ((body : List ℕ) → most < length body → Q) → Q
+some_longer most f =
+    let zero_byte : ℕ = 0 in
+    let same : length (replicate (suc most) zero_byte) ≡ suc most = length-replicate (suc most) zero_byte in
+    f (replicate (suc most) zero_byte) (omega (arith, same))
+
+-- what is so of every body
+pub whatever_body : {P E : Type 0} (reads : P → List ℕ → Type 0) (source : Runs (Result (Frame P) E)) (head : Parts)
+    (held : List ℕ) (is : List ℕ → Type 0) {Q : Type 0} → ((body : List ℕ) → is body → Q)
+    → IsOfBody reads source head held is → Q
+whatever_body reads source head held is f (inl (body, read, h)) = f body h
+whatever_body reads source head held is f (inr (declared, h)) = some_longer longest_body (λ body long. f body (h body long))
+
 module _ {R S D N K L : Type 0} {service : Service.Ghosts S K L} {decider : Decide.Ghosts D} {keep : Keep.Ghosts K}
     (connection : Connection R S D N K L service decider keep) (clock : Clock.Ghosts N) where
   -- a call was submitted, as was decided
@@ -49,18 +84,19 @@ module _ {R S D N K L : Type 0} {service : Service.Ghosts S K L} {decider : Deci
       → Decides connection head body (decision.Submit call)
       → (begun : Begun L) → IsBegun connection clock call begun → HasBegun connection clock head body begun
   begun_submitted head body call made (Replied reply) h = (decision.Submit call, made, inr h)
-  begun_submitted head body call made AsksForHistory h = absurd h
+  begun_submitted head body call made (Dozes held) h = (rw h.0 made, h.1)
+  begun_submitted head body call made (AsksForHistory from) h = absurd h
   begun_submitted head body call made (Parked ticket heard front) h = (call, made, h)
 
   module _ {B P E : Type 0} (yields : B → Runs (Result (Frame P) E)) (reads : P → List ℕ → Type 0)
-      {H : Type 0} (shows : H → Type 0) where
+      {H : Type 0} (shows : Option ℕ → H → Type 0) where
     -- what comes of a later body may come of this one
     pub exchanges_later : (parts : Parts) (new old : B) (later held : List ℕ)
         → ((r : Result (List ℕ) ExchangeFault) → Collects reads (yields new) later r → Collects reads (yields old) held r)
         → (r : Result (Outcome H) ExchangeFault) → Exchanges connection clock shows reads (yields new) parts later r
         → Exchanges connection clock shows reads (yields old) parts held r
-    exchanges_later parts new old later held same (Ok answer) h = (h.0, same (Ok h.0) h.1, h.2)
-    exchanges_later parts new old later held same (Err BellLost) h = (h.0, same (Ok h.0) h.1, h.2)
+    exchanges_later parts new old later held same (Ok answer) h = of_later reads (yields new) (yields old) parts later held _ same h
+    exchanges_later parts new old later held same (Err BellLost) h = of_later reads (yields new) (yields old) parts later held _ same h
     exchanges_later parts new old later held same (Err OutOfMemory) h = tt
     exchanges_later parts new old later held same (Err BodyFailed) h = same (Err BodyFailed) h
 
@@ -70,10 +106,82 @@ module _ {R S D N K L : Type 0} {service : Service.Ghosts S K L} {decider : Deci
         → (r : Result (Outcome H) ExchangeFault) → Awaits (shown connection seen) ticket r
         → GivesFrom connection clock yields reads shows stage r
     gives_answer (Collecting parts collecting) ticket heard seen h (Ok (outcome.Reply reply)) rendered =
-        (h.0, h.1, (decision.Submit h.2.0, h.2.1, inl (ticket, seen, h.2.2.0, rendered)))
+        of_body reads (yields collecting.body) parts collecting.held _ _
+        (λ body b. (decision.Submit b.0, b.1, inl (ticket, seen, b.2.0, rendered))) h
     gives_answer (Collecting parts collecting) ticket heard seen h (Ok (outcome.History body)) rendered = absurd rendered
     gives_answer (Collecting parts collecting) ticket heard seen h (Err BellLost) rendered =
-        (h.0, h.1, (h.2.0, h.2.1, (ticket, heard, seen, h.2.2, rendered)))
+        of_body reads (yields collecting.body) parts collecting.held _ _
+        (λ body b. (b.0, b.1, (ticket, heard, seen, b.2, rendered))) h
     gives_answer (Collecting parts collecting) ticket heard seen h (Err OutOfMemory) rendered = tt
     gives_answer (Collecting parts collecting) ticket heard seen h (Err BodyFailed) rendered = absurd rendered
+    gives_answer (Holding held) ticket heard seen h (Ok (outcome.Reply reply)) rendered = inl (ticket, seen, h.0, rendered)
+    gives_answer (Holding held) ticket heard seen h (Ok (outcome.History body)) rendered = absurd rendered
+    gives_answer (Holding held) ticket heard seen h (Err BellLost) rendered = (ticket, heard, seen, h, rendered)
+    gives_answer (Holding held) ticket heard seen h (Err OutOfMemory) rendered = tt
+    gives_answer (Holding held) ticket heard seen h (Err BodyFailed) rendered = absurd rendered
+    gives_answer Submitting ticket heard seen h r rendered = absurd h
     gives_answer (Waiting t heard' front) ticket heard seen h r rendered = absurd h
+
+    -- it has its reply
+    pub gives_reply : (stage : Stage B L) (reply : Reply)
+        → StartsFrom connection clock yields reads stage (Ok (Replied reply))
+        → GivesFrom connection clock yields reads shows stage (Ok (outcome.Reply reply))
+    gives_reply (Collecting parts collecting) reply h = h
+    gives_reply (Holding held) reply h = inr h
+    gives_reply Submitting reply h = absurd h
+    gives_reply (Waiting t heard front) reply h = absurd h
+
+    -- it has none
+    pub gives_fault : (stage : Stage B L) (fault : ExchangeFault)
+        → StartsFrom connection clock yields reads stage (Err fault)
+        → GivesFrom connection clock yields reads shows stage (Err fault)
+    gives_fault (Collecting parts collecting) BodyFailed h = h
+    gives_fault (Collecting parts collecting) OutOfMemory h = tt
+    gives_fault (Collecting parts collecting) BellLost h = absurd h
+    gives_fault (Holding held) BodyFailed h = absurd h
+    gives_fault (Holding held) OutOfMemory h = tt
+    gives_fault (Holding held) BellLost h = absurd h
+    gives_fault Submitting fault h = absurd h
+    gives_fault (Waiting t heard front) fault h = absurd h
+
+    -- its call is held back, and this came of it in the end
+    pub gives_held : (stage : Stage B L) (held : Dozing)
+        → StartsFrom connection clock yields reads stage (Ok (Dozes held))
+        → (r : Result (Outcome H) ExchangeFault) → ComesOfCall connection clock held.call r
+        → GivesFrom connection clock yields reads shows stage r
+    gives_held (Collecting parts collecting) held h (Ok (outcome.Reply reply)) came =
+        of_body reads (yields collecting.body) parts collecting.held _ _
+        (λ body b. (decision.Submit held.call, b.0, came)) h
+    gives_held (Collecting parts collecting) held h (Ok (outcome.History body)) came = absurd came
+    gives_held (Collecting parts collecting) held h (Err BellLost) came =
+        of_body reads (yields collecting.body) parts collecting.held _ _ (λ body b. (held.call, b.0, came)) h
+    gives_held (Collecting parts collecting) held h (Err OutOfMemory) came = tt
+    gives_held (Collecting parts collecting) held h (Err BodyFailed) came = absurd came
+    gives_held (Holding before) held h r came = rw (← h.0) came
+    gives_held Submitting held h r came = absurd h
+    gives_held (Waiting t heard front) held h r came = absurd h
+
+  module _ {B P E : Type 0} (yields : B → Runs (Result (Frame P) E)) (reads : P → List ℕ → Type 0) where
+    -- a call that is held back can be submitted
+    pub holds_held : (stage : Stage B L) (held : Dozing)
+        → StartsFrom connection clock yields reads stage (Ok (Dozes held)) → IsHeld connection held
+    holds_held (Collecting parts collecting) held h =
+        whatever_body reads (yields collecting.body) parts collecting.held _ (λ body b. b.1) h
+    holds_held (Holding before) held h = h.1
+    holds_held Submitting held h = absurd h
+    holds_held (Waiting t heard front) held h = absurd h
+
+  module _ {B P E : Type 0} (yields : B → Runs (Result (Frame P) E)) (reads : P → List ℕ → Type 0) (s : S) where
+    -- it asks for the history, and this shows it
+    pub gives_history : (stage : Stage B L) (from : Option ℕ)
+        → StartsFrom connection clock yields reads stage (Ok (AsksForHistory from))
+        → (r : Result (Outcome (HistoryBody R S K L)) ExchangeFault)
+        → MatchResult r (IsHistoryOf s from) (λ fault. fault ≡ OutOfMemory)
+        → GivesFrom connection clock yields reads (ShowsFrom s) stage r
+    gives_history (Collecting parts collecting) from h (Ok (outcome.Reply reply)) is = absurd is
+    gives_history (Collecting parts collecting) from h (Ok (outcome.History body)) is =
+        of_body reads (yields collecting.body) parts collecting.held _ _ (λ body b. (from, b, is)) h
+    gives_history (Collecting parts collecting) from h (Err fault) is = rw is tt
+    gives_history (Holding held) from h r is = absurd h
+    gives_history Submitting from h r is = absurd h
+    gives_history (Waiting t heard front) from h r is = absurd h

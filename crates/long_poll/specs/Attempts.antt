@@ -1,5 +1,5 @@
 -- What came of an attempt to submit a call.
-use Rattle.std.specs.Prelude.{◌≡◌}
+use Rattle.std.specs.Prelude.{◌≡◌, ◌<◌, ℕ}
 use Rattle.call_types.specs.declared.call.Call.{Call}
 use Rattle.decisions.specs.declared.decide.Decide as Decide
 use Rattle.long_poll.specs.Exchanges.{SubmittedWith}
@@ -7,9 +7,23 @@ use Rattle.long_poll.specs.declared.bell.OneShotBell.{OneShotBell}
 use Rattle.long_poll.specs.declared.clock.Clock as Clock
 use Rattle.long_poll.specs.declared.connection.Attempt.{Attempt}
 use Rattle.long_poll.specs.declared.connection.Attempt.TheVariants.{Made, HeldBack}
+use Rattle.long_poll.specs.declared.connection.Begun.{Begun}
+use Rattle.long_poll.specs.declared.connection.Begun.TheVariants.{Replied, Dozes, AsksForHistory, Parked}
 use Rattle.long_poll.specs.declared.connection.Connection.{Connection}
 use Rattle.long_poll.specs.declared.service.Service as Service
 use Rattle.usage_ledger.specs.declared.keep.Keep as Keep
+
+-- It comes back only where it may be held back still.
+abbrev pub IsPatient : {L : Type 0} → ℕ → Attempt L → Type 0
+IsPatient left (Made back) = Unit {0}
+IsPatient left (HeldBack call bell) = 0 < left
+
+-- Where it is held back again, that is for a shorter time than before.
+abbrev pub IsNearer : {L : Type 0} → ℕ → Begun L → Type 0
+IsNearer left (Replied reply) = Unit {0}
+IsNearer left (Dozes held) = held.left < left
+IsNearer left (AsksForHistory from) = Unit {0}
+IsNearer left (Parked ticket heard front) = Unit {0}
 
 module _ {R S D N K L : Type 0} {service : Service.Ghosts S K L} {decider : Decide.Ghosts D}
     {keep : Keep.Ghosts K} (connection : Connection R S D N K L service decider keep)

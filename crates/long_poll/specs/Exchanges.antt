@@ -1,7 +1,9 @@
 -- What an exchange may give.
-use Rattle.std.specs.Prelude.{◌≡◌, ◌⊎◌, ℕ, List, Option, Some, None, Result, Ok, Err}
+use Rattle.std.specs.Prelude.{◌≡◌, ◌≤◌, ◌<◌, ◌⊎◌, ℕ, true, List, length, Option, Some, None, Result, Ok, Err}
 use Rattle.std.specs.Arc.{arc_value}
+use Rattle.arn_ids.specs.Limits.{longest_body}
 use Rattle.account_lock.specs.declared.desk.Refused.{Refused}
+use Rattle.call_types.specs.Within.{IsWithin}
 use Rattle.call_types.specs.declared.call.Call.{Call}
 use Rattle.call_types.specs.declared.call.Entry.{Entry}
 use Rattle.futures.specs.Runs.{Runs}
@@ -10,6 +12,7 @@ use Rattle.http_body.specs.declared.frame.Frame.{Frame}
 use Rattle.lambda_wire.specs.declared.reply.Reply.{Reply}
 use Rattle.usage_ledger.specs.Tallies.{Held}
 use Rattle.long_poll.specs.Bodies.{Reads, Fails}
+use Rattle.long_poll.specs.Lengths.{declares_too_long}
 use Rattle.long_poll.specs.Moments.{moment_of}
 use Rattle.long_poll.specs.Offers.{CameBack}
 use Rattle.long_poll.specs.Ringing.{rings_at, hears_at}
@@ -20,8 +23,9 @@ use Rattle.long_poll.specs.declared.bell.Heard.{Heard}
 use Rattle.long_poll.specs.declared.bell.OneShotBell.{OneShotBell}
 use Rattle.long_poll.specs.declared.clock.Clock as Clock
 use Rattle.long_poll.specs.declared.connection.Begun.{Begun}
-use Rattle.long_poll.specs.declared.connection.Begun.TheVariants.{Replied, AsksForHistory, Parked}
+use Rattle.long_poll.specs.declared.connection.Begun.TheVariants.{Replied, Dozes, AsksForHistory, Parked}
 use Rattle.long_poll.specs.declared.connection.Connection.{Connection}
+use Rattle.long_poll.specs.declared.connection.Dozing.{Dozing}
 use Rattle.decisions.specs.declared.decide.Decide as Decide
 use Rattle.decisions.specs.declared.decide.Decision.{Decision}
 use Rattle.decisions.specs.declared.decide.Decision.TheVariants as decision
@@ -53,6 +57,14 @@ Awaits renders ticket (Ok (outcome.Reply reply)) = Renders renders ticket (Ok re
 Awaits renders ticket (Ok (outcome.History body)) = ⊥
 Awaits renders ticket (Err fault) = Renders renders ticket (Err fault)
 
+-- It is so of what was read of a body of which this is held already; or, where the head declares a body that is too
+-- long, of each body that is, and nothing is read of it.
+abbrev pub IsOfBody : {P E : Type 0} → (P → List ℕ → Type 0) → Runs (Result (Frame P) E) → Parts → List ℕ
+    → (List ℕ → Type 0) → Type 0
+IsOfBody reads source head held is =
+    ((body : List ℕ) × Reads reads source held body × is body)
+    ⊎ ((declares_too_long head ≡ true) × ((body : List ℕ) → longest_body < length body → is body))
+
 -- Of a connection: its account, its clock and who decides its requests, each by the relations of its trait.
 module _ {R S D N K L : Type 0} {service : Service.Ghosts S K L} {decider : Decide.Ghosts D}
     {keep : Keep.Ghosts K} (connection : Connection R S D N K L service decider keep) where
@@ -60,6 +72,12 @@ module _ {R S D N K L : Type 0} {service : Service.Ghosts S K L} {decider : Deci
   abbrev pub shown : List Entry → ℕ → Option Reply → Type 0
   shown seen ticket reply =
       (then : List Entry) × service.renders (arc_value connection.service) seen ticket reply then
+
+  -- A call that is held back is one that its account takes, and its bell can be heard. Each pause takes some time.
+  abbrev pub IsHeld : Dozing → Type 0
+  IsHeld held =
+      IsWithin (service.serves (arc_value connection.service)) held.call
+      × (rings_at held.bell ≡ hears_at held.heard) × (1 ≤ held.pause)
 
   -- What is decided of a request with this head and this body.
   abbrev pub Decides : Parts → List ℕ → Decision → Type 0
@@ -70,7 +88,7 @@ module _ {R S D N K L : Type 0} {service : Service.Ghosts S K L} {decider : Deci
   abbrev pub IsView : Shown → Reply → Type 0
   IsView Stats reply =
       (stats : _) × service.counts (arc_value connection.service) stats × (reply ≡ stats_reply stats)
-  IsView History reply = ⊥
+  IsView (History from) reply = ⊥
   IsView (Reservation f) reply =
       (count : Option ℕ) × service.reserves (arc_value connection.service) f count
       × (reply ≡ reservation_reply count)
@@ -114,10 +132,12 @@ module _ {R S D N K L : Type 0} {service : Service.Ghosts S K L} {decider : Deci
         (ticket : ℕ) × (heard : Heard) × (seen : List Entry) × IsParked call ticket heard seen
         × shown seen ticket None
 
-    -- A call was submitted: it was refused and has its reply, or it has its ticket.
+    -- A call was submitted: it was refused and has its reply, or it has its ticket. Or it is this very call that is
+    -- held back.
     abbrev pub IsBegun : Call → Begun L → Type 0
     IsBegun call (Replied reply) = IsRefusal call reply
-    IsBegun call AsksForHistory = ⊥
+    IsBegun call (Dozes held) = (held.call ≡ call) × IsHeld held
+    IsBegun call (AsksForHistory from) = ⊥
     IsBegun call (Parked ticket heard front) = IsParked call ticket heard front
 
     -- The reply to a request, by what is done with it.
@@ -129,31 +149,40 @@ module _ {R S D N K L : Type 0} {service : Service.Ghosts S K L} {decider : Deci
     -- What a request with this head and this body has come to.
     abbrev pub HasBegun : Parts → List ℕ → Begun L → Type 0
     HasBegun head body (Replied reply) = (made : Decision) × Decides head body made × IsReply made reply
-    HasBegun head body AsksForHistory = Decides head body (decision.Show History)
+    HasBegun head body (Dozes held) = Decides head body (decision.Submit held.call) × IsHeld held
+    HasBegun head body (AsksForHistory from) = Decides head body (decision.Show (History from))
     HasBegun head body (Parked ticket heard front) =
         (call : Call) × Decides head body (decision.Submit call) × IsParked call ticket heard front
 
-    module _ {H : Type 0} (shows : H → Type 0) where
+    -- What comes of a call once it was held back: it is submitted.
+    abbrev pub ComesOfCall : {H : Type 0} → Call → Result (Outcome H) ExchangeFault → Type 0
+    ComesOfCall call (Ok (outcome.Reply reply)) = IsRendered call (Some reply) ⊎ IsRefusal call reply
+    ComesOfCall call (Ok (outcome.History shown)) = ⊥
+    ComesOfCall call (Err BellLost) = IsLost call
+    ComesOfCall call (Err OutOfMemory) = Unit {0}
+    ComesOfCall call (Err BodyFailed) = ⊥
+
+    module _ {H : Type 0} (shows : Option ℕ → H → Type 0) where
       -- What comes of a request with this head and this body: a reply, or, where the history is asked for, a
-      -- body that shows it. The fault of a lost bell comes only where its call was submitted and nothing is
-      -- rendered at the ticket; that the bell was heard before is said of no bell.
+      -- body that shows it from where it is asked for. The fault of a lost bell comes only where its call was
+      -- submitted and nothing is rendered at the ticket; that the bell was heard before is said of no bell.
       abbrev pub ComesOf : Parts → List ℕ → Result (Outcome H) ExchangeFault → Type 0
       ComesOf head body (Ok (outcome.Reply reply)) =
           (made : Decision) × Decides head body made × IsReply made reply
       ComesOf head body (Ok (outcome.History shown)) =
-          Decides head body (decision.Show History) × shows shown
+          (from : Option ℕ) × Decides head body (decision.Show (History from)) × shows from shown
       ComesOf head body (Err BellLost) =
           (call : Call) × Decides head body (decision.Submit call) × IsLost call
       ComesOf head body (Err OutOfMemory) = Unit {0}
       ComesOf head body (Err BodyFailed) = ⊥
 
       -- What comes of a request with this head, and with a body of which this is held already: the body
-      -- failed, or it is what comes of the head and of what was read of the body.
+      -- failed, or it is what comes of the head and of the body.
       abbrev pub Exchanges : {P E : Type 0} → (P → List ℕ → Type 0) → Runs (Result (Frame P) E) → Parts
           → List ℕ → Result (Outcome H) ExchangeFault → Type 0
       Exchanges reads source head held (Err BodyFailed) = Fails source
       Exchanges reads source head held (Err OutOfMemory) = Unit {0}
       Exchanges reads source head held (Err BellLost) =
-          (body : List ℕ) × Reads reads source held body × ComesOf head body (Err BellLost)
+          IsOfBody reads source head held (λ body. ComesOf head body (Err BellLost))
       Exchanges reads source head held (Ok answer) =
-          (body : List ℕ) × Reads reads source held body × ComesOf head body (Ok answer)
+          IsOfBody reads source head held (λ body. ComesOf head body (Ok answer))

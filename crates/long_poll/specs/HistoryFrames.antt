@@ -8,6 +8,11 @@ use Rattle.long_poll.specs.declared.history_body.Stage.{Stage}
 use Rattle.long_poll.specs.declared.history_body.Stage.TheVariants.{Opening, Entry, Ended}
 use Rattle.long_poll.specs.declared.service.Service as Service
 
+-- the stage that a body begins at: the whole history with its opening, a part of it with the entry of a ticket
+abbrev pub first_stage : Option ℕ → Stage
+first_stage None = Opening
+first_stage (Some ticket) = Entry ticket
+
 -- the stage behind a frame, or behind a failure
 abbrev pub behind : {A E : Type 0} → Stage → Result A E → Stage
 behind Opening (Ok frame) = Entry 0
@@ -35,9 +40,10 @@ module _ {S K L E : Type 0} (service : Service.Ghosts S K L) (s : S) where
   Answers seen (Entry t) (Some (Err e)) then = ⊤
   Answers seen Ended next then = next ≡ None
 
-  -- The frames from a stage on, and one more answer: the opening, then the text of each ticket in its turn,
-  -- from ticket 0 on, to the first that has none. Each is of the history as it was then, which goes on where
-  -- the one ends that was seen before. A failure is the last.
+  -- The frames from a stage on, and one more answer. From the opening on: the opening, and then the frames from
+  -- ticket 0 on. From a ticket on: the text of each ticket in its turn, that one first, to the first that has none.
+  -- Each is of the history as it was then, which goes on where the one ends that was seen before. A failure is the
+  -- last.
   abbrev pub Frames : List Taken → Stage → Runs (Result (Frame (List ℕ)) E)
   Frames seen stage [] next = (then : List Taken) × Answers seen stage next then
   Frames seen stage (frame ∷ frames) next =

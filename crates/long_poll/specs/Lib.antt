@@ -3,6 +3,7 @@ pub mod Attempts
 pub mod Bodies
 pub mod Exchanges
 pub mod HistoryFrames
+pub mod Lengths
 pub mod Moments
 pub mod Offers
 pub mod Outcomes

@@ -1,16 +1,16 @@
 -- The body that shows a history.
-use Rattle.std.specs.Prelude.{◌≡◌}
+use Rattle.std.specs.Prelude.{◌≡◌, ℕ, Option}
 use Rattle.std.specs.Arc.{arc_value}
+use Rattle.long_poll.specs.HistoryFrames.{first_stage}
 use Rattle.long_poll.specs.declared.history_body.HistoryBody.{HistoryBody}
 use Rattle.long_poll.specs.declared.outcome.Outcome.{Outcome}
 use Rattle.long_poll.specs.declared.outcome.Outcome.TheVariants.{Reply, History}
-use Rattle.long_poll.specs.declared.history_body.Stage.TheVariants.{Opening}
 
--- it shows a service's history from its beginning
-abbrev pub ShowsAllOf : {R S K L : Type 0} → S → HistoryBody R S K L → Type 0
-ShowsAllOf s body = (arc_value body.service ≡ s) × (body.stage ≡ Opening)
+-- it shows a service's history, from the entry of a ticket on, or from its beginning where none is named
+abbrev pub ShowsFrom : {R S K L : Type 0} → S → Option ℕ → HistoryBody R S K L → Type 0
+ShowsFrom s from body = (arc_value body.service ≡ s) × (body.stage ≡ first_stage from)
 
 -- the outcome is such a body
-abbrev pub IsHistoryOf : {R S K L : Type 0} → S → Outcome (HistoryBody R S K L) → Type 0
-IsHistoryOf s (Reply reply) = ⊥
-IsHistoryOf s (History body) = ShowsAllOf s body
+abbrev pub IsHistoryOf : {R S K L : Type 0} → S → Option ℕ → Outcome (HistoryBody R S K L) → Type 0
+IsHistoryOf s from (Reply reply) = ⊥
+IsHistoryOf s from (History body) = ShowsFrom s from body

@@ -1,58 +1,81 @@
 -- Where an exchange stands, and what it may give from there.
-use Rattle.std.specs.Prelude.{◌≡◌, ℕ, List, Result, Ok, Err}
+use Rattle.std.specs.Prelude.{◌≡◌, ℕ, List, Option, Result, Ok, Err}
 use Rattle.futures.specs.Runs.{Runs}
 use Rattle.http_body.specs.declared.frame.Frame.{Frame}
-use Rattle.long_poll.specs.Bodies.{Reads, Fails}
-use Rattle.long_poll.specs.Exchanges.{Exchanges, HasBegun, Awaits, shown}
+use Rattle.long_poll.specs.Bodies.{Fails}
+use Rattle.long_poll.specs.Exchanges.{Exchanges, IsOfBody, ComesOfCall, IsBegun, HasBegun, Awaits, shown}
 use Rattle.long_poll.specs.Ringing.{hears_at}
 use Rattle.long_poll.specs.declared.clock.Clock as Clock
 use Rattle.long_poll.specs.declared.connection.Begun.{Begun}
 use Rattle.long_poll.specs.declared.connection.Connection.{Connection}
+use Rattle.long_poll.specs.declared.connection.Dozing.{Dozing}
 use Rattle.decisions.specs.declared.decide.Decide as Decide
 use Rattle.long_poll.specs.declared.exchange.Stage.{Stage}
-use Rattle.long_poll.specs.declared.exchange.Stage.TheVariants.{Collecting, Waiting}
+use Rattle.long_poll.specs.declared.exchange.Stage.TheVariants.{Collecting, Holding, Submitting, Waiting}
 use Rattle.long_poll.specs.declared.fault.ExchangeFault.{ExchangeFault}
 use Rattle.long_poll.specs.declared.fault.ExchangeFault.TheVariants.{BodyFailed, OutOfMemory, BellLost}
 use Rattle.long_poll.specs.declared.outcome.Outcome.{Outcome}
 use Rattle.long_poll.specs.declared.service.Service as Service
 use Rattle.usage_ledger.specs.declared.keep.Keep as Keep
 
--- its body is being collected, and can be polled
-abbrev pub IsCollecting : {B L : Type 0} → (B → Type 0) → Stage B L → Type 0
-IsCollecting can_poll (Collecting parts collecting) = can_poll collecting.body
-IsCollecting can_poll (Waiting ticket heard front) = ⊥
+-- its body is being collected, or its call is held back, and it can be polled
+abbrev pub IsStarting : {B L : Type 0} → (Dozing → Type 0) → (B → Type 0) → Stage B L → Type 0
+IsStarting is_held can_poll (Collecting parts collecting) = can_poll collecting.body
+IsStarting is_held can_poll (Holding held) = is_held held
+IsStarting is_held can_poll Submitting = ⊥
+IsStarting is_held can_poll (Waiting ticket heard front) = ⊥
+
+-- its call is held back
+abbrev pub IsHolding : {B L : Type 0} → (Dozing → Type 0) → Stage B L → Type 0
+IsHolding is_held (Collecting parts collecting) = ⊥
+IsHolding is_held (Holding held) = is_held held
+IsHolding is_held Submitting = ⊥
+IsHolding is_held (Waiting ticket heard front) = ⊥
 
 -- its answer is awaited
 abbrev pub IsWaiting : {B L : Type 0} → Stage B L → Type 0
 IsWaiting (Collecting parts collecting) = ⊥
+IsWaiting (Holding held) = ⊥
+IsWaiting Submitting = ⊥
 IsWaiting (Waiting ticket heard front) = Unit {0}
 
 -- it can be polled
-abbrev pub CanGoOn : {B L : Type 0} → (B → Type 0) → Stage B L → Type 0
-CanGoOn can_poll (Collecting parts collecting) = can_poll collecting.body
-CanGoOn can_poll (Waiting ticket heard front) = Unit {0}
+abbrev pub CanGoOn : {B L : Type 0} → (Dozing → Type 0) → (B → Type 0) → Stage B L → Type 0
+CanGoOn is_held can_poll (Collecting parts collecting) = can_poll collecting.body
+CanGoOn is_held can_poll (Holding held) = is_held held
+CanGoOn is_held can_poll Submitting = ⊥
+CanGoOn is_held can_poll (Waiting ticket heard front) = Unit {0}
 
--- the sources that it waits for: those of its body, or that of its bell
+-- The sources that it waits for: those of its body, or that of its bell. While its call is held back it waits for none,
+-- and asks to be polled again.
 abbrev pub WaitsFor : {B L : Type 0} → (B → ℕ → Type 0) → Stage B L → ℕ → Type 0
 WaitsFor needs (Collecting parts collecting) source = needs collecting.body source
+WaitsFor needs (Holding held) source = ⊥
+WaitsFor needs Submitting source = ⊥
 WaitsFor needs (Waiting ticket heard front) source = source ≡ hears_at heard
 
 module _ {R S D N K L : Type 0} {service : Service.Ghosts S K L} {decider : Decide.Ghosts D}
     {keep : Keep.Ghosts K} (connection : Connection R S D N K L service decider keep)
     (clock : Clock.Ghosts N) {B P E : Type 0}
     (yields : B → Runs (Result (Frame P) E)) (reads : P → List ℕ → Type 0) where
-  -- What it may give, where these bodies show the history.
-  abbrev pub GivesFrom : {H : Type 0} → (H → Type 0) → Stage B L → Result (Outcome H) ExchangeFault → Type 0
+  -- What it may give, where these bodies show the history, each from where it is asked for.
+  abbrev pub GivesFrom : {H : Type 0} → (Option ℕ → H → Type 0) → Stage B L → Result (Outcome H) ExchangeFault → Type 0
   GivesFrom shows (Collecting parts collecting) =
       Exchanges connection clock shows reads (yields collecting.body) parts collecting.held
+  GivesFrom shows (Holding held) = ComesOfCall connection clock held.call
+  GivesFrom shows Submitting = λ r. ⊥
   GivesFrom shows (Waiting ticket heard front) = Awaits (shown connection front) ticket
 
-  -- What it has come to once its body was collected.
+  -- What it has come to once its body was collected, or its call was held back for another pause.
   abbrev pub StartsFrom : Stage B L → Result (Begun L) ExchangeFault → Type 0
   StartsFrom (Collecting parts collecting) (Ok begun) =
-      (body : List ℕ) × Reads reads (yields collecting.body) collecting.held body
-      × HasBegun connection clock parts body begun
+      IsOfBody reads (yields collecting.body) parts collecting.held (λ body. HasBegun connection clock parts body begun)
   StartsFrom (Collecting parts collecting) (Err BodyFailed) = Fails (yields collecting.body)
   StartsFrom (Collecting parts collecting) (Err OutOfMemory) = Unit {0}
   StartsFrom (Collecting parts collecting) (Err BellLost) = ⊥
+  StartsFrom (Holding held) (Ok begun) = IsBegun connection clock held.call begun
+  StartsFrom (Holding held) (Err BodyFailed) = ⊥
+  StartsFrom (Holding held) (Err OutOfMemory) = Unit {0}
+  StartsFrom (Holding held) (Err BellLost) = ⊥
+  StartsFrom Submitting begun = ⊥
   StartsFrom (Waiting ticket heard front) begun = ⊥

@@ -4,10 +4,12 @@ use Rattle.std.specs.Arc.{arc_value}
 use Rattle.decisions.specs.declared.decide.Decide as Decide
 use Rattle.futures.specs.Runs.{Runs}
 use Rattle.http_body.specs.declared.frame.Frame.{Frame}
-use Rattle.long_poll.specs.Outcomes.{ShowsAllOf}
+use Rattle.long_poll.specs.Exchanges.{IsHeld}
+use Rattle.long_poll.specs.Outcomes.{ShowsFrom}
 use Rattle.long_poll.specs.Stages.{GivesFrom, StartsFrom}
 use Rattle.long_poll.specs.declared.clock.Clock as Clock
 use Rattle.long_poll.specs.declared.connection.Begun.{Begun}
+use Rattle.long_poll.specs.declared.connection.Dozing.{Dozing}
 use Rattle.long_poll.specs.declared.exchange.Exchange.{Exchange}
 use Rattle.long_poll.specs.declared.fault.ExchangeFault.{ExchangeFault}
 use Rattle.long_poll.specs.declared.history_body.HistoryBody.{HistoryBody}
@@ -15,14 +17,19 @@ use Rattle.long_poll.specs.declared.outcome.Outcome.{Outcome}
 use Rattle.long_poll.specs.declared.service.Service as Service
 use Rattle.usage_ledger.specs.declared.keep.Keep as Keep
 
+-- A call that an exchange holds back is one that its account takes, and its bell can be heard.
+abbrev pub Holds : {R S D N B K L : Type 0} {service : Service.Ghosts S K L} {decider : Decide.Ghosts D}
+    {keep : Keep.Ghosts K} → Exchange R S D N B K L service decider keep → Dozing → Type 0
+Holds exchange held = IsHeld (arc_value exchange.connection) held
+
 module _ {R S D N B K L P E : Type 0} {service : Service.Ghosts S K L} {decider : Decide.Ghosts D}
     {keep : Keep.Ghosts K} (clock : Clock.Ghosts N) (yields : B → Runs (Result (Frame P) E))
     (reads : P → List ℕ → Type 0) (exchange : Exchange R S D N B K L service decider keep) where
-  -- What it may give: a reply, a body that shows its account's whole history, or a fault.
+  -- What it may give: a reply, a body that shows its account's history from where it is asked for, or a fault.
   abbrev pub Gives : Result (Outcome (HistoryBody R S K L)) ExchangeFault → Type 0
   Gives = GivesFrom (arc_value exchange.connection) clock yields reads
-      (ShowsAllOf (arc_value (arc_value exchange.connection).service)) exchange.stage
+      (ShowsFrom (arc_value (arc_value exchange.connection).service)) exchange.stage
 
-  -- What it has come to once its body was collected.
+  -- What it has come to once its body was collected, or its call was held back for another pause.
   abbrev pub Starts : Result (Begun L) ExchangeFault → Type 0
   Starts = StartsFrom (arc_value exchange.connection) clock yields reads exchange.stage

@@ -5,7 +5,8 @@ ghost use Rattle.long_poll.specs.Moments.{moment_of};
 
 use arn_ids::GREATEST_MOMENT;
 
-/// A clock: Unix milliseconds in the server.
+/// A clock: Unix milliseconds in the server. What it reads never goes back. It may fall behind the time of
+/// day, as while the machine sleeps, and be set forward then.
 pub trait Clock {
     /// What it may read. A clock that says nothing more may read anything.
     ghost reads: { Self → ℕ → Type 0 } = { λ _ _. Unit {0} };
@@ -13,6 +14,17 @@ pub trait Clock {
     /// Reads it, in milliseconds.
     fn now(&self) -> u64
         ensures { reads self.now result };
+
+    /// By how many milliseconds the time of day is ahead of what it reads; 0 if it is not ahead, or if the
+    /// clock knows no time of day.
+    fn lag(&self) -> u64 {
+        0
+    }
+
+    /// Sets it forward by a number of milliseconds.
+    fn set_forward(&self, by: u64) {
+        let _ = by;
+    }
 }
 
 /// The moment of a call that is submitted now: what the clock reads, and 2^53 - 1 where it reads

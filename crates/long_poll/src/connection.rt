@@ -1,8 +1,11 @@
 //! What the exchanges of one connection share.
 
-ghost use Rattle.std.specs.Prelude.{◌≡◌, ◌≤◌, IfOk, IfErr};
+ghost use Rattle.std.specs.Prelude.{◌≡◌, ◌≤◌, ◌<◌, ℕ, List, length, IfOk, IfErr};
 ghost use Rattle.std.specs.Arc.{arc_value};
+ghost use Rattle.arn_ids.specs.Limits.{longest_body};
 ghost use Rattle.call_types.specs.Within.{IsWithin};
+ghost use Rattle.decisions.specs.Decisions.{IsAllowed};
+ghost use Rattle.http.specs.declared.request.Parts.{Parts as Head};
 ghost use Rattle.futures.specs.Task.{Covers, Keeps};
 ghost use Rattle.futures.specs.Poll.{IfReady, OnPending};
 
@@ -51,13 +54,31 @@ pub struct Connection<R, S: Service<K, L>, D: Decide, N, K: Keep, L: Ledgers> {
     ghost agree: { S.serves (arc_value service) ≡ D.decides_for (arc_value decider) },
 }
 
+/// A call that is held back as it is premature, with its bell and what hears it. Between two looks
+/// whether it still is, the thread *sleeps* for a pause, at most 8 ms, and then lets its connection go on
+/// once: only then are a signal to stop and the connection's own state seen. (The timers of the kit's
+/// reactor round up to a millisecond; the first pauses are far shorter.)
+#[derive(Drop)]
+pub(crate) struct Dozing {
+    call: Call,
+    bell: OneShotBell,
+    heard: Heard,
+    // For how long it may still be held back, and how long the next pause is, in microseconds.
+    left: u64,
+    pause: u64,
+}
+
 /// What a request has come to.
 #[derive(Drop)]
 pub(crate) enum Begun<L: Ledgers> {
     /// It has its reply.
     Replied(Reply),
-    /// It asks for the history.
-    AsksForHistory,
+    /// Its call is premature and held back; a pause has passed.
+    Dozes(Dozing),
+    /// It asks for the history: from the entry of a ticket on, or whole.
+    AsksForHistory {
+        from: Option<Ticket>,
+    },
     /// Its call was submitted, and something is heard once its ticket is answered. The front has seen
     /// the history up to the call.
     Parked {
@@ -92,15 +113,15 @@ impl<
     K: Keep,
     L: Ledgers,
 > Connection<R, S, D, N, K, L> {
-    ghost use Rattle.long_poll.specs.Attempts.{IsAttempt};
-    ghost use Rattle.long_poll.specs.Exchanges.{SubmittedWith, IsBegun, HasBegun};
+    ghost use Rattle.long_poll.specs.Attempts.{IsAttempt, IsPatient, IsNearer};
+    ghost use Rattle.long_poll.specs.Exchanges.{SubmittedWith, IsHeld, IsBegun, HasBegun, Decides};
     ghost use Rattle.long_poll.specs.Exchanges.{Renders, RendersOnce, shown};
-    ghost use Rattle.long_poll.specs.Outcomes.{ShowsAllOf};
+    ghost use Rattle.long_poll.specs.Outcomes.{ShowsFrom};
     ghost use Rattle.long_poll.specs.Pending.{KeepsTo};
 
     /// A connection to this account, whose requests are decided for the same configuration. For one
     /// submit at a time its tally is locked, and then the account. A call that is premature is held
-    /// back for `patience` milliseconds at most, in which the connection's thread sleeps.
+    /// back for `patience` milliseconds at most, in which the connection's thread sleeps, pause by pause.
     pub fn new(
         rt: R,
         alloc: Global,
@@ -167,52 +188,71 @@ impl<
         }
     }
 
-    /// Submits a call with its bell: once it is not premature, or when it was held back for as long as
-    /// the connection's patience goes. No lock is held meanwhile.
-    fn submit_in_patience(
-        &self,
-        call: Call,
-        bell: OneShotBell,
-    ) -> Result<(Ticket, Front<L>), Refused<OneShotBell>>
+    /// Submits a call with its bell, unless it is premature and may be held back for so many
+    /// microseconds.
+    fn attempt_within(&self, left: u64, call: Call, bell: OneShotBell) -> Attempt<L>
         requires { IsWithin (S.serves (arc_value self.now.service)) call }
-        ensures { SubmittedWith self.now N.Clock bell call result }
+        ensures attempt { IsAttempt self.now N.Clock bell call result }
+        ensures patience { IsPatient left result }
     {
-        let mut call = call;
-        let mut bell = bell;
-        let mut left = u64::from(self.patience) * 1_000;
-        let mut pause = FIRST_PAUSE;
-        while left > 0 {
-            match self.attempt(call, bell) {
-                Attempt::Made(back) => return back,
-                Attempt::HeldBack(held, its_bell) => {
-                    call = held;
-                    bell = its_bell;
-                }
-            }
-            let now = left.min(pause);
-            thread::sleep(&self.rt, Duration::from_micros(now));
-            left -= now;
-            pause = next_pause(pause);
+        if left == 0 {
+            return Attempt::Made(self.submit_at_reading(call, bell));
         }
-        self.submit_at_reading(call, bell)
+        self.attempt(call, bell)
     }
 
-    /// Submits a call with a bell of its own. A Next is noted as open.
+    /// Submits a call with a bell of its own, or holds it back.
     fn submit(&self, call: Call) -> Result<Begun<L>, ExchangeFault>
         requires { IsWithin (S.serves (arc_value self.now.service)) call }
         ensures ok { IfOk result (IsBegun self.now N.Clock call) }
         ensures err { IfErr result (λ fault. fault ≡ ExchangeFault.OutOfMemory) }
     {
         let (bell, heard) = OneShotBell::pair(self.alloc)?;
+        self.submit_held(Dozing {
+            call,
+            bell,
+            heard,
+            left: u64::from(self.patience) * 1_000,
+            pause: FIRST_PAUSE,
+        })
+    }
+
+    /// Submits a call that was held back with its bell: once it is not premature, or when it was held
+    /// back for as long as the connection's patience goes. Else a pause passes, in which no lock is held.
+    /// A Next is noted as open.
+    pub(crate) fn submit_held(&self, held: Dozing) -> Result<Begun<L>, ExchangeFault>
+        requires { IsHeld self.now held }
+        ensures ok { IfOk result (IsBegun self.now N.Clock held.call) }
+        ensures nearer { IfOk result (IsNearer held.left) }
+        ensures err { IfErr result (λ fault. fault ≡ ExchangeFault.OutOfMemory) }
+    {
+        let Dozing {
+            call,
+            bell,
+            heard,
+            left,
+            pause,
+        } = held;
         let is_next = matches!(call, Call::RuntimeNext { .. } | Call::ExtNext { .. });
         let is_invoke = call.is_invoke();
-        match self.submit_in_patience(call, bell) {
-            Err(refused) => Ok(Begun::Replied(refusal_reply(
+        match self.attempt_within(left, call, bell) {
+            Attempt::HeldBack(call, bell) => {
+                let now = left.min(pause);
+                thread::sleep(&self.rt, Duration::from_micros(now));
+                Ok(Begun::Dozes(Dozing {
+                    call,
+                    bell,
+                    heard,
+                    left: left - now,
+                    pause: next_pause(pause),
+                }))
+            }
+            Attempt::Made(Err(refused)) => Ok(Begun::Replied(refusal_reply(
                 self.alloc,
                 is_invoke,
                 refused.refusal,
             )?)),
-            Ok((ticket, front)) => {
+            Attempt::Made(Ok((ticket, front))) => {
                 if is_next {
                     self.open.note(ticket);
                 }
@@ -233,13 +273,31 @@ impl<
         let mut scratch = self.scratch.take();
         let decided = self.decider.decide(self.alloc, &mut scratch, parts, body);
         self.scratch.set(scratch);
-        match decided? {
+        self.carry_out(decided?)
+    }
+
+    /// Decides a request whose body is too long, which isn't read, and does what is decided.
+    pub(crate) fn begin_too_long(&self, parts: &Parts) -> Result<Begun<L>, ExchangeFault>
+        ensures ok { IfOk result (λ begun. (body : List ℕ) → longest_body < length body → HasBegun self.now N.Clock parts.now body begun) }
+        ensures err { IfErr result (λ fault. fault ≡ ExchangeFault.OutOfMemory) }
+    {
+        let decided = self.decider.decide_too_long(self.alloc, parts);
+        self.carry_out(decided?)
+    }
+
+    /// Does what was decided of a request.
+    fn carry_out(&self, decision: Decision) -> Result<Begun<L>, ExchangeFault>
+        requires { IsAllowed (S.serves (arc_value self.now.service)) decision }
+        ensures ok { IfOk result (λ begun. (head : Head) → (body : List ℕ) → Decides self.now head body decision → HasBegun self.now N.Clock head body begun) }
+        ensures err { IfErr result (λ fault. fault ≡ ExchangeFault.OutOfMemory) }
+    {
+        match decision {
             Decision::Reply(reply) => Ok(Begun::Replied(reply)),
             Decision::Show(Shown::Stats) => {
                 let stats = self.service.stats(&self.rt);
                 Ok(Begun::Replied(stats_reply(self.alloc, stats)?))
             }
-            Decision::Show(Shown::History) => Ok(Begun::AsksForHistory),
+            Decision::Show(Shown::History { from }) => Ok(Begun::AsksForHistory { from }),
             Decision::Show(Shown::Reservation { function }) => {
                 let count = self.service.reservation(&self.rt, function);
                 Ok(Begun::Replied(reservation_reply(self.alloc, count)?))
@@ -248,12 +306,15 @@ impl<
         }
     }
 
-    /// The account's whole history.
-    pub(crate) fn history(&self) -> Result<HistoryBody<R, S, K, L>, AllocError>
-        ensures { IfOk result (ShowsAllOf (arc_value self.now.service)) }
+    /// The account's history: from the entry of a ticket on, or whole.
+    pub(crate) fn history(
+        &self,
+        from: Option<Ticket>,
+    ) -> Result<HistoryBody<R, S, K, L>, AllocError>
+        ensures { IfOk result (ShowsFrom (arc_value self.now.service) from) }
     {
         let service = Arc::try_clone(&self.service)?;
-        Ok(HistoryBody::new(self.rt, service))
+        Ok(HistoryBody::new(self.rt, service, from))
     }
 
     /// Renders the answer of a ticket. The note of a Next is taken back.

@@ -10,8 +10,9 @@ ghost use Rattle.long_poll.specs.declared.exchange.Stage.TheVariants as stage;
 ghost use Rattle.long_poll.specs.declared.fault.ExchangeFault.TheVariants.{OutOfMemory};
 
 use crate::collecting::Collecting;
-use crate::connection::{Begun, Connection};
+use crate::connection::{Begun, Connection, Dozing};
 use crate::history_body::HistoryBody;
+use crate::lengths::declares_too_long;
 use crate::{Clock, ExchangeFault, Heard, Outcome, Service};
 use bytes::Bytes;
 use call_model::Ticket;
@@ -22,7 +23,7 @@ use futures::task::{Context, Poll};
 use http::request::Parts;
 use http_body::Body;
 use std::sync::{Arc, Wait};
-use std::time;
+use std::{mem, time};
 use usage_ledger::{Front, Keep, Ledgers};
 
 /// Where an exchange stands.
@@ -33,6 +34,10 @@ enum Stage<B, L: Ledgers> {
         parts: Parts,
         body: Collecting<B>,
     },
+    /// The call is premature and held back: each poll looks once, and sleeps for a pause where it still is.
+    Holding(Dozing),
+    /// The call that was held back is being looked at, within one poll.
+    Submitting,
     /// The call was submitted, and its answer is awaited. The front has seen the history up to the call.
     Waiting {
         ticket: Ticket,
@@ -41,8 +46,8 @@ enum Stage<B, L: Ledgers> {
     },
 }
 
-/// One request: its body is collected, it is decided, its call is submitted, its answer awaited and
-/// rendered; or it is answered what is shown without a call.
+/// One request: its body is collected, it is decided, its call is held back while it is premature, and
+/// submitted, its answer awaited and rendered; or it is answered what is shown without a call.
 #[derive(Drop)]
 pub struct Exchange<R, S: Service<K, L>, D: Decide, N, B, K: Keep, L: Ledgers> {
     connection: Arc<Connection<R, S, D, N, K, L>>,
@@ -61,8 +66,8 @@ impl<
 where
     B::Data: Into<Bytes>,
 {
-    ghost use Rattle.long_poll.specs.Stages.{IsCollecting, IsWaiting, WaitsFor};
-    ghost use Rattle.long_poll.specs.Standing.{Starts};
+    ghost use Rattle.long_poll.specs.Stages.{IsStarting, IsHolding, IsWaiting, WaitsFor};
+    ghost use Rattle.long_poll.specs.Standing.{Holds, Starts};
 
     /// The exchange of a request with this head and this body. It takes no memory.
     pub fn new(
@@ -81,18 +86,36 @@ where
         }
     }
 
-    /// Collects the body; then the request is decided, and its call submitted.
+    /// Looks once more at the call that is held back.
+    fn look_again(&mut self) -> Result<Begun<L>, ExchangeFault>
+        requires { IsHolding (Holds self.old) self.old.stage }
+        ensures value { Starts N.Clock B.yields B.Data.converts self.old result }
+        ensures connection { self.new.connection ≡ self.old.connection }
+    {
+        match mem::replace(&mut self.stage, Stage::Submitting) {
+            Stage::Holding(held) => self.connection.submit_held(held),
+            _ => unreachable!(),
+        }
+    }
+
+    /// Collects the body; then the request is decided, and its call submitted. A body that is declared to be
+    /// too long isn't asked for, so that a client which waits for `100 Continue` doesn't send it (RFC 9110,
+    /// section 10.1.1). Or looks once more at the call that is held back.
     fn poll_start(&mut self, cx: &mut Context<'_>) -> Poll<Result<Begun<L>, ExchangeFault>>
-        requires { IsCollecting B.can_poll self.old.stage }
+        requires { IsStarting (Holds self.old) B.can_poll self.old.stage }
         ensures value { IfReady result (Starts N.Clock B.yields B.Data.converts self.old) }
-        ensures again { OnPending result (IsCollecting B.can_poll self.new.stage) }
+        ensures again { OnPending result (IsStarting (Holds self.new) B.can_poll self.new.stage) }
         ensures same { OnPending result (KeepsTo ⟦<Self as Future>⟧.gives self.old self.new) }
         ensures registered { OnPending result (Covers cx.new (WaitsFor B.needs self.new.stage)) }
         ensures kept { Keeps cx.old cx.new }
         ensures connection { self.new.connection ≡ self.old.connection }
     {
         match &mut self.stage {
-            Stage::Waiting { .. } => unreachable!(),
+            Stage::Waiting { .. } | Stage::Submitting => unreachable!(),
+            Stage::Holding(_) => Poll::Ready(self.look_again()),
+            Stage::Collecting { parts, .. } if declares_too_long(parts) => {
+                Poll::Ready(self.connection.begin_too_long(parts))
+            }
             Stage::Collecting { parts, body } => match body.poll(cx) {
                 Poll::Pending => Poll::Pending,
                 Poll::Ready(Err(fault)) => Poll::Ready(Err(fault)),
@@ -113,12 +136,16 @@ where
         };
     }
 
-    /// The account's whole history.
-    fn history(&self) -> Result<Outcome<HistoryBody<R, S, K, L>>, ExchangeFault>
-        ensures { MatchResult result (IsHistoryOf (arc_value (arc_value self.now.connection).service))
+    /// The account's history: from the entry of a ticket on, or whole.
+    fn history(
+        &self,
+        from: Option<Ticket>,
+    ) -> Result<Outcome<HistoryBody<R, S, K, L>>, ExchangeFault>
+        ensures { MatchResult result
+            (IsHistoryOf (arc_value (arc_value self.now.connection).service) from)
             (λ fault. fault ≡ OutOfMemory) }
     {
-        Ok(Outcome::History(self.connection.history()?))
+        Ok(Outcome::History(self.connection.history(from)?))
     }
 
     /// Waits for the answer, and renders it.
@@ -134,7 +161,7 @@ where
         ensures kept { Keeps cx.old cx.new }
     {
         match &mut self.stage {
-            Stage::Collecting { .. } => unreachable!(),
+            Stage::Collecting { .. } | Stage::Holding(_) | Stage::Submitting => unreachable!(),
             Stage::Waiting {
                 ticket,
                 heard,
@@ -161,11 +188,11 @@ where
     B::Data: Into<Bytes>,
 {
     ghost use Rattle.long_poll.specs.Stages.{CanGoOn, WaitsFor};
-    ghost use Rattle.long_poll.specs.Standing.{Gives};
+    ghost use Rattle.long_poll.specs.Standing.{Holds, Gives};
 
     type Output = Result<Outcome<HistoryBody<R, S, K, L>>, ExchangeFault>;
 
-    ghost can_poll = { λ exchange. CanGoOn B.can_poll exchange.stage };
+    ghost can_poll = { λ exchange. CanGoOn (Holds exchange) B.can_poll exchange.stage };
 
     ghost needs = { λ exchange. WaitsFor B.needs exchange.stage };
 
@@ -178,7 +205,11 @@ where
         match ready!(self.poll_start(cx)) {
             Err(fault) => Poll::Ready(Err(fault)),
             Ok(Begun::Replied(reply)) => Poll::Ready(Ok(Outcome::Reply(reply))),
-            Ok(Begun::AsksForHistory) => Poll::Ready(self.history()),
+            Ok(Begun::Dozes(held)) => {
+                self.stage = Stage::Holding(held);
+                cx.yield_now()
+            }
+            Ok(Begun::AsksForHistory { from }) => Poll::Ready(self.history(from)),
             Ok(
                 Begun::Parked {
                     ticket,

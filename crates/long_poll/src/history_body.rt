@@ -2,7 +2,7 @@
 
 ghost use Rattle.std.specs.Prelude.{◌≡◌, IfOk, IfSome, Some};
 ghost use Rattle.std.specs.Arc.{arc_value};
-ghost use Rattle.long_poll.specs.HistoryFrames.{Answers, behind, answer_of};
+ghost use Rattle.long_poll.specs.HistoryFrames.{Answers, behind, answer_of, first_stage};
 
 use crate::Service;
 use bytes::Bytes;
@@ -25,6 +25,16 @@ enum Stage {
     Ended,
 }
 
+/// Which text a history begins with that is shown from a ticket on, or whole.
+fn stage_from(from: Option<Ticket>) -> Stage
+    ensures { result ≡ first_stage from }
+{
+    match from {
+        None => Stage::Opening,
+        Some(ticket) => Stage::Entry(ticket),
+    }
+}
+
 /// Bytes as a piece of a body, with no copy of them.
 fn piece(bytes: Vec<u8>) -> Result<Bytes, AllocError>
     ensures { IfOk result (λ piece. piece ≡ bytes.items) }
@@ -33,8 +43,9 @@ fn piece(bytes: Vec<u8>) -> Result<Bytes, AllocError>
 }
 
 /// The text of a history, streamed: its opening, then the text of each entry, from ticket 0 to the
-/// first that there is none of, all of one history. Each is a frame of its own, and no more than one is
-/// in memory. Want of memory ends the body with an error.
+/// first that there is none of; or, from a ticket on, the texts of those entries alone. All are of one
+/// history. Each is a frame of its own, and no more than one is in memory. Want of memory ends the body
+/// with an error.
 #[derive(Drop)]
 pub struct HistoryBody<R, S, K: Keep, L: Ledgers> {
     rt: R,
@@ -45,16 +56,17 @@ pub struct HistoryBody<R, S, K: Keep, L: Ledgers> {
 }
 
 impl<R: Wait + Drop, S: Service<K, L>, K: Keep, L: Ledgers> HistoryBody<R, S, K, L> {
-    /// The whole history of a service. It takes no memory.
-    pub fn new(rt: R, service: Arc<S>) -> HistoryBody<R, S, K, L>
-        ensures stands { (result.service ≡ service) × (result.stage ≡ Stage.Opening) }
+    /// The history of a service: from the entry of a ticket on, or the whole where none is named. Past
+    /// the last entry it is empty. It takes no memory.
+    pub fn new(rt: R, service: Arc<S>, from: Option<Ticket>) -> HistoryBody<R, S, K, L>
+        ensures stands { (result.service ≡ service) × (result.stage ≡ first_stage from) }
         ensures seen { S.shows (arc_value service) result.front }
     {
         let front = service.front(&rt);
         HistoryBody {
             rt,
             service,
-            stage: Stage::Opening,
+            stage: stage_from(from),
             front,
             of: PhantomData,
         }

@@ -7,7 +7,7 @@ use lambda_wire::Reply;
 pub enum Outcome<H> {
     /// This reply.
     Reply(Reply),
-    /// The text of the account's history (this service's own), with the headers of
-    /// [`crate::history_headers`].
+    /// The text of the account's history (this service's own), whole or from an entry on, with the
+    /// headers of [`crate::history_headers`].
     History(H),
 }

@@ -67,6 +67,7 @@ impl<R: Machine> Stage<R> {
         match part.word() {
             "places" | "patience" | "holds-back" => self.set_terms(part),
             "moment" => self.set_moment(part),
+            "day" => self.set_day(part),
             "serves" => self.serve(part, given),
             "opens" => self.open(part, given),
             "asks" => self.ask(part, given),

@@ -25,11 +25,12 @@ use std::thread::JoinHandle;
 const READING_CASES: &str = "sockets/readings.txt";
 
 /// The files of checks that take no long time.
-const QUICK_CHECKS: [&str; 7] = [
+const QUICK_CHECKS: [&str; 8] = [
     "sockets/calls.txt",
     "sockets/words.txt",
     "sockets/identifiers.txt",
     "sockets/departures.txt",
+    "sockets/guards.txt",
     "sockets/bodies.txt",
     "sockets/hosts.txt",
     "sockets/history.txt",

@@ -9,6 +9,7 @@ use case_tables::{CaseFault, Part};
 use http_front::{Host, HostFault, Hosted, Machine, Plan};
 use lambda_wire::read_config;
 use long_poll::{Clock, OneShotBell};
+use request_guard::Hosts;
 use socket_peers::{Progress, number};
 use std::alloc::{AllocError, Global};
 use std::marker::Brand;
@@ -22,7 +23,7 @@ use usage_ledger::{Blanks, Keep, KeepAll, Ledgers, Tally};
 /// How many connections a service has at once, unless a step says otherwise.
 const PLACES: u32 = 64;
 
-/// A clock that a check sets, in milliseconds.
+/// A clock that a check sets, in milliseconds, and a time of day that it sets too.
 #[derive(Drop)]
 struct SetClock {
     board: Arc<Board>,
@@ -32,12 +33,21 @@ impl Clock for SetClock {
     fn now(&self) -> u64 {
         self.board.moment.load(SeqCst)
     }
+
+    fn lag(&self) -> u64 {
+        self.board.day.load(SeqCst).saturating_sub(self.now())
+    }
+
+    fn set_forward(&self, by: u64) {
+        self.board.moment.fetch_add(by, SeqCst);
+    }
 }
 
 /// What a check and its service tell each other.
 #[derive(Drop)]
 pub struct Board {
     pub moment: AtomicU64,
+    pub day: AtomicU64,
     listens: AtomicBool,
     has_ended: AtomicBool,
 }
@@ -47,6 +57,7 @@ impl Board {
     fn at(alloc: Global, moment: u64) -> Result<Arc<Board>, AllocError> {
         let board = Board {
             moment: AtomicU64::new(moment),
+            day: AtomicU64::new(0),
             listens: AtomicBool::new(false),
             has_ended: AtomicBool::new(false),
         };
@@ -189,6 +200,7 @@ fn run<R: Machine, S: Identity + Drop + Send + Sync + 'static>(
         rt,
         plan,
         clock,
+        Hosts::none(rt.alloc()),
         terms.places,
         terms.patience,
         blanks,

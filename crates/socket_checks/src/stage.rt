@@ -123,6 +123,15 @@ impl<R: Machine> Stage<R> {
         Ok(Progress::On)
     }
 
+    /// Sets the time of day of the service's machine.
+    pub fn set_day(&mut self, part: &Part) -> Result<Progress, CaseFault> {
+        let day = u64::from(number(part, part.arguments())?);
+        if let Some(server) = &self.server {
+            server.board.day.store(day, SeqCst);
+        }
+        Ok(Progress::On)
+    }
+
     /// Starts a service on the ports of this stage, and waits until it listens or has come to its end.
     fn start(&mut self, text: &str, taken: Option<&str>) -> Result<Server, CaseFault> {
         let order = Order {

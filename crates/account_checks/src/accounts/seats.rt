@@ -80,7 +80,9 @@ fn replace_second<K: Keep, L: Ledgers>(
 }
 
 /// The counts of what is settled.
-fn counted(settled: Result<Settled, SettleFault>) -> Result<(Stats, u64), SettleFault> {
+fn counted<K: Keep, L: Ledgers>(
+    settled: Result<Settled<K, L>, SettleFault>,
+) -> Result<(Stats, u64), SettleFault> {
     match settled {
         Ok(settled) => Ok((settled.stats, settled.book.len())),
         Err(fault) => Err(fault),

@@ -62,20 +62,22 @@ enum Asked {
     Response,
     Withdraw,
     Stats,
-    History,
+    History(Option<Ticket>),
     Reservation,
     Echo,
     Length,
 }
 
 /// What paths ask for; any other path asks how long the body is.
-const PATHS: [(&str, Asked); 8] = [
+const PATHS: [(&str, Asked); 10] = [
     ("/next", Asked::Next),
     ("/invoke", Asked::Invoke),
     ("/response", Asked::Response),
     ("/withdraw", Asked::Withdraw),
     ("/stats", Asked::Stats),
-    ("/history", Asked::History),
+    ("/history", Asked::History(None)),
+    ("/history/1", Asked::History(Some(1))),
+    ("/history/9", Asked::History(Some(9))),
     ("/reservation", Asked::Reservation),
     ("/echo", Asked::Echo),
 ];
@@ -185,10 +187,14 @@ impl<S: Identity> Decide for Rows<S> {
             Asked::Response => self.call(alloc, body, true),
             Asked::Withdraw => Ok(Decision::Submit(Call::Withdraw { ticket: 0 })),
             Asked::Stats => Ok(Decision::Show(Shown::Stats)),
-            Asked::History => Ok(Decision::Show(Shown::History)),
+            Asked::History(from) => Ok(Decision::Show(Shown::History { from })),
             Asked::Reservation => Ok(Decision::Show(Shown::Reservation { function: 1 })),
             Asked::Echo => self.replied(echo_of(alloc, body)),
             Asked::Length => self.replied(length_of(alloc, body)),
         }
+    }
+
+    fn decide_too_long(&self, alloc: Global, _parts: &Parts) -> Result<Decision, AllocError> {
+        self.replied(fault_reply(alloc, 413, "too large", "TooLarge"))
     }
 }

@@ -3,6 +3,7 @@
 ghost use Rattle.std.specs.Prelude.{◌≡◌, ⊤, IfOk};
 ghost use Rattle.std.specs.Arc.{arc_value};
 ghost use Rattle.long_poll.specs.Stages.{CanGoOn};
+ghost use Rattle.long_poll.specs.Standing.{Holds};
 
 use crate::exchanges::asks::{Pieces, ask_in, three_in};
 use crate::exchanges::outcomes::{
@@ -156,7 +157,7 @@ impl<
         text: &str,
         open: &Arc<OpenPoll>,
     ) -> Result<Exchange<R, X, Rows<S>, At, Pieces, KeepNone, S>, CaseFault>
-        ensures { IfOk result (λ exchange. CanGoOn (λ _. ⊤) exchange.stage) }
+        ensures { IfOk result (λ exchange. CanGoOn (Holds exchange) (λ _. ⊤) exchange.stage) }
     {
         let ask = ask_in(self.alloc, line, text)?;
         match self.connection(ask.at, open) {

@@ -6,7 +6,7 @@ ghost use Rattle.call_model.specs.CallCounts.{request_count};
 use crate::routes::port::Door;
 use arn_ids::Checked;
 use bytes::Bytes;
-use call_model::{Answers, Call, Entry};
+use call_model::{Answers, Call, Entry, Ticket};
 use case_tables::Given;
 use entry_blocks::Blocks;
 use http::request::Parts;
@@ -107,11 +107,20 @@ fn push_refusal(reply: &Reply, given: &mut Given) {
     given.push_bytes(reply.body.as_slice());
 }
 
+/// Adds that the history is shown, and from which ticket on.
+fn push_history(from: Option<Ticket>, given: &mut Given) {
+    given.push("show history");
+    if let Some(ticket) = from {
+        given.push(" from ");
+        given.print(&ticket);
+    }
+}
+
 /// Adds what is shown.
 fn push_shown(shown: Shown, given: &mut Given) {
     match shown {
         Shown::Stats => given.push("show stats"),
-        Shown::History => given.push("show history"),
+        Shown::History { from } => push_history(from, given),
         Shown::Reservation { function } => {
             given.push("show reservation ");
             given.print(&function);

@@ -1,4 +1,4 @@
-use Rattle.std.proofs.Common.{◌∙◌, ◌++◌, true, sym, ap, arith}
+use Rattle.std.proofs.Common.{◌∙◌, ◌++◌, sym, ap, arith}
 use Rattle.std.proofs.lemmas.List.{append-nil}
 use Rattle.account_lock.specs.Bells.{are_rising}
 use Rattle.account_lock.proofs.Searching.{found, absent, others_rise}

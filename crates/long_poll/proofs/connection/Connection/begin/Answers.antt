@@ -1,9 +1,7 @@
 use Rattle.std.proofs.Common.{rules}
-use Rattle.long_poll.proofs.Beginnings.{if_ok, begun_submitted}
+use Rattle.long_poll.proofs.Beginnings.{if_ok}
 use Rattle.long_poll.proofs.connection.Connection.begin.Goals as goal
 
-pub returns-in-Submit-clause-ok : goal.returns-in-Submit-clause-ok
-returns-in-Submit-clause-ok g c =
-    if_ok c.submit.result
-    (begun_submitted c.args.self.now g.N.Clock c.args.parts.now c.args.body.now c.in-Submit.call (search rules))
-    c.submit.ensures.ok
+pub returns-clause-ok : goal.returns-clause-ok
+returns-clause-ok g c =
+    if_ok c.carry_out.result (λ begun h. h c.args.parts.now c.args.body.now (search rules)) c.carry_out.ensures.ok

@@ -1,0 +1,39 @@
+-- Which newcomers have a place, and which connection makes room for one.
+use Rattle.std.specs.Prelude.{ℕ, ◌+◌, Bool, true, false, nat_lt, if◌then◌else◌, fold, Option, Some, None, List}
+use Rattle.http_connection.specs.declared.limits.PortKind.{PortKind}
+use Rattle.http_connection.specs.declared.limits.PortKind.TheVariants.{Account, Environment}
+use Rattle.connection_places.specs.Looks.{is_of_environment, spare_looks, reserve_of, better}
+use Rattle.connection_places.specs.declared.running.Running.{Running}
+use Rattle.connection_places.specs.declared.slots.Slot.{Slot}
+
+-- how far a search for the one that makes room has come, and the best so far
+pub record Search : Type 0 where
+  pub at : ℕ
+  pub best : Option (ℕ × ℕ)
+
+-- for how many looks the connection of a place has been without a complete request, if it may make room
+abbrev pub spare_of : Option Running → Option ℕ
+spare_of None = None
+spare_of (Some running) = spare_looks running.seen
+
+-- whether the connection of a place is at an environment's port
+abbrev pub is_for_environment : Option Running → Bool
+is_for_environment None = false
+is_for_environment (Some running) = is_of_environment running.seen.kind
+
+module _ {Y V : Type 0} where
+  abbrev pub searched : Search → Slot Y V → Search
+  searched search slot = record { at = search.at + 1; best = better search.best search.at (spare_of slot.running) }
+
+  -- Of these places, in their order: the first of those whose connections have been longest without a complete request.
+  abbrev pub best_of : List (Slot Y V) → Option (ℕ × ℕ)
+  best_of slots = (fold searched (record { at = 0; best = None }) slots).best
+
+  -- how many of these places have a connection at an environment's port
+  abbrev pub count_of_environments : List (Slot Y V) → ℕ
+  count_of_environments slots = fold (λ count slot. if is_for_environment slot.running then count + 1 else count) 0 slots
+
+  -- A newcomer at such a port may have a place of so many: at an environment's one that is not kept for the account's.
+  abbrev pub admits : ℕ → PortKind → List (Slot Y V) → Bool
+  admits most Account slots = true
+  admits most Environment slots = nat_lt (count_of_environments slots + reserve_of most) most

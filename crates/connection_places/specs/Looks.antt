@@ -1,0 +1,57 @@
+-- What is seen of connections at one look a second, and what follows from it.
+use Rattle.std.specs.Prelude.{ℕ, ◌+◌, ◌-◌, ◌/◌, ◌^◌, ◌==◌, min, Bool, true, false, ◌&&◌, nat_lt, if◌then◌else◌, Option, Some, None}
+use Rattle.http_connection.specs.Pulses.{is_unserved, is_between, is_same, is_in_stage_of}
+use Rattle.http_connection.specs.Limits.{has_outstayed}
+use Rattle.http_connection.specs.declared.pulse.Told.{Told}
+use Rattle.http_connection.specs.declared.limits.PortKind.{PortKind}
+use Rattle.http_connection.specs.declared.limits.PortKind.TheVariants.{Account, Environment}
+use Rattle.connection_places.specs.declared.seen.Seen.{Seen}
+
+-- of a connection that has just come in
+abbrev pub first_seen : PortKind → Told → Seen
+first_seen kind told = record { kind = kind; told = told; still = 0; whole = 0; unasked = 0 }
+
+-- so many looks more, if it is so still
+abbrev pub counted : Bool → ℕ → ℕ → ℕ
+counted is_still_so before looks = if is_still_so then min (before + looks) (2 ^ 32 - 1) else 0
+
+-- It serves no request, and has given no response since: it has been without a complete request.
+abbrev pub is_unasked : Told → Told → Bool
+is_unasked told before = is_unserved told.awaited && (told.answers == before.answers)
+
+-- what is seen so many looks later
+abbrev pub seen_later : Seen → Told → ℕ → Seen
+seen_later seen told looks = record {
+  kind = seen.kind;
+  told = told;
+  still = counted (is_same told seen.told) seen.still looks;
+  whole = counted (is_in_stage_of told seen.told) seen.whole looks;
+  unasked = counted (is_unasked told seen.told) seen.unasked looks;
+}
+
+-- It has stood for longer than it may.
+abbrev pub is_over : Seen → Bool
+is_over seen = has_outstayed seen.kind seen.told seen.still seen.whole
+
+abbrev pub is_of_environment : PortKind → Bool
+is_of_environment Account = false
+is_of_environment Environment = true
+
+-- For how many looks a connection at the account's port has been without a complete request, if it may make room: it is
+-- between two requests, or was sending one at a look too.
+abbrev pub spare_looks : Seen → Option ℕ
+spare_looks seen =
+    if is_of_environment seen.kind then None
+    else if is_between seen.told.awaited then Some seen.unasked
+    else if is_unserved seen.told.awaited && nat_lt 0 seen.unasked then Some seen.unasked
+    else None
+
+-- How many places of so many are kept for the account's port: one in sixteen, and 64 at most.
+abbrev pub reserve_of : ℕ → ℕ
+reserve_of most = min (most / 16) 64
+
+-- The better of two to make room: the one that has been longer without a complete request, else the earlier.
+abbrev pub better : Option (ℕ × ℕ) → ℕ → Option ℕ → Option (ℕ × ℕ)
+better best at None = best
+better None at (Some looks) = Some (at, looks)
+better (Some best) at (Some looks) = if nat_lt best.1 looks then Some (at, looks) else Some best

@@ -1,0 +1,94 @@
+//! Which newcomers have a place, and which connection makes room for one.
+
+ghost use Rattle.std.specs.Prelude.{◌≡◌, ◌≤◌, length};
+ghost use Rattle.connection_places.specs.Choices as choice;
+ghost use Rattle.connection_places.specs.Looks as spec;
+
+use crate::running::Running;
+use crate::slots::Slot;
+use http_connection::PortKind;
+
+/// The place of a connection that may make room, and for how many looks it has been without a complete
+/// request.
+type Best = Option<(usize, u32)>;
+
+/// The better of two: the one that has been longer without a complete request, else the first.
+fn better(best: Best, at: usize, looks: Option<u32>) -> Best
+    ensures { result ≡ spec.better best at looks }
+{
+    let Some(looks) = looks else {
+        return best;
+    };
+    match best {
+        Some((_, longest)) if longest >= looks => best,
+        _ => Some((at, looks)),
+    }
+}
+
+/// How many places of so many are kept for the account's port.
+pub(crate) fn reserve_of(most: usize) -> usize
+    ensures { result ≡ spec.reserve_of most }
+{
+    (most / 16).min(64)
+}
+
+/// For how many looks the connection of a place has been without a complete request, if it may make room.
+fn spare_looks(running: &Option<Running>) -> Option<u32>
+    ensures { result ≡ choice.spare_of running.now }
+{
+    match running {
+        Some(running) => running.seen.spare_looks(),
+        None => None,
+    }
+}
+
+/// The place whose connection makes room for a newcomer: of those that may, the first of those that have
+/// been longest without a complete request.
+pub(crate) fn best_of<Y, V>(slots: &[Slot<Y, V>]) -> Best
+    ensures { result ≡ choice.best_of slots.now }
+{
+    let mut best = None;
+    let mut at = 0;
+    for slot in slots {
+        best = better(best, at, spare_looks(&slot.running));
+        at += 1;
+    }
+    best
+}
+
+/// Whether the connection of a place is at an environment's port.
+fn is_for_environment(running: &Option<Running>) -> bool
+    ensures { result ≡ choice.is_for_environment running.now }
+{
+    match running {
+        Some(running) => running.seen.is_of_environment(),
+        None => false,
+    }
+}
+
+/// How many places have a connection at an environment's port.
+fn count_of_environments<Y, V>(slots: &[Slot<Y, V>]) -> usize
+    ensures exact { result ≡ choice.count_of_environments slots.now }
+    ensures bound { result ≤ length slots.now }
+{
+    let mut count = 0;
+    for slot in slots {
+        if is_for_environment(&slot.running) {
+            count += 1;
+        }
+    }
+    count
+}
+
+/// Whether a newcomer at such a port may have one of so many places: at an environment's one that is not
+/// kept for the account's.
+pub(crate) fn admits<Y, V>(most: usize, kind: PortKind, slots: &[Slot<Y, V>]) -> bool
+    ensures { result ≡ choice.admits most kind slots.now }
+{
+    match kind {
+        PortKind::Account => true,
+        PortKind::Environment => {
+            count_of_environments(slots).saturating_add(reserve_of(most)) < most
+        }
+    }
+}

@@ -1,0 +1,85 @@
+//! What is seen of a connection, at one look a second.
+
+ghost use Rattle.std.specs.Prelude.{◌≡◌};
+ghost use Rattle.connection_places.specs.Looks as spec;
+
+use http_connection::{PortKind, Told, has_outstayed};
+
+/// What was seen of a connection at the last look, and for how many looks it has been so.
+#[derive(Clone, Copy, Drop)]
+pub(crate) struct Seen {
+    pub(crate) kind: PortKind,
+    told: Told,
+    // Without a byte.
+    still: u32,
+    // In the same stage of its exchange.
+    whole: u32,
+    // Without a complete request.
+    unasked: u32,
+}
+
+impl Seen {
+    /// Of a connection that has just come in at such a port.
+    pub(crate) fn first(kind: PortKind, told: Told) -> Seen
+        ensures { result ≡ spec.first_seen kind told }
+    {
+        Seen {
+            kind,
+            told,
+            still: 0,
+            whole: 0,
+            unasked: 0,
+        }
+    }
+
+    /// What is seen so many looks later, at none of which it told anything but this.
+    pub(crate) fn later(self, told: Told, looks: u32) -> Seen
+        ensures { result ≡ spec.seen_later self told looks }
+    {
+        let is_unasked = told.is_unserved() && told.answers == self.told.answers;
+        Seen {
+            kind: self.kind,
+            told,
+            still: counted(told.is_same(self.told), self.still, looks),
+            whole: counted(told.is_in_stage_of(self.told), self.whole, looks),
+            unasked: counted(is_unasked, self.unasked, looks),
+        }
+    }
+
+    /// Whether it has stood for longer than it may.
+    pub(crate) fn has_outstayed(self) -> bool
+        ensures { result ≡ spec.is_over self }
+    {
+        has_outstayed(self.kind, self.told, self.still, self.whole)
+    }
+
+    /// For how many looks it has been without a complete request, if it may make room for a newcomer:
+    /// it came in at the account's port, and is between two requests, or was sending one at a look too.
+    pub(crate) fn spare_looks(self) -> Option<u32>
+        ensures { result ≡ spec.spare_looks self }
+    {
+        match self.kind {
+            PortKind::Account if self.told.is_between() => Some(self.unasked),
+            PortKind::Account if self.told.is_unserved() && self.unasked > 0 => Some(self.unasked),
+            _ => None,
+        }
+    }
+
+    /// Whether it came in at an environment's port.
+    pub(crate) fn is_of_environment(self) -> bool
+        ensures { result ≡ spec.is_of_environment self.kind }
+    {
+        matches!(self.kind, PortKind::Environment)
+    }
+}
+
+/// So many looks more if it is so still, else none.
+fn counted(is_still_so: bool, before: u32, looks: u32) -> u32
+    ensures { result ≡ spec.counted is_still_so before looks }
+{
+    if is_still_so {
+        before.saturating_add(looks)
+    } else {
+        0
+    }
+}

@@ -1,0 +1,126 @@
+//! Where the bytes of a connection's input stand: in a head, or in the body that a head declares.
+
+ghost use Rattle.std.specs.Prelude.{◌≤◌, ◌<◌, length};
+
+/// The name of the field that declares a body's length, and what stands behind it.
+const NAME: &[u8] = b"content-length:";
+
+/// How much of the present line is the name of a body's length.
+#[derive(Clone, Copy, Drop)]
+enum Line {
+    /// So many bytes of the name, and no other.
+    Name(usize),
+    /// The whole name, and then digits.
+    Length,
+    /// Something else.
+    Other,
+}
+
+/// Where a connection's input stands. With it each read ends where a request does, so that a connection
+/// that asks for more has begun no request of which it has bytes. It decides nothing else: whatever it
+/// takes for a request's end, all bytes are handed on in their order.
+#[derive(Clone, Copy, Drop)]
+pub(crate) struct Input {
+    line: Line,
+    // Whether the present line has no byte yet.
+    is_empty: bool,
+    // The length that the present head has declared so far.
+    length: u64,
+    // How many bytes of a body are yet to come.
+    rest: u64,
+}
+
+impl Input {
+    /// At the beginning of a head.
+    pub(crate) fn new() -> Input {
+        Input {
+            line: Line::Name(0),
+            is_empty: false,
+            length: 0,
+            rest: 0,
+        }
+    }
+
+    /// Takes a byte of a line that is not its end.
+    fn take_byte(&mut self, byte: u8) {
+        self.is_empty = false;
+        match self.line {
+            Line::Name(count) => {
+                self.line = match NAME.get(count) {
+                    Some(next) if byte.to_ascii_lowercase() == *next && count + 1 < NAME.len() => {
+                        Line::Name(count + 1)
+                    }
+                    Some(next) if byte.to_ascii_lowercase() == *next => Line::Length,
+                    _ => Line::Other,
+                };
+            }
+            Line::Length => {
+                if byte.is_ascii_digit() {
+                    let digit = u64::from(byte - b'0');
+                    self.length = self.length.saturating_mul(10).saturating_add(digit);
+                }
+            }
+            Line::Other => {}
+        }
+    }
+
+    /// Takes the end of a line. Gives whether the line had no byte, and so ends a head; behind it stands
+    /// the body that this declared. (The end of a body in chunks is such a line, too.)
+    fn take_end(&mut self) -> bool {
+        let is_head_end = self.is_empty;
+        self.line = Line::Name(0);
+        self.is_empty = true;
+        if is_head_end {
+            self.is_empty = false;
+            self.rest = self.length;
+            self.length = 0;
+        }
+        is_head_end
+    }
+
+    /// How many of these bytes belong to the head that is to be ended: up to and with its end, or all.
+    fn head_part(&mut self, bytes: &[u8]) -> usize
+        ensures bound { result ≤ length bytes.now }
+        ensures some { 0 < length bytes.now → 0 < result }
+    {
+        for place in 0..bytes.len() {
+            match bytes[place] {
+                b'\n' => {
+                    if self.take_end() {
+                        return place + 1;
+                    }
+                }
+                b'\r' => {}
+                other => self.take_byte(other),
+            }
+        }
+        bytes.len()
+    }
+
+    /// How many of these bytes belong to the body that is yet to come.
+    fn body_part(&mut self, bytes: &[u8]) -> usize
+        ensures bound { result ≤ length bytes.now }
+        ensures some { 0 < self.old.rest → 0 < length bytes.now → 0 < result }
+    {
+        let count = bytes.len() as u64;
+        if self.rest >= count {
+            self.rest -= count;
+            return bytes.len();
+        }
+        let part = self.rest as usize;
+        self.rest = 0;
+        part
+    }
+
+    /// How many of these bytes are handed on at once: those up to the end of a request, or all.
+    pub(crate) fn take(&mut self, bytes: &[u8]) -> usize
+        ensures bound { result ≤ length bytes.now }
+        ensures some { 0 < length bytes.now → 0 < result }
+    {
+        if self.rest > 0 {
+            return self.body_part(bytes);
+        }
+        let head = self.head_part(bytes);
+        head + self.body_part(&bytes[head..])
+    }
+}

@@ -1,0 +1,72 @@
+//! How long a connection may stand.
+
+ghost use Rattle.std.specs.Prelude.{◌≡◌};
+ghost use Rattle.http_connection.specs.Limits as spec;
+
+use crate::pulse::{Awaited, Told};
+
+/// At which kind of port a connection came in.
+#[derive(Clone, Copy, Drop)]
+pub enum PortKind {
+    /// The account's, for callers.
+    Account,
+    /// An environment's, for its runtime and its extensions.
+    Environment,
+}
+
+impl PortKind {
+    /// For how many seconds a connection may stay without a byte between two requests. A handler may
+    /// run for 900 seconds, in which its runtime keeps the connection of its Next; an hour is well over
+    /// that, and a connection that was forgotten gives its place back.
+    fn idle_limit(self) -> u64
+        ensures { result ≡ spec.idle_limit self }
+    {
+        match self {
+            PortKind::Account => 300,
+            PortKind::Environment => 3_600,
+        }
+    }
+}
+
+/// For how many seconds a connection that told this may stay without a byte; none where it may for ever.
+fn still_limit_of(kind: PortKind, awaited: Awaited) -> Option<u64>
+    ensures { result ≡ spec.still_limit kind awaited }
+{
+    match awaited {
+        Awaited::Answer | Awaited::Taking => None,
+        Awaited::First | Awaited::Head | Awaited::Body => Some(20),
+        Awaited::Next => Some(kind.idle_limit()),
+        Awaited::End => Some(2),
+    }
+}
+
+/// For how many seconds it may stay in its stage; none where it may for ever.
+fn whole_limit_of(told: Told) -> Option<u64>
+    ensures { result ≡ spec.whole_limit told }
+{
+    match told.awaited {
+        Awaited::Answer | Awaited::First | Awaited::Next => None,
+        Awaited::Head => Some(60),
+        Awaited::Body => Some(20 + u64::from(told.moved) * 60 / 65_536),
+        Awaited::Taking => Some(300),
+        Awaited::End => Some(30),
+    }
+}
+
+/// Whether so many seconds are as long as there is leave for.
+fn is_reached(seconds: u32, limit: Option<u64>) -> bool
+    ensures { result ≡ spec.is_reached seconds limit }
+{
+    match limit {
+        Some(limit) => u64::from(seconds) >= limit,
+        None => false,
+    }
+}
+
+/// Whether a connection at such a port has stood for longer than it may, which told this, has since
+/// been without a byte for `still` seconds, and in the same stage of its exchange for `whole`.
+pub fn has_outstayed(kind: PortKind, told: Told, still: u32, whole: u32) -> bool
+    ensures { result ≡ spec.has_outstayed kind told still whole }
+{
+    is_reached(still, still_limit_of(kind, told.awaited)) || is_reached(whole, whole_limit_of(told))
+}

@@ -1,0 +1,128 @@
+//! A service over a wire, which notes there when a request is taken up and when its response is there.
+
+use crate::wire::Wire;
+use futures::task::{Context, Poll};
+use futures::{Future, ready};
+use http::{Method, Request, Response};
+use hyper::service::Service;
+use std::time::{Clock, Duration};
+use tokio::time::{Handle, Sleep};
+
+/// For how many milliseconds the next request waits behind a poll that was refused.
+const PAUSE: u64 = 10;
+
+/// What a connection waits by, and whether it has to where a poll of it was refused: a poller that asks
+/// again at once, and is refused again, is answered a hundred times a second at most.
+#[derive(Drop)]
+pub(crate) struct Pace<R> {
+    pub(crate) rt: R,
+    pub(crate) time: Handle,
+    pub(crate) is_kept: bool,
+}
+
+impl<R: Clock> Pace<R> {
+    /// A pause from now on; none where there is no memory for it.
+    fn pause(&self) -> Option<Sleep> {
+        self.time.sleep(&self.rt, Duration::from_millis(PAUSE)).ok()
+    }
+}
+
+/// A service, the wire over which its requests come, and its pace.
+#[derive(Drop)]
+pub(crate) struct Noting<V, R> {
+    pub(crate) service: V,
+    pub(crate) wire: Wire,
+    pub(crate) pace: Pace<R>,
+}
+
+impl<V, R: Clock> Noting<V, R> {
+    /// The pause before the next request, where the last one was a poll that was refused.
+    fn pause(&self) -> Option<Sleep> {
+        if self.wire.takes_refusal() {
+            self.pace.pause()
+        } else {
+            None
+        }
+    }
+}
+
+/// The future of a response. It notes at the wire that the response is there.
+#[derive(Drop)]
+pub(crate) struct Noted<F> {
+    future: F,
+    // None once it is over.
+    pause: Option<Sleep>,
+    // None only if a wire had more than 2^63 holders.
+    wire: Option<Wire>,
+    // Whether its request is a poll of which a refusal is noted.
+    is_poll: bool,
+}
+
+impl<I: Drop, B: Drop, V: Service<Request<I>, Response = Response<B>>, R: Clock + Drop> Service<
+    Request<I>,
+> for Noting<V, R> {
+    type Response = Response<B>;
+
+    type Error = V::Error;
+
+    type Future = Noted<V::Future>;
+
+    ghost can_call = { λ noting. V.can_call noting.service };
+
+    ghost calls = { λ noting request noted. V.calls noting.service request noted.future };
+
+    fn call(&self, request: Request<I>) -> Noted<V::Future> {
+        self.wire.take_up();
+        let is_poll = self.pace.is_kept && *request.method() == Method::GET;
+        Noted {
+            future: self.service.call(request),
+            pause: self.pause(),
+            wire: self.wire.share().ok(),
+            is_poll,
+        }
+    }
+}
+
+impl<F> Noted<F> {
+    /// Notes at the wire that the response is there, and whether it refuses a poll.
+    fn note(&self, is_refusal: bool) {
+        if let Some(wire) = &self.wire {
+            wire.note_response(self.is_poll && is_refusal);
+        }
+    }
+}
+
+/// Whether a response refuses its request.
+fn is_refusal<B, E>(output: &Result<Response<B>, E>) -> bool {
+    match output {
+        Ok(response) => response.status().as_u16() >= 400,
+        Err(_) => false,
+    }
+}
+
+impl<B: Drop, E: Drop, F: Future<Output = Result<Response<B>, E>>> Future for Noted<F> {
+    ghost use Rattle.std.specs.Prelude.{◌≡◌, MatchOption};
+    ghost use Rattle.tokio.specs.Timers.{sleep_source};
+
+    type Output = Result<Response<B>, E>;
+
+    ghost can_poll = { λ noted. F.can_poll noted.future };
+
+    ghost needs = { λ noted s. MatchOption noted.pause (F.needs noted.future s) (λ pause. s ≡ sleep_source pause) };
+
+    ghost gives = { λ noted. F.gives noted.future };
+
+    fn poll(&mut self, cx: &mut Context<'_>) -> Poll<Result<Response<B>, E>> {
+        if let Some(pause) = &mut self.pause {
+            let _ = ready!(pause.poll(cx));
+            self.pause = None;
+        }
+        match self.future.poll(cx) {
+            Poll::Pending => Poll::Pending,
+            Poll::Ready(output) => {
+                self.note(is_refusal(&output));
+                Poll::Ready(output)
+            }
+        }
+    }
+}

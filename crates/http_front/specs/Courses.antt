@@ -1,0 +1,32 @@
+-- What becomes of a request on a port.
+use Rattle.std.specs.Prelude.{◌≡◌, [], Some, None, MatchOption}
+use Rattle.std.specs.Arc.{arc_value}
+use Rattle.decisions.specs.declared.decide.Decide as Decide
+use Rattle.http.specs.declared.request.Parts.{Parts}
+use Rattle.http_front.specs.declared.front.Front.{Front}
+use Rattle.http_front.specs.declared.responding.Responding.{Responding}
+use Rattle.long_poll.specs.declared.exchange.Exchange.{Exchange}
+use Rattle.long_poll.specs.declared.exchange.Stage.TheVariants.{Collecting}
+use Rattle.long_poll.specs.declared.service.Service as Service
+use Rattle.request_guard.specs.Guarding.{refusal_of}
+use Rattle.request_guard.specs.declared.refusal.Refusal.TheVariants.{OutOfMemory}
+use Rattle.usage_ledger.specs.declared.keep.Keep as Keep
+
+module _ {R S D N B K L : Type 0} {service : Service.Ghosts S K L} {decider : Decide.Ghosts D}
+    {keep : Keep.Ghosts K} (port : Front R S D N K L service decider keep) (head : Parts) (body : B) where
+  -- An exchange is that of this request, on the port's connection.
+  abbrev pub IsExchangeOf : Exchange R S D N B K L service decider keep → Type 0
+  IsExchangeOf exchange =
+      (arc_value exchange.connection ≡ arc_value port.connection)
+      × (exchange.stage ≡ Collecting head
+      (record { alloc = (arc_value port.connection).alloc; body = body; held = [] }))
+
+  -- A request whose head is refused has that refusal and no exchange, so it never becomes a call. Any other has an exchange,
+  -- or is refused for want of memory. Either is answered in the form of the port's API.
+  abbrev pub Takes : Responding R S D N B K L service decider keep → Type 0
+  Takes future =
+      (future.api ≡ port.api)
+      × MatchOption (refusal_of (arc_value port.hosts) head)
+      (MatchOption future.exchange (future.refusal ≡ Some OutOfMemory)
+      (λ exchange. (future.refusal ≡ None) × IsExchangeOf exchange))
+      (λ refusal. (future.refusal ≡ Some refusal) × (future.exchange ≡ None))

@@ -1,0 +1,62 @@
+//! What a service has to say while it runs.
+
+ghost use Rattle.std.specs.Prelude.{◌≡◌};
+ghost use Rattle.http_front.specs.Notices.{room_left};
+
+use std::sync::atomic::AtomicU64;
+use std::sync::atomic::Ordering::SeqCst;
+
+/// How much room a journal has.
+#[derive(Clone, Copy, Debug, PartialEq, Eq, PartialOrd, Ord, Drop)]
+pub enum Room {
+    /// Enough.
+    Ample,
+    /// Nine tenths of its entries are there.
+    Short,
+    /// It takes no call but a Stop.
+    Full,
+}
+
+/// How much room a journal has with this many entries, of `most` at most, each step of which may take
+/// `step` entries: one for each environment that expires, and one for the call.
+fn room_left(entries: u64, most: u64, step: u32) -> Room
+    ensures { result ≡ room_left entries most step }
+{
+    if most.saturating_sub(entries) < 2 * u64::from(step) {
+        Room::Full
+    } else if most - most / 10 <= entries {
+        Room::Short
+    } else {
+        Room::Ample
+    }
+}
+
+/// What a service has to say while it runs, for a log that another thread writes: so the service waits for
+/// nobody who reads the log.
+#[derive(Drop)]
+pub struct Notices {
+    most: u64,
+    step: u32,
+    entries: AtomicU64,
+}
+
+impl Notices {
+    /// Of a journal of at most so many entries, of which a step takes so many at most; none is there yet.
+    pub(crate) fn new(most: u64, step: u32) -> Notices {
+        Notices {
+            most,
+            step,
+            entries: AtomicU64::new(0),
+        }
+    }
+
+    /// Notes how many entries there are.
+    pub(crate) fn note(&self, entries: u64) {
+        self.entries.store(entries, SeqCst);
+    }
+
+    /// How much room the journal had when it was last looked, up to 50 milliseconds ago.
+    pub fn room(&self) -> Room {
+        room_left(self.entries.load(SeqCst), self.most, self.step)
+    }
+}

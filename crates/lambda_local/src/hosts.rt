@@ -1,0 +1,22 @@
+//! Which hosts the service answers for beside the local ones.
+
+use crate::setting_fault::SettingFault;
+use request_guard::Hosts;
+use std::env::{self, Env, VarError};
+
+/// The variable that lists them.
+const NAME: &str = "LAMBDA_LOCAL_HOSTS";
+
+/// The hosts that the service answers for beside the local ones: what the environment variable lists,
+/// names of letters, digits, `-`, `.` and `_` with commas between them; none where it is empty or absent.
+///
+/// # Errors
+/// As the fault says.
+pub fn read_hosts<R: Env + AllocGlobal>(rt: &R) -> Result<Hosts, SettingFault> {
+    match env::var(rt, NAME) {
+        Ok(text) => Hosts::read(text).ok_or(SettingFault::Malformed),
+        Err(VarError::NotPresent) => Ok(Hosts::none(rt.alloc())),
+        Err(VarError::NotUnicode) => Err(SettingFault::Malformed),
+        Err(VarError::OutOfMemory) => Err(SettingFault::OutOfMemory),
+    }
+}

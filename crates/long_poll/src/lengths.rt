@@ -1,0 +1,31 @@
+//! The length that a request declares for its body.
+
+ghost use Rattle.std.specs.Prelude.{◌≡◌};
+ghost use Rattle.long_poll.specs.Lengths as spec;
+
+use arn_ids::{LONGEST_BODY, read_number};
+use http::request::Parts;
+
+/// The length in `Content-Length` (RFC 9110, section 8.6).
+fn declared_length(parts: &Parts) -> Option<u64>
+    ensures { result ≡ spec.declared_length parts.now }
+{
+    match parts.headers.get("content-length") {
+        Some(value) => read_number(value.as_bytes(), u64::MAX),
+        None => None,
+    }
+}
+
+/// Whether a request declares a body that is too long. A transfer coding overrides the length (RFC 9112,
+/// section 6.3).
+pub(crate) fn declares_too_long(parts: &Parts) -> bool
+    ensures { result ≡ spec.declares_too_long parts.now }
+{
+    if parts.headers.get("transfer-encoding").is_some() {
+        return false;
+    }
+    match declared_length(parts) {
+        Some(length) => length > LONGEST_BODY as u64,
+        None => false,
+    }
+}

@@ -1,0 +1,16 @@
+-- Which requests never become a call, by their heads.
+use Rattle.std.specs.Prelude.{ℕ, if◌then◌else◌, List, Option, Some, None}
+use Rattle.http.specs.declared.request.Parts.{Parts}
+use Rattle.request_guard.specs.Hosts.{has_malformed_host, has_served_host}
+use Rattle.request_guard.specs.Pages.{is_from_page}
+use Rattle.request_guard.specs.Codings.{is_plainly_coded}
+use Rattle.request_guard.specs.declared.refusal.Refusal.{Refusal}
+use Rattle.request_guard.specs.declared.refusal.Refusal.TheVariants.{MalformedHost, FromPage, ForeignHost, ForeignCoding}
+
+-- Why a request of this head is refused, the first cause that holds. The names are those that are listed.
+abbrev pub refusal_of : List ℕ → Parts → Option Refusal
+refusal_of listed p =
+    if has_malformed_host p then Some MalformedHost
+    else if is_from_page p then Some FromPage
+    else if has_served_host listed p then (if is_plainly_coded p then None else Some ForeignCoding)
+    else Some ForeignHost

@@ -1,0 +1,57 @@
+-- The host that a request names, and the hosts that are listed beside the local ones.
+use Rattle.std.specs.Prelude.{ℕ, Bool, true, false, not, ◌&&◌, ◌||◌, ◌==◌, nat_lt, if◌then◌else◌, List, [], ◌∷◌, length, codes, Option, Some, None, option_map}
+use Rattle.std.specs.Char.{is_ascii_alphanumeric}
+use Rattle.std.specs.List.{list_all, list_any, slice_split}
+use Rattle.http.specs.HeaderMap.{get, get_all}
+use Rattle.http.specs.Uri.{uri_authority}
+use Rattle.http.specs.declared.request.Parts.{Parts}
+use Rattle.http_header.specs.FieldValue.{FieldValue}
+use Rattle.request_guard.specs.Names.{is_named, is_literal, name_of, relative, is_local}
+
+-- a byte of a name that is listed
+abbrev pub is_listed_byte : ℕ → Bool
+is_listed_byte b = is_ascii_alphanumeric b || list_any (λ other. other == b) (codes "-._")
+
+-- a name that is listed
+abbrev pub is_listed : List ℕ → Bool
+is_listed name = nat_lt 0 (length name) && list_all is_listed_byte name
+
+-- names with commas between them, or nothing
+abbrev pub is_list : List ℕ → Bool
+is_list text = length text == 0 || list_all is_listed (slice_split (λ b. b == 44) text)
+
+-- the text if it is such a list
+abbrev pub listed_in : List ℕ → Option (List ℕ)
+listed_in text = if is_list text then Some text else None
+
+abbrev pub or_else : Option (List ℕ) → Option (List ℕ) → Option (List ℕ)
+or_else (Some text) other = Some text
+or_else None other = other
+
+-- what names the host: the authority of the target, else the field `Host` (RFC 9112, section 3.2.2)
+abbrev pub host_text : Parts → Option (List ℕ)
+host_text p = or_else (uri_authority p.uri) (option_map (λ v. v.bytes) (get p.headers (codes "host")))
+
+-- there is more than one
+abbrev pub are_several : List FieldValue → Bool
+are_several [] = false
+are_several (value ∷ []) = false
+are_several (value ∷ other ∷ values) = true
+
+-- a name or an address, and perhaps a port (RFC 9110, section 7.2)
+abbrev pub is_host : Option (List ℕ) → Bool
+is_host None = true
+is_host (Some text) = is_literal text || is_named text
+
+-- The host is named in two fields, or by what is no host (RFC 9112, section 3.2).
+abbrev pub has_malformed_host : Parts → Bool
+has_malformed_host p = are_several (get_all p.headers (codes "host")) || not (is_host (host_text p))
+
+-- an address, a local name or one that is listed; a request of HTTP/1.0 may name none
+abbrev pub is_served : List ℕ → Option (List ℕ) → Bool
+is_served listed None = true
+is_served listed (Some text) = is_literal text || is_local listed (relative (name_of text))
+
+-- The host is one that this service answers for.
+abbrev pub has_served_host : List ℕ → Parts → Bool
+has_served_host listed p = is_served listed (host_text p)

@@ -1,0 +1,7 @@
+pub mod Views
+pub mod Names
+pub mod Hosts
+pub mod Pages
+pub mod Codings
+pub mod Guarding
+pub mod Refusals

@@ -1,0 +1,80 @@
+-- The text of a host in a request, and the names that are local.
+use Rattle.std.specs.Prelude.{ℕ, ◌-◌, Bool, true, false, not, ◌&&◌, ◌||◌, ◌==◌, nat_lt, if◌then◌else◌, List, [], ◌∷◌, length, take, drop, reverse, codes, unwrap_or, position}
+use Rattle.std.specs.Char.{is_ascii_digit, is_ascii_hexdigit, is_ascii_alphanumeric}
+use Rattle.std.specs.List.{list_all, list_any, slice_split}
+use Rattle.std.specs.Str.{str_eq_ignore_ascii_case}
+
+-- a byte of a registered name or of an IPv4 address (RFC 3986, section 3.2.2: unreserved, pct-encoded, sub-delims)
+abbrev pub is_name_byte : ℕ → Bool
+is_name_byte b = is_ascii_alphanumeric b || list_any (λ other. other == b) (codes "-._~%!$&'()*+,;=")
+
+-- a byte of an IPv6 address
+abbrev pub is_address_byte : ℕ → Bool
+is_address_byte b = is_ascii_hexdigit b || b == 58 || b == 46
+
+-- how many bytes pass before the first one that doesn't
+abbrev pub passed : (ℕ → Bool) → List ℕ → ℕ
+passed passes text = unwrap_or (position (λ b. not (passes b)) text) (length text)
+
+-- nothing, or a colon and the digits of a port (RFC 3986, section 3.2.3)
+abbrev pub is_port_part : List ℕ → Bool
+is_port_part [] = true
+is_port_part (b ∷ digits) = b == 58 && list_all is_ascii_digit digits
+
+-- the name in front of a port
+abbrev pub name_of : List ℕ → List ℕ
+name_of text = take (passed is_name_byte text) text
+
+-- a name and perhaps a port
+abbrev pub is_named : List ℕ → Bool
+is_named text = is_port_part (drop (passed is_name_byte text) text)
+
+-- the bracket that ends an address, and perhaps a port
+abbrev pub closes : List ℕ → Bool
+closes [] = false
+closes (b ∷ port) = b == 93 && is_port_part port
+
+-- an address in brackets and perhaps a port
+abbrev pub is_literal : List ℕ → Bool
+is_literal [] = false
+is_literal (b ∷ rest) =
+    b == 91 && nat_lt 0 (passed is_address_byte rest) && closes (drop (passed is_address_byte rest) rest)
+
+-- the rest behind a dot at the front
+abbrev pub past_dot : List ℕ → List ℕ
+past_dot [] = []
+past_dot (b ∷ bs) = if b == 46 then bs else b ∷ bs
+
+-- a name without the dot of the root at its end (RFC 1034, section 3.1)
+abbrev pub relative : List ℕ → List ℕ
+relative name = reverse (past_dot (reverse name))
+
+-- the name ends so, in whatever case
+abbrev pub ends_as : List ℕ → List ℕ → Bool
+ends_as suffix name =
+    if nat_lt (length name) (length suffix) then false
+    else str_eq_ignore_ascii_case (drop (length name - length suffix) name) suffix
+
+-- one of the names between the commas is this one, in whatever case
+abbrev pub lists : List ℕ → List ℕ → Bool
+lists listed name = list_any (λ part. str_eq_ignore_ascii_case part name) (slice_split (λ b. b == 44) listed)
+
+-- one label, as `localhost` and the names of containers
+abbrev pub is_one_label : List ℕ → Bool
+is_one_label name = not (list_any (λ b. b == 46) name)
+
+-- an IPv4 address: no registered name is made of digits and dots alone
+abbrev pub is_numeric : List ℕ → Bool
+is_numeric name = list_all (λ b. is_ascii_digit b || b == 46) name
+
+-- below a domain that is no one's on the public network (RFC 6761, RFC 6762; ICANN's `.internal`)
+abbrev pub is_below_local : List ℕ → Bool
+is_below_local name =
+    ends_as (codes ".localhost") name || ends_as (codes ".internal") name
+    || ends_as (codes ".local") name || ends_as (codes ".localdomain") name
+
+-- A name of this machine, of a container, or one that is listed.
+abbrev pub is_local : List ℕ → List ℕ → Bool
+is_local listed name =
+    nat_lt 0 (length name)
+    && (is_one_label name || is_numeric name || is_below_local name || lists listed name)

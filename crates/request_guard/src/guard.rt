@@ -1,0 +1,34 @@
+//! Which requests never become a call, by their heads.
+
+ghost use Rattle.std.specs.Prelude.{◌≡◌, IfOk};
+ghost use Rattle.std.specs.Arc.{arc_value};
+ghost use Rattle.request_guard.specs.Guarding as spec;
+
+use crate::codings::is_plainly_coded;
+use crate::hosts::has_malformed_host;
+use crate::pages::is_from_page;
+use crate::{Hosts, Refusal};
+use http::request::Parts;
+
+impl Hosts {
+    /// Why a request of this head never becomes a call, the first cause that holds: its host is named in
+    /// two fields or by what is no host, a web page sent it, its host is neither local nor listed, or its
+    /// body is coded in a way that isn't served.
+    pub fn refusal(&self, parts: &Parts) -> Option<Refusal>
+        ensures { result ≡ spec.refusal_of self.now parts.now }
+    {
+        if has_malformed_host(parts) {
+            return Some(Refusal::MalformedHost);
+        }
+        if is_from_page(parts) {
+            return Some(Refusal::FromPage);
+        }
+        if !self.serve(parts) {
+            return Some(Refusal::ForeignHost);
+        }
+        if !is_plainly_coded(parts) {
+            return Some(Refusal::ForeignCoding);
+        }
+        None
+    }
+}

@@ -1,0 +1,13 @@
+//! Which requests never become a call, whatever they ask for, and what they are answered: by their heads
+//! alone, before a route is looked for.
+#![tactic(auto)]
+
+mod codings;
+mod guard;
+mod hosts;
+mod names;
+mod pages;
+mod refusal;
+
+pub use hosts::Hosts;
+pub use refusal::{Api, Refusal, refusal_reply};

@@ -1,0 +1,41 @@
+//! What a browser says of a request that a web page sends.
+
+ghost use Rattle.std.specs.Prelude.{◌≡◌, codes};
+ghost use Rattle.std.specs.List.{list_all};
+ghost use Rattle.http.specs.HeaderMap.{get_all};
+ghost use Rattle.request_guard.specs.Pages as spec;
+
+use http::request::Parts;
+
+/// Whether it was the user's own doing, as an address that is typed, or a page of this very service.
+fn is_own_site(site: &[u8]) -> bool
+    ensures { result ≡ spec.is_own_site site.now }
+{
+    site == b"none".as_slice() || site == b"same-origin".as_slice()
+}
+
+/// Whether a request has an `Origin`, whatever it says (RFC 6454, section 7).
+fn has_origin(parts: &Parts) -> bool
+    ensures { result ≡ spec.are_some (get_all parts.now.headers (codes "origin")) }
+{
+    parts.headers.get_all("origin").iter().next().is_some()
+}
+
+/// Whether each `Sec-Fetch-Site` says that no other site sent the request (W3C, Fetch Metadata Request
+/// Headers).
+fn is_of_own_site(parts: &Parts) -> bool
+    ensures { result ≡ list_all (λ v. spec.is_own_site v.bytes) (get_all parts.now.headers (codes "sec-fetch-site")) }
+{
+    parts
+        .headers
+        .get_all("sec-fetch-site")
+        .iter()
+        .all(|site| is_own_site(site.as_bytes()))
+}
+
+/// Whether a web page sent it.
+pub(crate) fn is_from_page(parts: &Parts) -> bool
+    ensures { result ≡ spec.is_from_page parts.now }
+{
+    has_origin(parts) || !is_of_own_site(parts)
+}

@@ -1,0 +1,162 @@
+//! Why a request never becomes a call, and what it is answered.
+
+ghost use Rattle.std.specs.Prelude.{◌≡◌, true, IfOk};
+ghost use Rattle.std.specs.List.{list_all};
+ghost use Rattle.http_header.specs.Token.{is_value_byte};
+ghost use Rattle.lambda_wire.specs.Replies as replies;
+ghost use Rattle.request_guard.specs.Refusals as spec;
+ghost use Rattle.request_guard.specs.declared.refusal.Refusal.TheVariants.{ForeignCoding};
+
+use arn_ids::Row;
+use http_header::{HeaderName, HeaderValue};
+use lambda_wire::{InvokeFault, Reply, fault_reply, invoke_fault_reply};
+use std::alloc::{AllocError, Global};
+
+/// Whose API a port speaks, and so which form its refusals have.
+#[derive(Clone, Copy, Debug, PartialEq, Eq)]
+pub enum Api {
+    /// The Lambda API, for callers.
+    Lambda,
+    /// The Runtime API and the Extensions API.
+    Runtime,
+}
+
+/// Why a request never becomes a call, whatever it asks for.
+#[derive(Clone, Copy, Debug, PartialEq, Eq)]
+pub enum Refusal {
+    /// Its host is named in two fields, or by what is no host (RFC 9112, section 3.2).
+    MalformedHost,
+    /// A web page sent it.
+    FromPage,
+    /// Its host is neither local nor listed.
+    ForeignHost,
+    /// Its body is coded in a way that isn't served (RFC 9112, section 6.1).
+    ForeignCoding,
+    /// Its body is broken (RFC 9112, section 2.2).
+    BrokenBody,
+    /// There was no memory for it.
+    OutOfMemory,
+}
+
+fn by_lambda(
+    alloc: Global,
+    status: u16,
+    kind: &str,
+    form: InvokeFault,
+    message: &str,
+) -> Result<Reply, AllocError>
+    requires { list_all is_value_byte kind.now ≡ true }
+    ensures { IfOk result (λ reply. reply ≡ replies.invoke_fault_reply status kind.now form message.now) }
+{
+    invoke_fault_reply(alloc, status, kind, form, message)
+}
+
+/// The reply with which a connection ends (RFC 9112, section 9.6).
+fn closing(reply: Reply) -> Result<Reply, AllocError>
+    ensures { IfOk result (λ last. last ≡ spec.closing reply) }
+{
+    let Reply {
+        status,
+        headers,
+        body,
+    } = reply;
+    let mut headers = headers.into_vec();
+    headers.push((
+        HeaderName::from_static("connection"),
+        HeaderValue::from_static("close"),
+    ))?;
+    Ok(Reply {
+        status,
+        headers: Row::new(headers),
+        body,
+    })
+}
+
+/// The reply on a port of the Lambda API.
+fn lambda_reply(alloc: Global, refusal: Refusal) -> Result<Reply, AllocError>
+    ensures { IfOk result (λ reply. reply ≡ spec.lambda_reply refusal) }
+{
+    match refusal {
+        Refusal::MalformedHost => by_lambda(
+            alloc,
+            400,
+            "InvalidParameterValueException",
+            InvokeFault::User,
+            "Host is malformed",
+        ),
+        Refusal::FromPage => by_lambda(
+            alloc,
+            403,
+            "AccessDeniedException",
+            InvokeFault::User,
+            "Web pages may not call this service",
+        ),
+        Refusal::ForeignHost => by_lambda(
+            alloc,
+            403,
+            "AccessDeniedException",
+            InvokeFault::User,
+            "Host is neither local nor in LAMBDA_LOCAL_HOSTS",
+        ),
+        Refusal::ForeignCoding => foreign_coding(alloc),
+        Refusal::BrokenBody => by_lambda(
+            alloc,
+            400,
+            "InvalidRequestContentException",
+            InvokeFault::User,
+            "Body is malformed",
+        ),
+        Refusal::OutOfMemory => closing(by_lambda(
+            alloc,
+            500,
+            "ServiceException",
+            InvokeFault::Service,
+            "Out of memory",
+        )?),
+    }
+}
+
+fn foreign_coding(alloc: Global) -> Result<Reply, AllocError>
+    ensures { IfOk result (λ reply. reply ≡ spec.runtime_reply ForeignCoding) }
+{
+    closing(fault_reply(
+        alloc,
+        501,
+        "Transfer coding not supported",
+        "NotImplemented",
+    )?)
+}
+
+/// The reply on a port of the Runtime API and the Extensions API.
+fn runtime_reply(alloc: Global, refusal: Refusal) -> Result<Reply, AllocError>
+    ensures { IfOk result (λ reply. reply ≡ spec.runtime_reply refusal) }
+{
+    match refusal {
+        Refusal::MalformedHost => fault_reply(alloc, 400, "Host is malformed", "InvalidHost"),
+        Refusal::FromPage => fault_reply(
+            alloc,
+            403,
+            "Web pages may not call this service",
+            "AccessDenied",
+        ),
+        Refusal::ForeignHost => fault_reply(
+            alloc,
+            403,
+            "Host is neither local nor in LAMBDA_LOCAL_HOSTS",
+            "AccessDenied",
+        ),
+        Refusal::ForeignCoding => foreign_coding(alloc),
+        Refusal::BrokenBody => fault_reply(alloc, 400, "Body is malformed", "InvalidRequestFormat"),
+        Refusal::OutOfMemory => closing(fault_reply(alloc, 500, "Out of memory", "OutOfMemory")?),
+    }
+}
+
+/// What a refused request is answered, in the form of its port's API. The only error is want of memory.
+pub fn refusal_reply(alloc: Global, api: Api, refusal: Refusal) -> Result<Reply, AllocError>
+    ensures { IfOk result (λ reply. reply ≡ spec.refusal_reply api refusal) }
+{
+    match api {
+        Api::Lambda => lambda_reply(alloc, refusal),
+        Api::Runtime => runtime_reply(alloc, refusal),
+    }
+}

@@ -1,0 +1,3 @@
+// A module that does not compile: _HANDLER=broken.handler.
+export async function handler(event, context {
+}

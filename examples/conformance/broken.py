@@ -1,0 +1,4 @@
+"""A module that does not compile: _HANDLER=broken.handler."""
+
+
+def handler(event, context:

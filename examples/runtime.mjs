@@ -1,0 +1,273 @@
+#!/usr/bin/env node
+// Serves a handler as Lambda's own Node runtime does, with nothing else installed.
+//
+// usage: examples/runtime.mjs [HANDLER] [ADDRESS]
+//   HANDLER  in Lambda's notation, app.handler or folder/app.handler, found from LAMBDA_TASK_ROOT, else from the folder
+//            you are in: an ES module (.mjs, or .js below a package.json of type "module") or CommonJS (.js, .cjs)
+//            (default: _HANDLER, else one that greets)
+//   ADDRESS  the environment's, such as 127.0.0.1:9001 (default: AWS_LAMBDA_RUNTIME_API, else this one)
+//
+// A handler is async, or calls back. What it throws is printed, and reported with its trace. An Init that fails is
+// reported too, and ends the runtime with status 1. It ends with 0 once its environment shuts down: whoever started it
+// starts it again, as Lambda does.
+import { spawnSync } from "node:child_process";
+import fs from "node:fs";
+import http from "node:http";
+import { createRequire } from "node:module";
+import path from "node:path";
+import { pathToFileURL } from "node:url";
+import util from "node:util";
+
+const RUNTIME = "/2018-06-01/runtime/";
+const MESSAGE_LIMIT = 100_000; // characters: a report of more than 6 MiB is refused, and its caller waits for the timeout
+
+const words = process.argv.slice(2);
+const isAddress = (word) => /:\d+$/.test(word);
+const variable = (name, otherwise) => process.env[name] || otherwise;
+const ADDRESS = words.find(isAddress) ?? variable("AWS_LAMBDA_RUNTIME_API", "127.0.0.1:9001");
+const HANDLER = words.find((word) => !isAddress(word)) ?? variable("_HANDLER", "");
+const ROOT = variable("LAMBDA_TASK_ROOT", process.cwd());
+const require = createRequire(import.meta.url);
+
+// A fault that the runtime itself names, as Lambda's does: its trace is that of its cause, or the lines that are given.
+class RuntimeFault extends Error {
+  constructor(name, message, { cause, lines = cause?.stack ?? "" } = {}) {
+    super(message);
+    this.name = `Runtime.${name}`;
+    this.stack = lines.startsWith(message) ? `${this.name}: ${lines}` : `${this.name}: ${message}\n${lines}`.trimEnd();
+  }
+}
+
+// --- the Runtime API ---
+
+// (no timeout: a Next waits as long as no one invokes)
+const agent = new http.Agent({ keepAlive: true, maxSockets: 1 });
+let hasAnswered = false;
+
+// A connection is closed if it asks nothing for a while, and a handler may take longer: then a new one asks.
+async function ask(...request) {
+  return askOnce(...request).catch(() => askOnce(...request));
+}
+
+function askOnce(method, route, body = "", headers = {}) {
+  const [host, port] = [ADDRESS.slice(0, ADDRESS.lastIndexOf(":")), ADDRESS.slice(ADDRESS.lastIndexOf(":") + 1)];
+  const length = method === "POST" ? { "Content-Length": Buffer.byteLength(body) } : {};
+  return new Promise((resolve, reject) => {
+    const request = http.request({ host, port, method, path: RUNTIME + route, agent, headers: { ...headers, ...length } }, (reply) => {
+      const parts = [];
+      reply.on("data", (part) => parts.push(part));
+      reply.on("error", reject);
+      reply.on("end", () => {
+        hasAnswered = true;
+        resolve({ status: reply.statusCode, headers: reply.headers, text: Buffer.concat(parts).toString() });
+      });
+    });
+    request.on("error", reject);
+    request.end(body);
+  });
+}
+
+async function post(kind, id, body, headers) {
+  const { status, text } = await ask("POST", `invocation/${id}/${kind}`, body, headers);
+  if (status === 500) process.exit(0); // the container error, as for a Next
+  // 413, too large, or 403, too late: the environment goes on with the next invocation.
+  if (status !== 202) console.error(`runtime.mjs: the ${kind} to ${id} is refused: ${status} ${text}`);
+}
+
+// --- what went wrong ---
+
+// As Lambda's Node runtime reports it.
+function reportOf(fault) {
+  const cut = (text) => String(text).slice(0, MESSAGE_LIMIT);
+  if (!util.types.isNativeError(fault)) return { errorType: typeof fault, errorMessage: cut(fault), trace: [] };
+  return { errorType: fault.name, errorMessage: cut(fault.message), trace: cut(fault.stack).split("\n") };
+}
+
+// Its type as a header: a category and a reason, such as Runtime.TypeError, in ASCII.
+function typeHeader(report) {
+  const type = String(report.errorType).replace(/[^ -~]/g, "?");
+  return { "Lambda-Runtime-Function-Error-Type": type.includes(".") ? type : `Runtime.${type}` };
+}
+
+// The trace ends before this program's own frames.
+function printTrace(fault) {
+  for (let [each, depth] = [fault, 0]; util.types.isNativeError(each) && depth < 10; [each, depth] = [each.cause, depth + 1]) {
+    const lines = String(each.stack).split("\n");
+    const own = lines.findIndex((line) => line.includes(import.meta.url));
+    Reflect.set(each, "stack", (own < 0 ? lines : lines.slice(0, own)).join("\n"));
+  }
+  console.error(fault instanceof RuntimeFault ? fault.stack : fault);
+}
+
+// --- the handler ---
+
+// Whether the nearest package.json says so.
+function isOfTypeModule(folder) {
+  const [file, above] = [path.join(folder, "package.json"), path.dirname(folder)];
+  if (!fs.existsSync(file)) return path.basename(folder) !== "node_modules" && above !== folder && isOfTypeModule(above);
+  try {
+    return JSON.parse(fs.readFileSync(file))?.type === "module";
+  } catch (fault) {
+    console.error(`runtime.mjs: ${file} is not read, and .js counts as CommonJS: ${fault.message}`);
+    return false;
+  }
+}
+
+// The file of a module, in the order in which Lambda looks, and whether it is an ES module.
+function fileOf(base) {
+  const ending = ["", ".js", ".mjs", ".cjs"].find((ending) => fs.statSync(base + ending, { throwIfNoEntry: false })?.isFile());
+  if (ending === undefined) return { file: fs.existsSync(base) ? base : undefined, isES: false };
+  return { file: base + ending, isES: ending === ".mjs" || (ending === ".js" && isOfTypeModule(path.dirname(base))) };
+}
+
+// The place of a SyntaxError and its line: of CommonJS its stack begins with them, of an ES module Node's own check says
+// them.
+function placeOf(fault, file, isES) {
+  const said = isES ? spawnSync(process.execPath, ["--check", file], { encoding: "utf8" }).stderr : fault.stack;
+  return (said ?? "").split("\n\n")[0];
+}
+
+async function moduleOf(folder, name) {
+  const { file, isES } = fileOf(path.resolve(ROOT, folder, name));
+  try {
+    if (isES) return await import(pathToFileURL(file));
+    return require(file ?? require.resolve(name, { paths: [ROOT, path.resolve(ROOT, folder)] }));
+  } catch (cause) {
+    if (cause instanceof SyntaxError) throw new RuntimeFault("UserCodeSyntaxError", String(cause), { lines: placeOf(cause, file, isES) });
+    if (cause?.code === "MODULE_NOT_FOUND") throw new RuntimeFault("ImportModuleError", String(cause), { cause });
+    throw cause;
+  }
+}
+
+async function load(name) {
+  if (name.includes("..")) {
+    const advice = "Use absolute paths when specifying root directories in handler names.";
+    throw new RuntimeFault("MalformedHandlerName", `'${name}' is not a valid handler name. ${advice}`);
+  }
+  const last = path.basename(name);
+  const parts = /^([^.]*)\.(.*)$/.exec(last);
+  if (!parts) throw new RuntimeFault("MalformedHandlerName", "Bad handler");
+  const loaded = await moduleOf(name.slice(0, name.lastIndexOf(last)), parts[1]);
+  const handler = parts[2].split(".").reduce((object, key) => object?.[key], loaded);
+  if (!handler) throw new RuntimeFault("HandlerNotFound", `${name} is undefined or not exported`);
+  if (typeof handler !== "function") throw new RuntimeFault("HandlerNotFound", `${name} is not a function`);
+  return handler;
+}
+
+const greet = async (event) => ({ greeting: `Hello, ${event.name ?? "world"}!` });
+
+// --- an invocation ---
+
+// What becomes of a fault that nothing catches, and what follows once the event loop has nothing left to do.
+let whenUncaught = failInit;
+let whenEmpty = () => {};
+process.on("uncaughtException", (fault) => whenUncaught(fault, 129));
+process.on("unhandledRejection", (cause) => whenUncaught(new RuntimeFault("UnhandledPromiseRejection", String(cause), { cause }), 128));
+process.on("beforeExit", () => whenEmpty());
+
+// What a handler may ask of its invocation (Developer Guide, "Using the Lambda context object to retrieve Node.js
+// function information").
+function contextOf(headers, done) {
+  const invokedFunctionArn = headers["lambda-runtime-invoked-function-arn"];
+  const functionName = variable("AWS_LAMBDA_FUNCTION_NAME", invokedFunctionArn.split(":")[6]);
+  const deadline = Number(headers["lambda-runtime-deadline-ms"]);
+  const parsed = (name) => (headers[name] ? JSON.parse(headers[name]) : undefined);
+  return {
+    callbackWaitsForEmptyEventLoop: true,
+    functionName,
+    functionVersion: variable("AWS_LAMBDA_FUNCTION_VERSION", "$LATEST"),
+    memoryLimitInMB: variable("AWS_LAMBDA_FUNCTION_MEMORY_SIZE", "128"),
+    logGroupName: variable("AWS_LAMBDA_LOG_GROUP_NAME", `/aws/lambda/${functionName}`),
+    logStreamName: variable("AWS_LAMBDA_LOG_STREAM_NAME", "local/[$LATEST]1"),
+    clientContext: parsed("lambda-runtime-client-context"),
+    identity: parsed("lambda-runtime-cognito-identity"),
+    invokedFunctionArn,
+    awsRequestId: headers["lambda-runtime-aws-request-id"],
+    getRemainingTimeInMillis: () => Math.max(0, deadline - Date.now()),
+    done, succeed: (output) => done(null, output), fail: (fault) => done(fault ?? "handled"),
+  };
+}
+
+// The handler's output, and whether the event loop must run empty before the next invocation comes.
+function outputOf(handler, text, headers) {
+  return new Promise((resolve, reject) => {
+    const end = (fault, output, waits) => (fault === null || fault === undefined ? resolve({ output, waits }) : reject(fault));
+    const context = contextOf(headers, (fault, output) => end(fault, output, false));
+    whenEmpty = () => end(null, null, false); // nothing is left that could answer
+    const result = handler(JSON.parse(text), context, (fault, output) => end(fault, output, context.callbackWaitsForEmptyEventLoop));
+    if (typeof result?.then === "function") result.then(context.succeed, context.fail);
+  });
+}
+
+function textOf(output) {
+  try {
+    return JSON.stringify(output) ?? "null";
+  } catch (cause) {
+    throw new Error("Unable to stringify response body", { cause });
+  }
+}
+
+async function invoke(handler, text, headers) {
+  const id = headers["lambda-runtime-aws-request-id"];
+  let [kind, body, type, waits] = ["response", "", {}, false];
+  const fail = (fault) => {
+    printTrace(fault);
+    const report = reportOf(fault);
+    [kind, body, type] = ["error", JSON.stringify(report), typeHeader(report)];
+  };
+  whenUncaught = (fault, status) => {
+    fail(fault);
+    post(kind, id, body, type).finally(() => process.exit(status));
+  };
+  try {
+    const result = await outputOf(handler, text, headers);
+    [body, waits] = [textOf(result.output), result.waits];
+  } catch (fault) {
+    fail(fault);
+  }
+  whenEmpty = () => {};
+  await post(kind, id, body, type);
+  if (waits) await new Promise((resolve) => { whenEmpty = resolve; });
+  whenUncaught = (late, status) => { printTrace(late); process.exit(status); };
+}
+
+async function serve(handler) {
+  for (;;) {
+    const { status, headers, text } = await ask("GET", "invocation/next");
+    if (status === 403) { // an earlier process took the invocation that is still open here
+      await new Promise((resolve) => setTimeout(resolve, 50));
+    } else if (status !== 200) { // 500, the container error: the runtime should exit promptly
+      return;
+    } else {
+      delete process.env._X_AMZN_TRACE_ID;
+      if (headers["lambda-runtime-trace-id"]) process.env._X_AMZN_TRACE_ID = headers["lambda-runtime-trace-id"];
+      await invoke(handler, text, headers);
+    }
+  }
+}
+
+async function failInit(fault) {
+  printTrace(fault);
+  const report = reportOf(fault);
+  await ask("POST", "init/error", JSON.stringify(report), typeHeader(report)).catch(tellUnreachable);
+  process.exit(1);
+}
+
+function tellUnreachable(fault) {
+  if (hasAnswered) return process.exit(0); // the service has stopped
+  console.error(`runtime.mjs: no Runtime API at ${ADDRESS}: ${fault.message}: start the service first, and name its environment's port`);
+  process.exit(1);
+}
+
+function tellUsage(status) {
+  const lines = fs.readFileSync(new URL(import.meta.url), "utf8").split("\n").slice(1);
+  console.log(lines.slice(0, lines.findIndex((line) => !line.startsWith("//"))).map((line) => line.slice(3)).join("\n"));
+  process.exit(status);
+}
+
+if (words.includes("-h") || words.includes("--help")) tellUsage(0);
+if (words.length > 2 || (words.length === 2 && isAddress(words[0]) === isAddress(words[1]))) tellUsage(2);
+process.env.AWS_EXECUTION_ENV ||= `AWS_Lambda_nodejs${process.versions.node.split(".")[0]}.x`;
+const handler = HANDLER ? await load(HANDLER).catch(failInit) : greet;
+await serve(handler).catch(tellUnreachable);
+process.exit(0);

@@ -1,0 +1,58 @@
+"""Copies of this checkout in which a check may change what it likes."""
+import gzip
+import hashlib
+import os
+import shutil
+import subprocess
+
+ROOT = os.path.dirname(os.path.dirname(os.path.dirname(os.path.realpath(__file__))))
+RELEASED = "crates/lambda_local/out/lambda_local"  # where a released program is unpacked to
+
+
+def plain(**more):
+    """This environment, in which no program is named and no kit is on the path."""
+    kept = {name: value for name, value in os.environ.items() if name not in ("LAMBDA_LOCAL_PROGRAM", "XDG_CACHE_HOME", "PYTHONPATH")}
+    return {**kept, "PATH": "/usr/bin:/bin", **more}
+
+
+def write(path, data, mode=0o644):
+    """Writes a file of this mode, and the folders above it."""
+    os.makedirs(os.path.dirname(path), exist_ok=True)
+    with open(path, "wb") as file:
+        file.write(data)
+    os.chmod(path, mode)
+
+
+def copy_tree(folder, released=None):
+    """Puts the files of this checkout there as they stand, but for release/. With the path of a program, that is
+    released for these sources."""
+    listed = subprocess.run(["git", "ls-files", "-co", "--exclude-standard", "-z"], cwd=ROOT, stdout=subprocess.PIPE, check=True).stdout
+    for name in filter(None, listed.decode().split("\0")):
+        if os.path.isfile(os.path.join(ROOT, name)) and not name.startswith("release/"):
+            os.makedirs(os.path.dirname(os.path.join(folder, name)), exist_ok=True)
+            shutil.copy2(os.path.join(ROOT, name), os.path.join(folder, name))
+    if released:
+        release(folder, released)
+    return folder
+
+
+def stamp_of(root):
+    """The lines of what the sources of a copy are known by."""
+    return subprocess.run([os.path.join(root, "lambda_local"), "stamp"], env=plain(), stdout=subprocess.PIPE, text=True, check=True).stdout
+
+
+def release(root, program, kit="rattle-kit-0 logic 0"):
+    """Releases a program in a copy, as the proved one of its sources."""
+    with open(program, "rb") as file:
+        data = file.read()
+    write(os.path.join(root, "release", "lambda_local.gz"), gzip.compress(data, 9, mtime=0))
+    text = f"{stamp_of(root)}kit {kit}\nprogram {hashlib.sha256(data).hexdigest()}\ngate 1 passed, 0 failed\n"
+    write(os.path.join(root, "release", "PROVED"), text.encode())
+
+
+def commit(root, moment="2026-01-02T03:04:05Z"):
+    """Makes a copy a repository of one commit."""
+    given = {"GIT_AUTHOR_DATE": moment, "GIT_COMMITTER_DATE": moment}
+    person = ["-c", "user.name=someone", "-c", "user.email=someone@example.com"]
+    for words in (["init", "-q"], ["add", "-A"], ["commit", "-qm", "all"]):
+        subprocess.run(["git", "-C", root, *person, *words], env=plain(**given), check=True)

@@ -1,0 +1,225 @@
+#!/usr/bin/env python3
+"""Checks tools/conformance service: it finds nothing in lambda_local over a thousand random sequences and nothing in a
+sound emulator, and each fault that is planted in the emulator. The program is LAMBDA_LOCAL_PROGRAM, else ./lambda_local.
+Ends with 'N passed, M failed'.
+
+usage: tests/tools/conformance_service.py [FAULT ..]   (or `sound`, `lambda_local`; default: everything)"""
+import concurrent.futures
+import os
+import re
+import socket
+import subprocess
+import sys
+import tempfile
+import xml.etree.ElementTree as xml
+
+ROOT = os.path.dirname(os.path.dirname(os.path.dirname(os.path.realpath(__file__))))
+EMULATOR = os.path.join(ROOT, "tests", "tools", "emulator")
+TOOL = os.path.join(ROOT, "tools", "conformance")
+sys.path[:0] = [EMULATOR, os.path.join(ROOT, "tools"), os.path.join(ROOT, "tests", "library")]
+import counted  # noqa: E402
+from counted import check  # noqa: E402
+from life import FAULTS  # noqa: E402
+from lambda_local.conformance.service import known, oracle, sequences  # noqa: E402
+from lambda_local.service import Service, free_ports, program_path  # noqa: E402
+
+POOL = concurrent.futures.ThreadPoolExecutor(12)  # of runs; they wait most of the time
+PARTS, IN_PART = 8, 125  # of the random sequences for lambda_local, each part with a service and a seed of its own
+IN_EMULATOR = 60  # random sequences
+SERVICE_TIMEOUT, EMULATOR_TIMEOUT = 4, 2  # of the functions, in seconds
+
+# What each fault shows as: the words of the call, of the definitions' answer, and of the respect in which it differs. By
+# the meaning of the fault there may be two.
+SHOWS_AS = {
+    "answers-twice": {"response State status", "failure State status"},
+    "loses-error-type": {"invoke error report"},
+    "hides-function-error": {"invoke error function-error"},
+    "accepts-stale-id": {"response BadId status", "failure BadId status"},
+    "delivers-to-older-poll": {"next Replaced connection", "next waits answered"},
+    "takes-late-responses": {"response State status"},
+    "drops-deadline": {"next deliver deadline"},
+    "misses-readiness": {"next waits answered"},
+    "tells-shutdown-to-all": {"ext-next Container status", "ext-next Unknown status"},
+    "throttles-early": {"invoke waits answered"},
+    "queues-invokes": {"invoke throttled connection"},
+    "keeps-extensions": {"ext-next Unknown status", "ext-next Unknown connection", "ext-exit-failure Unknown status"},
+    "refuses-otherwise": {"response State refusal", "failure State refusal"},
+    "breaks-down": {"response-too-large TooLarge connection", "invoke too-large-output connection"},
+}
+
+
+class Run:
+    """A finished run of the tool."""
+
+    def __init__(self, *words):
+        done = subprocess.run([TOOL, "service", *words], capture_output=True, text=True, timeout=1500)
+        self.status, self.output, self.errors = done.returncode, done.stdout, done.stderr
+
+    @property
+    def words(self):
+        """Of each difference, its three words."""
+        return re.findall(r"^DIFFERENCE  (\S+ \S+ \S+): ", self.output, re.MULTILINE)
+
+    @property
+    def calls(self):
+        """How many calls are reported."""
+        return len(re.findall(r"^        [> ]  ?\d+ +\d+ ms  ", self.output, re.MULTILINE))
+
+    @property
+    def random(self):
+        found = re.search(r"\((\d+) random\)", self.output)
+        return int(found[1]) if found else 0
+
+    def told(self, passed):
+        if not passed:
+            print(self.output, self.errors[-1000:], flush=True)
+
+
+def against_emulator(faults, *words):
+    """A run against an emulator with these faults."""
+    invoke_port, runtime_port = free_ports(2, set())
+    emulator = subprocess.Popen([sys.executable, "-S", os.path.join(EMULATOR, "emulator.py"), str(invoke_port), str(runtime_port),
+                                 str(EMULATOR_TIMEOUT), *faults], stdout=subprocess.PIPE, text=True, start_new_session=True)
+    try:
+        emulator.stdout.readline()
+        return Run("--invoke", f"http://127.0.0.1:{invoke_port}", "--runtime", f"127.0.0.1:{runtime_port}", *words)
+    finally:
+        emulator.kill()
+        emulator.wait()
+        emulator.stdout.close()
+
+
+def against_lambda_local(*words):
+    function = {"name": "function", "ports": [0], "timeout": SERVICE_TIMEOUT}
+    service = Service({"account": "123456789012", "region": "us-east-1", "functions": [function]})
+    try:
+        port = service.configuration["functions"][0]["ports"][0]
+        return Run("--invoke", service.endpoint_url, "--runtime", f"127.0.0.1:{port}", *words)
+    finally:
+        service.kill()
+
+
+# ---- what is found, and what is not ------------------------------------------------------------------------------------
+
+def started(name, start, *words):
+    """A run that has begun, if this name is chosen."""
+    return POOL.submit(start, *words) if name in (sys.argv[1:] or [name]) else None
+
+
+def against(name):
+    """The run against the emulator with the fault of this name, or without a fault."""
+    return against_emulator(() if name == "sound" else (name,), "--seed", "1", "--sequences", str(IN_EMULATOR), "--most", "1")
+
+
+RUNS = [started("lambda_local", against_lambda_local, "--seed", str(seed), "--sequences", str(IN_PART)) for seed in range(PARTS)]
+SOUND = started("sound", against, "sound")
+FAULTY = {name: started(name, against, name) for name in FAULTS}
+
+
+def nothing_in_lambda_local():
+    runs = [run.result() for run in RUNS if run]
+    for seed, run in enumerate(runs):
+        seen = (run.status, run.words)
+        check(f"nothing differs in lambda_local: {(run.output.splitlines() or [''])[-1]}, seed {seed}", seen, (0, []))
+        run.told(seen == (0, []))
+    if runs:
+        check("a thousand random sequences", sum(run.random for run in runs) >= PARTS * IN_PART)
+
+
+def nothing_in_a_sound_emulator():
+    if SOUND:
+        run = SOUND.result()
+        check(f"nothing differs in an emulator without a fault: {(run.output.splitlines() or [''])[-1]}", (run.status, run.words), (0, []))
+        run.told(run.status == 0)
+
+
+def each_fault_is_found():
+    check("each fault has what it shows as", set(FAULTS) ^ set(SHOWS_AS), set())
+    for name, started_run in FAULTY.items():
+        if started_run:
+            run = started_run.result()
+            seen = (run.status, len(run.words), bool(set(run.words) & SHOWS_AS[name]), 0 < run.calls <= 8)
+            title = next((line for line in run.output.splitlines() if line.startswith("DIFFERENCE")), "nothing")
+            last = (run.output.splitlines() or [""])[-1]
+            check(f"{name} is found, with {run.calls} calls: {title[:160]}; {last}", seen, (1, 1, True, True))
+            run.told(seen == (1, 1, True, True))
+
+
+def each_worked_sequence_is_played():
+    found = oracle.Oracle(program_path(), SERVICE_TIMEOUT)
+    for start in (oracle.FRESH, oracle.WARM):
+        texts = [*sequences.worked(start), *sequences.timed(start)]
+        played = {plan.sequence.name for plan in sequences.plans_of(texts, found)}
+        check(f"each of {len(texts)} worked sequences ({start}) is played", {one.name for one in texts} - played, set())
+
+
+# ---- what a run takes and leaves ---------------------------------------------------------------------------------------
+
+def differences_can_be_known():
+    with tempfile.TemporaryDirectory() as folder:
+        file, report = os.path.join(folder, "known.txt"), os.path.join(folder, "report.xml")
+        with open(file, "w") as lines:
+            lines.write("# The flag is on its way.\ninvoke * function-error  # of each failure\n\n")
+        words = ("--seed", "1", "--sequences", "1", "--most", "1", "--junit", report)
+        run = against_emulator(("hides-function-error",), "--known", file, *words)
+        check("an accepted difference is counted", (run.status, f"times: {file}, line 2" in run.output), (0, True))
+        run.told(run.status == 0)
+        check("JUnit has no failure", xml.parse(report).getroot().find("testsuite").get("failures"), "0")
+        run = against_emulator(("hides-function-error",), *words)
+        case = next((one for one in xml.parse(report).getroot().iter("testcase") if one.find("failure") is not None), None)
+        shown = case is not None and "invoke a" in case.find("failure").text
+        check("without the file it is a failure in JUnit, with its calls", (run.status, shown), (1, True))
+        check("the report has the page", "API_Invoke.html" in run.output)
+        script = run.output.partition("      script\n")[2].splitlines()
+        lines = [line.strip() for line in script if line.startswith("        ")]
+        replayed = subprocess.run([os.environ.get("LAMBDA_LOCAL_PROGRAM", os.path.join(ROOT, "lambda_local")), "replay"],
+                                  input="\n".join(lines) + "\n", capture_output=True, text=True)
+        check("its script can be replayed, and has the error", (replayed.returncode, " error =" in replayed.stdout), (0, True))
+
+
+def built_in_points_stand_in_the_page():
+    with open(os.path.join(ROOT, "docs", "differences.md"), encoding="utf-8") as file:
+        points = {line.split(" | ")[0][2:] for line in file if line.startswith("| ")}
+    built_in = {one.why for one in known.BUILT_IN} | set(known.COMPARED_LOOSELY)
+    check("each difference that is accepted stands in docs/differences.md", built_in - points, set())
+
+
+def wrong_usage():
+    free, other = free_ports(2, set())
+    silent = socket.create_server(("127.0.0.1", 0))
+    silent_port = silent.getsockname()[1]
+    here = ["--invoke", f"http://127.0.0.1:{free}", "--runtime", f"127.0.0.1:{other}"]
+    with tempfile.TemporaryDirectory() as folder:
+        bad = os.path.join(folder, "known.txt")
+        with open(bad, "w") as file:
+            file.write("# two words\nnext deliver\n")
+        for words, told in (
+                ([], "write --invoke URL"),
+                (here[:2], "write --runtime HOST:PORT"),
+                (["--invoke", "127.0.0.1:8080", *here[2:]], "--invoke 127.0.0.1:8080: write the URL"),
+                ([*here[:2], "--runtime", "9001"], "--runtime 9001: write HOST:PORT"),
+                ([*here, "--sequences", "0"], "0 is not a number from 1"),
+                ([*here, "--seconds", "soon"], "--seconds"),
+                ([*here, "--known", os.path.join(folder, "nothing")], "No such file"),
+                ([*here, "--known", bad], "known.txt: line 2 has 2 words: write three"),
+                ([*here, "--junit", os.path.join(folder, "no", "report.xml")], "name a file in a folder that can be written"),
+                ([*here, "--program", "nowhere"], "nowhere is no program"),
+                (here, f"127.0.0.1:{other}: no service answers there"),
+                ([*here[:2], "--runtime", f"127.0.0.1:{silent_port}"], f"127.0.0.1:{free}: no service answers there"),
+                (["--invoke", f"http://127.0.0.1:{silent_port}", "--runtime", f"127.0.0.1:{silent_port}"], "is not answered within 2 s")):
+            run = Run(*words)
+            check(f"{' '.join(words) or 'no word'}: status 2 and one line", (run.status, len(run.errors.splitlines()), told in run.errors),
+                  (2, 1, True))
+            run.told(told in run.errors)
+    silent.close()
+    service = Service({"account": "123456789012", "region": "us-east-1", "functions": [{"name": "f", "ports": [0]}]})
+    run = Run("--invoke", service.endpoint_url, "--runtime", f"127.0.0.1:{service.port}")
+    service.kill()
+    check("a port without a Runtime API: status 2", (run.status, "is answered 404: no Runtime API listens there" in run.errors), (2, True))
+    run.told(run.status == 2)
+
+
+if __name__ == "__main__":
+    parts = (nothing_in_lambda_local, nothing_in_a_sound_emulator, each_fault_is_found)
+    others = (each_worked_sequence_is_played, differences_can_be_known, built_in_points_stand_in_the_page, wrong_usage)
+    sys.exit(counted.run(*parts, *(() if sys.argv[1:] else others)))

@@ -1,0 +1,70 @@
+#!/usr/bin/env python3
+"""A small emulator, shaped like AWS's Runtime Interface Emulator: one function named `function`, one port for callers,
+one for the Runtime API and the Extensions API. For tests of tools/conformance.
+
+usage: emulator.py INVOKE_PORT RUNTIME_PORT TIMEOUT [FAULT ..]     it writes a line once it listens, and runs until it is ended"""
+import asyncio
+import json
+import re
+import sys
+
+from life import FAULTS, Life, Reply
+
+INVOKE = "/2015-03-31/functions/function/invocations"
+RUNTIME, EXTENSION = "/2018-06-01/runtime", "/2020-01-01/extension"
+NOT_FOUND = Reply(404, {"errorMessage": "no such path", "errorType": "NotFound"})
+
+
+def of_caller(life, method, path, headers, body):
+    if (method, path) != ("POST", INVOKE):
+        return NOT_FOUND
+    return life.invoke(body, headers.get("x-amzn-trace-id"))
+
+
+def of_environment(life, method, path, headers, body):
+    extension = headers.get("lambda-extension-identifier")
+    if found := re.fullmatch(f"{RUNTIME}/invocation/([^/]+)/(response|error)", path):
+        return (life.response if found[2] == "response" else life.failure)(found[1], body)
+    if path == f"{EXTENSION}/register":
+        wants_account = "accountId" in headers.get("lambda-extension-accept-feature", "")
+        return life.register(headers["lambda-extension-name"], json.loads(body)["events"], wants_account)
+    routes = {("GET", f"{RUNTIME}/invocation/next"): life.next,
+              ("POST", f"{RUNTIME}/init/error"): lambda: life.init_failure(body),
+              ("GET", f"{EXTENSION}/event/next"): lambda: life.ext_next(extension),
+              ("POST", f"{EXTENSION}/init/error"): lambda: life.ext_init_failure(extension, body),
+              ("POST", f"{EXTENSION}/exit/error"): lambda: life.ext_exit_failure(extension, body)}
+    return routes.get((method, path), lambda: NOT_FOUND)()
+
+
+async def serve(life, routes, reader, writer):
+    """The requests of one connection, one after the other."""
+    try:
+        while True:
+            head = (await reader.readuntil(b"\r\n\r\n")).decode("latin-1").split("\r\n")
+            method, path, _ = head[0].split(" ")
+            headers = {name.lower(): value.strip() for name, _, value in (line.partition(":") for line in head[1:] if line)}
+            body = await reader.readexactly(int(headers.get("content-length", 0)))
+            reply = routes(life, method, path, headers, body)
+            reply = await reply if asyncio.isfuture(reply) else reply
+            lines = [f"HTTP/1.1 {reply.status} Status", f"Content-Length: {len(reply.body)}", "Content-Type: application/json",
+                     *(f"{name}: {value}" for name, value in reply.headers.items())]
+            writer.write("\r\n".join(lines).encode() + b"\r\n\r\n" + reply.body)
+            await writer.drain()
+    except (asyncio.IncompleteReadError, ConnectionError):
+        pass
+    finally:
+        writer.close()
+
+
+async def main(invoke_port, runtime_port, timeout, *faults):
+    if unknown := set(faults) - set(FAULTS):
+        sys.exit(f"no such fault: {' '.join(unknown)}")
+    life = Life(float(timeout), faults)
+    servers = [await asyncio.start_server(lambda reader, writer, routes=routes: serve(life, routes, reader, writer), "127.0.0.1", int(port))
+               for port, routes in ((invoke_port, of_caller), (runtime_port, of_environment))]
+    print("listening", flush=True)
+    await asyncio.gather(*(server.serve_forever() for server in servers))
+
+
+if __name__ == "__main__":
+    asyncio.run(main(*sys.argv[1:]))

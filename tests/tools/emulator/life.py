@@ -1,0 +1,289 @@
+"""One execution environment, as docs/semantics.md tells it, with faults that can be planted: each is a flag.
+
+It is written apart from the definitions, in some other words of its own, and answers with futures: a poll, or an Invoke,
+that waits has one without a result."""
+import asyncio
+import json
+import os
+import time
+import uuid
+
+LIMIT = 6_291_456  # bytes of a response
+INIT_SECONDS, CLOSING_SECONDS, MOST_EXTENSIONS = 10, 2, 10
+ARN = "arn:aws:lambda:us-east-1:012345678912:function:function"
+FAULTS = {
+    "answers-twice": "a second answer to an invocation is accepted",
+    "loses-error-type": "a failure's report reaches the caller without its errorType",
+    "hides-function-error": "a failure reaches the caller without X-Amz-Function-Error",
+    "accepts-stale-id": "an answer with an earlier request identifier counts for the open invocation",
+    "delivers-to-older-poll": "of two polls the newer one is refused",
+    "takes-late-responses": "a response after the timeout is accepted",
+    "drops-deadline": "a delivery has no Lambda-Runtime-Deadline-Ms",
+    "misses-readiness": "Init is over when the runtime asks, whether the extensions have asked or not",
+    "tells-shutdown-to-all": "an extension for INVOKE alone is told SHUTDOWN",
+    "throttles-early": "an Invoke that could wait for Init is throttled",
+    "queues-invokes": "a second Invoke waits instead of being throttled",
+    "keeps-extensions": "an extension of an earlier generation is still known",
+    "refuses-otherwise": "a call in the wrong phase is refused with another status",
+    "breaks-down": "a response that is too large ends the process",
+}
+
+
+class Extension:
+    def __init__(self, name, events):
+        self.name, self.events, self.poll, self.told, self.ended = name, events, None, False, False
+
+
+class Invocation:
+    def __init__(self, payload, trace):
+        self.id, self.payload, self.trace = str(uuid.uuid4()), payload, trace
+        self.caller = asyncio.get_running_loop().create_future()
+
+
+class Reply:
+    def __init__(self, status, body=b"", **headers):
+        self.status, self.body = status, body if isinstance(body, bytes) else json.dumps(body).encode()
+        self.headers = {name.replace("_", "-"): value for name, value in headers.items()}
+
+
+def refusal(status, kind):
+    return Reply(status, {"errorMessage": kind, "errorType": kind})
+
+
+STATE, CONTAINER = refusal(403, "InvalidStateTransition"), refusal(500, "ContainerError")
+UNKNOWN, ACCEPTED = refusal(403, "Extension.UnknownExtensionIdentifier"), Reply(202, {"status": "OK"})
+
+
+class Life:
+    def __init__(self, timeout, faults):
+        self.timeout, self.faults = timeout, faults
+        self.phase, self.invocation, self.answered = "starting", None, False
+        self.poll, self.extensions, self.earlier, self.queue = None, {}, {}, []
+        self.timer, self.deadline, self.late = None, 0, None
+
+    # ---- what changes the phase ----
+
+    def _clock(self, seconds, then):
+        self._no_clock()
+        self.deadline = int((time.time() + seconds) * 1000)
+        self.timer = asyncio.get_running_loop().call_later(seconds, then)
+
+    def _no_clock(self):
+        if self.timer:
+            self.timer.cancel()
+        self.timer = None
+
+    def _contact(self):
+        """An Init has its time from the first contact."""
+        if self.phase == "starting" and not self.timer:
+            self._clock(INIT_SECONDS, self._init_is_over)
+
+    def _look(self):
+        """Whether all have asked."""
+        ready = self.poll and ("misses-readiness" in self.faults or all(one.poll for one in self.extensions.values()))
+        if ready and (self.phase == "starting" or self.phase == "busy" and self.answered):
+            waits = self.invocation if self.phase == "starting" else None
+            self.phase, self.invocation = "idle", None
+            self._no_clock()
+            if waits or self.queue:
+                self._deliver(waits or self.queue.pop(0))
+
+    def _deliver(self, invocation):
+        self.phase, self.invocation, self.answered = "busy", invocation, False
+        self._clock(self.timeout, self._timed_out)
+        headers = {"Lambda_Runtime_Aws_Request_Id": invocation.id, "Lambda_Runtime_Deadline_Ms": self.deadline,
+                   "Lambda_Runtime_Invoked_Function_Arn": ARN, "Lambda_Runtime_Trace_Id": invocation.trace or f"Root={uuid.uuid4()}"}
+        if "drops-deadline" in self.faults:
+            del headers["Lambda_Runtime_Deadline_Ms"]
+        self._answer_poll(Reply(200, invocation.payload, **headers))
+        for one in self.extensions.values():
+            if "INVOKE" in one.events and one.poll:
+                self._answer_extension(one, {"eventType": "INVOKE", "deadlineMs": self.deadline, "requestId": invocation.id,
+                                             "invokedFunctionArn": ARN, "tracing": {"type": "X-Amzn-Trace-Id", "value": ""}})
+
+    def _timed_out(self):
+        self.late = self.invocation.id
+        if not self.answered:
+            self._fail({"errorType": "Sandbox.Timedout", "errorMessage": f"RequestId: {self.invocation.id} Error: Task timed out"})
+        self._close("timeout")
+
+    def _init_is_over(self):
+        self._fail({"errorType": "Sandbox.Timedout", "errorMessage": "Init timed out"})
+        self._close("timeout")
+
+    def _fail(self, report):
+        if self.invocation and not self.answered:
+            self._tell_caller(report if isinstance(report, bytes) else json.dumps(report).encode(), True)
+        self.invocation = None
+
+    def _tell_caller(self, body, failed):
+        if failed and "loses-error-type" in self.faults:
+            body = json.dumps({name: value for name, value in json.loads(body).items() if name != "errorType"}).encode()
+        flag = {"X_Amz_Function_Error": "Unhandled"} if failed and "hides-function-error" not in self.faults else {}
+        resolve(self.invocation.caller, Reply(200, body, X_Amz_Executed_Version="$LATEST", **flag))
+
+    def _close(self, reason):
+        self.phase, self.reason, self.invocation, self.answered = "closing", reason, None, False
+        self._clock(CLOSING_SECONDS, self._begin_anew)
+        self._answer_poll(CONTAINER)
+        for one in self.extensions.values():
+            if one.poll and self._is_for_shutdown(one) and not one.ended:
+                self._tell_end(one)
+            elif one.poll:
+                resolve(one.poll, CONTAINER)
+                one.poll = None
+        self._look_at_end()
+
+    def _is_for_shutdown(self, one):
+        return "SHUTDOWN" in one.events or "tells-shutdown-to-all" in self.faults
+
+    def _tell_end(self, one):
+        one.told = True
+        self._answer_extension(one, {"eventType": "SHUTDOWN", "deadlineMs": self.deadline, "shutdownReason": self.reason})
+
+    def _look_at_end(self):
+        if all(one.ended for one in self.extensions.values() if self._is_for_shutdown(one)):
+            self._begin_anew()
+
+    def _begin_anew(self):
+        self.phase = "starting"
+        self._no_clock()
+        self.earlier.update(self.extensions)
+        self.extensions = {}
+        if not self.invocation and self.queue:
+            self.invocation = self.queue.pop(0)
+        if self.invocation:
+            self._contact()
+
+    def _answer_poll(self, reply):
+        if self.poll:
+            resolve(self.poll, reply)
+        self.poll = None
+
+    def _answer_extension(self, one, event):
+        resolve(one.poll, Reply(200, event, Lambda_Extension_Event_Identifier=str(uuid.uuid4())))
+        one.poll = None
+
+    # ---- calls: each gives a reply, or a future of one ----
+
+    def invoke(self, payload, trace):
+        invocation = Invocation(payload or b"{}", trace)
+        if self.phase == "idle":
+            self._deliver(invocation)
+        elif self.phase != "busy" and not self.invocation and "throttles-early" not in self.faults:
+            self.invocation = invocation
+            self._contact()
+        elif "queues-invokes" in self.faults:
+            self.queue.append(invocation)
+        else:
+            return Reply(429, {"Reason": "ConcurrentInvocationLimitExceeded", "Type": "User", "message": "Rate Exceeded."},
+                         x_amzn_ErrorType="TooManyRequestsException")
+        return invocation.caller
+
+    def next(self):
+        if self.phase == "closing":
+            return CONTAINER
+        if self.phase == "busy" and not self.answered:
+            return STATE
+        if self.poll and "delivers-to-older-poll" in self.faults:
+            return STATE
+        self._answer_poll(STATE)
+        mine = self.poll = asyncio.get_running_loop().create_future()
+        self._contact()
+        self._look()
+        return mine
+
+    def response(self, identifier, body):
+        return self._answered(identifier, body, False)
+
+    def failure(self, identifier, body):
+        return self._answered(identifier, body, True)
+
+    def _answered(self, identifier, body, failed):
+        if "takes-late-responses" in self.faults and identifier == self.late:
+            return ACCEPTED
+        if self.phase != "busy" or self.answered:
+            is_second = self.phase == "busy" and identifier == self.invocation.id
+            if is_second and "answers-twice" in self.faults:
+                return ACCEPTED
+            return refusal(409, "InvalidStateTransition") if "refuses-otherwise" in self.faults else STATE
+        if identifier != self.invocation.id and "accepts-stale-id" not in self.faults:
+            return refusal(400, "InvalidRequestID")
+        if len(body) > LIMIT and "breaks-down" in self.faults:
+            os._exit(1)
+        if len(body) > LIMIT:
+            self._tell_caller(b'{"errorType":"Function.ResponseSizeTooLarge","errorMessage":"Response payload size exceeded"}', True)
+        else:
+            self._tell_caller(body, failed)
+        self.answered = True
+        self._look()
+        return ACCEPTED if len(body) <= LIMIT else refusal(413, "RequestEntityTooLarge")
+
+    def init_failure(self, body):
+        if self.phase != "starting":
+            return STATE
+        self._fail(body)
+        self._close("failure")
+        return ACCEPTED
+
+    def register(self, name, events, wants_account):
+        if self.phase != "starting":
+            return STATE
+        if any(one.name == name for one in self.extensions.values()):
+            return refusal(403, "Extension.AlreadyRegistered")
+        if len(self.extensions) == MOST_EXTENSIONS:
+            return refusal(403, "Extension.TooManyExtensions")
+        identifier = str(uuid.uuid4())
+        self.extensions[identifier] = Extension(name, events)
+        self._contact()
+        told = {"functionName": "test_function", "functionVersion": "$LATEST", "handler": "app.run"}
+        return Reply(200, {**told, **({"accountId": "012345678912"} if wants_account else {})}, Lambda_Extension_Identifier=identifier)
+
+    def ext_next(self, identifier):
+        one = self._extension(identifier)
+        if not one:
+            return UNKNOWN
+        if self.phase == "closing":
+            return self._asked_at_end(one)
+        if one.poll:
+            resolve(one.poll, STATE)
+        mine = one.poll = asyncio.get_running_loop().create_future()
+        self._contact()
+        self._look()
+        return mine
+
+    def _asked_at_end(self, one):
+        if self._is_for_shutdown(one) and not one.told and not one.ended:
+            mine = one.poll = asyncio.get_running_loop().create_future()
+            self._tell_end(one)
+            return mine
+        one.ended = True
+        self._look_at_end()
+        return CONTAINER
+
+    def ext_init_failure(self, identifier, body):
+        if self._extension(identifier) and self.phase != "starting":
+            return STATE
+        return self.ext_exit_failure(identifier, body)
+
+    def ext_exit_failure(self, identifier, body):
+        one = self._extension(identifier)
+        if not one:
+            return UNKNOWN
+        one.ended = True
+        if self.phase == "closing":
+            self._look_at_end()
+        else:
+            self._fail(body)
+            self._close("failure")
+        return ACCEPTED
+
+    def _extension(self, identifier):
+        if "keeps-extensions" in self.faults and identifier in self.earlier:
+            return self.earlier[identifier]
+        return self.extensions.get(identifier)
+
+
+def resolve(future, reply):
+    if not future.done():  # (the peer may have gone)
+        future.set_result(reply)

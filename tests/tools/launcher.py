@@ -1,0 +1,279 @@
+#!/usr/bin/env python3
+"""Checks ./lambda_local in copies of the checkout that release the program: what it says, which program it starts, that
+it starts at once, and what it notices. The program is LAMBDA_LOCAL_PROGRAM, else what ./lambda_local finds. Ends with
+'N passed, M failed'."""
+import contextlib
+import json
+import os
+import re
+import resource
+import shutil
+import signal
+import statistics
+import subprocess
+import sys
+import tempfile
+import time
+
+ROOT = os.path.dirname(os.path.dirname(os.path.dirname(os.path.realpath(__file__))))
+sys.path[:0] = [os.path.join(ROOT, "tests", "library")]
+import counted  # noqa: E402
+from counted import check  # noqa: E402
+from trees import RELEASED, copy_tree, plain, release, write  # noqa: E402
+
+OTHER_USER = 65534
+SOURCE = "crates/lambda_local/src/main.rt"
+UNPACKED = "unpacked the released program of these sources, once"
+NO_PROGRAM = "there is no proved program of these sources"
+NO_BUILD = "no proved build of these sources was made here"
+TOOLS = ("check", "conformance", "from_template", "rerun", "timeline", "up")
+COMMANDS = ("serve", "replay", "path", "build", "stamp", *TOOLS)
+
+
+def program():
+    """The program that the copies release."""
+    given = os.environ.get("LAMBDA_LOCAL_PROGRAM")
+    found = subprocess.run([os.path.join(ROOT, "lambda_local"), "path"], stdout=subprocess.PIPE, text=True, check=not given)
+    return given or found.stdout.strip()
+
+
+@contextlib.contextmanager
+def copied():
+    """A copy below a path with spaces, which other users can read."""
+    with tempfile.TemporaryDirectory() as folder:
+        os.chmod(folder, 0o755)
+        yield copy_tree(os.path.join(folder, "a clone"), program())
+
+
+def run(root, *words, cwd=None, stdin="", launcher="lambda_local", user=None, **variables):
+    """What a command of a copy ends with: its status, and what it wrote on both streams."""
+    who = {"user": user, "group": user, "extra_groups": []} if user is not None else {}
+    ran = subprocess.run([os.path.join(root, launcher), *words], cwd=cwd or root, env=plain(**variables), input=stdin, timeout=120,
+                         stdout=subprocess.PIPE, stderr=subprocess.PIPE, text=True, **who)
+    return ran.returncode, ran.stdout, ran.stderr
+
+
+def text_of(*parts):
+    with open(os.path.join(*parts), encoding="utf-8") as file:
+        return file.read()
+
+
+def first_call(root, **more):
+    """Status, whether the answers are those of the first example, and what was said beside them."""
+    status, output, said = run(root, stdin=text_of(ROOT, "examples", "first_call.txt"), **more)
+    return status, output == text_of(ROOT, "crates", "lambda_local", "stdout"), said
+
+
+def starts():
+    with copied() as root:
+        status, right, said = first_call(root)
+        check("a fresh clone answers", (status, right), (0, True))
+        check("and says once that it unpacked the program", (said.count("\n"), UNPACKED in said), (1, True))
+        for time_of_it in ("the second", "the third"):
+            check(f"{time_of_it} start says nothing", first_call(root), (0, True, ""))
+        where = os.path.join(root, RELEASED)
+        check("path prints the program", run(root, "path"), (0, where + "\n", ""))
+        check("replay by its name", run(root, "replay", stdin=text_of(ROOT, "examples", "first_call.txt"))[0], 0)
+        link = os.path.join(root, "linked")
+        os.symlink(os.path.join(root, "lambda_local"), link)
+        check("through a link, from another folder", run(root, "path", launcher="linked", cwd="/"), (0, where + "\n", ""))
+        there = {"LAMBDA_LOCAL_PROGRAM": os.path.join(root, "lambda_local")}
+        check("the launcher as LAMBDA_LOCAL_PROGRAM is the launcher", first_call(root, **there), (0, True, ""))
+        other = {"LAMBDA_LOCAL_PROGRAM": "/bin/echo"}
+        check("LAMBDA_LOCAL_PROGRAM is used as it is", run(root, "serve", "a b.json", **other), (0, "serve a b.json\n", ""))
+        check("and is the path", run(root, "path", **other), (0, "/bin/echo\n", ""))
+
+
+def costs():
+    """CPU time, of which other work on this machine takes nothing."""
+    with copied() as root:
+        first_call(root)
+        first_call(root)
+        seconds, whole = [], []
+        for _ in range(9):
+            before, began = resource.getrusage(resource.RUSAGE_CHILDREN), time.monotonic()
+            run(root, "path")
+            after = resource.getrusage(resource.RUSAGE_CHILDREN)
+            whole.append(time.monotonic() - began)
+            seconds.append(after.ru_utime + after.ru_stime - before.ru_utime - before.ru_stime)
+        print(f"     ({1000 * statistics.median(seconds):.0f} ms of CPU time, {1000 * statistics.median(whole):.0f} ms)")
+        check("a start costs less than 50 ms of CPU time", statistics.median(seconds) < 0.05)
+
+
+def says():
+    with copied() as root:
+        status, output, said = run(root, "--help")
+        check("--help", (status, said), (0, ""))
+        check("names each command", [it for it in COMMANDS if not re.search(rf"\b{it}\b", output)], [])
+        check("-h is the same", run(root, "-h")[1], output)
+        for tool in TOOLS:
+            status, output, said = run(root, tool, "--help")
+            check(f"{tool} --help", (status, tool in output.splitlines()[0], said), (0, True, ""))
+        for words in (["nothing"], ["serve"], ["replay", "file"], ["serve", "a", "b"], ["path", "x"], ["--quick"]):
+            status, output, said = run(root, *words)
+            fine = status == 2 and not output and said.count("\n") == 1 and "'" + " ".join(words) + "'" in said and "--help" in said
+            check(f"'{' '.join(words)}' is refused with a line", fine or (status, output, said))
+        check("nothing was unpacked for that", os.path.exists(os.path.join(root, RELEASED)), False)
+        status, output, said = run(root, "--version")
+        lines = output.splitlines()
+        check("--version", (status, lines[0].split(" ")[0], [line.split(" ")[0] for line in lines[1:]]),
+              (0, "lambda_local", ["sources", "kit", "program", "gate"]))
+        named = run(root, "--version", LAMBDA_LOCAL_PROGRAM="/bin/echo")
+        check("of a program that is named", named, (0, "lambda_local, the program /bin/echo\n", ""))
+
+
+def notices():
+    """What was looked at and has changed since."""
+    with copied() as root:
+        first_call(root)
+        first_call(root)
+        path, before = os.path.join(root, SOURCE), text_of(root, SOURCE)
+        times = os.stat(path)
+        write(path, before.replace("a", "b", 1).encode())
+        os.utime(path, ns=(times.st_atime_ns, times.st_mtime_ns))
+        status, output, said = run(root, "path")
+        check("a source of the same size and time is noticed", (status, output, NO_PROGRAM in said), (4, "", True))
+        status, output, said = run(root, "serve", "examples/service.json")
+        check("and without a kit nothing is served", (status, NO_BUILD in said), (4, True))
+        write(path, before.encode())
+        check("once it is back, so is the program", first_call(root), (0, True, ""))
+        more = os.path.join(root, "crates", "lambda_local", "src", "more.rt")
+        write(more, b"")
+        check("a further source is noticed", run(root, "path")[0], 4)
+        os.remove(more)
+        check("and that it is gone", first_call(root), (0, True, ""))
+        write(os.path.join(root, RELEASED), b"#!/bin/sh\nexit 9\n", 0o755)
+        status, right, said = first_call(root)
+        check("another program in its place is noticed", (status, right, UNPACKED in said), (0, True, True))
+        shutil.move(root, root + " moved")
+        check("a clone that was moved", first_call(root + " moved"), (0, True, ""))
+
+
+def kits():
+    """The kit's rt on the path: a folder with bin/rt and KIT-ID, as the kit has them."""
+    with copied() as root, tempfile.TemporaryDirectory() as kit:
+        write(f"{kit}/bin/rt", b'#!/bin/sh\necho asked >>"$KIT_ASKED"\ncat "$(dirname "$0")/../KIT-ID"\n', 0o755)
+        write(f"{kit}/KIT-ID", b"rattle-kit-0 logic 0\n")
+        asked = os.path.join(kit, "asked")
+        with_kit = {"PATH": f"{kit}/bin:/usr/bin:/bin", "KIT_ASKED": asked}
+        status, right, said = first_call(root, **with_kit)
+        check("with the kit that proved it", (status, right, UNPACKED in said), (0, True, True))
+        first_call(root, **with_kit)
+        before = text_of(asked)
+        check("a further start", first_call(root, **with_kit), (0, True, ""))
+        check("does not ask the kit", text_of(asked), before)
+        check("without the kit it starts too", first_call(root), (0, True, ""))
+        check("and with it again", first_call(root, **with_kit), (0, True, ""))
+        write(f"{kit}/KIT-ID", b"rattle-kit-1 logic 1\n")
+        status, output, said = run(root, "path", **with_kit)
+        check("another kit is noticed", (status, NO_PROGRAM in said), (4, True))
+        release(root, program(), "rattle-kit-1 logic 1")
+        status, right, said = first_call(root, **with_kit)
+        check("and takes a release that it proved", (status, right, UNPACKED in said), (0, True, True))
+
+
+def builds():
+    """A build that is asked to end: here the kit's rt would prove for long."""
+    with copied() as root, tempfile.TemporaryDirectory() as kit:
+        write(f"{kit}/bin/rt", b'#!/bin/sh\n[ "$1" != version ] || exec echo rattle-kit-1\necho $$ >"$KIT_PROVES"\nexec sleep 300\n', 0o755)
+        proves, room = os.path.join(kit, "proves"), os.path.join(kit, "room")
+        os.mkdir(room)
+        variables = plain(PATH=f"{kit}/bin:/usr/bin:/bin", KIT_PROVES=proves, TMPDIR=room)
+        words = [os.path.join(root, "lambda_local"), "serve", "examples/service.json"]
+        child = subprocess.Popen(words, cwd=root, env=variables, stderr=subprocess.PIPE, text=True)
+        try:
+            check("without a program of this kit one is proved first", "proving the program and the" in child.stderr.readline())
+            end = time.monotonic() + 60
+            while not (os.path.exists(proves) and text_of(proves).endswith("\n")) and time.monotonic() < end:
+                time.sleep(0.05)
+            rt = int(text_of(proves))
+            child.terminate()
+            check("TERM ends the build", child.wait(60), 128 + signal.SIGTERM)
+            check("and the kit's process", os.path.exists(f"/proc/{rt}"), False)
+            check("and nothing is left", os.listdir(room), [])
+        finally:
+            child.kill()
+            child.wait()
+            child.stderr.close()
+
+
+def other_users():
+    """A clone that its user cannot write: another user's, for root; else one without the right to."""
+    user = OTHER_USER if os.getuid() == 0 else None
+    with copied() as root, tempfile.TemporaryDirectory() as home:
+        if user is None:
+            subprocess.run(["chmod", "-R", "a-w", root], check=True)
+        else:
+            os.chown(home, user, user)
+        mine, moved = {"HOME": home, "user": user}, os.path.join(home, "moved")
+        try:
+            status, right, said = first_call(root, **mine)
+            check("a clone that cannot be written answers", (status, right, UNPACKED in said), (0, True, True))
+            check("from the user's cache", run(root, "path", **mine), (0, f"{home}/.cache/lambda_local{root}/lambda_local\n", ""))
+            check("a further start says nothing", first_call(root, **mine), (0, True, ""))
+            check("the clone has nothing of it", os.path.exists(os.path.join(root, os.path.dirname(RELEASED))), False)
+            check("the cache is the user's alone", oct(os.stat(f"{home}/.cache").st_mode & 0o777), "0o700")
+            named = run(root, "path", XDG_CACHE_HOME=moved, **mine)[:2]
+            check("XDG_CACHE_HOME names the cache", named, (0, f"{moved}/lambda_local{root}/lambda_local\n"))
+            status, output, said = run(root, "path", user=user, HOME="/nonexistent")
+            check("no folder to write is told", (status, output, "XDG_CACHE_HOME" in said and said.count("\n")), (4, "", 1))
+        finally:
+            subprocess.run(["chmod", "-R", "u+w", root], check=True)
+        if user is not None:
+            first_call(root)
+            others = run(root, "path", user=user, HOME="/nonexistent")
+            check("what the owner unpacked serves others", others, (0, f"{root}/{RELEASED}\n", ""))
+
+
+def serves():
+    """The launcher becomes the program, so that signals reach it."""
+    with copied() as root:
+        first_call(root)
+        sys.path.insert(0, os.path.join(root, "tools"))
+        from lambda_local.service import free_ports
+        invoke, port = free_ports(2, set())
+        own = {"account": "123456789012", "region": "us-east-2", "invokePort": invoke, "functions": [{"name": "f", "ports": [port]}]}
+        write(os.path.join(root, "own.json"), json.dumps(own).encode())
+        words = [os.path.join(root, "lambda_local"), "serve", "own.json"]
+        child = subprocess.Popen(words, cwd=root, env=plain(), stderr=subprocess.PIPE, text=True)
+        try:
+            check("serve listens", "listening" in child.stderr.readline())
+            check("it is the program itself", os.readlink(f"/proc/{child.pid}/exe"), os.path.join(root, RELEASED))
+            child.terminate()
+            check("TERM ends it", child.wait(20), -signal.SIGTERM)
+        finally:
+            child.kill()
+            child.wait()
+            child.stderr.close()
+
+
+def checks():
+    """check HISTORY."""
+    with copied() as root:
+        first_call(root)
+        history = text_of(ROOT, "examples", "timeout.txt")
+        answers = sum(1 for line in history.splitlines() if re.match(r"# \d+ \d+ ", line))
+        seen = run(root, "check", "examples/timeout.txt")
+        check("a history with its own answers", seen, (0, f"examples/timeout.txt: the same {answers} answers\n", ""))
+        changed = history.replace("# 3 3 done", "# 3 3 refused State")
+        at = changed.splitlines().index("# 3 3 refused State") + 1
+        status, output, said = run(root, "check", "-", stdin=changed)
+        check("a changed answer is named with its line", (status, output, said),
+              (1, "", f"check: -: line {at}: the history has `3 3 refused State`, and the replay answers `3 3 done`\n"))
+        status, output, said = run(root, "check", "-", stdin=changed.replace("# 3 3 refused State\n", ""))
+        check("a missing answer too", (status, f"line {at + 2}:" in said, "the replay answers `3 3 done`" in said), (1, True, True))
+        status, output, said = run(root, "check", "-", stdin=history + "# 99 99 done\n")
+        check("and one too many", (status, "has `99 99 done`, and the replay has no more answers" in said), (1, True))
+        for name, text, word in (("a script without answers", text_of(ROOT, "examples", "first_call.txt"), "no answers to compare with"),
+                                 ("another text", "hello\n", "line 1 must be `form 2`"), ("nothing", "", "line 1 must be `form 2`"),
+                                 ("a call that is none", history + "5000 nothing\n", f"script: line {len(history.splitlines()) + 1}")):
+            status, output, said = run(root, "check", "-", stdin=text)
+            check(f"{name} is refused with a line", (status, output, said.count("\n"), word in said), (2, "", 1, True))
+        status, output, said = run(root, "check", "no such file")
+        check("a file that is not there", (status, output, said.count("\n"), "no such file" in said), (2, "", 1, True))
+        status, output, said = run(root, "check", "examples/timeout.txt", LAMBDA_LOCAL_PROGRAM="/nonexistent/program")
+        check("a program that is not there", (status, output, said.count("\n"), "/nonexistent/program" in said), (4, "", 1, True))
+
+
+if __name__ == "__main__":
+    sys.exit(counted.run(starts, costs, says, notices, kits, builds, other_users, serves, checks))

@@ -1,0 +1,308 @@
+#!/usr/bin/env python3
+"""Checks tools/package in copies of the checkout that release the program: what it refuses, and the archive, the wheel
+and the Debian package as their users get them, without the kit and without a network. The program is
+LAMBDA_LOCAL_PROGRAM, else what ./lambda_local finds. Ends with 'N passed, M failed'."""
+import contextlib
+import glob
+import hashlib
+import json
+import os
+import re
+import shutil
+import statistics
+import subprocess
+import sys
+import tempfile
+import time
+
+ROOT = os.path.dirname(os.path.dirname(os.path.dirname(os.path.realpath(__file__))))
+sys.path[:0] = [os.path.join(ROOT, "tests", "library")]
+import counted  # noqa: E402
+from counted import check  # noqa: E402
+from trees import commit, copy_tree, plain, write  # noqa: E402
+
+STAMP = ["sources", "kit", "program", "gate"]  # the lines of what proved a program
+VERSION = re.compile(r"2026\.1\.2\+g[0-9a-f]{12}")  # of the commit in a copy
+UP = {"functions": [{"name": "greet", "runtime": "python", "handler": "app.handler", "environments": 2}]}
+APP = "def handler(event, context):\n    return {'hello': event['name']}\n"
+INVOKE = """import json, os, sys, urllib.request
+url = os.environ["AWS_ENDPOINT_URL_LAMBDA"] + "/2015-03-31/functions/greet/invocations"
+print(urllib.request.urlopen(urllib.request.Request(url, b'{"name":"Ada"}', method="POST")).read().decode())
+"""
+TEST = """def test_greet(lambda_local):
+    lambda_local.start(greet=lambda event: {"hello": event["name"]})
+    assert lambda_local.invoke("greet", {"name": "Ada"}) == {"hello": "Ada"}
+"""
+USERS_TEST = """import json, os, urllib.request
+
+def test_greet():
+    url = os.environ["AWS_ENDPOINT_URL_LAMBDA"] + "/2015-03-31/functions/greet/invocations"
+    request = urllib.request.Request(url, b'{"name":"Ada"}', method="POST")
+    assert json.load(urllib.request.urlopen(request)) == {"hello": "Ada"}
+"""
+packages = {}
+
+
+def program():
+    """The program that the copies release."""
+    given = os.environ.get("LAMBDA_LOCAL_PROGRAM")
+    found = subprocess.run([os.path.join(ROOT, "lambda_local"), "path"], stdout=subprocess.PIPE, text=True, check=not given)
+    return given or found.stdout.strip()
+
+
+@contextlib.contextmanager
+def copied():
+    """A copy of one commit, which releases the program."""
+    with tempfile.TemporaryDirectory() as folder:
+        root = copy_tree(os.path.join(folder, "a clone"), program())
+        commit(root)
+        yield root
+
+
+def run(words, cwd="/", stdin=None, **more):
+    """What a command ends with: its status, and what it wrote on both streams."""
+    ran = subprocess.run(words, cwd=cwd, env=plain(**more), input=stdin or "", timeout=300, stdout=subprocess.PIPE,
+                         stderr=subprocess.PIPE, text=True)
+    return ran.returncode, ran.stdout, ran.stderr
+
+
+def package(root, *words):
+    return run([sys.executable, os.path.join(root, "tools", "package"), *words], cwd=root)
+
+
+def text_of(*parts):
+    with open(os.path.join(*parts), encoding="utf-8") as file:
+        return file.read()
+
+
+def bytes_of(path):
+    with open(path, "rb") as file:
+        return file.read()
+
+
+def made():
+    """The packages, which the other parts use."""
+    with copied() as root:
+        folder = tempfile.mkdtemp(prefix="lambda_local.")
+        packages["folder"] = folder
+        status, output, said = package(root, "--archive", "--wheel", "--deb", folder)
+        paths = output.split()
+        check("the packages are made without the kit", (status, [os.path.isfile(path) for path in paths]), (0, [True] * 3))
+        proved = text_of(root, "release", "PROVED").splitlines()
+        check("what proved the program is said", ([line.split(" ")[0] for line in proved], [f"package: {line}" for line in proved]),
+              (STAMP, said.splitlines()))
+        packages.update(zip(("archive", "wheel", "deb"), paths))
+        again = os.path.join(root, "again")
+        os.mkdir(again)
+        package(root, "--archive", "--wheel", "--deb", "again")
+        check("the same commit gives the same bytes", [os.path.basename(path) for path in paths
+                                                       if bytes_of(path) != bytes_of(os.path.join(again, os.path.basename(path)))], [])
+        check("nothing else is left there", sorted(os.listdir(again)), sorted(map(os.path.basename, paths)))
+        check("an archive is the default", package(root)[1], os.path.join(root, os.path.basename(paths[0])) + "\n")
+
+
+def refusals():
+    with copied() as root:
+        for name in ("lambda_local.history.txt", "out.json", "tests/mine.py", "my/up.json"):
+            write(os.path.join(root, name), b"")
+        check("other files of its user do not matter", package(root, "--wheel")[0], 0)
+        for name in ("docs/mine.md", "tools/mine", "examples/mine.py", "crates/lambda_local/src/mine.rt"):
+            write(os.path.join(root, name), b"")
+            status, output, said = package(root)
+            check(f"{name} is told", (status, output, said.count("\n"), name in said), (2, "", 1, True))
+            os.remove(os.path.join(root, name))
+        write(os.path.join(root, "README.md"), b"changed")
+        check("a changed file is told", (package(root)[0], "README.md" in package(root)[2]), (2, True))
+        subprocess.run(["git", "-C", root, "checkout", "-q", "README.md"], check=True)
+        status, output, said = package(root, "no/folder")
+        check("a folder that is not there", (status, output, said.count("\n"), "no/folder" in said), (2, "", 1, True))
+        check("an option that is none", package(root, "--zip")[0], 2)
+        write(os.path.join(root, "crates", "lambda_local", "src", "mine.rt"), b"")
+        commit_all(root)
+        status, output, said = package(root)
+        seen = (status, output, said.count("\n"), "no proved program of these sources" in said)
+        check("without a program of these sources", seen, (4, "", 1, True))
+        check("nothing is left behind", glob.glob(os.path.join(root, "*.gz*")), [])
+    with tempfile.TemporaryDirectory() as folder:
+        root = copy_tree(os.path.join(folder, "tree"), program())
+        status, output, said = package(root)
+        check("a tree that is no checkout", (status, output, "clone the repository first" in said), (2, "", True))
+
+
+def commit_all(root):
+    for words in (["add", "-A"], ["-c", "user.name=someone", "-c", "user.email=someone@example.com", "commit", "-qm", "more"]):
+        subprocess.run(["git", "-C", root, *words], check=True)
+
+
+def answers(command, **more):
+    """Whether a command answers the first example."""
+    status, output, said = run([*command], stdin=text_of(ROOT, "examples", "first_call.txt"), **more)
+    return status == 0 and not said and output == text_of(ROOT, "crates", "lambda_local", "stdout") or (status, output, said)
+
+
+def used(command, folder, **more):
+    """What users of every package do: the version, a replay, a check, a function that is served."""
+    check("it replays, without a word", answers([command], **more))
+    status, output, said = run([command, "--version"], **more)
+    lines = output.splitlines()
+    seen = (status, bool(VERSION.fullmatch(lines[0].split(" ")[-1])), [line.split(" ")[0] for line in lines[1:]])
+    check("--version", seen, (0, True, STAMP))
+    path = run([command, "path"], **more)[1].strip()
+    check("path is the proved program", f"program {hashlib.sha256(bytes_of(path)).hexdigest()}" in lines)
+    check("--help", run([command, "--help"], **more)[1].startswith("usage: lambda_local serve CONFIG"))
+    status, output, said = run([command, "nothing"], **more)
+    check("another word is refused with a line", (status, output, said.count("\n")), (2, "", 1))
+    history = os.path.join(ROOT, "examples", "timeout.txt")
+    check("check", run([command, "check", history], **more)[0], 0)
+    check("timeline", "timeout" in run([command, "timeline", history], **more)[1])
+    write(os.path.join(folder, "up.json"), json.dumps(UP).encode())
+    write(os.path.join(folder, "app.py"), APP.encode())
+    status, output, said = run([command, "up", "up.json", "--", sys.executable, "-c", INVOKE], cwd=folder, **more)
+    check("up serves a function by the bundled runtime", (status, output.strip()), (0, '{"hello": "Ada"}') if status == 0 else said)
+    check("and leaves nothing beside it", sorted(set(os.listdir(folder)) - {"__pycache__"}), ["app.py", "up.json"])
+
+
+def took(words, **more):
+    """The median time of nine starts, in milliseconds."""
+    times = []
+    for _ in range(9):
+        began = time.monotonic()
+        run(words, stdin=text_of(ROOT, "examples", "first_call.txt"), **more)
+        times.append(1000 * (time.monotonic() - began))
+    return f"{statistics.median(times):.0f} ms"
+
+
+def archive():
+    with tempfile.TemporaryDirectory() as folder, tempfile.TemporaryDirectory() as work:
+        there = os.path.join(folder, "a folder")
+        os.mkdir(there)
+        subprocess.run(["tar", "-C", there, "-xzf", packages["archive"]], check=True)
+        root = glob.glob(f"{there}/*")[0]
+        launcher = os.path.join(root, "lambda_local")
+        check("a maker's tools are not in it", {"package", "packages", "release"} & set(os.listdir(os.path.join(root, "tools"))), set())
+        used(launcher, work)
+        print(f"     (a start and a replay take {took([launcher])})")
+        check("build has nothing to do", run([launcher, "build"])[0], 0)
+        check("stamp", [line.split(" ")[0] for line in run([launcher, "stamp"])[1].splitlines()], ["sources", "kit"])
+        if os.getuid() == 0:
+            os.chmod(folder, 0o755)
+            ran = subprocess.run([launcher, "path"], env=plain(HOME="/nonexistent"), stdout=subprocess.PIPE, text=True,
+                                 user=65534, group=65534, extra_groups=[])
+            check("another user starts it as it is", (ran.returncode, ran.stdout), (0, f"{root}/bin/lambda_local\n"))
+        with open(os.path.join(root, "bin", "lambda_local"), "ab") as file:
+            file.write(b"changed")
+        status, output, said = run([launcher, "path"])
+        check("a changed program is refused", (status, output, said.count("\n"), "unpack the package again" in said), (4, "", 1, True))
+
+
+def environment(python, folder, *options):
+    """A virtual environment with the wheel, installed without a network: its folder of commands."""
+    subprocess.run([python, "-m", "venv", *options, folder], check=True, env=plain(), stdout=subprocess.PIPE)
+    subprocess.run([f"{folder}/bin/python", "-m", "pip", "install", "-q", "--no-index", "--no-deps", "--disable-pip-version-check",
+                    packages["wheel"]], check=True, env=plain())
+    return os.path.join(folder, "bin")
+
+
+def wheel():
+    with tempfile.TemporaryDirectory() as folder, tempfile.TemporaryDirectory() as work:
+        commands = environment(sys.executable, os.path.join(folder, "fresh"))
+        command = os.path.join(commands, "lambda_local")
+        used(command, work)
+        print(f"     (a start and a replay take {took([command])})")
+        check("as a module", answers([f"{commands}/python", "-m", "lambda_local"]))
+        check("LAMBDA_LOCAL_PROGRAM names another program", run([command, "path"], LAMBDA_LOCAL_PROGRAM="/bin/echo")[1], "/bin/echo\n")
+        status, output, said = run([command], stdin="", LAMBDA_LOCAL_PROGRAM="/nonexistent/program")
+        check("one that is not there is told", (status, output, said.count("\n"), "/nonexistent/program" in said), (4, "", 1, True))
+        pip = [f"{commands}/python", "-m", "pip", "--disable-pip-version-check"]
+        check("pip finds no fault", run([*pip, "check"])[0], 0)
+        check("pip takes it away", run([*pip, "uninstall", "-qy", "lambda_local"])[0], 0)
+        left = glob.glob(f"{folder}/fresh/**/*lambda_local*", recursive=True)
+        check("and nothing stays", [path for path in left if "__pycache__" not in path], [])
+
+
+def plugin():
+    """Under pytest, where a Python on this machine has it."""
+    python = python_with_pytest()
+    if python is None:
+        return print("skip no Python here has pytest")
+    with tempfile.TemporaryDirectory() as folder, tempfile.TemporaryDirectory() as work:
+        commands = environment(python, os.path.join(folder, "fresh"), "--system-site-packages")
+        write(os.path.join(work, "test_greet.py"), TEST.encode())
+        status, output, said = run([f"{commands}/python", "-m", "pytest", "-q", "-p", "no:cacheprovider"], cwd=work)
+        check("pytest finds the plugin, with no option", (status, "1 passed" in output), (0, True) if status == 0 else output)
+        write(os.path.join(work, "test_greet.py"), TEST.replace('== {"hello"', '== {"bye"').encode())
+        status, output, said = run([f"{commands}/python", "-m", "pytest", "-q", "-p", "no:cacheprovider"], cwd=work)
+        seen = (status, "lambda_local history:" in output, "caller 1: invoke greet" in output)
+        check("its report has the history and the timeline", seen, (1, True, True))
+
+
+def python_with_pytest():
+    """A Python that has pytest and makes virtual environments."""
+    for python in (sys.executable, "/usr/bin/python3"):
+        if os.access(python, os.X_OK) and run([python, "-c", "import pytest, ensurepip"])[0] == 0:
+            return python
+    return None
+
+
+def deb():
+    """Unpacked, as its links are within it; installing it is apt's."""
+    if not shutil.which("dpkg-deb"):
+        return print("skip no dpkg-deb is here")
+    with tempfile.TemporaryDirectory() as folder, tempfile.TemporaryDirectory() as work:
+        subprocess.run(["dpkg-deb", "-x", packages["deb"], folder], check=True)
+        command = os.path.join(folder, "usr", "bin", "lambda_local")
+        used(command, work)
+        print(f"     (a start and a replay take {took([command])})")
+        doc = os.path.join(folder, "usr", "share", "doc", "lambda-local")
+        wanted = ("README.md", "docs/formats.md", "copyright", "changelog.gz", "examples/up.json")
+        check("its pages, licence and changes", [it for it in wanted if not os.path.isfile(os.path.join(doc, it))], [])
+        page = run(["gzip", "-dc", os.path.join(folder, "usr/share/man/man1/lambda_local.1.gz")])[1]
+        listed = re.findall(r"^ +lambda_local (?:\[?(\w+)\]?)", run([command, "--help"])[1], re.M)
+        check("the man page has each command of --help", [it for it in listed if not re.search(rf'^\.BI? "?{it}\b', page, re.M)], [])
+        control = run(["dpkg-deb", "-f", packages["deb"], "Version", "Architecture", "Depends"])[1]
+        seen = (bool(VERSION.search(control)), "Architecture: amd64" in control, "libc6 (>= 2.34)" in control)
+        check("its control file", seen, (True, True, True))
+    if shutil.which("lintian"):
+        said = run(["lintian", "--allow-root", packages["deb"]])
+        check("lintian finds no error", said[0] == 0 or said[1])
+    else:
+        print("     (lintian is not installed)")
+
+
+def jobs():
+    """The steps of examples/ci, in a clean folder with a user's function and tests."""
+    python = python_with_pytest()
+    if python is None:
+        return print("skip no Python here has pytest")
+    for name, steps in (("github.yml", github_steps), ("gitlab.yml", gitlab_steps)):
+        text = text_of(ROOT, "examples", "ci", name)
+        check(f"{name} names the wheel by a variable", re.search(r"^ *LAMBDA_LOCAL_WHEEL: https://\S+\.whl$", text, re.M) is not None)
+        with tempfile.TemporaryDirectory() as folder, tempfile.TemporaryDirectory() as work:
+            run([python, "-m", "venv", "--system-site-packages", f"{folder}/fresh"])
+            write(f"{work}/up.json", json.dumps(UP).encode())
+            write(f"{work}/app.py", APP.encode())
+            write(f"{work}/test_app.py", USERS_TEST.encode())
+            found = steps(text)
+            check(f"{name} has steps", len(found) > 1)
+            for step in found:
+                ran = run(["bash", "-e", "-c", step], cwd=work, PATH=f"{folder}/fresh/bin:/usr/bin:/bin", PIP_NO_INDEX="1",
+                          LAMBDA_LOCAL_WHEEL="file://" + packages["wheel"])
+                check(f"{name}: {step}", ran[0] == 0 or ran)
+
+
+def github_steps(text):
+    """The commands behind `run:`."""
+    return re.findall(r"^ *(?:- )?run: ([^|\n]+)$", text, re.M)
+
+
+def gitlab_steps(text):
+    """The commands below `script:`."""
+    return re.findall(r"^ *- (.+)$", re.search(r"^ *script:\n((?: *- .+\n)+)", text, re.M)[1], re.M)
+
+
+def end():
+    shutil.rmtree(packages.get("folder", ""), ignore_errors=True)
+
+
+if __name__ == "__main__":
+    sys.exit(counted.run(made, refusals, archive, wheel, plugin, deb, jobs, end))

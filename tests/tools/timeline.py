@@ -1,0 +1,229 @@
+#!/usr/bin/env python3
+"""Checks what tools/timeline draws of the examples, of worked scripts and of random ones, and how much memory a million
+lines take. The program is LAMBDA_LOCAL_PROGRAM, else ./lambda_local. Ends with 'N passed, M failed'."""
+import glob
+import json
+import os
+import random
+import re
+import subprocess
+import sys
+import tempfile
+
+ROOT = os.path.dirname(os.path.dirname(os.path.dirname(os.path.realpath(__file__))))
+sys.path.insert(0, os.path.join(ROOT, "tests", "library"))
+from timelines import ENVIRONMENT, NOWHERE, ONE, TOOL, WHOLE, calls_of, check, draw, events, phases, run, run_parts  # noqa: E402
+
+
+def examples():
+    for path in sorted(glob.glob(os.path.join(ROOT, "examples", "*.txt"))):
+        name = os.path.basename(path)
+        script = open(path).read()
+        trace = draw(name, script)
+        told = {event["args"]["call"]: event["args"]["answer"] for event in events(trace, "call")}
+        # an example's comments say what is answered
+        for ticket, word in re.findall(r"^# \d+ (\d+) ([a-z-]+)", script, re.MULTILINE):
+            check(f"{name}: call {ticket} is answered {word}", told.get(int(ticket), "").split(" ")[0] == word, told.get(int(ticket), ""))
+
+
+# Worked scripts: a name, the configuration, the calls, and what environment 1 goes through.
+ROWS = (
+    ("an invocation", ONE, "500 next 1\n1000 invoke f - - =1\n1200 response 1 1 =2\n1300 next 1", "Starting Starting Idle Busy Idle"),
+    ("it waits for the runtime", ONE, "0 invoke f - - =1\n1500 next 1", "Starting Starting Busy"),
+    ("a timeout and a late response", ONE, "500 next 1\n1000 invoke f - - =1\n4000 response 1 1 =2\n4000 next 1",
+     "Starting Starting Idle Busy Closing:TIMEOUT Starting Idle"),
+    ("an Init that expires", ONE, "0 invoke f - - =1\n0 invoke f - - =2\n10000 tick", "Starting Closing:TIMEOUT Starting"),
+    ("an Init that fails", ONE, "0 register 1 =x is -\n10 ext-next 1 1\n20 invoke f - - =1\n30 init-failure 1 =no\n40 invoke f - - =2\n"
+     "50 ext-next 1 1\n60 ext-next 1 1\n70 next 1\n80 response 1 2 =3", "Starting Closing:FAILURE Starting Busy"),
+    ("an extension that exits", ONE, "0 register 1 =x i -\n0 ext-next 1 1\n0 next 1\n10 invoke f - - =1\n20 ext-exit-failure 1 1 =E\n"
+     "30 response 1 1 =2\n40 ext-next 1 1", "Starting Idle Busy Closing:FAILURE Starting"),
+    ("a Closing whose time is over", ONE, "0 register 1 =x s -\n0 ext-next 1 1\n0 next 1\n5 spindown 1\n2004 next 1\n2005 next 1",
+     "Starting Idle Closing:SPINDOWN Starting Idle"),
+    ("a stop", ONE, "0 next 1\n10 invoke f - - =1\n20 stop\n30 next 1\n40 invoke f - - =2\n50 stop",
+     "Starting Starting Idle Busy Closing:SPINDOWN Off"),
+    ("a poll that is taken back", ONE, "0 next 1\n5 withdraw 0\n10 invoke f - - =1\n20 next 1\n30 withdraw 2\n40 response 1 1 =2",
+     "Starting Starting Idle Starting Busy"),
+    ("a spindown, and a response that is too large", ONE, "0 spindown 1\n1 next 1\n2 spindown 1\n3 next 1\n4 invoke f - - =1\n"
+     "5 response-too-large 1 1", "Starting Idle Closing:SPINDOWN Starting Idle Busy"),
+    ("an expected extension", ONE.replace('"ports":[9001]', '"ports":[9001],"extensions":["x"]'),
+     "0 next 1\n1 register 1 =x i -\n2 invoke f - - =1\n3 ext-next 1 1", "Starting Busy"),
+    ("moments that go back", ONE, "0 next 1\n10 invoke f - - =1\n5000 tick\n4000 next 1\n4000 invoke f - - =2",
+     "Starting Idle Busy Closing:TIMEOUT Starting Idle Busy"),
+    ("a full journal", ONE.replace('"region"', '"maxEntries":4,"region"'),
+     "0 tick\n0 tick\n0 stop\n0 stop\n0 stop", "Starting Closing:SPINDOWN Off"),
+    ("reservations", "form 2\n" + ONE,
+     "0 reserve f 1\n0 reserve f 0\n0 invoke f - - =1\n0 reserve f 2\n0 reserve f -\n0 stop\n0 reserve f 1",
+     "Starting Closing:SPINDOWN Off"),
+    ("odd texts", ONE, "0 register 1 =%3c/title%3e<script>\"'&]]> i -\n1 next 1\n2 invoke f q =trace =%00%1b[31m%e2%82%ac%80<b>&amp;\n"
+     "3 ext-next 1 1\n4 response 1 1 =\xe9<", "Starting Busy"),
+    ("the greatest moments", ONE, "253402300799999 next 1\n253402300800000 invoke f - - =1\n9007199254740991 tick",
+     "Starting Idle Busy Closing:TIMEOUT Starting"),
+    ("nothing called", ONE, "", ""),
+)
+
+
+def rows():
+    for name, configuration, calls, wanted in ROWS:
+        trace = draw(name, f"{configuration}\n{calls}\n" if calls else configuration)
+        # a phase that ends in the entry in which it began says nothing; the very first one may
+        went = [re.sub(r" \((\w+)\)", r":\1", phase) for phase in phases(trace, 1)]
+        wanted = wanted.replace("Starting Starting", "Starting").split()
+        check(f"{name}: the phases", went == wanted, " ".join(went))
+        resets = [event["name"].replace("reset: ", "Closing:") for event in events(trace, "reset") if event["pid"] == 11]
+        check(f"{name}: a reset for each Closing", resets == [phase for phase in wanted if phase.startswith("Closing")], str(resets))
+
+
+def written(parts):
+    """The script that the parts of a case make; none where there are parts of other kinds."""
+    made = []
+    for title, text in parts:
+        word, _, argument = title.partition(" ")
+        if word == "script":
+            made.append(text)
+        elif word == "open":
+            made.append(text[:-1])
+        elif word == "repeat":
+            made.append(text * int(argument))
+        elif word == "signs":
+            made.append("#" * int(argument))
+        elif word == "bytes":
+            made.append(bytes.fromhex(argument).decode("latin-1"))
+        else:
+            return None
+    return "".join(made)
+
+
+def worked():
+    """The cases of worked examples that are scripts, with the answers that their tables want of them."""
+    drawn = 0
+    with tempfile.TemporaryDirectory() as folder:
+        wanted = os.path.join(folder, "answers")
+        for path in sorted(glob.glob(os.path.join(ROOT, "crates", "checks", "data", "scripts", "*.txt"))):
+            for case in re.split(r"^== ", open(path).read(), flags=re.M)[1:]:
+                name, *rest = re.split(r"^-- (.*)\n", case, flags=re.M)
+                *parts, (_, answers) = zip(rest[::2], rest[1::2])
+                script = written(parts)
+                answers = answers.removesuffix("\n\n") + "\n" if answers.endswith("\n\n") else answers
+                if script and len(script) < 100_000 and re.fullmatch(r"(\d+ \d+ [a-z-]+.*\n|refused JournalFull\n)*", answers):
+                    drawn += 1
+                    with open(wanted, "w") as file:
+                        file.write(answers)
+                    draw(f"{os.path.basename(path)}, {name.strip()}", script, "--answers", wanted, "--limit", "100000")
+    check("worked examples are drawn", drawn > 20, str(drawn))
+
+
+def random_script(seed, count=250):
+    """A script that a careless client might make, of all calls."""
+    pick = random.Random(seed)
+    functions, port = [], 9001
+    for name in pick.sample("fgh", pick.randint(1, 3)):
+        environments = pick.randint(1, 3)
+        function = {"name": name, "ports": list(range(port, port + environments)), "timeout": pick.randint(1, 3)}
+        port += environments
+        if pick.random() < 0.3:
+            function["extensions"] = ["x"]
+        if pick.random() < 0.3:
+            function["reserved"] = pick.randint(0, environments)
+        functions.append(function)
+    owners = [function["name"] for function in functions for _ in function["ports"]]
+    configuration = {"account": "123456789012", "region": "us-east-2", "functions": functions}
+    if pick.random() < 0.3:
+        configuration["maxEntries"] = pick.randint(60, 300)
+    lines, moment, invokes = ["form 2", json.dumps(configuration)], 0, dict.fromkeys(owners, 0)
+    for i in range(count):
+        moment += pick.choice((0, 0, 0, 1, 5, 50, 400, 1200, pick.choice((0, 0, 3000, 11000))))
+        e, f = pick.randint(1, len(owners)), pick.choice(owners)
+        request = max(0, invokes[owners[e - 1]] - pick.choice((0, 0, 0, 1)))
+        kind = pick.choices(("next", "invoke", "response", "failure", "response-too-large", "register", "ext-next", "ext-exit-failure",
+                             "ext-init-failure", "init-failure", "spindown", "withdraw", "reserve", "tick", "stop"),
+                            (25, 17, 10, 5, 3, 9, 20, 2, 1, 1, 2, 2, 2, 1, 0.3))[0]
+        fields = {"next": f"{e}", "invoke": f"{f} - - =1", "response": f"{e} {request} =ok", "failure": f"{e} {request} =no",
+                  "response-too-large": f"{e} {request}", "register": f"{e} ={pick.choice('xyz')} {pick.choice(('i', 's', 'is', '-'))} -",
+                  "ext-next": f"{e} {pick.randint(1, 5)}", "ext-exit-failure": f"{e} {pick.randint(1, 5)} =E",
+                  "ext-init-failure": f"{e} {pick.randint(1, 5)} =E", "init-failure": f"{e} =E", "spindown": f"{e}",
+                  "withdraw": f"{pick.randint(0, i)}", "reserve": f"{f} {pick.choice('-012')}"}
+        invokes[f] += kind == "invoke"
+        lines.append(f"{moment} {kind} {fields.get(kind, '')}".rstrip())
+    return "\n".join(lines) + "\n"
+
+
+def random_scripts():
+    """The expiries and phases that the tool finds are those that the program's answers show."""
+    for seed in range(40):
+        script = random_script(seed)
+        status, trace, said = run("--trace", script=script)
+        check(f"random script {seed}", status == 0, said)
+        if status:
+            continue
+        spans = events(trace, "call")
+        check(f"random script {seed}: a span a call", len(spans) + len(events(trace, "full")) == calls_of(script))
+        ends = lambda word: [span for span in spans if span["args"]["answer"].startswith(word)]
+        delivered = sorted((span["pid"], span["ts"] + span["dur"]) for span in ends("deliver"))
+        busy = sorted((phase["pid"], phase["ts"]) for phase in events(trace, "phase") if phase["name"] == "Busy")
+        check(f"random script {seed}: a Busy for each delivery", delivered == busy)
+        closings = [phase for phase in events(trace, "phase") if phase["name"].startswith("Closing")]
+        check(f"random script {seed}: the reasons that extensions were told", all(
+            any(closing["pid"] == span["pid"] and closing["name"].split("(")[1][:-1] in span["args"]["answer"]
+                and closing["ts"] <= span["ts"] + span["dur"] <= closing["ts"] + closing["dur"] for closing in closings)
+            for span in ends("shutdown")))
+
+
+def pictures():
+    """The pictures in docs are those that the tool draws of the examples."""
+    for path in sorted(glob.glob(os.path.join(ROOT, "docs", "pictures", "*.svg"))):
+        name = os.path.splitext(os.path.basename(path))[0]
+        status, picture, said = run("--svg", os.path.join(ROOT, "examples", name + ".txt"))
+        check(f"docs/pictures/{name}.svg", status == 0 and picture == open(path).read(), said or "tools/timeline --svg draws another one")
+
+
+def history_lines(count):
+    """A history of so many lines; four invocations stay open at a time."""
+    yield "form 2\n" + (WHOLE % 4294967296).replace("[9001]", "[9001,9002,9003,9004]") + "\n"
+    moment, entry, request, lines = 1795556558434, 0, 0, 2
+    while lines < count:
+        out, polls = [], entry
+        for e in range(1, 5):
+            out.append(f"{moment} next {e}\n")
+        entry += 4
+        first = entry
+        for e in range(4):
+            request += 1
+            out.append(f"{moment + 1 + e} invoke f - - ={{\"number\":{request}}}\n# {entry} {polls + e} deliver "
+                       f"00000000-0000-8000-8001-{request:012x} {moment + 3001 + e} ={{\"number\":{request}}}\n")
+            entry += 1
+        for e in range(4):
+            out.append(f"{moment + 9 + e} response {e + 1} {request - 3 + e} =ok\n"
+                       f"# {entry} {first + e} output =ok\n# {entry} {entry} accepted\n")
+            entry += 1
+        moment += 20
+        lines += 24
+        yield "".join(out)
+
+
+def measured(arguments, pieces, environment=ENVIRONMENT):
+    """Runs the tool over what is piped into it: its status, its greatest memory in MB, and the seconds of the processor."""
+    process = subprocess.Popen([TOOL, *arguments], stdin=subprocess.PIPE, env=environment, stderr=subprocess.DEVNULL)
+    for piece in pieces:
+        process.stdin.write(piece.encode())
+    process.stdin.close()
+    _, status, used = os.wait4(process.pid, 0)
+    process.returncode = os.waitstatus_to_exitcode(status)
+    return process.returncode, used.ru_maxrss / 1024, used.ru_utime + used.ru_stime
+
+
+def long_ones():
+    for form in ("text", "trace", "html"):
+        small = measured((f"--{form}", "-o", "/dev/null"), history_lines(50_000), NOWHERE)
+        large = measured((f"--{form}", "-o", "/dev/null"), history_lines(1_000_000), NOWHERE)
+        print(f"{form}: 50,000 lines {small[1]:.0f} MB, 1,000,000 lines {large[1]:.0f} MB in {large[2]:.0f} s of the processor")
+        check(f"a million lines as {form}", small[0] == large[0] == 0 and large[1] < 64 and large[1] < small[1] + 4,
+              f"{small[1]:.0f} and {large[1]:.0f} MB")
+    calls = [ONE.replace('"region"', '"maxEntries":4000000000,"region"') + "\n"]
+    calls += [f"{9 * i} next 1\n{9 * i + 1} invoke f - - ={i}\n{9 * i + 2} response 1 {i} =ok\n" for i in range(1, 5001)]
+    status, memory, _ = measured(("--text", "-o", "/dev/null"), calls)
+    check("a script of 15,000 calls through the program", status == 0 and memory < 64, f"status {status}, {memory:.0f} MB")
+
+
+if __name__ == "__main__":
+    # (what a child is said to have taken is never less than what this process had, so the long ones come first)
+    sys.exit(run_parts(long_ones, examples, rows, worked, random_scripts, pictures))

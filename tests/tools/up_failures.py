@@ -1,0 +1,256 @@
+#!/usr/bin/env python3
+"""Checks what tools/up tells and does when functions fail: a line for each invocation, Inits that fail, extensions that
+exit. The program is LAMBDA_LOCAL_PROGRAM, else ./lambda_local. Ends with 'N passed, M failed'."""
+import json
+import os
+import pty
+import re
+import subprocess
+import sys
+import threading
+import time
+
+ROOT = os.path.dirname(os.path.dirname(os.path.dirname(os.path.realpath(__file__))))
+sys.path[:0] = [os.path.join(ROOT, "tools"), os.path.join(ROOT, "tests", "library")]
+import counted  # noqa: E402
+from counted import check  # noqa: E402
+from lambda_local.history import opened  # noqa: E402
+from lambda_local.up.reports import Report  # noqa: E402
+from lambda_local.up.restarts import Restarts  # noqa: E402
+from up_kit import RUNTIME, TOOLS, Up, until  # noqa: E402
+
+REQUEST = "[0-9a-f]{8}-[0-9a-f]{4}-8[0-9a-f]{3}-8[0-9a-f]{3}-[0-9a-f]{12}"
+# Reports a failed Init as Lambda's runtime clients do, and exits.
+FAILING = '''#!/bin/sh
+test ! -e mended || exec ./failing.mended
+date +%s.%N >> starts
+curl -s -o answer.$$ -H "Lambda-Runtime-Function-Error-Type: Runtime.ImportModuleError" -d @report.json \\
+  http://$AWS_LAMBDA_RUNTIME_API/2018-06-01/runtime/init/error
+exit 1
+'''
+REPORT = {"errorType": "Runtime.ImportModuleError", "errorMessage": "Unable to import module x",
+          "stackTrace": ['  File "app.py", line 3, in <module>\n    import x\n']}
+# An extension as Lambda's documents have it: it registers, waits, and exits once it is told the end.
+EXITING = '''#!/bin/sh
+api=http://$AWS_LAMBDA_RUNTIME_API/2020-01-01/extension
+id=$(curl -s -o /dev/null -D - -H "Lambda-Extension-Name: exiting" -d '{"events":["SHUTDOWN"]}' $api/register |
+  tr -d '\\r' | sed -n 's/^[Ll]ambda-[Ee]xtension-[Ii]dentifier: //p')
+curl -s -H "Lambda-Extension-Identifier: $id" $api/event/next >> told
+'''
+
+
+def mended(up):
+    """The runtime that FAILING becomes once its file is mended."""
+    up.write("failing.mended", "#!/bin/sh\nexec " + " ".join(f"'{word}'" for word in RUNTIME) + "\n")
+    up.write("mended", "")
+
+
+def starts(up):
+    """The moments at which it was started, in seconds."""
+    with open(os.path.join(up.at, "starts")) as file:
+        return [float(line) for line in file]
+
+
+def failing(*options, **members):
+    function = {"name": "f", "command": ["./failing"], "timeout": 1, **members}
+    return Up(*options, functions=[function], files={"failing": FAILING, "report.json": json.dumps(REPORT)})
+
+
+def init_failures():
+    late = Up(extensions={"late": ["sleep", "100"]})  # (its Init takes 10 s to fail)
+    four, two = failing(environments=4), failing("--reload", environments=2, watch=["mended"])
+    check("a failed Init is told with type, message and place",
+          until(lambda: four.count(r"\[f/[1-4]\] Init failed Runtime\.ImportModuleError: Unable to import module x \(app\.py:3\)$"), 10))
+    check("and with its trace", four.until("import x", 5))
+    check("it is started again after a pause", four.until("started again in 1 s", 10))
+    answer, took = four.invoke()
+    # (Without it, after the Init's 10 s.)
+    check("a caller in a pause hears the report at once", (answer, took < 5), ("Runtime.ImportModuleError", True))
+    reload_until_mended(two)
+    time.sleep(max(0, starts(four)[0] + 10 - time.time()))
+    seen = sum(1 for moment in starts(four) if moment < starts(four)[0] + 10)
+    check("four environments start at most 20 times in 10 s", 8 <= seen <= 20 or seen)
+    check("nothing is left of failing Inits", four.end(), (0, []))
+    check("an Init that takes too long names who was waited for",
+          late.until("Init failed: timed out after 10 s, which waited for its extension late, which must register by this name", 20))
+    check("nothing is left of late ones", late.end(), (0, []))
+
+
+def reload_until_mended(up):
+    check("with --reload the third failed Init waits for a file", until(lambda: up.count("started again when a file changes") == 2, 20))
+    seen = len(starts(up))
+    answer, took = up.invoke()
+    check("its callers hear the report at once", (answer, took < 5), ("Runtime.ImportModuleError", True))
+    time.sleep(1.5)
+    check("nothing starts until then", (seen, len(starts(up))), (6, 6))
+    mended(up)
+    check("a change starts it again", until(lambda: isinstance(up.invoke()[0], int), 10))
+    check("nothing is left of mended ones", up.end(), (0, []))
+
+
+def pauses():
+    restarts, seen = Restarts(False), []
+    for _ in range(6):
+        restarts.note(True)
+        seen.append(restarts.pause)
+    check("pauses behind early ends in a row", seen, [0, 1, 2, 4, 5, 5])
+    restarts.note(False)
+    check("one that ends well makes no pause", restarts.pause, 0)
+    check("without --reload no change is waited for", restarts.needs_a_change, False)
+
+
+def crashing_extension():
+    up = Up("--ready", "5", command=["--", "true"], extensions={"bad": ["sh", "-c", "exit 4"]})
+    check("an extension that exits in Init", up.end(None)[0], 5)
+    check("is told in one line each time", up.count(r"\[f/1\].* bad: Extension exited") == up.count(r"\[f/1\].*Extension exited") > 1)
+    check("as a failed Init", up.count(r"-- Init failed: f/1 bad: Extension exited with error: exit status 4$") > 1)
+
+
+def reset_and_stop(**members):
+    """The entries of two timeouts of a function with these members, how many milliseconds each reset takes, and how many
+    seconds the stop."""
+    up = Up(functions=[{"name": "f", "command": RUNTIME, "timeout": 1, **members}], files={"exiting": EXITING})
+    up.until("[up] ready")
+    seen = [up.invoke(do=do)[0] for do in ("hang", "", "hang", "")]
+    check("two timeouts are each followed by a new process", (seen[::2], [type(answer) for answer in seen[1::2]]),
+          (2 * ["Function.Timeout"], 2 * [int]))
+    entries = list(opened(up.history())[1])
+    ends = [number for number, entry in enumerate(entries) if any(answer.kind == "timeout" for answer in entry.answers)]
+    resets = [entries[end:next(entry.number for entry in entries[end:] if entry.kind == "register") + 1] for end in ends]
+    begun = time.monotonic()
+    up.process.terminate()
+    up.process.wait(40)
+    stop = time.monotonic() - begun
+    check("nothing is left of them", up.end(None), (0, []))
+    return entries, resets, [reset[-1].moment - reset[0].moment for reset in resets], stop
+
+
+def extensions():
+    _, _, plain, plain_stop = reset_and_stop()
+    entries, resets, took, stop = reset_and_stop(extensions={"exiting": ["./exiting"]})
+    check("the extension is told each end", [answer.kind for reset in resets for answer in reset[0].answers].count("shutdown"), 2 * 2)
+    check("no registration is refused", [entry.own.kind for entry in entries if entry.kind == "register"].count("refused"), 0)
+    check("no reset lasts until its deadline", [entry.kind for reset in resets for entry in reset[1:]].count("expire"), 0)
+    # (A machine that does much else is slow without an extension as well.)
+    check("resets with an extension that exits take under 0.4 s", max(took) < max(400, 8 * max(plain)) or (took, plain))
+    stops = [(stop, plain_stop)]
+    while stops[-1][0] >= max(0.4, 2.5 * stops[-1][1]) and len(stops) < 3:
+        stops.append((reset_and_stop(extensions={"exiting": ["./exiting"]})[3], reset_and_stop()[3]))
+    check("and so does a stop", stops[-1][0] < max(0.4, 2.5 * stops[-1][1]) or stops)
+
+
+def lines():
+    up = Up(functions=[{"name": "f", "command": RUNTIME, "timeout": 1}, {"name": "none", "ports": [0], "reserved": 0}])
+    up.until("[up] ready")
+    for event in ({}, {"do": "fail"}, {"do": "hang"}, {"do": "crash"}):
+        up.invoke(**event)
+    for _ in range(5):
+        up.invoke("none", patience=0)
+    wanted = {"an invocation": r"ok \d+ ms", "an error": r"error KeyError: 'missing' \(app\.py:7\)", "a timeout": "timeout after 1 s",
+              "a crash": "error Runtime.ExitError: Runtime exited with error: exit status 7"}
+    for name, pattern in wanted.items():
+        check(f"a line for {name}",
+              until(lambda: up.count(rf"^\d\d:\d\d:\d\d\.\d{{3}} \[f/1\] {REQUEST} {pattern}$"), 5) and up.count(f"{REQUEST} {pattern}"), 1)
+    check("one line for a burst of throttles", up.until("[none] throttled 5 times: reserved concurrency", 5))
+    check("and no other", up.count("throttled"), 1 + up.count("admitted"))
+    check("a line names the request as the history does", re.findall(f"({REQUEST}) ok", "\n".join(up.lines))[0] in up.history())
+    check("nothing is left of lines", up.end(), (0, []))
+
+
+def as_json():
+    up = Up("--log",
+            "json",
+            functions=[{"name": "f", "command": RUNTIME, "timeout": 1}],
+            app="import sys\ndef run(event):\n    print('from here')\n    return {}['x']\n")
+    up.until('"ready"')
+    up.invoke()
+    up.until("from here")
+    up.until('"invocation"')
+    check("nothing is left of JSON", up.end(), (0, []))
+    seen = [json.loads(line) for line in up.lines]
+    check("each line is an object with its time, level, kind, source and text",
+          all({"time", "level", "kind", "source", "text"} <= set(line) for line in seen))
+    invocation = next(line for line in seen if line["kind"] == "invocation")
+    wanted = {
+        "source": "f/1", "level": "error", "function": "f", "environment": 1, "status": "error", "errorType": "KeyError",
+        "errorMessage": "'x'", "place": "app.py:4"
+    }
+    check("an invocation has members of its own", {name: invocation.get(name) for name in wanted}, wanted)
+    check("a time is in UTC", bool(re.fullmatch(r"\d{4}-\d\d-\d\dT\d\d:\d\d:\d\d\.\d{3}Z", invocation["time"])))
+    check("what the function prints", [line["source"] for line in seen if line["kind"] == "output" and line["text"] == "from here"],
+          ["f/1"])
+
+
+def quietly():
+    up = Up("--quiet",
+            functions=[{"name": "f", "command": RUNTIME, "timeout": 1}],
+            app="def run(event):\n    print('from here')\n    return event['x']\n")
+    up.until("AWS_ENDPOINT_URL_LAMBDA")
+    check("quietly it serves", up.invoke(x=1)[0], 1)
+    up.invoke()
+    up.until("error KeyError")
+    check("nothing is left of the quiet one", up.end(), (0, []))
+    check("what is printed and what fails is told", (up.has("from here"), up.has("error KeyError: 'x' (app.py:3)")), (True, True))
+    check("all else is not", [line for line in up.lines if " ok " in line or "ready" in line or "admitted" in line], [])
+
+
+def on_a_terminal(**variables):
+    """What tools/up writes to a terminal."""
+    master, slave = pty.openpty()
+    up = Up(functions=[{"name": "f", "command": RUNTIME}])  # (for its folder)
+    up.until("[up] ready")
+    invoke = 'curl -s -d "{}" $AWS_ENDPOINT_URL_LAMBDA/2015-03-31/functions/f/invocations >/dev/null'
+    environ = {**{name: value for name, value in os.environ.items() if name != "NO_COLOR"}, "TERM": "xterm", **variables}
+    process = subprocess.Popen([os.path.join(TOOLS, "up"), "up.json", "--", "sh", "-c", invoke], cwd=up.at, stderr=slave,
+                               stdin=subprocess.DEVNULL, env=environ)
+    os.close(slave)
+    written = []
+
+    def read():
+        try:
+            while data := os.read(master, 4096):
+                written.append(data)
+        except OSError:
+            pass  # (the end of a terminal)
+
+    reader = threading.Thread(target=read)
+    reader.start()
+    process.wait(60)
+    reader.join(10)
+    os.close(master)
+    up.end()
+    return b"".join(written).decode()
+
+
+def colours():
+    check("on a terminal an ok is green", bool(re.search(rf"\x1b\[32m{REQUEST} ok \d+ ms\x1b\[0m", on_a_terminal())))
+    check("not if NO_COLOR is set", "\x1b" in on_a_terminal(NO_COLOR="1"), False)
+
+
+def trace(*frames):
+    return {"errorType": "E", "errorMessage": "m", "stackTrace": list(frames)}
+
+
+# Reports as the runtime clients of these languages make them, of functions in the folder /at, and what a line says of them.
+REPORTS = {
+    "of Python": (trace('  File "/at/app.py", line 2, in run\n    f()\n', '  File "/at/b/c.py", line 9, in f\n'), "E: m (b/c.py:9)"),
+    "of a library": (trace('  File "/at/app.py", line 2, in run\n', '  File "/usr/lib/x.py", line 9, in f\n'), "E: m (app.py:2)"),
+    "of Node": ({"errorType": "TypeError", "errorMessage": "no",
+                 "trace": ["TypeError: no", "    at g (node:fs:1:2)", "    at run (file:///at/app.mjs:3:9)", "    at h (/at/i.js:1:1)"]},
+                "TypeError: no (app.mjs:3)"),
+    "of Node's modules": (trace("    at f (/at/node_modules/x/i.js:1:1)", "    at run (/at/app.js:3:9)"), "E: m (app.js:3)"),
+    "of Go": (trace({"path": "/at/main.go", "line": 12, "label": "main"}), "E: m (main.go:12)"),
+    "of Java": (trace("example.Handler.run(Handler.java:7)"), "E: m (Handler.java:7)"),
+    "of two lines": ({"errorType": "E", "errorMessage": "a\n  b"}, "E: a b"),
+    "of nothing": ({}, "no reason was reported"),
+}
+
+
+def reports():
+    for name, (body, wanted) in REPORTS.items():
+        check(f"a report {name}", str(Report(json.dumps(body).encode(), "/at")), wanted)
+    check("a report that is no JSON", str(Report(b"it broke", "/at")), "it broke")
+
+
+if __name__ == "__main__":
+    sys.exit(counted.run(pauses, reports, lines, as_json, quietly, colours, crashing_extension, extensions, init_failures))

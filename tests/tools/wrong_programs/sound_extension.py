@@ -1,0 +1,129 @@
+#!/usr/bin/env python3
+"""An extension that does all that tools/conformance checks, in methods that the wrong ones override one by one."""
+import http.client
+import json
+import os
+import socket
+import sys
+
+PATH = "/2020-01-01/extension/"
+NAME = "sound"
+
+
+class Failed(Exception):
+    """What CONFORMANCE_FAILS asks for."""
+
+
+class Extension:
+    def __init__(self):
+        self.connection = http.client.HTTPConnection(os.environ["AWS_LAMBDA_RUNTIME_API"])
+        self.identifier, self.fails_at = None, os.environ.get("CONFORMANCE_FAILS")
+
+    def run(self):
+        self.begin()
+        self.register()
+        try:
+            self.initialize()
+        except Failed as fault:
+            self.report("init/error", fault)
+            self.end(1)
+        try:
+            while True:
+                self.one_event()
+        except Failed as fault:
+            self.report("exit/error", fault)
+            self.end(1)
+
+    def begin(self):
+        """Before anything else."""
+
+    def name(self):
+        return NAME
+
+    def events(self):
+        return ["INVOKE", "SHUTDOWN"]
+
+    def register(self):
+        answer, _ = self.ask("POST", PATH + "register", {"events": self.events()}, {"Lambda-Extension-Name": self.name()})
+        self.identifier = answer.headers["Lambda-Extension-Identifier"]
+
+    def initialize(self):
+        self.subscribe()
+        if self.fails_at == "init":
+            raise Failed("it fails in its Init as it is asked to")
+
+    def subscribe(self):
+        """To telemetry, if there is any."""
+        answer, _ = self.ask("PUT", "/2022-07-01/telemetry", {"schemaVersion": "2022-12-13", "types": ["platform"]})
+        self.subscribed(answer)
+
+    def subscribed(self, answer):
+        pass
+
+    def one_event(self):
+        answer, event = self.next()
+        if answer.status == 500:
+            return self.at_500()
+        kind = event.get("eventType") if answer.status == 200 else None
+        if kind == "INVOKE":
+            return self.invoked(event)
+        if kind == "SHUTDOWN":
+            return self.shut_down(event["shutdownReason"])
+        return self.unknown(event)
+
+    def next(self):
+        return self.ask("GET", PATH + "event/next")
+
+    def at_500(self):
+        self.end(1)
+
+    def invoked(self, event):
+        if self.fails_at == "exit":
+            raise Failed("it fails at its first event as it is asked to")
+
+    def shut_down(self, reason):
+        self.end(0)
+
+    def unknown(self, event):
+        pass
+
+    def end(self, status):
+        sys.exit(status)
+
+    def report(self, path, fault):
+        body = {"errorMessage": str(fault), "errorType": "Extension.Failed", "stackTrace": []}
+        self.ask("POST", PATH + path, body, self.report_headers())
+
+    def report_headers(self):
+        return {"Lambda-Extension-Function-Error-Type": "Extension.Failed"}
+
+    def headers(self):
+        return {"Lambda-Extension-Identifier": self.identifier} if self.identifier else {}
+
+    def ask(self, method, path, body=None, headers=None):
+        """The answer and its body; a poll that finds the connection ended is sent again on a new one."""
+        for attempt in (1, 2):
+            try:
+                self.connection.request(method, path, body and json.dumps(body), {**self.headers(), **(headers or {})})
+                answer = self.connection.getresponse()
+                return answer, self.read(answer.read())
+            except (ConnectionError, http.client.HTTPException, socket.timeout):
+                self.connection.close()
+                if method != "GET" or attempt == 2:
+                    raise
+                self.connection_ended()
+        raise AssertionError
+
+    @staticmethod
+    def read(body):
+        try:
+            return json.loads(body)
+        except ValueError:
+            return {}
+
+    def connection_ended(self):
+        """The service has ended the connection."""
+
+
+if __name__ == "__main__":
+    Extension().run()

@@ -1,0 +1,302 @@
+"""Runtimes with one mistake each in what they read, hand to the handler, or send. A class is named after its mistake, and
+`check` is the check that catches it."""
+import io
+import json
+import os
+import sys
+import time
+from contextlib import redirect_stdout
+
+from sound_runtime import Runtime
+
+
+# ---- payloads --------------------------------------------------------------------------------------------------------
+
+class RefusesEmptyEvents(Runtime):
+    check = "payload_empty"
+
+    def call(self, event, headers):
+        if event == {}:
+            raise ValueError("an event must have members")
+        return super().call(event, headers)
+
+
+class TakesNullForNoEvent(Runtime):
+    check = "payload_null"
+
+    def read(self, payload):
+        event = super().read(payload)
+        return {} if event is None else event
+
+
+class WrapsScalars(Runtime):
+    check = "payload_scalars"
+
+    def respond(self, request, output):
+        return super().respond(request, [output] if output is True else output)
+
+
+class ManglesUtf8(Runtime):
+    """Writes what is beyond ASCII as question marks, where it does not come from an escape."""
+    check = "utf8"
+
+    def call(self, event, headers):
+        output = super().call(event, headers)
+        return output.replace("ü", "?") if isinstance(output, str) else output
+
+
+class DecodesLatin1(Runtime):
+    """What goes in and out as Latin-1 looks whole from outside; the handler sees other letters."""
+    check = "utf8"
+
+    def read(self, payload):
+        return json.loads(payload.decode("latin-1"))
+
+    def dump(self, output):
+        try:
+            return super().dump(output).decode().encode("latin-1")
+        except UnicodeEncodeError:
+            return super().dump(output)
+
+
+class DropsLineEnds(Runtime):
+    check = "escapes"
+
+    def dump(self, output):
+        return super().dump(output).replace(b"\\f\\n", b"")
+
+
+class CutsDeepEvents(Runtime):
+    """Reads no deeper than 64 levels, as some parsers do by default."""
+    check = "nesting"
+
+    def read(self, payload):
+        return self.cut(super().read(payload), 64)
+
+    def cut(self, value, levels):
+        if isinstance(value, dict):
+            return {name: self.cut(member, levels - 1) for name, member in value.items()} if levels else None
+        if isinstance(value, list):
+            return [self.cut(member, levels - 1) for member in value] if levels else None
+        return value
+
+
+class ReadsSinglePrecision(Runtime):
+    check = "numbers"
+
+    def read(self, payload):
+        return json.loads(payload, parse_float=lambda text: float(f"{float(text):.7g}"))
+
+
+class ReadsOneMegabyte(Runtime):
+    """Keeps a buffer of a fixed size: a longer event is cut."""
+    check = "payload_limit"
+
+    def read(self, payload):
+        if len(payload) > 1_000_000:
+            payload = payload[:1_000_000] + b'"}'
+        return super().read(payload)
+
+
+class CutsLargeOutputs(Runtime):
+    check = "output_limit"
+
+    def dump(self, output):
+        body = super().dump(output)
+        return body[:6_000_000] + b'"' if len(body) == 6_291_456 else body
+
+
+class PutsPrintsIntoTheResponse(Runtime):
+    check = "stdout"
+
+    def call(self, event, headers):
+        with redirect_stdout(io.StringIO()) as printed:
+            output = super().call(event, headers)
+        return printed.getvalue() or output
+
+
+class MergesEvents(Runtime):
+    """Reads each event into the object of the one before it."""
+    check = "events_apart"
+    kept = {}
+
+    def read(self, payload):
+        event = super().read(payload)
+        if not isinstance(event, dict) or not event.get("do"):
+            return event
+        self.kept.update(event)
+        return dict(self.kept)
+
+
+class StreamsWithoutChunks(Runtime):
+    check = "stream"
+
+    def stream(self, request, parts):
+        answer, _ = self.ask("POST", f"invocation/{request}/response", "".join(parts).encode(),
+                             {"Lambda-Runtime-Function-Response-Mode": "streaming"})
+        self.sent(answer, request, parts)
+
+
+# ---- the context -----------------------------------------------------------------------------------------------------
+
+class KeepsFirstRequestId(Runtime):
+    check = "request_id"
+    first = None
+
+    def context(self, headers):
+        context = super().context(headers)
+        self.first = self.first or context.aws_request_id
+        context.aws_request_id = self.first
+        return context
+
+
+class BuildsTheArn(Runtime):
+    check = "function_arn"
+
+    def context(self, headers):
+        context = super().context(headers)
+        region, name = os.environ["AWS_REGION"], os.environ["AWS_LAMBDA_FUNCTION_NAME"]
+        context.invoked_function_arn = f"arn:aws:lambda:{region}:123456789012:function:{name}"
+        return context
+
+
+class ReadsTheDeadlineAsSeconds(Runtime):
+    check = "deadline"
+
+    def remaining(self, deadline):
+        return int(1000 * (deadline - time.time()))
+
+
+class RemainingTimeStandsStill(Runtime):
+    check = "remaining_time"
+
+    def context(self, headers):
+        context = super().context(headers)
+        remaining = context.get_remaining_time_in_millis()
+        context.get_remaining_time_in_millis = lambda: remaining
+        return context
+
+
+class SetsNoTraceId(Runtime):
+    check = "trace_id"
+
+    def call(self, event, headers):
+        headers.replace_header("Lambda-Runtime-Trace-Id", "")
+        return super().call(event, headers)
+
+
+class NeverRenewsTheTraceId(Runtime):
+    check = "trace_renewed"
+
+    def call(self, event, headers):
+        headers.replace_header("Lambda-Runtime-Trace-Id", os.environ.get("_X_AMZN_TRACE_ID") or headers["Lambda-Runtime-Trace-Id"])
+        return super().call(event, headers)
+
+
+# ---- errors ----------------------------------------------------------------------------------------------------------
+
+class SendsErrorsAsResponses(Runtime):
+    check = "error_reported"
+
+    def fails(self, request, fault):
+        self.respond(request, self.report(fault))
+
+
+class LosesTheErrorMessage(Runtime):
+    check = "error_message"
+
+    def fails(self, request, fault):
+        fault.args = ("an error occurred",)
+        super().fails(request, fault)
+
+
+class LosesTheErrorType(Runtime):
+    check = "error_type"
+
+    def report(self, fault):
+        return {**super().report(fault), "errorType": "Error"}
+
+
+class StackTraceAsText(Runtime):
+    check = "stack_trace"
+
+    def report(self, fault):
+        report = super().report(fault)
+        return {**report, "stackTrace": "".join(report["stackTrace"])}
+
+
+class NamesOneTypeForAllErrors(Runtime):
+    check = "error_header"
+
+    def error_headers(self, fault):
+        return {"Lambda-Runtime-Function-Error-Type": "Runtime.Unknown"}
+
+
+class DiesAfterAnError(Runtime):
+    check = "after_error"
+
+    def fails(self, request, fault):
+        super().fails(request, fault)
+        sys.exit(1)
+
+
+class ExitsWithoutInitError(Runtime):
+    check = "init_error"
+
+    def init_fails(self, fault):
+        if type(fault).__name__ == "InitFailed":
+            sys.exit(1)
+        super().init_fails(fault)
+
+
+class GoesOnAfterInitError(Runtime):
+    check = "init_error_ends"
+
+    def init_fails(self, fault):
+        try:
+            super().init_fails(fault)
+        except SystemExit:
+            if type(fault).__name__ != "InitFailed":
+                raise
+
+
+class DoesNotReportAMissingHandler(Runtime):
+    check = "missing_handler"
+
+    def init_fails(self, fault):
+        if isinstance(fault, ImportError):
+            sys.exit(1)
+        super().init_fails(fault)
+
+
+class TakesInvocationsWithABrokenHandler(Runtime):
+    """Loads the handler only when the first invocation is there."""
+    check = "broken_handler"
+
+    def init_fails(self, fault):
+        if not isinstance(fault, SyntaxError):
+            super().init_fails(fault)
+
+        def handler(event, context):
+            raise fault
+        self.handler = handler
+
+
+class RepeatsWhatIsTooLarge(Runtime):
+    check = "too_large"
+
+    def sent(self, answer, request, output):
+        while answer.status == 413:
+            time.sleep(0.5)
+            self.ask("POST", f"invocation/{request}/response", self.dump(output))
+        super().sent(answer, request, output)
+
+
+class RepeatsWhatIsLate(Runtime):
+    check = "late_response"
+
+    def sent(self, answer, request, output):
+        while answer.status == 403:
+            time.sleep(0.05)
+            answer, _ = self.ask("POST", f"invocation/{request}/response", self.dump(output))
+        super().sent(answer, request, output)

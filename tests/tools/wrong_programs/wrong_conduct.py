@@ -1,0 +1,212 @@
+"""Runtimes with one mistake each in when they begin, ask, respond or end. A class is named after its mistake, and `check`
+is the check that catches it, or that notes it if `noted`."""
+import atexit
+import http.client
+import json
+import os
+import select
+import signal
+import socket
+import sys
+import tempfile
+import time
+
+from sound_runtime import Parts, Runtime
+
+
+# ---- the life of the process -----------------------------------------------------------------------------------------
+
+class StartsSlowly(Runtime):
+    check = "init_in_time"
+
+    def begin(self):
+        time.sleep(1.5)
+
+
+class SpinsAt500(Runtime):
+    check = "ends_at_500"
+
+    def next_refused(self, answer):
+        time.sleep(0.01)
+
+
+class IgnoresA500AtItsResponse(Runtime):
+    check = "ends_at_500_response"
+
+    def sent(self, answer, request, output):
+        pass
+
+
+class IgnoresSigterm(Runtime):
+    check = "ends_at_sigterm"
+
+    def begin(self):
+        signal.signal(signal.SIGTERM, signal.SIG_IGN)
+
+
+class LeavesALockBehind(Runtime):
+    """Ends at once if another one was killed before it in the same environment."""
+    check = "cold_start"
+
+    def begin(self):
+        names = (os.environ["AWS_LAMBDA_FUNCTION_NAME"], os.environ["AWS_LAMBDA_RUNTIME_API"].rpartition(":")[2])
+        path = os.path.join(tempfile.gettempdir(), "wrong_runtime.{}.{}.lock".format(*names))
+        with open(path, "x"):
+            atexit.register(os.remove, path)
+
+
+class SwallowsExits(Runtime):
+    check = "handler_exits"
+
+    def begin(self):
+        os._exit = sys.exit
+
+    def one_invocation(self):
+        try:
+            super().one_invocation()
+        except SystemExit as fault:
+            if fault.code != 3:
+                raise
+
+
+# ---- requests and connections ----------------------------------------------------------------------------------------
+
+class PollsTwice(Runtime):
+    """Asks for an invocation on a second connection too, if none comes at once."""
+    check = "one_next"
+
+    def next(self):
+        older = http.client.HTTPConnection(self.address)
+        older.request("GET", "/2018-06-01/runtime/invocation/next")
+        if select.select([older.sock], [], [], 0.5)[0]:
+            self.connection.close()  # (what it does not ask on may end meanwhile)
+            answer = older.getresponse()
+            return answer, answer.read()
+        newer, first = super().next(), older.getresponse()
+        return newer if first.status == 403 else (first, first.read())
+
+
+class AsksBeforeItResponds(Runtime):
+    check = "next_after_response"
+
+    def call(self, event, headers):
+        connection = http.client.HTTPConnection(self.address)
+        connection.request("GET", "/2018-06-01/runtime/invocation/next")
+        connection.getresponse().read()  # (403: the environment is busy)
+        connection.close()
+        return super().call(event, headers)
+
+
+class RespondsTwice(Runtime):
+    check = "responds_once"
+
+    def sent(self, answer, request, output):
+        super().sent(answer, request, output)
+        if answer.status == 202 and not isinstance(output, (Exception, Parts)):
+            Runtime().ask("POST", f"invocation/{request}/response", self.dump(output))
+
+
+class DiesWithItsConnection(Runtime):
+    check = "connection_end"
+
+    def connection_ended(self):
+        sys.exit(1)
+
+
+class GivesNextUp(Runtime):
+    """Has a timeout of three seconds on all requests."""
+    check = "next_without_timeout"
+
+    def begin(self):
+        self.connection.timeout = 3
+
+    def ask(self, *arguments, **named):
+        while True:
+            try:
+                return super().ask(*arguments, **named)
+            except socket.timeout:
+                pass
+
+
+# ---- many invocations ------------------------------------------------------------------------------------------------
+
+class KeepsEveryEvent(Runtime):
+    check = "memory"
+    events = []
+
+    def read(self, payload):
+        self.events.append(bytearray(payload))
+        return super().read(payload)
+
+
+class LeavesFilesOpen(Runtime):
+    check = "descriptors"
+    files = []
+
+    def read(self, payload):
+        self.files.append(open(os.devnull))
+        return super().read(payload)
+
+
+class SharesAFile(Runtime):
+    """Hands the output on by a file that all environments of the function share."""
+    check = "environments_apart"
+
+    def respond(self, request, output):
+        path = os.path.join(tempfile.gettempdir(), f"wrong_runtime.{os.environ['AWS_LAMBDA_FUNCTION_NAME']}.output")
+        if isinstance(output, int) and output >= 300:
+            with open(path, "w") as file:
+                file.write(json.dumps(output))
+            time.sleep(0.3)
+            with open(path) as file:
+                output = json.loads(file.read())
+        return super().respond(request, output)
+
+
+# ---- what the documents leave open: a NOTE ---------------------------------------------------------------------------
+
+class ReportsNoTrace(Runtime):
+    check, noted = "stack_trace", True
+
+    def report(self, fault):
+        return {name: value for name, value in super().report(fault).items() if name != "stackTrace"}
+
+
+class SendsNoErrorHeader(Runtime):
+    check, noted = "error_header", True
+
+    def error_headers(self, fault):
+        return {}
+
+
+class ConnectsForEachRequest(Runtime):
+    check, noted = "keep_alive", True
+
+    def ask(self, *arguments, **named):
+        self.connection.close()
+        return super().ask(*arguments, **named)
+
+
+class EndsWhenItIsLate(Runtime):
+    check, noted = "late_response", True
+
+    def sent(self, answer, request, output):
+        if answer.status == 403:
+            sys.exit(1)
+        super().sent(answer, request, output)
+
+
+class EndsWhenItIsTooLarge(Runtime):
+    check, noted = "too_large", True
+
+    def sent(self, answer, request, output):
+        if answer.status == 413:
+            sys.exit(1)
+        super().sent(answer, request, output)
+
+
+class DoesNotStream(Runtime):
+    check, noted = "stream", True
+
+    def respond(self, request, output):
+        return super().respond(request, "".join(output) if isinstance(output, Parts) else output)

@@ -1,0 +1,286 @@
+#!/usr/bin/env python3
+"""Extensions with one mistake each. A class is named after its mistake, and `check` is the check that catches it.
+
+usage: wrong_extensions.py MISTAKE"""
+import http.client
+import os
+import select
+import signal
+import socket
+import subprocess
+import sys
+import tempfile
+import time
+
+from sound_extension import PATH, Extension
+
+
+# ---- registration ----------------------------------------------------------------------------------------------------
+
+class RegistersLate(Extension):
+    check = "registers"
+
+    def begin(self):
+        time.sleep(4.5)
+
+
+class AsksForEventsLate(Extension):
+    check = "asks_for_events"
+
+    def initialize(self):
+        super().initialize()
+        time.sleep(4.5)
+
+
+class HasAnotherName(Extension):
+    check = "name"
+
+    def name(self):
+        return "sound.py"
+
+
+class AsksForOneMoreEvent(Extension):
+    """Is to register for INVOKE and SHUTDOWN; the test says that it is for INVOKE alone."""
+    check = "events"
+
+
+class AsksWithoutItsIdentifier(Extension):
+    """At first; when that is refused, with it."""
+    check = "identifier"
+    tried = False
+
+    def headers(self):
+        if self.identifier and not self.tried and self.initialized:
+            self.tried = True
+            return {}
+        return super().headers()
+
+    initialized = False
+
+    def initialize(self):
+        super().initialize()
+        self.initialized = True
+
+
+# ---- invocations -----------------------------------------------------------------------------------------------------
+
+class AsksOnce(Extension):
+    """Never asks again after its second INVOKE."""
+    check = "asks_after_invoke"
+    invocations = 0
+
+    def invoked(self, event):
+        super().invoked(event)
+        self.invocations += 1
+        if self.invocations == 2:
+            time.sleep(60)
+
+
+class IsLate(Extension):
+    """Takes longer over its second INVOKE than the function has."""
+    check = "invoke_in_time"
+    invocations = 0
+
+    def invoked(self, event):
+        super().invoked(event)
+        self.invocations += 1
+        if self.invocations == 2:
+            time.sleep(max(0, event["deadlineMs"] / 1000 - time.time()) + 1)
+
+
+class PollsTwice(Extension):
+    """Asks for an event on a second connection too, if none comes at once."""
+    check = "one_poll"
+
+    def next(self):
+        older = http.client.HTTPConnection(os.environ["AWS_LAMBDA_RUNTIME_API"])
+        older.request("GET", PATH + "event/next", headers=self.headers())
+        if select.select([older.sock], [], [], 0.5)[0]:
+            self.connection.close()  # (what it does not ask on may end meanwhile)
+            answer = older.getresponse()
+            return answer, self.read(answer.read())
+        newer, first = super().next(), older.getresponse()
+        return newer if first.status == 403 else (first, self.read(first.read()))
+
+
+# ---- the end ---------------------------------------------------------------------------------------------------------
+
+class GoesOnAtSpindown(Extension):
+    check, reason = "ends_at_spindown", "SPINDOWN"
+
+    def shut_down(self, reason):
+        if reason == self.reason:
+            time.sleep(60)
+        super().shut_down(reason)
+
+
+class GoesOnAtTimeout(GoesOnAtSpindown):
+    check, reason = "ends_at_timeout", "TIMEOUT"
+
+
+class GoesOnAtFailure(GoesOnAtSpindown):
+    check, reason = "ends_at_failure", "FAILURE"
+
+
+class KeepsItsIdentifier(Extension):
+    """In a file, from one process to the next, and so does not register again."""
+    check = "registers_anew"
+    path = os.path.join(tempfile.gettempdir(), "wrong_extension.{}.identifier".format(os.environ.get("AWS_LAMBDA_FUNCTION_NAME")))
+
+    def register(self):
+        if os.path.exists(self.path):
+            with open(self.path) as file:
+                self.identifier = file.read()
+        else:
+            super().register()
+
+    def shut_down(self, reason):
+        with open(self.path, "w") as file:
+            file.write(self.identifier)
+        super().shut_down(reason)
+
+
+class HidesItsCrash(Extension):
+    """Is a process that starts the one that works, again and again."""
+    check = "crash_noticed"
+
+    def run(self):
+        if len(sys.argv) > 2:
+            return super().run()
+        while subprocess.run([sys.executable, "-S", *sys.argv, "works"]).returncode < 0:
+            time.sleep(0.1)
+        return None
+
+    def register(self):
+        super().register()
+        while not self.identifier:  # (refused, since its older one is not forgotten)
+            time.sleep(0.1)
+            super().register()
+
+
+class LeavesALockBehind(Extension):
+    """Ends at once if another one was killed before it."""
+    check = "works_after_crash"
+    path = os.path.join(tempfile.gettempdir(), "wrong_extension.{}.lock".format(os.environ.get("AWS_LAMBDA_FUNCTION_NAME")))
+
+    def begin(self):
+        with open(self.path, "x"):
+            pass
+
+    def end(self, status):
+        os.remove(self.path)
+        super().end(status)
+
+
+class SpinsAt500(Extension):
+    check = "ends_at_500"
+
+    def at_500(self):
+        time.sleep(0.01)
+
+
+# ---- errors ----------------------------------------------------------------------------------------------------------
+
+class ReportsInitWithoutType(Extension):
+    check = "init_error"
+
+    def report_headers(self):
+        return {} if self.fails_at == "init" else super().report_headers()
+
+
+class GoesOnAfterInitError(Extension):
+    check = "init_error"
+
+    def end(self, status):
+        if self.fails_at == "init":
+            signal.pause()
+        super().end(status)
+
+
+class ReportsExitWithoutType(Extension):
+    check = "exit_error"
+
+    def report_headers(self):
+        return {} if self.fails_at == "exit" else super().report_headers()
+
+
+class GoesOnAfterExitError(Extension):
+    check = "exit_error"
+
+    def end(self, status):
+        if self.fails_at == "exit":
+            signal.pause()
+        super().end(status)
+
+
+# ---- what it may not rely on -----------------------------------------------------------------------------------------
+
+class DiesOfAnUnknownEvent(Extension):
+    check = "unknown_event"
+
+    def unknown(self, event):
+        self.end(1)
+
+
+class DiesWithoutTelemetry(Extension):
+    check = "without_telemetry"
+
+    def subscribed(self, answer):
+        if answer.status != 200:
+            self.end(1)
+
+
+class DiesWithItsConnection(Extension):
+    check = "connection_end"
+
+    def connection_ended(self):
+        self.end(1)
+
+
+class GivesNextUp(Extension):
+    """Has a timeout of three seconds on all requests."""
+    check = "next_without_timeout"
+
+    def begin(self):
+        self.connection.timeout = 3
+
+    def ask(self, *arguments, **named):
+        while True:
+            try:
+                return super().ask(*arguments, **named)
+            except socket.timeout:
+                pass
+
+
+# ---- what the documents leave open, or is not there: a NOTE ----------------------------------------------------------
+
+class ReportsNoInitError(Extension):
+    check, noted = "init_error", True
+
+    def report(self, path, fault):
+        pass
+
+
+class ReportsNoExitError(ReportsNoInitError):
+    check = "exit_error"
+
+
+class IsForShutdownAlone(Extension):
+    check, noted = "asks_after_invoke", True
+
+    def events(self):
+        return ["SHUTDOWN"]
+
+
+class IsForInvokeAlone(Extension):
+    check, noted = "ends_at_spindown", True
+
+    def events(self):
+        return ["INVOKE"]
+
+
+MISTAKES = {value.__name__: value for value in list(globals().values())
+            if isinstance(value, type) and issubclass(value, Extension) and value is not Extension}
+
+if __name__ == "__main__":
+    MISTAKES[sys.argv[1]]().run()

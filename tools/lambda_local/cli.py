@@ -1,0 +1,74 @@
+"""The command `lambda_local` as pip installs it: what ./lambda_local is in a checkout."""
+import importlib
+import os
+import resource
+import sys
+
+from .paths import PACKAGE, own_program
+
+# The modules of this package that have the `main` of a tool.
+TOOLS = {
+    "check": ".check",
+    "conformance": ".conformance.command",
+    "from_template": ".from_template",
+    "rerun": ".rerun",
+    "timeline": ".timeline",
+    "up": ".up",
+}
+SHAPES = ([], ["replay"], ["path"], ["--version"])
+
+
+def start(program, words):
+    """Becomes the program."""
+    # A connection takes five descriptors.
+    hard = resource.getrlimit(resource.RLIMIT_NOFILE)[1]
+    resource.setrlimit(resource.RLIMIT_NOFILE, (hard, hard))
+    os.environ.pop("LAMBDA_LOCAL_PROGRAM", None)
+    try:
+        os.execvp(program, [program, *words])
+    except OSError as fault:
+        print(f"lambda_local: {program}: {fault.strerror}: LAMBDA_LOCAL_PROGRAM names another program", file=sys.stderr)
+        return 4
+
+
+def show_version(program):
+    """The version, and what proved the program."""
+    try:
+        with open(program + ".proved", encoding="utf-8") as file:
+            stamp = [line.split(" ", 1) for line in file.read().splitlines()]
+    except OSError:
+        print(f"lambda_local, the program {program}")
+        return
+    print(" ".join(["lambda_local", *dict(stamp).get("version", "").split()]))
+    for name, text in stamp:
+        if name in ("sources", "kit", "program", "gate"):
+            print(name, text)
+
+
+def show_help():
+    """The launcher's help, without what a checkout alone has."""
+    with open(os.path.join(PACKAGE, "help.txt"), encoding="utf-8") as file:
+        print("".join(line for line in file if not line.startswith("In a checkout")), end="")
+
+
+def main():
+    """Does what the words of the command line say."""
+    words = sys.argv[1:]
+    program = os.environ.get("LAMBDA_LOCAL_PROGRAM") or own_program()
+    if words[:1] in (["-h"], ["--help"]):
+        return show_help()
+    if words and words[0] in TOOLS:
+        sys.argv[:] = words
+        return importlib.import_module(TOOLS[words[0]], __package__).main()
+    if words not in SHAPES and not (words[:1] == ["serve"] and len(words) == 2):
+        print(f"lambda_local: '{' '.join(words)}' is not one of its commands: --help lists them", file=sys.stderr)
+        return 2
+    if words == ["path"]:
+        return print(program)
+    if words == ["--version"]:
+        return show_version(program)
+    return start(program, words)
+
+
+if __name__ == "__main__":
+    sys.exit(main())

@@ -1,0 +1,214 @@
+"""What a service's configuration may say (docs/formats.md), and in words what is wrong with one that is refused.
+
+The service decides; this finds the member that it means. `mistakes` looks for members that nobody knows or that have
+another type; `explained` says of one of the service's own names, such as `BadTimeout`, which function has it."""
+import difflib
+import json
+import re
+from collections import Counter
+from typing import Callable, NamedTuple
+
+
+class Kind(NamedTuple):
+    """The type of a member."""
+    accepts: Callable[[object], bool]
+    expected: str  # in words, behind "must be"
+
+
+def is_whole(value, below):
+    return isinstance(value, int) and not isinstance(value, bool) and 0 <= value < below
+
+
+def is_text(value):
+    return isinstance(value, str)
+
+
+def is_list_of(accepts):
+    return lambda value: isinstance(value, list) and all(map(accepts, value))
+
+
+TEXT = Kind(is_text, "a text")
+PORT = Kind(lambda value: is_whole(value, 1 << 16), "a port: a whole number from 1 to 65535")
+NUMBER = Kind(lambda value: is_whole(value, 1 << 32), "a whole number")
+LONG_NUMBER = Kind(lambda value: is_whole(value, 1 << 64), "a whole number below 2^64")
+OF_SERVICE = {"account": TEXT, "region": TEXT, "functions": Kind(is_list_of(lambda value: True), "a list of objects"),
+              "accountLimit": NUMBER, "leastRemainder": NUMBER, "invokePort": PORT, "salt": LONG_NUMBER, "maxEntries": LONG_NUMBER}
+OF_FUNCTION = {"name": TEXT, "ports": Kind(is_list_of(PORT.accepts), "a list of ports, one for each environment"), "handler": TEXT,
+               "timeout": Kind(NUMBER.accepts, "a whole number of seconds, from 1 to 900"),
+               "reserved": NUMBER, "extensions": Kind(is_list_of(is_text), "a list of names")}
+REQUIRED = ("account", "region", "functions")
+REQUIRED_OF_FUNCTION = ("name", "ports")
+
+
+def shown(value):
+    """A value as its file has it, cut short."""
+    text = json.dumps(value, ensure_ascii=False)
+    return text if len(text) <= 60 else text[:57] + ".."
+
+
+def mistakes_of(members, kinds, where, required=()):
+    """What is wrong with the members of an object, one sentence each."""
+    for name, value in members.items():
+        if name not in kinds:
+            near = difflib.get_close_matches(name, kinds, 1, 0.6)
+            yield f"{where}unknown member {name}" + (f", did you mean {near[0]}?" if near else f"; there are {', '.join(sorted(kinds))}")
+        elif not kinds[name].accepts(value):
+            yield f"{where}{name} must be {kinds[name].expected}, not {shown(value)}"
+    for name in required:
+        if name not in members:
+            yield f"{where}there is no {name}, which must be {kinds[name].expected}"
+
+
+def place_of(member, number):
+    """How a sentence names the function that stands at this place of the list, from 1."""
+    name = member.get("name")
+    return f"function {name}: " if isinstance(name, str) else f"function number {number}: "
+
+
+def mistakes(configuration, of_service=OF_SERVICE, of_function=OF_FUNCTION, required=REQUIRED, required_of_function=REQUIRED_OF_FUNCTION):
+    """What is wrong with the members of a configuration by name and type, in the order in which they stand."""
+    if not isinstance(configuration, dict):
+        yield f"it must be an object with a list of \"functions\", not {shown(configuration)}"
+        return
+    yield from mistakes_of(configuration, of_service, "", required)
+    functions = configuration.get("functions")
+    for number, member in enumerate(functions if isinstance(functions, list) else [], 1):
+        if isinstance(member, dict):
+            yield from mistakes_of(member, of_function, place_of(member, number), required_of_function)
+        else:
+            yield f"function number {number} must be an object, not {shown(member)}"
+
+
+def is_label(text):
+    """1 to 128 printable bytes."""
+    return re.fullmatch(r"[ -~]{1,128}", text) is not None
+
+
+def repeated(values):
+    return next((value for value, count in Counter(values).items() if count > 1), None)
+
+
+def first(functions, is_wrong):
+    """The first function of which this holds, and its name in a sentence."""
+    found = next((member for member in functions if is_wrong(member)), None)
+    return found, "" if found is None else f"function {found['name']}: "
+
+
+def bad_least_remainder(whole, functions):
+    limit, least = whole.get("accountLimit", 1000), whole.get("leastRemainder", 100)
+    by_default = "" if "leastRemainder" in whole else ", the default"
+    return f"leastRemainder must be at most accountLimit, which is {limit}, not {least}{by_default}"
+
+
+def duplicate_name(whole, functions):
+    name = repeated([member["name"] for member in functions])
+    return f"two functions have the name {name}: each must have its own"
+
+
+def bad_name(whole, functions):
+    found, _ = first(functions, lambda member: not re.fullmatch(r"[A-Za-z0-9_-]{1,64}", member["name"]))
+    return f"function {shown(found['name'])}: a name has 1 to 64 of A-Z, a-z, 0-9, - and _"
+
+
+def bad_handler(whole, functions):
+    found, where = first(functions, lambda member: not is_label(member.get("handler", "index.handler")))
+    return f"{where}handler must have 1 to 128 printable ASCII characters, not {shown(found['handler'])}"
+
+
+def bad_timeout(whole, functions):
+    found, where = first(functions, lambda member: not 1 <= member.get("timeout", 3) <= 900)
+    return f"{where}timeout must be from 1 to 900 seconds, not {found['timeout']}"
+
+
+def no_environment(whole, functions):
+    return first(functions, lambda member: not member["ports"])[1] + "it has no environment: give it at least one port"
+
+
+def too_many_environments(whole, functions):
+    most = max(functions, key=lambda member: len(member["ports"]))
+    of_most = f"{len(most['ports'])} of them of function {most['name']}"
+    return f"{environments_of(functions)} environments in all, {of_most}: 256 is the most"
+
+
+def environments_of(functions):
+    return sum(len(member["ports"]) for member in functions)
+
+
+def owners_of(port, whole, functions):
+    """Who has a port: the callers, or functions."""
+    return (["invokePort"] if whole.get("invokePort", 9000) == port else []) + [
+        f"function {member['name']}" for member in functions for other in member["ports"] if other == port]
+
+
+def bad_port(whole, functions):
+    return f"{owners_of(0, whole, functions)[0]}: 0 is no port: write one from 1 to 65535"
+
+
+def duplicate_port(whole, functions):
+    port = repeated([whole.get("invokePort", 9000), *(port for member in functions for port in member["ports"])])
+    return f"port {port} stands twice: {' and '.join(owners_of(port, whole, functions)[:2])} have it"
+
+
+def too_many_extensions(whole, functions):
+    found, where = first(functions, lambda member: len(member.get("extensions", [])) > 10)
+    return f"{where}{len(found['extensions'])} extensions: ten are the most"
+
+
+def bad_extension(whole, functions):
+    found, where = first(functions, lambda member: not all(map(is_label, member.get("extensions", []))))
+    name = next(name for name in found["extensions"] if not is_label(name))
+    return f"{where}the name of an extension has 1 to 128 printable ASCII characters, not {shown(name)}"
+
+
+def duplicate_extension(whole, functions):
+    found, where = first(functions, lambda member: repeated(member.get("extensions", [])) is not None)
+    return f"{where}the extension {shown(repeated(found['extensions']))} stands twice"
+
+
+def reservation_above_environments(whole, functions):
+    found, where = first(functions, lambda member: member.get("reserved", 0) > len(member["ports"]))
+    return f"{where}it reserves {found['reserved']} and has {len(found['ports'])} environments: reserve at most as many, or give it more"
+
+
+def remainder_too_small(whole, functions):
+    reserved = sum(member.get("reserved", 0) for member in functions)
+    limit, least = whole.get("accountLimit", 1000), whole.get("leastRemainder", 100)
+    return (f"the functions reserve {reserved} of accountLimit {limit}: leastRemainder {least} must stay unreserved; reserve less, "
+            "or write another accountLimit or leastRemainder")
+
+
+def entries_out_of_range(whole, functions):
+    least = environments_of(functions) + 1
+    return f"maxEntries must be from {least}, one more than there are environments, to {1 << 32}, not {whole.get('maxEntries')}"
+
+
+SENTENCES = {
+    "BadAccount": lambda whole, functions: f"account must be 12 digits, not {shown(whole['account'])}",
+    "BadRegion": lambda whole, functions: f"region must have 1 to 32 of a-z, 0-9 and -, not {shown(whole['region'])}",
+    "BadAccountLimit": lambda whole, functions: f"accountLimit must be from 1 to 1000000, not {whole['accountLimit']}",
+    "BadLeastRemainder": bad_least_remainder,
+    "TooManyFunctions": lambda whole, functions: f"{len(functions)} functions: 64 are the most",
+    "BadName": bad_name,
+    "DuplicateName": duplicate_name,
+    "BadHandler": bad_handler,
+    "BadTimeout": bad_timeout,
+    "NoEnvironment": no_environment,
+    "TooManyEnvironments": too_many_environments,
+    "BadPort": bad_port,
+    "DuplicatePort": duplicate_port,
+    "TooManyExtensions": too_many_extensions,
+    "BadExtension": bad_extension,
+    "DuplicateExtension": duplicate_extension,
+    "ReservationAboveEnvironments": reservation_above_environments,
+    "RemainderTooSmall": remainder_too_small,
+    "EntriesOutOfRange": entries_out_of_range,
+    "BadShape": lambda whole, functions: next(mistakes(whole)),
+}
+
+
+def explained(name, configuration):
+    """A sentence on what the service means by this name of a fault; nothing if this page knows no reason."""
+    try:
+        return SENTENCES[name](configuration, configuration["functions"])
+    except (KeyError, StopIteration, TypeError, AttributeError):
+        return ""

@@ -1,0 +1,63 @@
+"""Limits on a busy machine. A program is late if it takes its time, and not if the machine gives it none: so limits are
+counted by a clock that goes slower, the less of a processor a thread gets here."""
+import threading
+import time
+
+PAUSE = 0.15  # seconds between two looks
+WORK = 0.003  # seconds of a processor for each look
+LONGEST = 0.3  # seconds that may count without a look
+SLOWEST = 10  # that a limit is stretched at most
+
+
+class Clock:
+    """Looks, in a thread of its own, how long a little work takes. Without that thread it is `time.monotonic`."""
+
+    def __init__(self):
+        self._lock, self._begun, self._counted, self._at, self._slowness = threading.Lock(), None, 0.0, time.monotonic(), 1.0
+
+    def start(self):
+        self._begun = self._at = time.monotonic()
+        threading.Thread(target=self._run, daemon=True).start()
+
+    def now(self):
+        """Seconds; never less than before."""
+        if self._begun is None:
+            return time.monotonic()
+        with self._lock:
+            return self._counted + min(time.monotonic() - self._at, LONGEST) / self._slowness
+
+    def stretch(self):
+        """How many times as long as on a machine with nothing else to do limits have been."""
+        with self._lock:
+            return (time.monotonic() - self._begun) / max(self._counted, 0.001) if self._begun else 1.0
+
+    def slowness(self):
+        """How many times as long a little work took at the last look."""
+        with self._lock:
+            return self._slowness
+
+    def wait(self, wait_once, seconds):
+        """Calls `wait_once` with parts of so many seconds until it gives true: whether it did."""
+        end = self.now() + seconds
+        while not wait_once(max(0, min(0.1, end - self.now()))):
+            if self.now() >= end:
+                return False
+        return True
+
+    def _run(self):
+        while True:
+            begun = time.monotonic()
+            time.sleep(PAUSE)
+            worked = time.thread_time()
+            while time.thread_time() - worked < WORK:
+                pass
+            took = time.monotonic() - begun - PAUSE
+            with self._lock:
+                passed = time.monotonic() - self._at
+                seen = min(passed, LONGEST) / self._slowness  # what `now` may have said
+                self._slowness = min(SLOWEST, max(1.0, took / WORK))
+                self._counted += max(seen, passed / self._slowness)
+                self._at += passed
+
+
+CLOCK = Clock()

@@ -1,0 +1,61 @@
+"""Checks whether an external extension does what the Extensions API prescribes.
+
+  tools/conformance extension --name NAME -- COMMAND ..                   one for INVOKE and SHUTDOWN
+  tools/conformance extension --name NAME --events SHUTDOWN -- COMMAND ..
+  tools/conformance extension --list                                      the checks, each with its public page
+
+COMMAND is started for each scenario, in this folder, with the variables that Lambda sets; the kit plays the runtime beside
+it. NAME is what it registers as: for Lambda the full file name of the extension. With CONFORMANCE_FAILS=init or exit in
+its environment an extension may show how it reports errors (docs/conformance.md). Each check is a PASS, a FAIL, or a NOTE
+if the documents leave it open or the extension does not do what the check is about.
+
+Exit statuses: 0; 1 if a check is a FAIL; 2 for wrong usage, or a command that cannot be tested."""
+import argparse
+
+from ...service import Fault
+from .. import kit
+from ..run import check_arguments, listed, parser_of, play, seconds, split
+from ..stage import shown
+from .scenarios import SCENARIOS
+from .stage import ExtensionStage
+
+EVENTS = ("INVOKE", "SHUTDOWN")
+
+
+def events(text):
+    found = [word for word in text.split(",") if word]
+    if not set(found) <= set(EVENTS) or len(set(found)) < len(found):
+        raise argparse.ArgumentTypeError(f"{text}: write INVOKE, SHUTDOWN or both, with a comma")
+    return found
+
+
+def rehearse(tools):
+    """Whether it registers. A command that ends before it asks for anything is none that can be tested."""
+    scenario = kit.Scenario("rehearsal", (), None, {})
+    with ExtensionStage(tools, scenario, kit.Jury(scenario)) as stage:
+        stage.start()
+        environment = stage.environment
+        if environment.asked(kind="register"):
+            return True
+        if environment.process.ended and not environment.proxy.exchanges:
+            written = environment.process.written()
+            raise Fault(2, f"{' '.join(tools.command)}: {environment.process.how_it_ended()} before it asked for anything"
+                           + (f"; its last line: {shown(written)}" if written else ""))
+        return False
+
+
+def main(words):
+    words, command = split(words)
+    parser = parser_of("extension", __doc__, "--name NAME [--events INVOKE,SHUTDOWN] [--init-seconds S] [--only NAME] [--junit FILE] "
+                                             "[--pictures DIR] [--program P]")
+    parser.add_argument("--name", metavar="NAME", help="the name under which it registers")
+    parser.add_argument("--events", metavar="EVENTS", type=events, default=list(EVENTS), help="what it registers for (INVOKE,SHUTDOWN)")
+    parser.add_argument("--idle-seconds", metavar="S", type=seconds, default=5, help="how long a Next has to wait without a timeout (5)")
+    options = parser.parse_args(words)
+    check_arguments(options, command, SCENARIOS)
+    if options.list:
+        return listed(SCENARIOS)
+    if not options.name:
+        raise Fault(2, "write --name NAME, the name under which the extension registers")
+    title = f"conformance extension {options.name}: {' '.join(command)}"
+    return play("conformance extension", SCENARIOS, options, command, rehearse, title, ExtensionStage)

@@ -1,0 +1,156 @@
+"""The stage of an extension: the kit plays the runtime, and the extension is the command behind the proxy."""
+import http.client
+import json
+import threading
+import time
+
+from ...service import EXTENSION, RUNTIME, ask, parked
+from ..clock import CLOCK
+from ..kit import Missing
+from ..proxy import Rule
+from ..stage import Stage, shown
+
+NAMED, IDENTIFIED = "Lambda-Extension-Name", "Lambda-Extension-Identifier"
+FAILURE_TYPE = "Lambda-Extension-Function-Error-Type"
+SHUTDOWN_SECONDS = 2  # that Lambda's Shutdown phase has
+SPARE = 1  # seconds for a machine that is busy with other things
+COMPANION = "conformance.companion"
+
+
+class PlayedRuntime(threading.Thread):
+    """A runtime of one generation: returns each event, and hangs if that is "hang"."""
+
+    def __init__(self, port):
+        super().__init__(daemon=True)
+        self._port = port
+        self.start()
+
+    def run(self):
+        connection = http.client.HTTPConnection("127.0.0.1", self._port)
+        try:
+            while True:
+                connection.request("GET", RUNTIME + "invocation/next")
+                answer = connection.getresponse()
+                event = answer.read()
+                if answer.status != 200 or event == b'"hang"':
+                    return
+                connection.request("POST", f"{RUNTIME}invocation/{answer.getheader('Lambda-Runtime-Aws-Request-Id')}/response", event)
+                connection.getresponse().read()
+        except (OSError, http.client.HTTPException):
+            pass  # (the stage has ended)
+        finally:
+            connection.close()
+
+
+class Companion:
+    """A second extension, of the kit: it fails when it is told to, so that the tested one receives SHUTDOWN for FAILURE."""
+
+    def __init__(self, port):
+        self._port = port
+        _, headers, _ = ask(port, "POST", EXTENSION + "register", '{"events":[]}', {NAMED: COMPANION})
+        self._me = {IDENTIFIED: headers["lambda-extension-identifier"]}
+        self._poll = http.client.HTTPConnection("127.0.0.1", port)
+        self._poll.request("GET", EXTENSION + "event/next", headers=self._me)
+
+    def fail(self):
+        report_failure(self._port, self._me[IDENTIFIED], "the kit's companion fails as it is asked to")
+        self._poll.close()
+
+
+def report_failure(port, identifier, message):
+    ask(port, "POST", EXTENSION + "exit/error", json.dumps({"errorMessage": message, "errorType": "Extension.Crash"}),
+        {IDENTIFIED: identifier, FAILURE_TYPE: "Extension.Crash"})
+
+
+class ExtensionStage(Stage):
+    """A stage whose environment has the extension; `begin` starts a generation of it."""
+
+    def __init__(self, tools, scenario, jury, telemetry=True, companion=False, **settings):
+        super().__init__(tools, scenario, jury, start=False, **settings)
+        self._wants_companion, self.companion = companion, None
+        if telemetry:  # (this service has none, which one scenario alone is about)
+            self.environment.proxy.always["telemetry"] = Rule("telemetry", reply=(200, b'"OK"'))
+
+    def prepare(self):
+        """(Each scenario begins by itself.)"""
+
+    def start(self):
+        """Starts the extension's process, and with it the kit's companion."""
+        if self._wants_companion:
+            self.companion = Companion(self.environment.service_port)
+        self.environment.start()
+
+    def begin(self):
+        """A generation: the extension registers and asks for its first event, and then the runtime begins."""
+        before, polls = len(self.environment.proxy.of("register")), len(self.environment.proxy.of("event"))
+        self.start()
+        environment = self.environment
+        if not environment.asked(before + 1, kind="register") or environment.saw("register", 5, before + 1) is None:
+            raise Missing(f"it did not register: {self.said()}")
+        registered = environment.proxy.of("register")[before]
+        if registered.status != 200:
+            raise Missing(f"its registration was answered {registered.status} {shown(registered.reply.body)}")
+        if not environment.asked(polls + 1, kind="event"):
+            raise Missing(f"it did not ask for an event: {self.said()}")
+        self.play()
+
+    def play(self):
+        PlayedRuntime(self.environment.service_port)
+
+    # -- what it registered for
+
+    @property
+    def registration(self):
+        """The last exchange in which it registered; Missing if there is none."""
+        found = [one for one in self.environment.proxy.of("register") if one.status == 200]
+        if not found:
+            raise Missing(f"it did not register: {self.said()}")
+        return found[-1]
+
+    @property
+    def identifier(self):
+        return self.registration.reply.headers["lambda-extension-identifier"]
+
+    def registered_for(self, event):
+        asked = self.registration.json()
+        return isinstance(asked, dict) and event in (asked.get("events") or [])
+
+    # -- events
+
+    def events(self, kind):
+        """The exchanges that brought it an event of a kind."""
+        return [one for one in self.environment.proxy.of("event")
+                if one.status == 200 and isinstance(one.reply_json(), dict) and one.reply_json().get("eventType") == kind]
+
+    def event(self, kind, count=1, seconds=5):
+        """The count-th exchange that brought it an event of a kind; Missing if that does not come."""
+        end = CLOCK.now() + seconds
+        while len(self.events(kind)) < count:
+            if CLOCK.now() > end:
+                raise Missing(f"it did not take its event {kind}: {self.said()}")
+            self.environment.proxy.wait(lambda: False, 0.02)
+        return self.events(kind)[count - 1]
+
+    def polls_after(self, exchange):
+        return [one for one in self.environment.proxy.of("event") if one.begun >= exchange.answered]
+
+    def shut_down(self):
+        """Waits for its SHUTDOWN, and whether its process ends in time: the exchange, and whether it did. Then all is ended as
+        Lambda ends it, and the service knows."""
+        exchange = self.event("SHUTDOWN")
+        ended = self.environment.process.wait(SHUTDOWN_SECONDS + SPARE)
+        self.environment.kill()
+        if not self.polls_after(exchange):
+            ask(self.environment.service_port, "GET", EXTENSION + "event/next", headers={IDENTIFIED: self.identifier})
+        return exchange, ended
+
+    def idle(self):
+        """Waits until the runtime and the extension wait."""
+        end = CLOCK.now() + self.patience
+        while True:
+            runtimes, extensions = parked(self.service.history())
+            if runtimes and extensions.get(1, 0) >= (2 if self.companion else 1):
+                return
+            if CLOCK.now() > end or self.environment.process.ended:
+                raise Missing(f"it does not wait for an event: {self.said()}")
+            time.sleep(0.02)

@@ -1,0 +1,109 @@
+"""What a check, a scenario and a verdict are, and how scenarios run beside one another."""
+import concurrent.futures
+import time
+import traceback
+from typing import Callable, NamedTuple, Optional, Tuple
+
+from .pages import Page
+
+PASS, FAIL, NOTE = "PASS", "FAIL", "NOTE"
+
+
+class Check(NamedTuple):
+    """One thing that a document prescribes."""
+    name: str
+    page: Page
+    expected: str  # a sentence: what the tested program does
+
+
+class Scenario(NamedTuple):
+    """A few requests, and the checks that judge what came of them."""
+    name: str
+    checks: Tuple[Check, ...]
+    play: Callable  # takes the stage, and judges each of the checks
+    settings: dict  # of the stage
+
+
+class Verdict(NamedTuple):
+    check: Check
+    scenario: str
+    outcome: str
+    came: str  # what came, as a line
+    seconds: float  # that its scenario took
+    history: Optional[str] = None  # of a scenario with a FAIL: the service's, for its timeline
+    acts: Tuple[str, ...] = ()  # and what the kit did in the service's place
+
+
+class Missing(Exception):
+    """What a scenario needs did not come: its checks that are not judged yet fail with these words."""
+
+
+class Jury:
+    """The verdicts on the checks of one scenario."""
+
+    def __init__(self, scenario):
+        self.scenario, self.verdicts = scenario, {}
+
+    def judge(self, name, outcome, came):
+        """Each check is judged once; a failure stays one."""
+        if not any(check.name == name for check in self.scenario.checks):
+            raise ValueError(f"scenario {self.scenario.name} has no check {name}")
+        if name not in self.verdicts or outcome == FAIL:
+            self.verdicts[name] = (outcome, came)
+
+    def rest(self, outcome, came):
+        for check in self.scenario.checks:
+            if check.name not in self.verdicts:
+                self.judge(check.name, outcome, came)
+
+
+def scenarios_of(registry):
+    """A decorator that adds a scenario to a registry: its name is the function's."""
+    def made(*checks, **settings):
+        def add(play):
+            registry.append(Scenario(play.__name__, tuple(Check(*check) for check in checks), play, settings))
+            return play
+        return add
+    return made
+
+
+def chosen(registry, only):
+    """The scenarios of which a name of `only` is the name, or that of a check; all if there is none."""
+    if not only:
+        return list(registry)
+    return [scenario for scenario in registry if scenario.name in only or any(check.name in only for check in scenario.checks)]
+
+
+def names_of(registry):
+    return {scenario.name for scenario in registry} | {check.name for scenario in registry for check in scenario.checks}
+
+
+def run(scenario, open_stage):
+    """Plays one scenario on a stage of its own: its verdicts, in the order of its checks."""
+    jury, begun, history, acts = Jury(scenario), time.monotonic(), None, ()
+    with open_stage(scenario, jury) as stage:
+        try:
+            stage.prepare()
+            scenario.play(stage)
+            jury.rest(FAIL, "the scenario ended before it came to this check")
+        except Missing as missing:
+            jury.rest(FAIL, str(missing))
+        except Exception:  # a fault of the kit itself, or the service is gone: said as it is
+            jury.rest(FAIL, "the kit could not go on: " + traceback.format_exc().strip().splitlines()[-1])
+        if scenario.settings.get("drawn", True) and any(outcome == FAIL for outcome, _ in jury.verdicts.values()):
+            history, acts = stage.history(), tuple(stage.acts())
+    seconds = time.monotonic() - begun
+    return [Verdict(check, scenario.name, *jury.verdicts[check.name], seconds, history, acts) for check in scenario.checks]
+
+
+def run_all(scenarios, open_stage, at_once):
+    """The verdicts of each scenario as a list, in the order of the scenarios, each as soon as it and those before it are there."""
+    pool = concurrent.futures.ThreadPoolExecutor(at_once)
+    # (the longest first, so that none of them begins last)
+    order = sorted(scenarios, key=lambda scenario: -scenario.settings.get("lasts", 0))
+    running = {scenario.name: pool.submit(run, scenario, open_stage) for scenario in order}
+    try:
+        for scenario in scenarios:
+            yield running[scenario.name].result()
+    finally:  # (who ends it early ends what the scenarios wait for, and does not wait for them)
+        pool.shutdown(wait=False, cancel_futures=True)

@@ -1,0 +1,166 @@
+"""The command that is tested: its processes, what they write, and how they end."""
+import os
+import shutil
+import signal
+import subprocess
+import tempfile
+import threading
+
+from ..guard import GUARD
+from ..service import Fault
+from .clock import CLOCK
+
+SHOWN = 400  # bytes of the end of what it wrote
+
+
+def program_of(command):
+    """The path of the command's program; a fault if there is none."""
+    found = shutil.which(command[0])
+    if not found:
+        raise Fault(2, f"{command[0]} is no program: write one behind --, as a path or by a name of PATH")
+    return os.path.abspath(found) if "/" in command[0] else found
+
+
+def variables_of(configuration, function, port, number, more):
+    """Those that Lambda sets (Lambda Developer Guide, "Defined runtime environment variables")."""
+    region = configuration["region"]
+    return {
+        **os.environ, "AWS_ACCESS_KEY_ID": "local", "AWS_SECRET_ACCESS_KEY": "local", "AWS_SESSION_TOKEN": "local",
+        "AWS_REGION": region, "AWS_DEFAULT_REGION": region, "TZ": ":UTC",
+        "AWS_LAMBDA_RUNTIME_API": f"127.0.0.1:{port}", "_HANDLER": function["handler"], "LAMBDA_TASK_ROOT": os.getcwd(),
+        "AWS_LAMBDA_FUNCTION_NAME": function["name"], "AWS_LAMBDA_FUNCTION_VERSION": "$LATEST",
+        "AWS_LAMBDA_FUNCTION_MEMORY_SIZE": "128", "AWS_LAMBDA_INITIALIZATION_TYPE": "on-demand",
+        "AWS_LAMBDA_LOG_GROUP_NAME": f"/aws/lambda/{function['name']}", "AWS_LAMBDA_LOG_STREAM_NAME": f"local/[$LATEST]{number}",
+        **more}
+
+
+class Processes:
+    """All that were started and not ended yet, so that none is left behind whatever happens."""
+
+    def __init__(self):
+        self._lock, self._running, self.closed = threading.Lock(), set(), False
+
+    def start(self, command, variables):
+        with self._lock:
+            if self.closed:
+                raise Fault(2, "it is being ended")
+            process = Process(command, variables, self._gone)
+            self._running.add(process)
+            return process
+
+    def _gone(self, process):
+        with self._lock:
+            self._running.discard(process)
+
+    def close(self):
+        with self._lock:
+            self.closed = True
+            running = list(self._running)
+        for process in running:
+            process.kill()
+
+
+class Process:
+    """A command in a session of its own. What it writes goes to a file that is gone with it."""
+
+    def __init__(self, command, variables, gone):
+        self.command, self.begun, self._gone = command, CLOCK.now(), gone
+        self.output = tempfile.TemporaryFile()
+        try:
+            words, pipe = GUARD.announcing([program_of(command), *command[1:]])
+            self._child = subprocess.Popen(words, env=variables, stdin=pipe, stdout=self.output, stderr=subprocess.STDOUT,
+                                           start_new_session=True)
+        except OSError as fault:
+            self.output.close()
+            raise Fault(2, f"{command[0]} could not be started: {fault.strerror}") from None
+        self.status = None
+        self._ended = threading.Event()
+        threading.Thread(target=self._watch, daemon=True).start()
+
+    def _watch(self):
+        self.status = self._child.wait()
+        self._ended.set()
+
+    @property
+    def number(self):
+        return self._child.pid
+
+    @property
+    def ended(self):
+        return self._ended.is_set()
+
+    def wait(self, seconds):
+        """Whether it ends within so many seconds."""
+        return CLOCK.wait(self._ended.wait, seconds)
+
+    def signal(self, number):
+        """Sends it to the whole group."""
+        try:
+            os.killpg(self._child.pid, number)
+        except (ProcessLookupError, PermissionError):
+            pass
+
+    def kill(self):
+        """Ends all its processes as Lambda does at last."""
+        self.signal(signal.SIGKILL)
+        for member in members(self.number):
+            try:
+                os.kill(member, signal.SIGKILL)
+            except ProcessLookupError:
+                pass
+        self._ended.wait()
+        GUARD.release(self.number)
+        self._gone(self)
+
+    def written(self):
+        """The end of what it wrote, as one line."""
+        try:
+            size = os.fstat(self.output.fileno()).st_size
+            text = os.pread(self.output.fileno(), SHOWN, max(0, size - SHOWN)).decode(errors="replace")
+        except (OSError, ValueError):
+            return ""
+        lines = [line.strip() for line in text.splitlines() if line.strip()]
+        return lines[-1] if lines else ""
+
+    def how_it_ended(self):
+        if not self.ended:
+            return "it runs"
+        return f"it ended by signal {-self.status}" if self.status < 0 else f"it ended with status {self.status}"
+
+    def memory(self):
+        """The bytes that its processes hold in memory."""
+        return sum(resident(member) for member in members(self.number))
+
+    def descriptors(self):
+        """How many descriptors its processes have open."""
+        return sum(open_descriptors(member) for member in members(self.number))
+
+
+def members(session):
+    """The numbers of the session's processes."""
+    found = []
+    for name in os.listdir("/proc"):
+        if name.isdigit():
+            try:
+                with open(f"/proc/{name}/stat") as file:
+                    words = file.read().rpartition(")")[2].split()
+            except OSError:
+                continue
+            if int(words[3]) == session and words[0] != "Z":
+                found.append(int(name))
+    return found
+
+
+def resident(process):
+    try:
+        with open(f"/proc/{process}/statm") as file:
+            return int(file.read().split()[1]) * os.sysconf("SC_PAGE_SIZE")
+    except (OSError, IndexError):
+        return 0
+
+
+def open_descriptors(process):
+    try:
+        return len(os.listdir(f"/proc/{process}/fd"))
+    except OSError:
+        return 0

@@ -1,0 +1,110 @@
+"""What the subcommands that start a command have in common: their arguments, their course, and their end."""
+import argparse
+import os
+import signal
+import sys
+import time
+
+from . import kit
+from .clock import CLOCK
+from .process import Processes, program_of
+from .report import Report
+from .stage import Stage, Tools, patient
+from ..guard import GUARD
+from ..service import Fault
+
+
+class Parser(argparse.ArgumentParser):
+    """Wrong usage is one line and status 2."""
+
+    def error(self, message):
+        raise Fault(2, f"{message} (`{self.prog} --help` lists the options)")
+
+
+def parser_of(name, description, usage):
+    parser = Parser(prog=f"tools/conformance {name}", description=description, usage=f"tools/conformance {name} {usage} -- COMMAND ..",
+                    formatter_class=argparse.RawDescriptionHelpFormatter)
+    parser.add_argument("--init-seconds", metavar="S", type=seconds, default=10, help="how long an Init may take (10)")
+    parser.add_argument("--only", metavar="NAME", action="append", default=[], help="a scenario or a check; may stand several times")
+    parser.add_argument("--list", action="store_true", help="list the scenarios and checks, each with its page, and start nothing")
+    parser.add_argument("--junit", metavar="FILE", help="write the verdicts there as JUnit XML")
+    parser.add_argument("--pictures", metavar="DIR", help="draw the timeline of each scenario with a FAIL there, as SVG")
+    parser.add_argument("--program", metavar="P", help="the service (default: LAMBDA_LOCAL_PROGRAM, else the repository's ./lambda_local)")
+    return parser
+
+
+def seconds(text):
+    value = float(text)
+    if not 0 < value <= 3600:
+        raise argparse.ArgumentTypeError(f"{text} is not a number of seconds up to 3600")
+    return value
+
+
+def split(words):
+    """The options, and the command behind `--`."""
+    if "--" not in words:
+        return words, []
+    place = words.index("--")
+    return words[:place], words[place + 1:]
+
+
+def check_arguments(options, command, registry):
+    unknown = sorted(set(options.only) - kit.names_of(registry))
+    if unknown:
+        raise Fault(2, f"--only {unknown[0]}: there is no such scenario or check (--list has their names)")
+    if not command and not options.list:
+        raise Fault(2, "write the command that is tested behind --")
+    if command:
+        program_of(command)
+
+
+def listed(registry):
+    for scenario in registry:
+        for check in scenario.checks:
+            print(f"{scenario.name:<28}{check.name:<22}{check.expected}\n{'':<50}{check.page}")
+    return 0
+
+
+def ended_by_signal(number, _frame):
+    raise SystemExit(128 + number)
+
+
+def play(name, registry, options, command, rehearse, title, stage=Stage):
+    """Runs the chosen scenarios: the exit status. `rehearse` takes the tools, says whether the first scenario can pass,
+    without which none can, and raises a Fault if the command is none that can be tested."""
+    patient()
+    for number in (signal.SIGTERM, signal.SIGINT, signal.SIGHUP):
+        signal.signal(number, ended_by_signal)
+    CLOCK.start()
+    processes = Processes()
+    try:
+        tools = Tools(command, options.program, processes, options)
+        report, begun = Report(name, options), time.monotonic()
+        report.write(title)
+        scenarios, only = kit.chosen(registry, options.only), options.only
+        if not rehearse(tools):
+            report.write("it does not come so far that the other checks can judge it:")
+            scenarios, only = registry[:1], []
+
+        def open_stage(scenario, jury):
+            return stage(tools, scenario, jury, **scenario.settings)
+        for verdicts in kit.run_all(scenarios, open_stage, at_once()):
+            for verdict in verdicts:
+                if not only or verdict.scenario in only or verdict.check.name in only:
+                    report.add(verdict)
+        return report.finish(time.monotonic() - begun)
+    except Fault as fault:
+        raise Fault(2, str(fault)) from None
+    except SystemExit as end:  # by a signal: nothing is left running, and no scenario is waited for
+        processes.close()
+        GUARD.end()
+        sys.stdout.flush()
+        os._exit(end.code)
+    finally:
+        processes.close()
+
+
+def at_once():
+    """How many scenarios run beside one another: most of them wait most of the time."""
+    return max(4, 3 * (os.cpu_count() or 1))
+

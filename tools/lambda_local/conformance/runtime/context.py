@@ -1,0 +1,47 @@
+"""What the handler may know of its invocation."""
+from .. import pages
+from ..kit import scenarios_of
+from ..stage import shown
+
+SCENARIOS = []
+scenario = scenarios_of(SCENARIOS)
+
+TIMEOUT = 20  # seconds
+SLEEP = 60  # milliseconds between the two looks at the remaining time
+TRACES = ("Root=1-5759e988-bd862e3fe1be46a994272793;Parent=53995c3f42cd8ad8;Sampled=1",
+          "Root=1-5759e989-0123456789abcdef01234567;Parent=0123456789abcdef;Sampled=0")
+
+
+@scenario(
+    ("request_id", pages.NEXT, "the handler sees the request identifier of each invocation, as Lambda-Runtime-Aws-Request-Id has it"),
+    ("function_arn", pages.NEXT, "the handler sees the ARN that was invoked, as Lambda-Runtime-Invoked-Function-Arn has it"),
+    ("deadline", pages.NEXT, "the remaining time is what is left until Lambda-Runtime-Deadline-Ms, in Unix milliseconds"),
+    ("remaining_time", pages.PROCESSING_TASKS, "the remaining time gets less while the handler works"),
+    ("trace_id", pages.PROCESSING_TASKS, "_X_AMZN_TRACE_ID has the value of Lambda-Runtime-Trace-Id while the handler works"),
+    ("trace_renewed", pages.PROCESSING_TASKS, "_X_AMZN_TRACE_ID is renewed for each invocation"), timeout=TIMEOUT)
+def context(stage):
+    for place, trace in enumerate(TRACES):
+        event, qualified = {"do": "context", "value": SLEEP}, place == 0
+        answer = stage.invoke(event, qualified=qualified, trace=trace)
+        seen = answer.value if isinstance(answer.value, dict) else {}
+        request = answer.headers.get("x-amzn-requestid")
+        stage.check("request_id", seen.get("requestId") == request, f"{shown(seen.get('requestId'))} in place of {request}")
+        arn = stage.arn + (":$LATEST" if qualified else "")
+        stage.check("function_arn", seen.get("functionArn") == arn, f"{shown(seen.get('functionArn'))} in place of {arn}")
+        judge_time(stage, seen.get("remaining"))
+        judge_trace(stage, place, seen.get("traceId"))
+
+
+def judge_time(stage, remaining):
+    """Two looks at the remaining time, in milliseconds."""
+    numbers = isinstance(remaining, list) and len(remaining) == 2 and all(isinstance(each, (int, float)) for each in remaining)
+    came = f"remaining milliseconds before and after {SLEEP} ms: {shown(remaining)}, of {stage.timeout * 1000}"
+    # (from 0 at the worst, on a machine that is busy with other things, to the whole timeout)
+    stage.check("deadline", numbers and 0 < remaining[0] <= stage.timeout * 1000 + 1, came)
+    stage.check("remaining_time", numbers and remaining[0] - remaining[1] >= SLEEP - 5, came)
+
+
+def judge_trace(stage, place, seen):
+    if place == 0:
+        return stage.check("trace_id", seen == TRACES[0], f"{shown(seen)} in place of {TRACES[0]}")
+    return stage.check("trace_renewed", seen != TRACES[0], f"in the second invocation still {shown(seen)}")

@@ -1,0 +1,99 @@
+"""The life of a runtime's process: its Init, its end, and its beginning anew."""
+import signal
+
+from .. import pages
+from ..clock import CLOCK
+from ..kit import Missing, scenarios_of
+from ..proxy import Rule
+from ..stage import shown
+
+SCENARIOS = []
+scenario = scenarios_of(SCENARIOS)
+
+SHUTDOWN_SECONDS = 2  # that Lambda's Shutdown phase has
+SPARE = 0.5  # seconds for a machine that is busy with other things
+ENDS = 3  # seconds in which a process that has to end promptly has ended
+CONTAINER_ERROR = b'{"errorMessage":"Environment is shutting down","errorType":"ContainerError"}'
+
+
+@scenario(
+    ("init_in_time", pages.INIT_PHASE, "the first Next comes within the Init phase's limit (--init-seconds, 10 by default)"))
+def first_next(stage):
+    environment, limit = stage.environment, stage.tools.options.init_seconds
+    seconds = environment.proxy.of("next")[0].since - environment.process.begun
+    stage.check("init_in_time", seconds <= limit, f"after {seconds:.2f} s, of {limit:g}", f"after {seconds:.2f} s")
+
+
+def ends(stage, name, since, seconds=ENDS):
+    """Judges whether its process ends within so many seconds."""
+    process = stage.environment.process
+    seen = len(stage.environment.proxy.exchanges)
+    ended = process.wait(seconds)
+    more = len(stage.environment.proxy.exchanges) - seen
+    stage.check(name, ended, f"{seconds:g} s after {since} {process.how_it_ended()}" + (f", and made {more} more requests" if more else ""))
+
+
+@scenario(
+    ("ends_at_500", pages.NEXT, "after 500 at Next, which is not recoverable, the process exits promptly"))
+def container_error_at_next(stage):
+    stage.spin_down()
+    proxy = stage.environment.proxy
+    if not proxy.wait(lambda: any(one.kind == "next" and one.status == 500 for one in proxy.exchanges), 5):
+        raise Missing("its Next was not answered with 500")
+    ends(stage, "ends_at_500", "500")
+
+
+@scenario(
+    ("ends_at_500_response", pages.RESPONSE, "after 500 at its response, which is not recoverable, the process exits promptly"), timeout=3)
+def container_error_at_response(stage):
+    stage.environment.proxy.rule = Rule("response", reply=(500, CONTAINER_ERROR))
+    stage.later(stage.invoke, {"do": "echo", "value": 1})
+    if stage.environment.saw("response", stage.patience) is None:
+        raise Missing("it sent no response")
+    ends(stage, "ends_at_500_response", "500")
+
+
+@scenario(
+    ("ends_at_sigterm", pages.SHUTDOWN_PHASE, f"after SIGTERM the process ends within {SHUTDOWN_SECONDS} s, before Lambda sends SIGKILL"))
+def terminated(stage):
+    stage.output({"do": "echo", "value": 1})
+    stage.idle()
+    stage.environment.process.signal(signal.SIGTERM)
+    ends(stage, "ends_at_sigterm", "SIGTERM", SHUTDOWN_SECONDS + SPARE)
+
+
+@scenario(
+    ("cold_start", pages.INVOKE_FAILURES, "after a timeout, at which the process is killed, a new one serves the next invocation"),
+    timeout=3, lasts=4)
+def killed_at_a_timeout(stage):
+    environment = stage.environment
+    stage.idle()
+    answer = stage.invoke({"do": "hang"})
+    if not answer.failed:
+        raise Missing(f"a handler that hangs was answered: {shown(answer.body)}")
+    environment.kill()
+    asked = len(environment.proxy.of("next"))
+    environment.start()
+    if not environment.asked(asked + 1):
+        raise Missing(f"the new process did not ask for an invocation: {stage.said()}")
+    output = stage.output({"do": "echo", "value": "anew"})
+    stage.check("cold_start", output == "anew", f"the new process gave {shown(output)}")
+
+
+@scenario(
+    ("handler_exits", pages.INVOKE_FAILURES, "if the handler ends its process, the runtime ends too or reports an error: no invocation is "
+                                             "lost"),
+    timeout=4)
+def handler_ends_the_process(stage):
+    stage.idle()
+    environment, begun = stage.environment, CLOCK.now()
+    answer = stage.later(stage.invoke, {"do": "exit", "value": 3})
+    while not environment.process.ended and not answer.done() and CLOCK.now() - begun < ENDS:
+        environment.process.wait(0.02)
+    if environment.process.ended:
+        sent = len(environment.proxy.of("response"))
+        return stage.check("handler_exits", sent == 0, environment.process.how_it_ended() + (", and sent a response" if sent else ""))
+    if answer.done():
+        received = answer.result()
+        return stage.check("handler_exits", received.failed, f"the caller received {shown(received.body)}")
+    return stage.check("handler_exits", False, f"{ENDS} s later neither had the process ended nor the caller an answer")

@@ -1,0 +1,135 @@
+"""Payloads: what the handler receives, and what its caller receives."""
+import json
+
+from .. import pages
+from ..kit import Missing, scenarios_of
+from ..stage import compact, shown
+
+SCENARIOS = []
+scenario = scenarios_of(SCENARIOS)
+
+LIMIT = 6_291_456  # bytes of a synchronous payload, in each direction
+TEXT = "Grüße, 世界, \u0627\u0644\u0639\u0627\u0644\u0645, 🚀, e\u0301"
+ESCAPES = r'"\"\\\/\b\f\n\r\t\u0000\u00e9\u4e16\ud83d\ude80\u2028"'
+NUMBERS = ["0", "-1", "1.50", "1e3", "0.1", "9007199254740993", "12345678901234567890", "-1.7976931348623157e308", "5e-324"]
+DEPTH = 100
+
+
+def received(stage, name, event, expected):
+    """Judges a check by whether the caller receives the JSON value that is expected."""
+    answer = stage.invoke(event)
+    stage.check(name, not answer.failed and is_json(answer.body, expected), f"the caller received {shown(answer.body)}")
+
+
+def is_json(body, expected):
+    """Whether these bytes are this value as JSON. (In Python alone 1 equals True.)"""
+    try:
+        return json.dumps(json.loads(body.decode()), sort_keys=True) == json.dumps(expected, sort_keys=True)
+    except (ValueError, RecursionError):
+        return False
+
+
+@scenario(
+    ("payload_empty", pages.NEXT, "a handler that returns its event gives {} for the event {}, which an empty payload is"),
+    ("payload_null", pages.NEXT, "a handler that returns its event gives null for the event null"),
+    ("payload_scalars", pages.NEXT, "a handler that returns its event gives a text, a number, true, false and a list as they are"))
+def small_payloads(stage):
+    received(stage, "payload_empty", b"", {})
+    received(stage, "payload_null", b"null", None)
+    for event in (b'""', b'"text"', b"0", b"17", b"true", b"false", b"[]", b'[1,null,{"a":[]}]'):
+        received(stage, "payload_scalars", event, json.loads(event))
+
+
+@scenario(
+    ("utf8", pages.JSON_TEXTS, "text beyond ASCII reaches the handler, and its caller, as the UTF-8 that was sent"))
+def text(stage):
+    received(stage, "utf8", {"do": "echo", "value": TEXT}, TEXT)
+    received(stage, "utf8", {"do": "bytes", "value": TEXT}, list(TEXT.encode()))
+
+
+@scenario(
+    ("escapes", pages.JSON_STRINGS, "each escape of a JSON text stands for the same character in the output"))
+def escaped(stage):
+    received(stage, "escapes", b'{"do":"echo","value":' + ESCAPES.encode() + b"}", json.loads(ESCAPES))
+
+
+@scenario(
+    ("nesting", pages.JSON_NESTING, f"an event of {DEPTH} lists and objects inside one another is returned as it is"))
+def nested(stage):
+    value = 1
+    for level in range(DEPTH):
+        value = [value] if level % 2 else {"in": value}
+    received(stage, "nesting", {"do": "echo", "value": value}, value)
+
+
+@scenario(
+    ("numbers", pages.JSON_NUMBERS, "numbers are returned as they were written, or at least with the same value as binary64 (a NOTE)"))
+def numbers(stage):
+    sent = "[" + ",".join(NUMBERS) + "]"
+    body = stage.invoke(b'{"do":"echo","value":' + sent.encode() + b"}").body.decode(errors="replace")
+    if "".join(body.split()) == sent:
+        return stage.check("numbers", True, "as they were written")
+    try:
+        came = json.loads(body, parse_int=str, parse_float=str)
+        pairs = list(zip(NUMBERS, as_many(came)))
+    except (ValueError, TypeError):
+        return stage.check("numbers", False, f"the caller received {shown(body)}")
+    changed = [f"{before} came as {after}" for before, after in pairs if before != after]
+    if all(float(before) == float(after) for before, after in pairs):
+        return stage.note("numbers", "the same as binary64, written otherwise: " + ", ".join(changed))
+    return stage.check("numbers", False, ", ".join(changed))
+
+
+def as_many(came):
+    """The numbers that came, if they are as many as were sent."""
+    if not isinstance(came, list) or len(came) != len(NUMBERS) or not all(isinstance(word, str) for word in came):
+        raise ValueError
+    return came
+
+
+@scenario(
+    ("payload_limit", pages.QUOTAS, f"an event of {LIMIT:,} bytes reaches the handler whole, and its output the caller"),
+    ("output_limit", pages.QUOTAS, f"an output of {LIMIT:,} bytes reaches the caller"), lasts=3)
+def large_payloads(stage):
+    value = "x" * (LIMIT - len(compact({"do": "echo", "value": ""})))
+    answer = stage.invoke({"do": "echo", "value": value})
+    stage.check("payload_limit", is_json(answer.body, value), f"the caller received {len(answer.body):,} bytes: {shown(answer.body)}")
+    answer = stage.invoke({"do": "large", "value": LIMIT - 2})
+    stage.check("output_limit", answer.body == b'"' + b"x" * (LIMIT - 2) + b'"',
+                f"the caller received {len(answer.body):,} bytes: {shown(answer.body)}")
+
+
+@scenario(
+    ("stdout", pages.RESPONSE, "what a handler writes to standard output is no part of its response"))
+def printed(stage):
+    answer = stage.invoke({"do": "print", "value": "this is no output"})
+    stage.check("stdout", answer.body.strip() == b"null", f"the caller received {shown(answer.body)}")
+
+
+@scenario(
+    ("events_apart", pages.REUSE, "an invocation sees nothing of the events before it"))
+def events_one_after_the_other(stage):
+    stage.output({"do": "echo", "value": "the first, which is longer than those behind it"})
+    received(stage, "events_apart", {"do": "echo", "value": 2}, 2)
+    received(stage, "events_apart", {"do": "echo"}, None)
+    received(stage, "events_apart", {"a": 1}, {"a": 1})
+
+
+@scenario(
+    ("stream", pages.STREAMING, "a streamed response has Lambda-Runtime-Function-Response-Mode: streaming and is sent in chunks; "
+                                "a runtime that streams nothing sends the texts as one (a NOTE)"))
+def streamed(stage):
+    texts = ["first ", "second ", "third"]
+    answer = stage.invoke({"do": "stream", "value": texts})
+    exchange = stage.environment.saw("response", 5)
+    if exchange is None:
+        raise Missing("it sent no response")
+    mode = exchange.request.headers.get("lambda-runtime-function-response-mode")
+    whole = "".join(texts)
+    if mode is None:
+        if is_json(answer.body, whole):
+            return stage.note("stream", "it does not stream: the response came whole")
+        return stage.check("stream", False, f"the caller received {shown(answer.body)}")
+    right = mode.lower() == "streaming" and exchange.request.chunked and answer.body in (whole.encode(), compact(whole))
+    return stage.check("stream", right, f"mode {shown(mode)}, {'in chunks' if exchange.request.chunked else 'not in chunks'}, "
+                                        f"and the caller received {shown(answer.body)}")

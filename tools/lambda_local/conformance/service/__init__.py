@@ -1,0 +1,180 @@
+"""Compares another local Lambda, with one environment, with the definitions.
+
+  tools/conformance service --invoke http://127.0.0.1:8080 --runtime 127.0.0.1:9001
+  tools/conformance service --invoke URL --runtime HOST:PORT --seconds 60 --seed 7 --known accepted.txt --junit report.xml
+
+The tool plays a caller, a runtime and extensions, in worked and in random sequences of calls, one call after the other; no
+runtime of the service's own may be connected. The same calls are replayed by `lambda_local replay`, and each answer is
+compared, up to identifiers, times, and the texts that are a service's own. What differs is reported with as few calls as
+show it. docs/conformance.md says more.
+
+Exit statuses: 0; 1 if an answer differs; 2 for wrong usage, or a service that does not answer."""
+import argparse
+import random
+import signal
+import socket
+import time
+
+from ...service import Fault, program_path
+from ..run import Parser, ended_by_signal, seconds
+from .calls import Call
+from .course import ANSWER_SECONDS, Course, Unrecoverable
+from .known import KnownDifferences
+from .minimise import Undecided, confirmed, minimised
+from .oracle import FRESH, WARM, Oracle
+from .random_sequences import Generator
+from .report import Report
+from .sequences import plans_of, timed, worked
+from .tested import tested_by
+
+USUAL_TIMEOUT = 3  # seconds, as a function has it by default
+MOST_TIMEOUT = 10  # seconds: with a longer one, the sequences with a timeout are left out
+FRESH_SHARE = 0.75  # of the random sequences begin with a fresh environment
+BATCH = 20  # random sequences that are made at once
+
+
+class Run:
+    """One run: what it plays, what it has reported."""
+
+    def __init__(self, options, report):
+        self.options, self.report = options, report
+        self.tested = tested_by(options.invoke, options.runtime, options.function)
+        self.course = Course(self.tested, KnownDifferences(options.known), USUAL_TIMEOUT)
+        self.oracle = Oracle(program_path(options.program), USUAL_TIMEOUT)
+        self.generator, self.reported, self.begun = Generator(random.Random(options.seed)), set(), time.monotonic()
+
+    def prepare(self):
+        """Finds out whether a Runtime API answers, and the function's timeout."""
+        look_for(self.tested.invoke)
+        status = self.course.ask(Call("init-failure", "", ("={}",)), {}, ANSWER_SECONDS)
+        place = ":".join(map(str, self.tested.runtime))
+        if not status:
+            raise Fault(2, f"{place}: POST /2018-06-01/runtime/init/error is not answered within {ANSWER_SECONDS:.0f} s")
+        if status not in (202, 403):
+            raise Fault(2, f"{place}: POST /2018-06-01/runtime/init/error is answered {status}: no Runtime API listens there")
+        self.course.restore()
+        found = self.course.learn_timeout()
+        if found:
+            self.course.timeout = self.oracle.timeout = found
+        self.report.write(f"conformance service {self.options.invoke}: seed {self.options.seed}, "
+                          f"the function's timeout is {self.oracle.timeout} s")
+
+    def everything(self):
+        with_timeouts = self.oracle.timeout <= MOST_TIMEOUT
+        share = 0.0
+        for start, until in ((FRESH, FRESH_SHARE), (WARM, 1.0)):
+            self.play(plans_of(worked(start), self.oracle), False)
+            if with_timeouts:
+                self.play(plans_of(timed(start), self.oracle), False)
+            self._random(start, share, until)
+            share = until
+        if not with_timeouts:
+            self.report.write(f"left out: sequences with a timeout, since it is {self.oracle.timeout} s")
+
+    def _random(self, start, share, until):
+        """Random sequences until their share of the number or of the time is used up."""
+        wanted = self.options.sequences
+        made, count = 0, round(wanted * until) - round(wanted * share) if wanted else None
+        while not self.over() and (made < count if wanted else time.monotonic() - self.begun < self.options.seconds * until):
+            plans = plans_of(self.generator.sequences(start, BATCH), self.oracle)
+            made += self.play(plans[:count - made] if wanted else plans, True)
+
+    def over(self):
+        return self.report.differences >= self.options.most
+
+    def play(self, plans, is_random):
+        """Plays these, and reports what differs: how many were played."""
+        for plan in plans:
+            if self.over():
+                break
+            played = self.course.play(plan)
+            if played.difference and played.difference.words not in self.reported:
+                self._look_into(plan, played)
+            self.report.passed(plan.sequence, played.seconds, is_random)
+        return len(plans)
+
+    def _look_into(self, plan, played):
+        """Reports a difference with as few calls as show it. One that does not show again with more time between the calls
+        was a matter of their order, and is none."""
+        difference = played.difference
+        try:
+            difference = confirmed(self.course, self.oracle, plan)
+            if not difference or difference.words in self.reported:
+                return
+            difference = minimised(self.course, self.oracle, difference)
+        except Undecided:
+            self.report.undecided += 1
+            return
+        except (OSError, Unrecoverable):  # (what the service does not survive is reported as it was seen)
+            self._tell(difference or played.difference, plan, played)
+            raise
+        self._tell(difference, plan, played)
+
+    def _tell(self, difference, plan, played):
+        self.reported |= {played.difference.words, difference.words}
+        self.report.differs(difference, plan.sequence.name, played.seconds, self._script(difference))
+
+    def _script(self, difference):
+        """The calls as a script, as far as they were made."""
+        plan = difference.plan
+        lines = self.oracle.opening(1)
+        for call, moment in zip(plan.sequence.calls, difference.moments):
+            lines.append(f"{moment} {call.script(1, 'f1', plan.counts)}")
+        return lines
+
+
+def look_for(address):
+    try:
+        socket.create_connection(address, timeout=5).close()
+    except OSError as fault:
+        raise Fault(2, f"{address[0]}:{address[1]}: no service answers there ({fault.strerror or fault}): start it first") from None
+
+
+def count(text):
+    value = int(text)
+    if not 1 <= value <= 1_000_000:
+        raise argparse.ArgumentTypeError(f"{text} is not a number from 1 to 1,000,000")
+    return value
+
+
+def main(words):
+    parser = Parser(prog="tools/conformance service", description=__doc__, formatter_class=argparse.RawDescriptionHelpFormatter)
+    parser.add_argument("--invoke", metavar="URL", help="the port for callers, for example http://127.0.0.1:8080")
+    parser.add_argument("--runtime", metavar="HOST:PORT", help="the Runtime API, for example 127.0.0.1:9001")
+    parser.add_argument("--function", metavar="NAME", default="function", help="the function's name (function)")
+    parser.add_argument("--seconds", metavar="S", type=seconds, default=20, help="how long random sequences are played (20)")
+    parser.add_argument("--sequences", metavar="N", type=count, help="how many random sequences are played, in place of --seconds")
+    parser.add_argument("--seed", metavar="N", type=int, default=random.SystemRandom().randrange(10 ** 6), help="of the random sequences")
+    parser.add_argument("--known", metavar="FILE", help="differences that are accepted, one a line, as a report names them")
+    parser.add_argument("--most", metavar="N", type=count, default=5, help="after how many differences the run ends (5)")
+    parser.add_argument("--junit", metavar="FILE", help="write the result there as JUnit XML")
+    parser.add_argument("--program", metavar="P", help="lambda_local (default: LAMBDA_LOCAL_PROGRAM, else the repository's ./lambda_local)")
+    options = parser.parse_args(words)
+    for name in ("invoke", "runtime"):
+        if not getattr(options, name):
+            raise Fault(2, f"write --{name} {'URL' if name == 'invoke' else 'HOST:PORT'}, where the tested service listens")
+    for number in (signal.SIGTERM, signal.SIGINT, signal.SIGHUP):
+        signal.signal(number, ended_by_signal)
+    try:
+        report = Report(options.junit)
+        whole = Run(options, report)
+    except Fault as fault:  # (a program that is not there is wrong usage here)
+        raise Fault(2, str(fault)) from None
+    return run(whole, report, options)
+
+
+def run(whole, report, options):
+    """The exit status. What the service does not survive ends the run, with what was found until then."""
+    try:
+        look_for(whole.tested.runtime)
+        whole.prepare()
+        whole.everything()
+    except (OSError, Unrecoverable) as fault:
+        why = f"does not answer any more: {fault.strerror or fault}" if isinstance(fault, OSError) else (
+            "comes to no fresh environment by a failed Init or a timeout: end what is connected to it, and have it serve one environment")
+        if not report.differences:
+            raise Fault(2, f"the service at {options.invoke}, {options.runtime} {why}") from None
+        report.write(f"the run ends: the service {why}")
+    finally:
+        whole.course.close()
+    return report.finish(whole.course, time.monotonic() - whole.begun)

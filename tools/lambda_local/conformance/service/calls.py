@@ -1,0 +1,69 @@
+"""The calls of a sequence, by labels in place of identifiers, as a line of text and as a line of a script.
+
+  next
+  invoke a ={"n":1}          a label for the invocation, and its payload; with a trace: `invoke a trace=TRACE =..`
+  response a ="done"         also `failure a =REPORT`, `response-too-large a`; the label ? is an identifier that was never given
+  init-failure =REPORT
+  register x =NAME is -      a label for the extension, its name, its events (i, s, is or -), `a` if it asks for the account
+  ext-next x                 also `ext-init-failure x =REPORT`, `ext-exit-failure x =REPORT`
+  wait                       until the function's timeout has passed
+
+Texts are percent-decoded, as in a script (docs/formats.md)."""
+from typing import NamedTuple, Tuple
+
+from ...history import decoded
+
+NEVER_GIVEN = "?"
+UNKNOWN_COUNT = 2 ** 48 - 1
+OF_INVOCATIONS = ("response", "failure", "response-too-large")
+OF_EXTENSIONS = ("ext-next", "ext-init-failure", "ext-exit-failure")
+LABELLED = ("invoke", "register", *OF_INVOCATIONS, *OF_EXTENSIONS)
+POLLS = ("next", "ext-next")
+
+
+class Call(NamedTuple):
+    kind: str  # the script's word, or `wait`
+    label: str = ""  # of the invocation or the extension that it is about
+    fields: Tuple[str, ...] = ()  # the other words
+
+    def __str__(self):
+        return " ".join(word for word in (self.kind, self.label, *self.fields) if word)
+
+    @property
+    def body(self):
+        """The payload, the output or the report; of a registration the name."""
+        text = next((field for field in self.fields if field.startswith("=")), "=")
+        return decoded(text)
+
+    @property
+    def trace(self):
+        word = next((field for field in self.fields if field.startswith("trace=")), "")
+        return decoded(word[len("trace"):]).decode() if word else None
+
+    def script(self, environment, function, counts):
+        """Its line in a script behind the moment. `counts` has the count of each label."""
+        texts = " ".join(field for field in self.fields if not field.startswith("trace="))
+        if self.kind == "register" and len(self.fields) == 2:
+            texts += " -"
+        if self.kind == "invoke":
+            trace = next((field[len("trace"):] for field in self.fields if field.startswith("trace=")), "-")
+            return f"invoke {function} - {trace} {texts}"
+        if self.kind == "wait":
+            return "tick"
+        count = counts.get((self.kind in OF_EXTENSIONS, self.label), UNKNOWN_COUNT)
+        named = [str(count)] if self.kind in OF_INVOCATIONS + OF_EXTENSIONS else []
+        return " ".join([self.kind, str(environment), *named, *([texts] if texts else [])])
+
+
+def calls_of(text):
+    """The calls of a text, one a line."""
+    calls = []
+    for line in filter(None, map(str.strip, text.splitlines())):
+        kind, *words = line.split(" ")
+        label = words.pop(0) if kind in LABELLED else ""
+        calls.append(Call(kind, label, tuple(words)))
+    return tuple(calls)
+
+
+def about_extension(call):
+    return call.kind == "register" or call.kind in OF_EXTENSIONS

@@ -1,0 +1,229 @@
+"""Plays sequences on the tested service, one call after the other, and compares each answer in the step it belongs to."""
+import contextlib
+import time
+from typing import NamedTuple, Optional, Tuple
+
+from .calls import Call
+from .judge import Aspect, Judge, label_of, shown
+from .known import WAITS
+from .oracle import FRESH, WARM, Plan
+from .wire import Wire
+
+ANSWER_SECONDS = 2.0  # how long an answer may take that the definitions give at once
+BEYOND_SECONDS = 5.0  # and how long more one that a timeout gives
+SILENCE_SECONDS = 0.5  # how long one that is accepted to be missing is waited for
+CLOSING_SECONDS = 2.1  # how long an environment may wait for extensions that end
+SURELY = 0.05  # how long a call waits that is to be taken before the next one
+RESTORE_SECONDS = 30  # and a timeout: how long a service is brought to a fresh environment
+PROBE = Call("invoke", "probe", ("={}",))
+
+
+class Difference(NamedTuple):
+    plan: Plan
+    step: int
+    place: int  # of the call whose answer differs
+    label: str  # the definitions' answer
+    aspect: Aspect
+    moments: Tuple[int, ...]  # at which the calls were made, in milliseconds
+    ended: Optional[int]  # when the answer came that differs; none if it is missing
+
+    @property
+    def words(self):
+        return self.plan.sequence.calls[self.place].kind, self.label, self.aspect.name
+
+
+class Played(NamedTuple):
+    difference: Optional[Difference]
+    whole: bool  # whether all calls were made: the state at the end is known
+    seconds: float
+
+
+class Unrecoverable(Exception):
+    """The service cannot be brought to an environment of which nothing has been heard."""
+
+
+class Course:
+    def __init__(self, tested, known, timeout):
+        self.tested, self.known, self.timeout, self.wire = tested, known, timeout, Wire()
+        self.state, self.poll = None, None  # fresh, warm or not known; the Next that waits in warm
+        self.ids = {}  # that the last sequence learned
+        self.calls = 0
+
+    # ---- one sequence ----
+
+    def play(self, plan, settle=None, patience=ANSWER_SECONDS):
+        """Plays it from the state in which it begins: the first difference that is not accepted, if there is one. `settle`
+        is how long a call that is not answered has to wait, `patience` how long an answer may take that is given at once."""
+        self.bring(plan.sequence.start)
+        begun, judge, exchanges, moments = time.monotonic(), Judge(plan), {}, []
+        self.ids, self.state = judge.ids, None
+        difference, whole = None, True
+        for step, call in enumerate(plan.sequence.calls):
+            if step == 0 and plan.sequence.start == WARM:
+                exchanges[0] = self.poll
+            elif call.kind != "wait":
+                exchanges[step] = self.send(call, judge.ids)
+            moments.append(since(begun))
+            self._await(plan, step, exchanges, self.wire.settle if settle is None else settle, patience)
+            if call.kind == "wait":
+                moments[-1] = since(begun)
+            found, parted = self._compare(plan, step, exchanges, judge)
+            if found:
+                exchange = exchanges[found[0]]
+                difference = Difference(plan, step, *found, tuple(moments), exchange.answered and since(begun, exchange.answered))
+            if found or parted:
+                whole = False
+                break
+        if whole:
+            self._ended(plan, exchanges)
+        return Played(difference, whole, time.monotonic() - begun)
+
+    def send(self, call, ids):
+        self.calls += 1
+        return self.wire.send(*self.tested.request(call, ids))
+
+    def _await(self, plan, step, exchanges, settle, patience):
+        """Waits for the answers that belong to the step; if its own call gets none, until it surely waits."""
+        call, given = plan.sequence.calls[step], plan.steps[step]
+        answered = [one for one in given if not self.known.accepts_silence((plan.sequence.calls[one.call].kind, label_of(one, False)))]
+        if answered:
+            limit = self.timeout + BEYOND_SECONDS if call.kind == "wait" else patience
+            self.wire.collect([exchanges[one.call] for one in answered], limit)
+        elif call.kind == "wait":
+            self.wire.collect(seconds=self.timeout + 0.5)
+        if len(answered) < len(given):
+            self.wire.collect([exchanges[one.call] for one in given], SILENCE_SECONDS)
+        if call.kind != "wait" and not any(one.call == step for one in given):
+            self.wire.collect(seconds=settle)
+        elif call.kind != "wait" and exchanges[step].answered:
+            self.wire.note_trip(exchanges[step])
+        self.wire.collect()
+
+    def _compare(self, plan, step, exchanges, judge):
+        """The first difference of a step that is not accepted (a call's place, its label, the aspect), and whether the two
+        have parted with one that is."""
+        here = {given.call: given for given in plan.steps[step]}
+        before = [given for earlier in plan.steps[:step] for given in earlier]
+        answered_before = open_invocation(plan, step) is None and any(given.answer.kind == "deliver" for given in before)
+        over = {given.call for given in before}
+        parted = False
+        # (a delivery first, which makes an identifier known, and then the call itself)
+        def order(place):
+            return place not in here or here[place].answer.kind != "deliver", place != step, place
+        for place in sorted(exchanges, key=order):
+            exchange = exchanges[place]
+            if place in here:
+                label = label_of(here[place], answered_before)
+                aspects = judge.aspects(here[place], label, exchange)
+            elif place not in over and exchange.over:
+                label, aspects = WAITS, [Aspect("answered", shown(exchange), "no answer: it waits", True)]
+            else:
+                continue
+            for aspect in aspects:
+                if not self.known.accepts((plan.sequence.calls[place].kind, label, aspect.name)):
+                    return (place, label, aspect), True
+                parted = parted or (aspect.parts and label != "Container")
+        return None, parted
+
+    def _ended(self, plan, exchanges):
+        waiting = plan.waiting()
+        self.state = WARM if waiting else FRESH
+        self.poll = exchanges[waiting[0]] if waiting else None
+        self.wire.leave([exchange for exchange in exchanges.values() if not exchange.over and exchange is not self.poll])
+
+    # ---- the state in which a sequence begins ----
+
+    def bring(self, start):
+        if self.state is None:
+            self.restore()
+        if self.state == WARM and start == FRESH:
+            self._let_time_out()
+        if self.state == FRESH and start == WARM:
+            self.poll = self.send(Call("next"), {})
+            self.wire.collect(seconds=SURELY)
+            self.state = WARM
+
+    def _let_time_out(self):
+        """An invocation that the runtime does not answer ends the environment."""
+        invoke = self.send(PROBE, {})
+        self.wire.collect([invoke], self.timeout + BEYOND_SECONDS)
+        self.state = FRESH if invoke.over else None
+        if self.state is None:
+            self.restore()
+
+    def restore(self):
+        """Brings a service of which nothing is known to a fresh environment, by what any Lambda has: an extension that
+        fails, a failed Init, or a timeout."""
+        self.wire.drop()
+        extensions = [label for of_extension, label in self.ids if of_extension]
+        for kind in ("ext-exit-failure", "ext-next"):
+            for label in extensions:
+                self.ask(Call(kind, label, ("={}",) if kind == "ext-exit-failure" else ()), self.ids)
+        end = time.monotonic() + self.timeout + RESTORE_SECONDS
+        while not self._is_fresh():
+            if time.monotonic() > end:
+                raise Unrecoverable
+            self.wire.drop()
+            # An open invocation times out; so does one that is given to the runtime now.
+            self.send(Call("next"), {})
+            invoke = self.send(PROBE, {})
+            self.wire.collect([invoke], min(1.0, self.timeout))
+            if invoke.over:
+                time.sleep(0.1)
+        self.ids, self.state, self.poll = {}, FRESH, None
+
+    def learn_timeout(self):
+        """The function's timeout in seconds, by the deadline of an invocation in a fresh environment; none if it has none.
+        With an extension, whose failure ends the environment at once."""
+        register = self.send(Call("register", "probe", ("=probe", "-")), {})
+        self.wire.collect([register], ANSWER_SECONDS)
+        if identifier := register.headers.get("lambda-extension-identifier"):
+            self.ids = {(True, "probe"): identifier}
+            self.send(Call("ext-next", "probe"), self.ids)
+        poll = self.send(Call("next"), {})
+        self.wire.collect(seconds=SURELY)
+        self.send(PROBE, {})
+        self.wire.collect([poll], ANSWER_SECONDS)
+        deadline = poll.headers.get("lambda-runtime-deadline-ms", "")
+        self.state = None
+        return min(900, max(1, round((int(deadline) - poll.wall) / 1000))) if deadline.isdigit() else None
+
+    def ask(self, call, ids, seconds=0.1):
+        """The status of a call's answer; 0 if none comes."""
+        exchange = self.send(call, ids)
+        self.wire.collect([exchange], seconds)
+        return exchange.status
+
+    def _is_fresh(self):
+        """Whether an Init can fail now; then the environment begins anew, unless extensions have to end first."""
+        if self.ask(Call("init-failure", "", ("={}",)), {}, ANSWER_SECONDS) != 202:
+            return False
+        self.wire.drop()
+        end = time.monotonic() + CLOSING_SECONDS
+        while True:  # (an invocation that waited for the Closing fails with the next Init)
+            if self.ask(Call("init-failure", "", ("={}",)), {}, ANSWER_SECONDS) == 202:
+                return True
+            if time.monotonic() > end:
+                return False
+            time.sleep(0.05)
+
+    def close(self):
+        with contextlib.suppress(OSError):
+            self.wire.drop()
+
+
+def since(begun, moment=None):
+    """Milliseconds from one moment to another, or to now."""
+    return int(((time.monotonic() if moment is None else moment) - begun) * 1000)
+
+
+def open_invocation(plan, step):
+    """The place of the invocation that is delivered and not answered before a step."""
+    delivered = None
+    for earlier in plan.steps[:step]:
+        for given in earlier:
+            if given.answer.kind == "deliver":
+                delivered = int(given.answer.fields[0][-12:], 16)
+            elif given.answer.kind in ("output", "error", "timeout", "too-large-output"):
+                delivered = None
+    return delivered

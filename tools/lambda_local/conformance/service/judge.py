@@ -1,0 +1,192 @@
+"""Compares a reply with the definitions' answer, up to identifiers, times and texts that are a service's own."""
+import json
+from typing import NamedTuple
+
+from ..pages import (EXTENSION_EXIT_ERROR, EXTENSION_INIT_ERROR, EXTENSION_NEXT, INIT_ERROR, INIT_PHASE, INVOKE_ERROR, NEXT, REGISTER,
+                     RESPONSE, Page)
+
+INVOKE = Page("AWS Lambda API Reference, Invoke", "Response Elements", "https://docs.aws.amazon.com/lambda/latest/api/API_Invoke.html")
+PAGES = {"invoke": INVOKE, "next": NEXT, "response": RESPONSE, "response-too-large": RESPONSE, "failure": INVOKE_ERROR,
+         "init-failure": INIT_ERROR, "register": REGISTER, "ext-next": EXTENSION_NEXT, "ext-init-failure": EXTENSION_INIT_ERROR,
+         "ext-exit-failure": EXTENSION_EXIT_ERROR}
+TOLERANCE = 1500  # milliseconds that a deadline may differ by
+STATUSES = {"deliver": 200, "tell": 200, "shutdown": 200, "registered": 200, "accepted": 202, "output": 200, "error": 200,
+            "timeout": 200, "init-timeout": 200, "too-large-output": 200, "throttled": 429, "State": 403, "Replaced": 403,
+            "BadId": 400, "Unknown": 403, "TooLarge": 413, "Container": 500, "NameInUse": 403, "TooMany": 403}
+FUNCTION_ERRORS = ("error", "timeout", "init-timeout", "too-large-output")
+TEXT = "a text of the service's own"
+
+
+class Aspect(NamedTuple):
+    """One respect in which a reply is not what the definitions say."""
+    name: str
+    theirs: str
+    ours: str
+    parts: bool = False  # whether the two are apart from here on, so that nothing later can be compared
+
+
+class Missing(str):
+    """What a reply does not have."""
+
+
+def label_of(given, answered_before):
+    """The word for an answer: its kind, or why it is refused; told apart by what `docs/differences.md` tells apart."""
+    answer = given.answer
+    if answer.kind == "refused":
+        return answer.fields[0]
+    if answer.kind == "error" and given.cause.startswith("ext-"):
+        return "error-of-extension"
+    if answer.kind == "error" and given.cause == "init-failure":
+        return "error-of-init"
+    if answer.kind == "throttled" and answered_before:
+        return "throttled-after-answer"
+    return answer.kind
+
+
+def status_of(label):
+    return STATUSES[label] if label in STATUSES else STATUSES[label.split("-")[0]]
+
+
+class Judge:
+    """Knows the identifiers that the service gave in a sequence."""
+
+    def __init__(self, plan):
+        self.plan, self.ids = plan, {}
+
+    def aspects(self, given, label, exchange):
+        """The respects in which a reply is another than the answer that is given."""
+        wanted = status_of(label)
+        if exchange.status != wanted:
+            both_refuse = 400 <= exchange.status < 500 and 400 <= wanted < 500
+            name = "refusal" if both_refuse else "status" if exchange.status else "connection"
+            return [Aspect(name, exchange.ended or shown(exchange), f"{wanted} {label}", not both_refuse)]
+        found = []
+        judged = getattr(self, "_" + given.answer.kind.replace("-", "_"), None)
+        for name, theirs, ours in judged(given, exchange) if judged else ():
+            if theirs != ours:
+                found.append(Aspect(name, theirs if isinstance(theirs, Missing) else repr(theirs), str(ours)))
+        return found
+
+    # ---- each gives what is compared: a name, what came, and what is expected; the same if all is well ----
+
+    def _deliver(self, given, exchange):
+        request, _, text = given.answer.fields
+        label = self.plan.label_of(int(request[-12:], 16))
+        invoke = next(call for call in self.plan.sequence.calls if (call.kind, call.label) == ("invoke", label))
+        identifier = header(exchange, "lambda-runtime-aws-request-id")
+        yield "request-id", identifier, a_text(identifier)
+        if not isinstance(identifier, Missing):
+            yield "request-id", identifier, "one of its own" if identifier in self.ids.values() else identifier
+            self.ids[False, label] = identifier
+        yield self._deadline(header(exchange, "lambda-runtime-deadline-ms"), given, exchange)
+        arn = header(exchange, "lambda-runtime-invoked-function-arn")
+        yield "function-arn", arn, a_text(arn)
+        trace = header(exchange, "lambda-runtime-trace-id")
+        yield "trace-id", trace, invoke.trace or trace
+        yield "payload", exchange.body, invoke.body or b"{}"
+
+    def _tell(self, given, exchange):
+        identifier = header(exchange, "lambda-extension-event-identifier")
+        yield "event-id", identifier, a_text(identifier)
+        event = members(exchange)
+        yield "event-type", event.get("eventType", Missing("no eventType")), "INVOKE"
+        known = self.ids.get((False, self.plan.label_of(int(given.answer.fields[1][-12:], 16))))
+        request = event.get("requestId", Missing("no requestId"))
+        yield "request-id", request, known or a_text(request)
+        yield self._deadline(event.get("deadlineMs", Missing("no deadlineMs")), given, exchange)
+        arn = event.get("invokedFunctionArn", Missing("no invokedFunctionArn"))
+        yield "function-arn", arn, a_text(arn)
+
+    def _shutdown(self, given, exchange):
+        event = members(exchange)
+        yield "event-type", event.get("eventType", Missing("no eventType")), "SHUTDOWN"
+        reason = event.get("shutdownReason", Missing("no shutdownReason"))
+        ours = given.answer.fields[1]
+        yield "reason", reason, reason if str(reason).upper() == ours else ours  # (its case: docs/differences.md)
+        deadline = event.get("deadlineMs", Missing("no deadlineMs"))
+        yield "deadline", deadline, deadline if isinstance(deadline, int) else "a time in Unix milliseconds"
+
+    def _registered(self, given, exchange):
+        identifier = header(exchange, "lambda-extension-identifier")
+        yield "extension-id", identifier, a_text(identifier)
+        if not isinstance(identifier, Missing):
+            yield "extension-id", identifier, "one of its own" if identifier in self.ids.values() else identifier
+            self.ids[True, self.plan.sequence.calls[given.call].label] = identifier
+        told = members(exchange)
+        asks = self.plan.sequence.calls[given.call].fields[-1] == "a"
+        for name in ("functionName", "functionVersion", "handler", *(["accountId"] if asks else [])):
+            value = told.get(name, Missing(f"no {name}"))
+            yield "member-" + name, value, a_text(value)
+
+    def _output(self, given, exchange):
+        flag = header(exchange, "x-amz-function-error")
+        yield "function-error", flag, Missing("no x-amz-function-error") if not isinstance(flag, Missing) else flag
+        yield "output", exchange.body, given.answer.body
+
+    def _error(self, given, exchange):
+        yield self._flag(exchange)
+        report, ours = exchange.body, given.answer.body
+        yield "report", report, report if given.cause.startswith("ext-") else ours  # (of an extension: docs/differences.md)
+
+    def _timeout(self, given, exchange):
+        yield self._flag(exchange)
+        told = members(exchange)
+        for name in ("errorType", "errorMessage"):  # (the texts: docs/differences.md)
+            value = told.get(name, Missing(f"no {name}"))
+            yield "member-" + name, value, a_text(value)
+
+    _init_timeout = _too_large_output = _timeout
+
+    def _throttled(self, given, exchange):
+        kind = header(exchange, "x-amzn-errortype")
+        name = kind if isinstance(kind, Missing) else kind.split(":")[0]
+        yield "error-type", name, "TooManyRequestsException"
+
+    def _refused(self, given, exchange):
+        told = members(exchange)
+        for name in ("errorType", "errorMessage"):
+            value = told.get(name, Missing(f"no {name}"))
+            yield "member-" + name, value, a_text(value)
+
+    @staticmethod
+    def _flag(exchange):
+        flag = header(exchange, "x-amz-function-error")
+        return "function-error", flag, flag if flag in ("Unhandled", "Handled") else "Unhandled"
+
+    @staticmethod
+    def _deadline(value, given, exchange):
+        """A deadline in Unix milliseconds, by the service's clock, which is this one's up to a little."""
+        number = int(value) if str(value).isdigit() else None
+        ours = exchange.wall + given.remaining
+        fits = number is not None and abs(number - ours) <= TOLERANCE
+        return "deadline", value, value if fits else f"about {ours:.0f}"
+
+
+def header(exchange, name):
+    return exchange.headers.get(name) or Missing(f"no {name}")
+
+
+def a_text(value):
+    return value if isinstance(value, str) and value and not isinstance(value, Missing) else TEXT
+
+
+def members(exchange):
+    try:
+        found = json.loads(exchange.body)
+    except ValueError:
+        found = None
+    return found if isinstance(found, dict) else {}
+
+
+def shown(exchange, most=100):
+    """A reply as a few words."""
+    if not exchange.over:
+        return "no answer: it waits"
+    if exchange.ended:
+        return exchange.ended
+    body = exchange.body.decode(errors="replace")
+    return f"{exchange.status} {body if len(body) <= most else body[:most] + '..'}".strip()
+
+
+def page_of(call, label):
+    return INIT_PHASE if label == "error-of-init" else PAGES[call.kind]

@@ -1,0 +1,64 @@
+"""Differences that are accepted: those that docs/differences.md has, and those of a file.
+
+Each is named by three words, as a report gives them: the call, the definitions' answer to it, and the respect in which the
+other answer differs; `*` stands for any word. What is more than that is said where it is compared (judge.py)."""
+from typing import NamedTuple
+
+from ...service import Fault
+
+WAITS = "waits"  # the label of a call that the definitions do not answer yet
+
+
+class Known(NamedTuple):
+    words: tuple
+    why: str  # the point in docs/differences.md, or the line of the file
+
+    def accepts(self, words):
+        return all(mine in ("*", other) for mine, other in zip(self.words, words))
+
+
+BUILT_IN = (
+    Known(("next", "Container", "connection"), "the end of an environment"),
+    Known(("ext-next", "Container", "connection"), "the end of an environment"),
+    Known(("invoke", "error-of-init", "*"), "a failed Init"),
+    Known(("invoke", "throttled-after-answer", "*"), "an environment that has answered and not asked again"),
+)
+# The points that comparing takes into account without a line above.
+COMPARED_LOOSELY = ("a timeout", "the greatest response", "a report of an extension (`init/error`, `exit/error`)",
+                    "`Lambda-Runtime-Trace-Id` if the caller gave none", "`shutdownReason`", "that reason of a 429")
+
+
+class KnownDifferences:
+    def __init__(self, path=None):
+        self.all = [*BUILT_IN, *(read(path) if path else [])]
+        self.met = {}
+
+    def accepts(self, words):
+        """Whether a difference is accepted; counts it."""
+        found = next((known for known in self.all if known.accepts(words)), None)
+        if found:
+            self.met[found.why] = self.met.get(found.why, 0) + 1
+        return found is not None
+
+    def accepts_silence(self, words):
+        """Whether it is accepted that an answer never comes: then it is not waited for."""
+        return any(known.accepts((*words, "connection")) for known in self.all)
+
+
+def read(path):
+    try:
+        with open(path, encoding="utf-8") as file:
+            lines = file.read().splitlines()
+    except (OSError, UnicodeDecodeError) as fault:
+        why = getattr(fault, "strerror", None) or "it is not UTF-8"
+        raise Fault(2, f"--known {path}: {why}: name a file of accepted differences") from None
+    found = []
+    for number, line in enumerate(lines, 1):
+        words = tuple(line.partition("#")[0].split())
+        if not words:
+            continue
+        if len(words) != 3:
+            raise Fault(2, f"--known {path}: line {number} has {len(words)} words: write three, CALL ANSWER RESPECT, as a report "
+                           "names the difference")
+        found.append(Known(words, f"{path}, line {number}"))
+    return found

@@ -1,0 +1,65 @@
+"""The tested service: how a call becomes a request to it."""
+import json
+import urllib.parse
+from typing import NamedTuple, Tuple
+
+from ...service import EXTENSION, RUNTIME, Fault
+from .calls import NEVER_GIVEN
+
+TOO_LARGE = 6_291_457  # bytes: one more than a response may have
+NEVER = "00000000-0000-4000-8000-00000000dead"  # an identifier that no service gave
+EVENTS = {"i": ["INVOKE"], "s": ["SHUTDOWN"], "is": ["INVOKE", "SHUTDOWN"], "-": []}
+ERROR_TYPE = "Function.Unknown"  # of each report's header; the report itself has its own
+
+
+class Tested(NamedTuple):
+    """Where the service listens: for callers, and for the runtime and the extensions of its one environment."""
+    invoke: Tuple[str, int]
+    path: str  # of an Invoke
+    runtime: Tuple[str, int]
+
+    def request(self, call, ids):
+        """The address, method, path, headers and body of a call. `ids` has the identifier of each label."""
+        if call.kind == "invoke":
+            headers = [("Content-Type", "application/json"), *([("X-Amzn-Trace-Id", call.trace)] if call.trace else [])]
+            return self.invoke, "POST", self.path, headers, call.body
+        return (self.runtime, *from_environment(call, ids))
+
+
+def from_environment(call, ids):
+    request = ids.get((False, call.label), NEVER) if call.label != NEVER_GIVEN else NEVER
+    extension = [("Lambda-Extension-Identifier", ids.get((True, call.label), NEVER) if call.label != NEVER_GIVEN else NEVER)]
+    if call.kind == "next":
+        return "GET", RUNTIME + "invocation/next", [], None
+    if call.kind == "response":
+        return "POST", f"{RUNTIME}invocation/{request}/response", [], call.body
+    if call.kind == "response-too-large":
+        return "POST", f"{RUNTIME}invocation/{request}/response", [], b'"' + b"x" * (TOO_LARGE - 2) + b'"'
+    if call.kind == "failure":
+        return "POST", f"{RUNTIME}invocation/{request}/error", [("Lambda-Runtime-Function-Error-Type", ERROR_TYPE)], call.body
+    if call.kind == "init-failure":
+        return "POST", RUNTIME + "init/error", [("Lambda-Runtime-Function-Error-Type", ERROR_TYPE)], call.body
+    if call.kind == "register":
+        asks = [("Lambda-Extension-Accept-Feature", "accountId")] if call.fields[-1] == "a" else []
+        body = json.dumps({"events": EVENTS[call.fields[1]]}).encode()
+        return "POST", EXTENSION + "register", [("Lambda-Extension-Name", call.body.decode()), *asks], body
+    if call.kind == "ext-next":
+        return "GET", EXTENSION + "event/next", extension, None
+    route = {"ext-init-failure": "init/error", "ext-exit-failure": "exit/error"}[call.kind]
+    return "POST", EXTENSION + route, [*extension, ("Lambda-Extension-Function-Error-Type", ERROR_TYPE)], call.body
+
+
+def tested_by(invoke, runtime, function):
+    """What --invoke, --runtime and --function name."""
+    found = urllib.parse.urlsplit(invoke)
+    try:
+        port = found.port or 80
+    except ValueError:
+        port = 0
+    if found.scheme != "http" or not found.hostname or not port:
+        raise Fault(2, f"--invoke {invoke}: write the URL of the port for callers, for example http://127.0.0.1:8080")
+    host, _, number = runtime.rpartition(":")
+    if not host or not number.isdigit() or not 0 < int(number) < 65536:
+        raise Fault(2, f"--runtime {runtime}: write HOST:PORT, for example 127.0.0.1:9001")
+    path = found.path if found.path.endswith("/invocations") else f"{found.path.rstrip('/')}/2015-03-31/functions/{function}/invocations"
+    return Tested((found.hostname, port), path, (host, int(number)))

@@ -1,0 +1,132 @@
+"""The connections to the tested service: requests that are sent, and replies that come when they come. One thread."""
+import collections
+import contextlib
+import select
+import socket
+import time
+
+from ..messages import Malformed, Message
+
+LEAST_SETTLE, MOST_SETTLE = 0.002, 0.1  # seconds after which a request that is not answered is taken for one that waits
+RECENT = 64  # round trips by which that is measured
+
+
+class Exchange:
+    """A request and what came of it: `status` of a reply, `ended` if the connection ended without one, else it waits."""
+
+    def __init__(self, address):
+        self.address, self.message = address, Message()
+        self.sent = time.monotonic()
+        self.answered = self.wall = None
+        self.status, self.ended = 0, ""
+
+    @property
+    def over(self):
+        return bool(self.status or self.ended)
+
+    @property
+    def headers(self):
+        return self.message.headers
+
+    @property
+    def body(self):
+        return bytes(self.message.body)
+
+
+class Wire:
+    """Connections are kept: one that has been answered carries the next request to its address."""
+
+    def __init__(self):
+        self.open, self.idle = {}, {}  # sockets of exchanges that wait; idle ones by address
+        self.trips = collections.deque(maxlen=RECENT)
+
+    @property
+    def settle(self):
+        """How long a request may go without an answer until it surely waits: some round trips of late."""
+        usual = sorted(self.trips)[len(self.trips) // 2] if self.trips else LEAST_SETTLE
+        return min(MOST_SETTLE, max(LEAST_SETTLE, 3 * usual))
+
+    def send(self, address, method, path, headers=(), body=None):
+        """Sends a request. OSError if nobody listens there."""
+        lines = [f"{method} {path} HTTP/1.1", f"Host: {address[0]}:{address[1]}", *(f"{name}: {value}" for name, value in headers)]
+        if body is not None:
+            lines.append(f"Content-Length: {len(body)}")
+        data = ("\r\n".join(lines) + "\r\n\r\n").encode() + (body or b"")
+        exchange = Exchange(address)
+        connection = self._connection(address)
+        with contextlib.suppress(BrokenPipeError, ConnectionResetError):  # (what it answered before it had read all is read)
+            connection.sendall(data)
+        self.open[connection] = exchange
+        return exchange
+
+    def _connection(self, address):
+        for connection in self.idle.pop(address, []):
+            if select.select([connection], [], [], 0)[0]:  # the peer has ended it
+                connection.close()
+            else:
+                self.idle.setdefault(address, []).append(connection)
+        if self.idle.get(address):
+            return self.idle[address].pop()
+        connection = socket.create_connection(address, timeout=10)
+        connection.setsockopt(socket.IPPROTO_TCP, socket.TCP_NODELAY, 1)
+        return connection
+
+    def collect(self, wanted=(), seconds=0.0):
+        """Reads until all that is wanted is over or the time is up; without a wish, for as long as that."""
+        end = time.monotonic() + seconds
+        while True:
+            left = max(0.0, end - time.monotonic())
+            ready = select.select(list(self.open), [], [], left)[0]
+            for connection in ready:
+                self._read(connection)
+            if (wanted and all(exchange.over for exchange in wanted)) or (not ready and time.monotonic() >= end):
+                return
+
+    def _read(self, connection):
+        exchange = self.open[connection]
+        try:
+            data = connection.recv(65536)
+            if data:
+                exchange.message.feed(data)
+            elif not exchange.message.ended():
+                exchange.ended = "the connection ended"
+        except OSError as fault:
+            exchange.ended = f"the connection ended ({fault.strerror})"
+        except Malformed as fault:
+            exchange.ended = f"what came is no HTTP/1.1: {fault}"
+        if exchange.message.whole:
+            self._end(connection, exchange, data)
+        elif exchange.ended:
+            del self.open[connection]
+            connection.close()
+
+    def _end(self, connection, exchange, data):
+        words = exchange.message.start.split(" ")
+        if len(words) > 1 and words[1].isdigit():
+            exchange.status = int(words[1])
+        else:
+            exchange.ended = f"what came is no HTTP/1.1: {exchange.message.start[:80]!r}"
+        exchange.answered, exchange.wall = time.monotonic(), time.time() * 1000
+        del self.open[connection]
+        if not data or exchange.headers.get("connection", "").lower() == "close":
+            connection.close()
+        else:
+            self.idle.setdefault(exchange.address, []).append(connection)
+
+    def note_trip(self, exchange):
+        """A request that was answered at once tells how long that takes."""
+        self.trips.append(exchange.answered - exchange.sent)
+
+    def leave(self, exchanges):
+        """Ends the connections of these, whose answers do not come and are not missed."""
+        for connection, exchange in list(self.open.items()):
+            if exchange in exchanges:
+                del self.open[connection]
+                connection.close()
+
+    def drop(self):
+        """Ends all connections, as processes that are killed do."""
+        for connection in [*self.open, *(one for kept in self.idle.values() for one in kept)]:
+            connection.close()
+        self.open.clear()
+        self.idle.clear()

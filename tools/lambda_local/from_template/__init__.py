@@ -1,0 +1,2 @@
+"""Makes an UP.json of a SAM, CloudFormation, CDK or Serverless template."""
+from .command import main  # noqa: F401

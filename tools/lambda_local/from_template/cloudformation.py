@@ -1,0 +1,63 @@
+"""The functions of a SAM or CloudFormation template, also one that CDK or Serverless writes."""
+from .telling import shown, tell
+from .values import Scope, Unknown, members_of
+
+FUNCTION, SAM_FUNCTION = "AWS::Lambda::Function", "AWS::Serverless::Function"
+ASSET = "aws:asset:path"  # CDK says here, of what it has staged, in which folder it is
+
+
+def with_globals(properties, shared):
+    """A SAM function's properties, and those of Globals that it does not have itself; variables are merged."""
+    own, common = (members_of(members_of(part, "Environment"), "Variables") for part in (properties, shared))
+    whole = {**shared, **properties}
+    if "PackageType" in properties or "ImageUri" in properties:
+        for name in {"Runtime", "Handler", "CodeUri"} - set(properties):
+            whole.pop(name, None)
+    if own or common:
+        whole["Environment"] = {"Variables": {**common, **own}}
+    return whole
+
+
+def properties_of(key, resource, shared):
+    """A function's properties; none if they cannot be read, which is told."""
+    properties = resource.get("Properties", {})
+    if not isinstance(properties, dict):
+        tell(f"leaves out {key}: its Properties must be an object, not {shown(properties)}")
+        return None
+    if resource["Type"] == SAM_FUNCTION:
+        properties = with_globals(properties, shared)
+    asset = members_of(resource, "Metadata").get(ASSET)
+    if isinstance(asset, str):
+        properties = {**properties, "CodeUri": asset}
+        properties.pop("Code", None)
+    return properties
+
+
+def is_wanted(key, resource, scope):
+    """Whether its condition, if it has one, is met; told if not."""
+    condition = resource.get("Condition")
+    if condition is None:
+        return True
+    try:
+        is_met = scope.holds(condition)
+    except Unknown as reason:
+        tell(f"{key}: it is taken, since its condition {condition} is not known here: {reason}")
+        return True
+    if not is_met:
+        tell(f"leaves out {key}: its condition {condition} is not met")
+    return is_met
+
+
+def listed(template, stack):
+    """Each function's logical id and properties, and the scope of their expressions."""
+    scope, found = Scope(template, stack), []
+    shared = members_of(members_of(template, "Globals"), "Function")
+    for key, resource in template["Resources"].items():
+        kind = resource.get("Type") if isinstance(resource, dict) else shown(resource)
+        if kind not in (FUNCTION, SAM_FUNCTION):
+            tell(f"leaves out {key}, {kind}")
+        elif is_wanted(key, resource, scope):
+            properties = properties_of(key, resource, shared)
+            if properties is not None:
+                found.append((str(key), properties))
+    return found, scope

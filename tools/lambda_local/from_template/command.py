@@ -1,0 +1,104 @@
+"""Reads the functions of a template and writes an UP.json for tools/up. On standard error it names what it leaves out.
+
+  tools/from_template template.yaml -o up.json                  SAM, or CloudFormation
+  tools/from_template cdk.out/Stack.template.json -o up.json    what `cdk synth` writes
+  tools/from_template serverless.yml -o up.json
+
+Each function has one environment, or as many as it reserves, up to ten. What runs it is the client of its Runtime if that
+is installed, else for Python and Node the runtime that comes with tools/up. Parameters count by their defaults; a
+reference to a resource is a placeholder, which is told: so functions run, and you write into UP.json what they need.
+`directory` is the function's code, or the template's own folder if there is none, as it is seen from UP.json: so UP.json
+may stand anywhere, and tools/up be started from anywhere, as long as both stay where they are. Without -o it goes to
+standard output; if that is no file, folders are written from the root.
+YAML needs a reader: pip install pyyaml.
+Exit statuses: 0; 2 for a template that cannot be read, or has no function; 4 without the reader, or if UP.json cannot be
+written."""
+import argparse
+import json
+import os
+import re
+import stat
+import sys
+
+from . import cloudformation, serverless
+from .addresses import routes_of
+from .functions import functions_of
+from .reading import read
+from .telling import Fault, tell
+from .values import REGION
+
+
+def stack_of(path):
+    """What a stack of this template would be called: by its file, or by its folder if the file is just called template."""
+    stem = os.path.basename(path).split(".")[0]
+    if stem in ("template", "serverless", ""):
+        stem = os.path.basename(os.path.dirname(os.path.abspath(path)))
+    return re.sub(r"[^A-Za-z0-9-]", "-", stem).strip("-") or "stack"
+
+
+def up_of(path):
+    """UP.json's object; its folders are as seen from the template's."""
+    whole, base = read(path), os.path.dirname(os.path.abspath(path))
+    if isinstance(whole.get("Resources"), dict):
+        listed, scope = cloudformation.listed(whole, stack_of(path))
+    elif isinstance(whole.get("functions"), (dict, list)):
+        listed, scope = serverless.listed(whole, stack_of(path))
+    else:
+        raise Fault(f"{path} is no template: it must have Resources, or functions")
+    functions = functions_of(listed, scope, base)
+    if not functions:
+        raise Fault(f"{path} has no function")
+    region = scope.pseudo["AWS::Region"]
+    is_other = region != REGION and re.fullmatch(r"[a-z0-9-]{1,32}", region)
+    routes = routes_of(functions, tell)
+    return {**({"region": region} if is_other else {}), **({"routes": routes} if routes else {}), "functions": functions}
+
+
+def place(functions, template, folder):
+    """Writes each function's folder, which a template has from its own, as it is seen from the folder of UP.json."""
+    base = os.path.dirname(os.path.abspath(template))
+    for made in functions:
+        code = os.path.join(base, made.pop("directory", ""))
+        if not os.path.isdir(code):
+            tell(f"{made['name']}: {code} is no folder (yet): tools/up needs it")
+        code = os.path.normpath(code) if folder is None else os.path.relpath(os.path.realpath(code), os.path.realpath(folder))
+        if code != ".":
+            made["directory"] = code
+
+
+def folder_of_output():
+    """The folder of the file that standard output is; none if it is no file."""
+    if not stat.S_ISREG(os.fstat(sys.stdout.fileno()).st_mode):
+        return None
+    try:
+        return os.path.dirname(os.readlink(f"/proc/self/fd/{sys.stdout.fileno()}"))
+    except OSError:
+        return None
+
+
+def write(text, output):
+    if output:
+        with open(output, "w") as file:
+            file.write(text)
+    else:
+        sys.stdout.write(text)
+        sys.stdout.flush()
+
+
+def main():
+    parser = argparse.ArgumentParser(prog="tools/from_template", description=__doc__, formatter_class=argparse.RawDescriptionHelpFormatter)
+    parser.add_argument("template", metavar="TEMPLATE")
+    parser.add_argument("-o", metavar="UP.json", dest="output", help="write there (standard output)")
+    options = parser.parse_args()
+    try:
+        up = up_of(options.template)
+    except Fault as fault:
+        tell(fault)
+        return 2
+    place(up["functions"], options.template, os.path.dirname(os.path.abspath(options.output)) if options.output else folder_of_output())
+    try:
+        write(json.dumps(up, indent=2) + "\n", options.output)
+    except OSError as fault:
+        tell(f"{options.output or 'standard output'}: {fault.strerror}")
+        return 4
+    return 0

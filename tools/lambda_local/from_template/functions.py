@@ -1,0 +1,227 @@
+"""A function's part of UP.json, made of its properties by the names that CloudFormation gives them. What cannot be taken
+is told and left out: never is a whole template refused for one function."""
+import importlib.util
+import os
+import re
+import shutil
+
+from . import addresses
+from .telling import shown, tell
+from .values import NO_VALUE, Unknown, is_scalar, text_of
+
+READ = {"FunctionName", "Handler", "Timeout", "ReservedConcurrentExecutions", "Environment", "Runtime", "CodeUri", "Code", "InlineCode",
+        "MemorySize",
+        "PackageType", "ImageUri", "ImageConfig", *addresses.READ}
+MOST_ENVIRONMENTS = 10  # of a function that reserves more: each is a process
+MOST_IN_ALL, MOST_FUNCTIONS = 256, 64  # of a service
+NAME = re.compile(r"[A-Za-z0-9_-]{1,64}")
+VARIABLE = re.compile(r"\w+")
+HANDLER = re.compile(r"[ -~]{1,128}")
+
+
+def cleaned(key):
+    """A function's name by its logical id."""
+    return re.sub(r"[^A-Za-z0-9_-]", "", str(key))[:64] or "function"
+
+
+def name_of(key, properties, scope):
+    """The function's own name if it is known here, else its logical id."""
+    if "FunctionName" not in properties:
+        return cleaned(key)
+    given = properties["FunctionName"]
+    try:
+        name, placeholders = scope.known(given)
+    except Unknown as reason:
+        name, placeholders = None, (str(reason),)
+    if name is NO_VALUE:
+        return cleaned(key)
+    if not placeholders and is_scalar(name) and NAME.fullmatch(text_of(name)):
+        return text_of(name)
+    why = f"it needs {' and '.join(placeholders)}" if placeholders else f"{shown(name)} is no name of 1 to 64 letters, digits, - and _"
+    tell(f"{key}: it is called {cleaned(key)}, since its FunctionName is not known here: {why}")
+    return cleaned(key)
+
+
+def names_of(listed, scope):
+    """The name of each function, which no other has. `listed` has pairs of a logical id and properties."""
+    names = {}
+    for key, properties in listed:
+        wanted, own = name_of(key, properties, scope), cleaned(key)
+        others = (own, *(f"{own[:60]}-{number}" for number in range(2, MOST_FUNCTIONS + 2)))
+        names[key] = next(name for name in (wanted, *others) if name not in names.values())
+        if names[key] != wanted:
+            tell(f"{key}: it is called {names[key]}, since another function is called {wanted}")
+    return names
+
+
+class Maker:
+    """Makes one function."""
+
+    def __init__(self, name, properties, scope, base):
+        self.name, self.properties, self.scope, self.base = name, properties, scope, base
+        self.made = {"name": name}
+
+    def tell(self, line):
+        tell(f"{self.name}: {line}")
+
+    def known(self, name):
+        """A property's value; None if it is not there or not known, which is told. A placeholder will not do."""
+        if name not in self.properties:
+            return None
+        try:
+            value, placeholders = self.scope.known(self.properties[name])
+        except Unknown as reason:
+            value, placeholders = None, (str(reason),)
+        if placeholders:
+            self.tell(f"leaves out {name}: it needs {' and '.join(placeholders)}")
+            return None
+        return None if value is NO_VALUE else value
+
+    def whole(self, name, least, most):
+        value = self.known(name)
+        if value is None:
+            return None
+        text = text_of(value) if is_scalar(value) else ""
+        if not re.fullmatch(r"\d{1,9}(\.0*)?", text) or not least <= int(float(text)) <= most:
+            self.tell(f"leaves out {name}: it must be a whole number from {least} to {most}, not {shown(value)}")
+            return None
+        return int(float(text))
+
+    def put(self, member, value):
+        if value is not None:
+            self.made[member] = value
+
+    def make(self):
+        handler = self.known("Handler")
+        if handler is not None and not (isinstance(handler, str) and HANDLER.fullmatch(handler)):
+            self.tell(f"leaves out Handler: it must be a text of 1 to 128 printable characters, not {shown(handler)}")
+            handler = None
+        self.put("handler", handler)
+        self.put("timeout", self.whole("Timeout", 1, 900))
+        self.put("memory", self.whole("MemorySize", 1, 1_000_000))
+        self.reserve(self.whole("ReservedConcurrentExecutions", 0, 1_000_000))
+        self.variables()
+        self.code()
+        self.command()
+        found = addresses.Addresses(self.properties, self.scope, self.tell)
+        self.put("url", found.url())
+        self.put("routes", found.routes() or None)
+        if left := sorted(str(name) for name in set(self.properties) - READ):
+            self.tell(f"leaves out {', '.join(left)}")
+        return self.made
+
+    def reserve(self, reserved):
+        self.put("reserved", reserved)
+        self.made["environments"] = max(1, reserved or 0)
+        if self.made["environments"] > MOST_ENVIRONMENTS:
+            self.tell(f"has {MOST_ENVIRONMENTS} environments, each a process, and reserves as many: its reservation is {reserved} "
+                      "(write more \"environments\" if your tests need them)")
+            self.made["environments"] = self.made["reserved"] = MOST_ENVIRONMENTS
+
+    def variables(self):
+        environment = self.properties.get("Environment")
+        variables = environment.get("Variables") if isinstance(environment, dict) else environment
+        if variables is None:
+            return
+        if not isinstance(variables, dict):
+            return self.tell(f"leaves out its variables: they must be an object, not {shown(variables)}")
+        found = {}
+        for name, expression in variables.items():
+            if not VARIABLE.fullmatch(str(name)):
+                self.tell(f"leaves out the variable {shown(name)}: its name must have letters, digits and _ alone")
+                continue
+            try:
+                value, placeholders = self.scope.known(expression)
+                if value is not None and value is not NO_VALUE:
+                    found[str(name)] = text_of(value).replace("\0", "")
+                elif value is None:
+                    self.tell(f"leaves out the variable {name}, which has no value")
+            except Unknown as reason:
+                self.tell(f"leaves out the variable {name}: {reason}")
+                continue
+            if placeholders:
+                self.tell(f"the variable {name} is {shown(found[str(name)])}, a placeholder for {' and '.join(placeholders)}: "
+                          "write its value into UP.json if the handler needs it")
+        if found:
+            self.made["variables"] = found
+
+    # --- its code, and what runs it ---
+
+    def is_image(self):
+        code = self.properties.get("Code")
+        return (self.properties.get("PackageType") == "Image" or "ImageUri" in self.properties
+                or isinstance(code, dict) and "ImageUri" in code)
+
+    def is_inline(self):
+        code = self.properties.get("Code")
+        return "InlineCode" in self.properties or isinstance(code, dict) and "ZipFile" in code
+
+    def code(self):
+        """Its folder, as seen from the template's."""
+        if self.is_image() or self.is_inline():
+            return
+        name = next((name for name in ("CodeUri", "Code") if name in self.properties), None)
+        given = self.properties.get(name)
+        is_far = isinstance(given, dict) and not {"S3Bucket", "S3Key", "Bucket", "Key"}.isdisjoint(given)
+        code = given if is_far else self.known(name)
+        if code is None:
+            return
+        if not isinstance(code, str) or "://" in code or "\0" in code:
+            return self.tell(f"leaves out {name}, which is no folder here")
+        at = os.path.join(self.base, code)
+        if os.path.isfile(at):
+            self.tell(f"{name} is the file {code}: unpack it, and write its folder as \"directory\"")
+            code = os.path.dirname(code) or "."
+        self.made["directory"] = code
+
+    def command(self):
+        """What starts its runtime; none if that cannot be known, and then the user starts it."""
+        if self.is_image():
+            return self.tell("has no command, since its code is an image: write one, such as docker run (docs/your_function.md has it)")
+        if self.is_inline():
+            return self.tell("has no command, since its code stands in the template: write it into a file of its folder, and give it a "
+                             "\"command\" or a \"runtime\"")
+        runtime, handler = self.known("Runtime"), self.made.get("handler", "index.handler")
+        runtime = runtime if isinstance(runtime, str) else ""
+        if runtime.startswith("python"):
+            if importlib.util.find_spec("awslambdaric"):
+                self.made["command"] = ["python3", "-m", "awslambdaric", handler]
+            else:
+                self.made["runtime"] = "python"
+        elif runtime.startswith("nodejs"):
+            if self.has_client("aws-lambda-ric"):
+                self.made["command"] = ["npx", "aws-lambda-ric", handler]
+            else:
+                self.made["runtime"] = "node"
+        elif runtime.startswith("provided") or runtime == "go1.x":
+            self.made["command"] = ["./bootstrap"]
+            at = os.path.join(self.base, self.made.get("directory", ""))
+            if os.path.isdir(at) and not os.path.isfile(os.path.join(at, "bootstrap")):
+                self.tell(f"there is no {os.path.normpath(os.path.join(at, 'bootstrap'))} yet: build it before tools/up is started")
+        else:
+            self.tell(f"has no command, since none is known for the runtime {runtime or '(none)'}: write one, or start it yourself")
+
+    def has_client(self, name):
+        """Whether a package of npm is on the path, or installed for the function or above it."""
+        at = os.path.abspath(os.path.join(self.base, self.made.get("directory", "")))
+        folders = [at]
+        while os.path.dirname(folders[-1]) != folders[-1]:
+            folders.append(os.path.dirname(folders[-1]))
+        return bool(shutil.which(name)) or any(os.path.exists(os.path.join(folder, "node_modules", ".bin", name)) for folder in folders)
+
+
+def functions_of(listed, scope, base):
+    """The functions of UP.json, as many as a service may have. `base` is the template's folder."""
+    for key, _ in listed[MOST_FUNCTIONS:]:
+        tell(f"leaves out the function {key}: {MOST_FUNCTIONS} are the most")
+    listed = listed[:MOST_FUNCTIONS]
+    scope.functions = names_of(listed, scope)
+    made = [Maker(scope.functions[key], properties, scope, base).make() for key, properties in listed]
+    left = MOST_IN_ALL - len(made)
+    for function in made:
+        given = min(function["environments"], 1 + left)
+        if given < function["environments"]:
+            tell(f"{function['name']}: has {given} environments: {MOST_IN_ALL} are the most in all")
+            function["environments"] = function["reserved"] = given
+        left -= given - 1
+    return made

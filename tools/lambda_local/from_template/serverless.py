@@ -1,0 +1,150 @@
+"""The functions of a serverless.yml, with what its variables come to."""
+import os
+import re
+
+from .telling import shown, tell
+from .values import ACCOUNT, REGION, Scope, Unknown, is_scalar, members_of, text_of
+
+PROPERTIES = {"name": "FunctionName", "handler": "Handler", "timeout": "Timeout", "reservedConcurrency": "ReservedConcurrentExecutions",
+              "runtime": "Runtime", "memorySize": "MemorySize", "image": "ImageUri"}
+SHARED = ("timeout", "runtime", "memorySize")  # of `provider`, for all functions
+DEFAULTS = {"Timeout": 6, "MemorySize": 1024}  # the Serverless Framework's own
+TAKEN = {"service", "provider", "functions", "frameworkVersion", "custom", "params"}
+INNERMOST = re.compile(r"\$\{([^${}]*)\}")
+SOURCE = re.compile(r"""\s*(?:(?P<quote>["'])(?P<text>.*?)(?P=quote)|(?P<source>[^,]+))\s*(?:,|$)""")
+LITERALS = {"true": True, "false": False, "null": None}
+MOST_STEPS = 200  # until variables that name one another count as a circle
+
+
+def logical_id(key):
+    """What Serverless calls a function in its CloudFormation."""
+    return (key[:1].upper() + key[1:]).replace("-", "Dash").replace("_", "Underscore") + "LambdaFunction"
+
+
+class ServerlessScope(Scope):
+    """Also knows `${self:..}`, `${opt:..}`, `${sls:..}`, `${env:..}`, `${param:..}` and `${aws:..}`, with their defaults."""
+
+    def __init__(self, whole, stack):
+        self.provider = {"stage": "dev", "region": REGION, **members_of(whole, "provider")}
+        self.whole = {"service": "service", **whole, "provider": self.provider}
+        super().__init__(members_of(whole, "resources"), stack)
+        self.stage, self.region = "dev", REGION  # (as options, until they are known)
+        self.stage = self.setting("stage", self.stage)
+        self.region = self.pseudo["AWS::Region"] = self.setting("region", self.region)
+
+    def setting(self, name, otherwise):
+        """A text of `provider`."""
+        try:
+            value, placeholders = self.known(self.provider[name])
+        except Unknown:
+            return otherwise
+        return text_of(value) if is_scalar(value) and not placeholders else otherwise
+
+    def text(self, text):
+        """A text with its variables replaced, the innermost first; one that is a single variable is what that stands for."""
+        for _ in range(MOST_STEPS):
+            found = INNERMOST.search(text)
+            if found is None:
+                return super().text(text)
+            value = self.value(self.variable(found[1]))
+            if found[0] == text:
+                return value
+            text = text[:found.start()] + ("" if value is None else text_of(value)) + text[found.end():]
+        raise Unknown("its variables go round in a circle")
+
+    def variable(self, inside):
+        """The first of its sources that has a value; else a placeholder."""
+        if inside.startswith("AWS::"):
+            return self.ref(inside)
+        for found in SOURCE.finditer(inside):
+            if found["quote"]:
+                return found["text"]
+            try:
+                return self.source(found["source"].strip())
+            except LookupError:
+                continue
+        options = {"opt:stage": self.stage, "opt:region": self.region}  # (given at a deployment, which this is not)
+        first = inside.split(",")[0].strip()
+        return options.get(first) or self.placeholder(first.partition(":")[2] or first, "${" + inside + "}")
+
+    def ref(self, name):
+        """A function goes by another name in the CloudFormation that Serverless writes."""
+        own = next((function for key, function in self.functions.items() if logical_id(key) == name), None)
+        return own or super().ref(name)
+
+    def get_att(self, argument):
+        key = next((key for key in self.functions if argument in (f"{logical_id(key)}.Arn", [logical_id(key), "Arn"])), None)
+        return super().get_att([key, "Arn"] if key else argument)
+
+    def source(self, source):
+        """The value of one source, such as `self:provider.stage`; LookupError if it has none."""
+        kind, colon, address = source.partition(":")
+        if not colon:
+            if source in LITERALS:
+                return LITERALS[source]
+            if re.fullmatch(r"-?\d+(\.\d+)?", source):
+                return float(source) if "." in source else int(source)
+            raise LookupError(source)
+        if kind == "self":
+            return self.walk(self.whole, address)
+        if kind == "env":
+            return os.environ[address]
+        if kind == "param":
+            params = members_of(self.whole, "params")
+            return {**members_of(params, "default"), **members_of(params, self.stage)}[address]
+        known = {"sls:stage": self.stage, "aws:region": self.region, "aws:accountId": ACCOUNT, "sls:instanceId": "local"}
+        return known[source.replace(" ", "")]
+
+    def walk(self, part, address):
+        for name in filter(None, address.split(".")):
+            if isinstance(part, str):
+                part = self.value(part)
+            if isinstance(part, list) and name.isdigit() and int(name) < len(part):
+                part = part[int(name)]
+            elif isinstance(part, dict) and name in part:
+                part = part[name]
+            else:
+                raise LookupError(address)
+        return part
+
+
+def object_of(part, name, where, scope):
+    """An object that a part of the file has, also by a variable; an empty one, and a message, if it is none."""
+    value = part.get(name)
+    if isinstance(value, str):
+        try:
+            value = scope.known(value).value
+        except Unknown as reason:
+            value = str(reason)
+    if value is not None and not isinstance(value, dict):
+        tell(f"{where}: leaves out {name}: it must be an object, not {shown(part[name])}")
+    return value if isinstance(value, dict) else {}
+
+
+def properties_of(key, member, scope):
+    """A function's properties by the names of CloudFormation."""
+    properties = {**DEFAULTS, **{PROPERTIES[name]: scope.provider[name] for name in SHARED if name in scope.provider}}
+    service = scope.whole["service"]
+    service = service.get("name", "service") if isinstance(service, dict) else service
+    properties["FunctionName"] = {"Fn::Join": ["-", [service, scope.stage, key]]}
+    properties.update({PROPERTIES.get(name, name): value for name, value in member.items() if name != "environment"})
+    variables = {**object_of(scope.provider, "environment", key, scope), **object_of(member, "environment", key, scope)}
+    return {**properties, "Environment": {"Variables": variables}}
+
+
+def listed(whole, stack):
+    """Each function's logical id and properties, and the scope of their expressions."""
+    scope, found = ServerlessScope(whole, stack), []
+    functions = whole["functions"]
+    for part in functions if isinstance(functions, list) else [functions]:
+        if not isinstance(part, dict):
+            tell(f"leaves out functions: {shown(part)}: it must be an object")
+            continue
+        for key, member in part.items():
+            if member is None or isinstance(member, dict):
+                found.append((str(key), properties_of(str(key), member or {}, scope)))
+            else:
+                tell(f"leaves out the function {key}: it must be an object, not {shown(member)}")
+    for name in sorted(str(name) for name in set(whole) - TAKEN):
+        tell(f"leaves out {name}")
+    return found, scope

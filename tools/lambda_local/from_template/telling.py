@@ -1,0 +1,17 @@
+"""What the tool says on standard error."""
+import sys
+
+
+class Fault(Exception):
+    """A message that says what to do; the status is 2."""
+
+
+def tell(line):
+    print(f"from_template: {line}", file=sys.stderr)
+
+
+def shown(value):
+    """A value in a sentence, cut short."""
+    text = str(value) if isinstance(value, str) else repr(value)
+    text = " ".join(text.split())
+    return text if len(text) <= 80 else text[:78] + ".."

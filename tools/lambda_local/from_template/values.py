@@ -1,0 +1,218 @@
+"""What the expressions of a template come to here: parameters by their defaults, pseudo parameters by the service's
+account and region, functions by their names. A reference to anything else is a placeholder, which is told."""
+import datetime
+import re
+from typing import NamedTuple, Tuple
+
+ACCOUNT, REGION = "123456789012", "us-east-1"  # those of tools/up
+NO_VALUE = object()  # what AWS::NoValue stands for: the property is not there
+IN_TEXT = re.compile(r"\$\{(!?)([^${}]*)\}")  # of Fn::Sub
+NAMED_BY = {"AWS::DynamoDB::Table": "TableName", "AWS::Serverless::SimpleTable": "TableName", "AWS::S3::Bucket": "BucketName"}
+FUNCTIONS = {"Ref": "ref", "Fn::GetAtt": "get_att", "Fn::Join": "join", "Fn::Sub": "sub", "Fn::Select": "select", "Fn::Split": "split",
+             "Fn::FindInMap": "find_in_map", "Fn::ImportValue": "import_value", "Fn::If": "choose"}  # and the methods that work them out
+DEEPEST, MOST_STEPS = 50, 10_000  # of one expression
+
+
+class Unknown(Exception):
+    """Why an expression has no value here."""
+
+
+class Known(NamedTuple):
+    value: object
+    placeholders: Tuple[str, ...]  # what in it is one, such as "the resource Table"
+
+
+def is_scalar(value):
+    return isinstance(value, (str, int, float, datetime.date))
+
+
+def text_of(value):
+    """A value as CloudFormation writes it into a text."""
+    if isinstance(value, bool):
+        return "true" if value else "false"
+    if isinstance(value, datetime.date):
+        return value.isoformat()
+    if not is_scalar(value):
+        raise Unknown(f"{value!r} is no text")
+    return str(value)
+
+
+def members_of(template, name):
+    """A part of a template that should be an object; an empty one if it isn't."""
+    part = template.get(name) if isinstance(template, dict) else None
+    return part if isinstance(part, dict) else {}
+
+
+class Scope:
+    """The names that a template's expressions may use. `functions` has the name of each function by its logical id."""
+
+    def __init__(self, template, stack, region=REGION):
+        self.parameters, self.conditions = members_of(template, "Parameters"), members_of(template, "Conditions")
+        self.mappings, self.resources = members_of(template, "Mappings"), members_of(template, "Resources")
+        self.functions, self.placeholders, self.depth, self.steps = {}, [], 0, 0
+        self.pseudo = {
+            "AWS::AccountId": ACCOUNT, "AWS::Region": region, "AWS::Partition": "aws", "AWS::URLSuffix": "amazonaws.com",
+            "AWS::StackName": stack, "AWS::NotificationARNs": [], "AWS::NoValue": NO_VALUE,
+            "AWS::StackId": f"arn:aws:cloudformation:{region}:{ACCOUNT}:stack/{stack}/00000000-0000-0000-0000-000000000000"}
+
+    def known(self, expression):
+        """Its value with its placeholders; Unknown if it has none."""
+        self.placeholders, self.steps = [], 0
+        value = self.value(expression)
+        return Known(value, tuple(dict.fromkeys(self.placeholders)))
+
+    def text(self, text):
+        """A text outside of Fn::Sub."""
+        if text.startswith("{{resolve:"):
+            self.placeholders.append(f"the dynamic reference {text}")
+        return text
+
+    def value(self, expression):
+        self.depth += 1
+        self.steps += 1
+        try:
+            if self.depth > DEEPEST or self.steps > MOST_STEPS:
+                raise Unknown("its expressions are nested too deep, or go round in a circle")
+            if isinstance(expression, str):
+                return self.text(expression)
+            if isinstance(expression, list):
+                return [value for value in map(self.value, expression) if value is not NO_VALUE]
+            if isinstance(expression, dict):
+                return self.of_object(expression)
+            return expression
+        finally:
+            self.depth -= 1
+
+    def of_object(self, expression):
+        if len(expression) == 1:
+            (name, argument), = expression.items()
+            if name in FUNCTIONS:
+                return getattr(self, FUNCTIONS[name])(argument)
+            if str(name).startswith("Fn::"):
+                raise Unknown(f"{name} is not worked out here")
+        found = ((name, self.value(member)) for name, member in expression.items())
+        return {name: value for name, value in found if value is not NO_VALUE}
+
+    # --- the functions ---
+
+    def placeholder(self, text, what):
+        self.placeholders.append(what)
+        return text
+
+    def ref(self, name):
+        if not isinstance(name, str):
+            raise Unknown(f"Ref needs a name, not {name!r}")
+        if name in self.pseudo:
+            return self.pseudo[name]
+        if name in self.parameters:
+            return self.parameter(name)
+        if name in self.functions:
+            return self.functions[name]
+        resource = self.resources.get(name)
+        given = members_of(resource, "Properties").get(NAMED_BY.get(str(members_of(self.resources, name).get("Type"))))
+        return self.value(given) if given is not None else self.placeholder(name, f"the resource {name}")
+
+    def parameter(self, name):
+        parameter = self.parameters[name]
+        default = parameter.get("Default") if isinstance(parameter, dict) else None
+        if not is_scalar(default):
+            return self.placeholder(name, f"the parameter {name}, which has no Default")
+        if str(parameter.get("Type", "")).startswith("AWS::SSM::"):
+            return self.placeholder(default, f"the parameter {name}, whose value is in the Parameter Store")
+        if str(parameter.get("Type", "")).startswith("List<") or parameter.get("Type") == "CommaDelimitedList":
+            return [part.strip() for part in text_of(default).split(",")]
+        return default
+
+    def get_att(self, argument):
+        words = argument.split(".", 1) if isinstance(argument, str) else argument
+        if not (isinstance(words, list) and len(words) == 2 and all(isinstance(word, str) for word in words)):
+            raise Unknown(f"Fn::GetAtt needs a resource and its attribute, not {argument!r}")
+        name, attribute = words
+        if name in self.functions and attribute == "Arn":
+            return f"arn:aws:lambda:{self.pseudo['AWS::Region']}:{ACCOUNT}:function:{self.functions[name]}"
+        return self.placeholder(f"{name}.{attribute}", f"the attribute {attribute} of {name}")
+
+    def join(self, argument):
+        if not (isinstance(argument, list) and len(argument) == 2):
+            raise Unknown(f"Fn::Join needs a separator and a list, not {argument!r}")
+        separator, parts = self.value(argument[0]), self.value(argument[1])
+        if not isinstance(parts, list):
+            raise Unknown(f"Fn::Join needs a list, not {parts!r}")
+        return text_of(separator).join(map(text_of, parts))
+
+    def sub(self, argument):
+        text, own = argument if isinstance(argument, list) and len(argument) == 2 else (argument, {})
+        if not (isinstance(text, str) and isinstance(own, dict)):
+            raise Unknown(f"Fn::Sub needs a text, or a text and an object, not {argument!r}")
+
+        def replaced(found):
+            literal, name = found[1], found[2].strip()
+            if literal:
+                return "${" + found[2] + "}"
+            value = self.value(own[name]) if name in own else self.get_att(name) if "." in name else self.ref(name)
+            return "" if value is NO_VALUE else text_of(value)
+        return IN_TEXT.sub(replaced, text)
+
+    def select(self, argument):
+        try:
+            index, values = argument
+            return self.value(values)[int(self.value(index))]
+        except (TypeError, ValueError, IndexError, KeyError):
+            raise Unknown(f"Fn::Select needs an index and a list that has it, not {argument!r}") from None
+
+    def split(self, argument):
+        try:
+            separator, text = argument
+            return text_of(self.value(text)).split(text_of(separator))
+        except (TypeError, ValueError):
+            raise Unknown(f"Fn::Split needs a separator and a text, not {argument!r}") from None
+
+    def find_in_map(self, argument):
+        try:
+            found = self.mappings
+            for name in argument[:3]:
+                found = found[self.value(name)]
+            return self.value(found)
+        except (KeyError, TypeError, IndexError):
+            raise Unknown(f"Mappings has no {argument!r}") from None
+
+    def import_value(self, argument):
+        name = text_of(self.value(argument))
+        return self.placeholder(name, f"the export {name}")
+
+    def choose(self, argument):
+        if not (isinstance(argument, list) and len(argument) == 3):
+            raise Unknown(f"Fn::If needs a condition and two values, not {argument!r}")
+        return self.value(argument[1] if self.holds(argument[0]) else argument[2])
+
+    # --- conditions ---
+
+    def holds(self, condition):
+        """Whether a condition, by its name or itself, is met."""
+        self.depth += 1
+        try:
+            if self.depth > DEEPEST:
+                raise Unknown("its conditions go round in a circle")
+            if isinstance(condition, str):
+                if condition not in self.conditions:
+                    raise Unknown(f"there is no condition {condition}")
+                return self.holds(self.conditions[condition])
+            return self.of_condition(condition)
+        finally:
+            self.depth -= 1
+
+    def of_condition(self, condition):
+        if not (isinstance(condition, dict) and len(condition) == 1):
+            raise Unknown(f"{condition!r} is no condition")
+        (name, argument), = condition.items()
+        if name == "Condition":
+            return self.holds(argument)
+        if not isinstance(argument, list):
+            raise Unknown(f"{name} needs a list, not {argument!r}")
+        if name == "Fn::Equals" and len(argument) == 2:
+            return text_of(self.value(argument[0])) == text_of(self.value(argument[1]))
+        if name == "Fn::Not" and len(argument) == 1:
+            return not self.holds(argument[0])
+        if name in ("Fn::And", "Fn::Or"):
+            return (all if name == "Fn::And" else any)(map(self.holds, argument))
+        raise Unknown(f"{name} is not worked out here")

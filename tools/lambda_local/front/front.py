@@ -1,0 +1,101 @@
+"""All that stands in front of the functions of one run: its ports, and the thread that serves them."""
+import asyncio
+import socket
+import threading
+import time
+
+from ..service import Fault, free_ports
+from .client import Client
+from .events import Identifiers
+from .gateway import Api, Url
+from .invoke import InvokePort
+from .server import Server
+
+TRIES = 5  # for a free port, which another program can take between looking and listening
+
+
+def listener_at(port, owner, path):
+    """A socket that listens on this port, or on a free one."""
+    for left in reversed(range(TRIES)):
+        wanted = port or free_ports(1, ())[0]
+        made = socket.socket()
+        made.setsockopt(socket.SOL_SOCKET, socket.SO_REUSEADDR, 1)
+        try:
+            made.bind(("127.0.0.1", wanted))
+            made.listen(1024)
+            return made
+        except OSError:
+            made.close()
+            if port or not left:
+                raise Fault(4, f"{path}: port {wanted} ({owner}): another program listens there: leave the port out, and a free "
+                               "one is used") from None
+
+
+def url_of(listener):
+    return f"http://127.0.0.1:{listener.getsockname()[1]}"
+
+
+class Front(threading.Thread):
+    """Its ports are open from the start; requests are answered once it has the service and is started."""
+
+    def __init__(self, settings, path, drain_seconds, log):
+        super().__init__(name="front", daemon=True)
+        self.settings, self.drain_seconds, self.log, self.queue = settings, drain_seconds, log, None
+        self.invoking = listener_at(settings.invoke_port, "invokePort", path) if settings.asynchronous else None
+        self.urls = {function: listener_at(address.port, f"url of function {function}", path)
+                     for function, address in settings.urls.items()}
+        self.routing = listener_at(settings.api.port, "api", path) if settings.routes else None
+        self.loop, self.ending = asyncio.new_event_loop(), threading.Event()
+
+    def addresses(self):
+        """Each address, whose it is and in which words."""
+        for function, listener in self.urls.items():
+            yield function, f"{function}: its URL is {url_of(listener)}/", url_of(listener)
+        if self.routing:
+            yield None, f"routes: {url_of(self.routing)}", url_of(self.routing)
+
+    def serve(self, service):
+        """Begins to answer, by this service."""
+        self.service, configuration = service, service.configuration
+        self.client = Client(service.port)
+        identifiers = Identifiers(configuration)
+        self.servers = []
+        if self.invoking:
+            port = InvokePort(self.client, self.settings.asynchronous, configuration, self.drain_seconds, self.log)
+            self.queue, identifiers = port.queue, port.identifiers
+            self.servers.append(Server(self.invoking, port.handle, self.log))
+            service.endpoint_url = url_of(self.invoking)
+        for function, listener in self.urls.items():
+            url = Url(self.client, self.settings.urls[function], identifiers, self.log, function, configuration)
+            self.servers.append(Server(listener, url.handle, self.log))
+        if self.routing:
+            api = Api(self.client, self.settings.api, identifiers, self.log, self.settings.routes, configuration)
+            self.servers.append(Server(self.routing, api.handle, self.log))
+        self.start()
+
+    def run(self):
+        asyncio.set_event_loop(self.loop)
+        for server in self.servers:
+            self.loop.run_until_complete(server.start())
+        self.loop.run_forever()
+        for server in self.servers:
+            self.loop.run_until_complete(server.stop())
+        self.client.close()
+        self.loop.run_until_complete(self.loop.shutdown_asyncgens())
+        self.loop.close()
+
+    def drain(self, is_over):
+        """Waits until no event is left, its time is over, or the service has ended."""
+        end = time.monotonic() + self.drain_seconds
+        if not self.queue or not self.queue.count:
+            return
+        self.log("up", f"{self.queue.count} events are left: waits up to {self.drain_seconds:g} s for them", kind="event")
+        while self.queue.count and time.monotonic() < end and not is_over():
+            time.sleep(0.01)
+
+    def end(self):
+        """Once the service has ended."""
+        if self.queue:
+            self.loop.call_soon_threadsafe(self.queue.close)
+        self.loop.call_soon_threadsafe(self.loop.stop)
+        self.join()

@@ -1,0 +1,50 @@
+"""Requests that are passed on to the service as they are, and its answers as they come."""
+from .http import Reply, passed_on
+
+
+async def encoded(pieces):
+    """Pieces of a body, in chunks."""
+    async for piece in pieces:
+        yield b"%x\r\n%b\r\n" % (len(piece), piece)
+    yield b"0\r\n\r\n"
+
+
+def pass_on(client, request):
+    """A Reply whose body is the service's, while it is read. What breaks off there breaks off here."""
+    return Passing(client, request).reply()
+
+
+class Passing:
+    def __init__(self, client, request):
+        self.client, self.request = client, request
+
+    async def reply(self):
+        request, body = self.request, self.request.body
+        headers = [(name, value) for name, value in passed_on(request.headers) if name.lower() != "expect"]
+        whole, pieces = b"", None
+        if body.in_chunks:
+            headers.append(("Transfer-Encoding", "chunked"))
+            pieces = encoded(body.pieces())
+        elif not body.is_read and body.is_here:
+            whole = await body.whole(body.length)
+        elif not body.is_read:
+            pieces = body.pieces()
+        asking = self.client.asking(request.method, request.target, headers, whole, pieces)
+        answer = await asking.__aenter__()
+        try:
+            if answer.body.is_read or answer.body.is_here:
+                content = await answer.body.whole(answer.body.length)
+                await asking.__aexit__(None, None, None)
+                return Reply(answer.status, passed_on(answer.headers), content, reason=answer.reason)
+        except BaseException:
+            await asking.__aexit__(None, None, None)
+            raise
+        return Reply(answer.status, passed_on(answer.headers), pieces=self.pieces(asking, answer), reason=answer.reason)
+
+    @staticmethod
+    async def pieces(asking, answer):
+        try:
+            async for piece in answer.body.pieces():
+                yield piece
+        finally:
+            await asking.__aexit__(None, None, None)

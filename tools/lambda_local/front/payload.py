@@ -1,0 +1,140 @@
+"""HTTP requests as events, and results as answers, in payload format 2.0 (Lambda Developer Guide, "Function URLs"; API
+Gateway Developer Guide, "Lambda integrations for HTTP APIs")."""
+import base64
+import binascii
+import json
+import re
+import time
+from urllib.parse import parse_qsl
+
+from .http import OF_CONNECTION, TOKEN, Reply, every, first
+
+HERE = "127.0.0.1"
+TEXTUAL = re.compile(r"text/.*|application/(?:.*\+)?(?:json|xml)|application/javascript")
+FRAMING = OF_CONNECTION | {"content-length"}
+
+
+class Unmappable(Exception):
+    """Why a function's result is no answer."""
+
+
+def event_of(request, body, context, parameters=None):
+    """`context` has the members of requestContext that do not depend on the request."""
+    now, agent = time.time(), first(request.headers, "user-agent")
+    event = {
+        "version": "2.0", "routeKey": context["routeKey"], "rawPath": request.path, "rawQueryString": request.query,
+        **cookies_of(request), "headers": headers_of(request), **query_of(request),
+        "requestContext": {
+            **context,
+            "http": {"method": request.method, "path": request.path, "protocol": request.version, "sourceIp": HERE,
+                     "userAgent": agent or ""},
+            "time": time.strftime("%d/%b/%Y:%H:%M:%S +0000", time.gmtime(now)), "timeEpoch": int(1000 * now)},
+        **({"pathParameters": parameters} if parameters else {}),
+        **body_of(request, body)}
+    return json.dumps(event, ensure_ascii=False).encode(errors="replace")
+
+
+def cookies_of(request):
+    found = [cookie.strip() for value in every(request.headers, "cookie") for cookie in value.split(";") if cookie.strip()]
+    return {"cookies": found} if found else {}
+
+
+def headers_of(request):
+    """By their names in lower case; the values of one that stands more than once between commas."""
+    found = {}
+    for name, value in request.headers:
+        name = name.lower()
+        if name not in OF_CONNECTION and name not in ("cookie", "expect"):
+            found[name] = f"{found[name]},{value}" if name in found else value
+    found["x-forwarded-for"] = f"{found['x-forwarded-for']}, {HERE}" if "x-forwarded-for" in found else HERE
+    found.setdefault("x-forwarded-proto", "http")
+    return found
+
+
+def query_of(request):
+    found = {}
+    for name, value in parse_qsl(request.query, keep_blank_values=True):
+        found[name] = f"{found[name]},{value}" if name in found else value
+    return {"queryStringParameters": found} if found else {}
+
+
+def body_of(request, body):
+    """As text if its type says that it is one, else in base64."""
+    if not body:
+        return {"isBase64Encoded": False}
+    kind = (first(request.headers, "content-type") or "").partition(";")[0].strip().lower()
+    if TEXTUAL.fullmatch(kind) and not first(request.headers, "content-encoding"):
+        try:
+            return {"body": body.decode(), "isBase64Encoded": False}
+        except UnicodeDecodeError:
+            pass
+    return {"body": base64.b64encode(body).decode(), "isBase64Encoded": True}
+
+
+# ---- results ---------------------------------------------------------------------------------------------------------
+
+
+def reply_of(result):
+    """The answer that a result says, or the result itself as JSON."""
+    try:
+        value = json.loads(result)
+    except (ValueError, RecursionError):
+        raise Unmappable(f"it is no JSON: {result[:60].decode(errors='replace')}") from None
+    if not isinstance(value, dict) or "statusCode" not in value:
+        return Reply(200, [("Content-Type", "application/json")], result)
+    headers = headers_in(value)
+    if first(headers, "content-type") is None:
+        headers.append(("Content-Type", "application/json"))
+    headers += [("Set-Cookie", cookie) for cookie in cookies_in(value)]
+    return Reply(status_in(value), headers, body_in(value))
+
+
+def status_in(value):
+    status = value["statusCode"]
+    if isinstance(status, str) and re.fullmatch("[0-9]{3}", status):
+        status = int(status)
+    if isinstance(status, bool) or not isinstance(status, int) or not 200 <= status <= 599:
+        raise Unmappable(f"statusCode must be a number from 200 to 599, not {json.dumps(status)[:60]}")
+    return status
+
+
+def text_in(value, where):
+    """A header's value, also given as a number, true or false."""
+    text = value if isinstance(value, str) else json.dumps(value) if isinstance(value, (int, float)) else None
+    if text is None or re.search(r"[\r\n\0]", text):
+        raise Unmappable(f"{where} must be a text of one line, not {json.dumps(value)[:60]}")
+    return text.encode().decode("latin-1")
+
+
+def headers_in(value):
+    given = value.get("headers")
+    if given is None:
+        return []
+    if not isinstance(given, dict):
+        raise Unmappable(f"headers must be an object, not {json.dumps(given)[:60]}")
+    if wrong := [name for name in given if not TOKEN.fullmatch(name)]:
+        raise Unmappable(f"headers: {json.dumps(wrong[0])[:60]} is no name of a header")
+    return [(name, text_in(text, f"headers: {name}")) for name, text in given.items() if name.lower() not in FRAMING]
+
+
+def cookies_in(value):
+    given = value.get("cookies")
+    if given is None:
+        return []
+    if not isinstance(given, list):
+        raise Unmappable(f"cookies must be a list of texts, not {json.dumps(given)[:60]}")
+    return [text_in(cookie, "cookies: each") for cookie in given]
+
+
+def body_in(value):
+    body = value.get("body")
+    if body is None:
+        return b""
+    if not isinstance(body, str):
+        raise Unmappable(f"body must be a text, not {json.dumps(body)[:60]}")
+    if value.get("isBase64Encoded") is not True:
+        return body.encode(errors="replace")
+    try:
+        return base64.b64decode(body, validate=True)
+    except (binascii.Error, ValueError):
+        raise Unmappable("body is no base64, which isBase64Encoded says") from None

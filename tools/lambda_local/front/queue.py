@@ -1,0 +1,163 @@
+"""The events that wait for their function, and what becomes of them (Developer Guide, "How Lambda handles errors and retries
+with asynchronous invocation")."""
+import asyncio
+import contextlib
+from collections import deque
+
+from .events import Event, target_of
+from .http import first
+from .wire import Gone
+
+MOST_EVENTS, MOST_BYTES = 1000, 64 << 20  # that wait or run
+FIRST_PAUSE, LONGEST_PAUSE = 0.05, 5.0  # seconds, after a throttle; each further one in a row doubles it
+GROWS_AFTER = 8  # successes in a row, until one more event of a function is tried at once
+
+
+class Full(Exception):
+    """The queue takes no event now."""
+
+
+class Lane:
+    """The events of one function. At most `limit` of them run at once: as many as there are environments, until a throttle
+    shows that fewer can."""
+
+    def __init__(self, environments):
+        self.ready, self.running = deque(), 0
+        self.environments = self.limit = environments
+        self.throttles, self.successes, self.pause = 0, 0, None
+
+    def throttled(self):
+        """The seconds until the next attempt."""
+        self.limit, self.successes = max(1, self.running), 0
+        self.throttles += 1
+        return min(LONGEST_PAUSE, FIRST_PAUSE * 2 ** min(self.throttles - 1, 10))
+
+    def taken(self):
+        self.throttles, self.successes = 0, self.successes + 1
+        if self.successes >= GROWS_AFTER and self.limit < self.environments:
+            self.limit, self.successes = self.limit + 1, 0
+
+
+class Queue:
+    def __init__(self, client, settings, configuration, identifiers, log):
+        self.client, self.settings, self.identifiers, self.log = client, settings, identifiers, log
+        self.arn = f"arn:aws:lambda:{configuration['region']}:{configuration['account']}:function:"
+        self.lanes = {function["name"]: Lane(len(function["ports"])) for function in configuration["functions"]}
+        self.events, self.size, self.tasks = {}, 0, set()
+        self.is_closed = False
+
+    @property
+    def count(self):
+        return len(self.events)
+
+    def put(self, event, always=False):
+        """Full if there is no room, unless the event must be taken."""
+        if not always and (self.count >= MOST_EVENTS or self.size + len(event.payload) > MOST_BYTES):
+            raise Full
+        self.events[event.identifier] = event
+        self.size += len(event.payload)
+        self.enqueue(event)
+
+    def enqueue(self, event, at_the_front=False):
+        lane = self.lanes[event.function]
+        (lane.ready.appendleft if at_the_front else lane.ready.append)(event)
+        self.go_on(lane)
+
+    def go_on(self, lane):
+        """Begins as many attempts as can be."""
+        while lane.ready and lane.running < lane.limit and lane.pause is None and not self.is_closed:
+            lane.running += 1
+            task = asyncio.get_running_loop().create_task(self.attempt(lane, lane.ready.popleft()))
+            self.tasks.add(task)
+            task.add_done_callback(self.tasks.discard)
+
+    def hold(self, lane, seconds):
+        """No attempt is begun for so long, or until one that runs has ended."""
+        if lane.pause:
+            lane.pause.cancel()
+        lane.pause = asyncio.get_running_loop().call_later(seconds, self.release, lane)
+
+    def release(self, lane):
+        if lane.pause:
+            lane.pause.cancel()
+        lane.pause = None
+        self.go_on(lane)
+
+    # ---- an attempt --------------------------------------------------------------------------------------------------
+
+    async def attempt(self, lane, event):
+        if event.age > self.settings.oldest:
+            lane.running -= 1
+            self.given_up(event, "EventAgeExceeded", f"is older than {self.settings.oldest:g} s")
+            return self.go_on(lane)
+        try:
+            status, headers, body = await self.client.ask("POST", event.target, event.headers, event.payload)
+        except Gone:
+            lane.running -= 1
+            return  # (the service has ended: what is left is told at the end)
+        lane.running -= 1
+        if status == 429 or status >= 500:
+            event.throttles += 1
+            lane.ready.appendleft(event)
+            return self.hold(lane, lane.throttled())
+        lane.taken()
+        self.ended(event, status, headers, body)
+        self.release(lane)
+
+    def ended(self, event, status, headers, body):
+        event.attempts += 1
+        invocation = first(headers, "x-amzn-requestid")
+        if status != 200:
+            self.say(event, f"is refused: {status} {body.decode(errors='replace')[:200]}", "error", "refused", invocation)
+            self.forget(event)
+        elif first(headers, "x-amz-function-error") is None:
+            self.say(event, f"ok after {1000 * event.age:.0f} ms" + (f", attempt {event.attempts}" if event.attempts > 1 else ""),
+                     "ok", "ok", invocation)
+            self.forget(event)
+        else:
+            event.result = body
+            self.failed(event, invocation)
+
+    def failed(self, event, invocation):
+        if event.attempts > self.settings.retries:
+            return self.given_up(event, "RetriesExhausted", f"failed, attempt {event.attempts} of {event.attempts}", invocation)
+        delay = self.settings.delay(event.attempts)
+        self.say(event, f"failed, attempt {event.attempts} of {self.settings.retries + 1}: again after {delay:g} s", "warning", "retry",
+                 invocation)
+        asyncio.get_running_loop().call_later(delay, self.enqueue, event)
+
+    def given_up(self, event, condition, why, invocation=None):
+        """The destination gets its record; a destination's own failure ends here."""
+        destination = self.settings.on_failure
+        goes_on = destination and event.function != destination
+        self.say(event, f"{why}: " + (f"its record goes to {destination}" if goes_on else "it is dropped"), "error", condition, invocation)
+        self.forget(event)
+        if goes_on:
+            record = event.record(condition, f"{self.arn}{event.function}:$LATEST")
+            made = Event(self.identifiers.next(destination), destination, target_of(destination), [], record)
+            self.put(made, always=True)
+
+    def forget(self, event):
+        if self.events.pop(event.identifier, None):
+            self.size -= len(event.payload)
+
+    def say(self, event, text, level, status, invocation=None):
+        self.log(event.function, f"event {event.identifier} {text}", level=level, kind="event", function=event.function,
+                 request=event.identifier, status=status, attempts=event.attempts, age_ms=round(1000 * event.age), invocation=invocation)
+
+    # ---- the end -----------------------------------------------------------------------------------------------------
+
+    async def drained(self, seconds):
+        """Waits until no event is left, at most so long."""
+        with contextlib.suppress(asyncio.TimeoutError):
+            await asyncio.wait_for(self._until_empty(), seconds)
+
+    async def _until_empty(self):
+        while self.events:
+            await asyncio.sleep(0.01)
+
+    def close(self):
+        """Tells what is lost."""
+        self.is_closed = True
+        for event in self.events.values():
+            self.say(event, f"is lost by the stop, after {event.attempts} attempts", "error", "lost")

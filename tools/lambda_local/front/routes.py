@@ -1,0 +1,81 @@
+"""The routes of an HTTP API: which of them takes a request, and the parameters that its path has (API Gateway Developer
+Guide, "Routes for HTTP APIs")."""
+import re
+from urllib.parse import unquote
+
+from .http import TOKEN
+
+DEFAULT = "$default"
+PARAMETER = re.compile(r"\{([^{}/+]+)(\+?)\}")
+
+
+class WrongRoute(Exception):
+    """Why a route cannot be read."""
+
+
+def parts_of(path):
+    return path.strip("/").split("/") if path.strip("/") else []
+
+
+class Route:
+    """`key` is `METHOD /path/{parameter}/{rest+}`, with `ANY` for each method, or `$default`."""
+
+    def __init__(self, key, function):
+        self.key, self.function = key, function
+        if key == DEFAULT:
+            self.method, self.parts = "ANY", None
+            return
+        method, _, path = key.partition(" ")
+        if not path.startswith("/") or not TOKEN.fullmatch(method) or method != method.upper() or re.search(r"\s|\?", path):
+            raise WrongRoute('write it as METHOD /path, such as "GET /orders/{id}", or $default')
+        self.method, self.parts = method, [self.part_of(part) for part in parts_of(path)]
+        if any(kind == "rest" for kind, _ in self.parts[:-1]):
+            raise WrongRoute("{NAME+} must be the last part of its path")
+
+    @staticmethod
+    def part_of(part):
+        found = PARAMETER.fullmatch(part)
+        if not found and re.search("[{}]", part):
+            raise WrongRoute(f"a parameter is a whole part of the path, {{NAME}}, not {part}")
+        return ("rest" if found[2] else "one", found[1]) if found else ("text", part)
+
+    @property
+    def shape(self):
+        """What it takes, whatever its parameters are called."""
+        return self.method, None if self.parts is None else tuple((kind, name if kind == "text" else "") for kind, name in self.parts)
+
+    @property
+    def rank(self):
+        """By which the most specific of several is found: text before a parameter, that before the rest, and a method
+        before ANY."""
+        order = {"text": 0, "one": 1, "rest": 2}
+        return self.parts is None, [order[kind] for kind, _ in self.parts or []], self.method == "ANY"
+
+    def match(self, method, path):
+        """The parameters of a request that it takes; none if it does not."""
+        if self.method not in ("ANY", method):
+            return None
+        if self.parts is None:
+            return {}
+        given, found = parts_of(path), {}
+        for number, (kind, name) in enumerate(self.parts):
+            if kind == "rest" and len(given) > number:
+                return {**found, name: unquote("/".join(given[number:]))}
+            if number >= len(given) or kind == "text" and unquote(given[number]) != name or kind == "rest":
+                return None
+            if kind == "one":
+                found[name] = unquote(given[number])
+        return found if len(given) == len(self.parts) else None
+
+
+class Routes:
+    def __init__(self, routes):
+        self.routes = sorted((Route(key, function) for key, function in routes.items()), key=lambda route: route.rank)
+
+    def find(self, method, path):
+        """The route that takes a request, and its parameters; none if none does."""
+        for route in self.routes:
+            found = route.match(method, path)
+            if found is not None:
+                return route, found
+        return None

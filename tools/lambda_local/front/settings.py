@@ -1,0 +1,139 @@
+"""The members of UP.json that say what stands in front of the functions."""
+from typing import Dict, NamedTuple, Optional, Tuple
+
+from ..configuration import PORT, Kind, is_list_of, is_text, is_whole, mistakes_of, shown
+from .routes import Route, WrongRoute
+
+DELAYS = (1.0, 2.0)  # seconds; Lambda's are 60 and 120
+MOST_RETRIES, LONGEST_DELAY, OLDEST = 2, 900, 21600
+
+
+def is_seconds(value):
+    return isinstance(value, (int, float)) and not isinstance(value, bool) and 0 <= value <= LONGEST_DELAY
+
+
+YES = Kind(lambda value: isinstance(value, bool), "true or false")
+TEXTS = Kind(is_list_of(is_text), "a list of texts")
+OF_ASYNCHRONOUS = {
+    "retries": Kind(lambda value: is_whole(value, MOST_RETRIES + 1), "a whole number from 0 to 2"),
+    "delays": Kind(lambda value: is_list_of(is_seconds)(value) and value != [], "a list of seconds, each from 0 to 900"),
+    "maximumAge": Kind(lambda value: is_whole(value, OLDEST + 1) and value > 0, "a whole number of seconds, from 1 to 21600"),
+    "onFailure": Kind(is_text, "a text: the name of a function"),
+}
+OF_CORS = {
+    "allowCredentials": YES, "allowHeaders": TEXTS, "allowMethods": TEXTS, "allowOrigins": TEXTS, "exposeHeaders": TEXTS,
+    "maxAge": Kind(lambda value: is_whole(value, 86401), "a whole number of seconds, up to 86400"),
+}
+OBJECT = Kind(lambda value: isinstance(value, dict), "an object")
+OF_ADDRESS = {"port": PORT, "cors": OBJECT}
+SWITCH = Kind(lambda value: isinstance(value, (bool, dict)), "true, or an object")
+AT_THE_TOP = {
+    "asynchronous": SWITCH,
+    "routes": Kind(lambda value: isinstance(value, dict) and all(map(is_text, value.values())),
+                   'an object: for each route, such as "GET /orders/{id}", the name of a function'),
+    "api": OBJECT,
+}
+OF_FUNCTION = {"url": SWITCH}
+
+
+class Asynchronous(NamedTuple):
+    retries: int = MOST_RETRIES
+    delays: Tuple[float, ...] = DELAYS
+    oldest: float = OLDEST  # seconds
+    on_failure: Optional[str] = None
+
+    def delay(self, attempts):
+        """Seconds between this many failed attempts and the next one."""
+        return self.delays[min(attempts, len(self.delays)) - 1]
+
+
+class Cors(NamedTuple):
+    origins: Tuple[str, ...] = ()
+    methods: Tuple[str, ...] = ()
+    headers: Tuple[str, ...] = ()
+    exposed: Tuple[str, ...] = ()
+    credentials: bool = False
+    seconds: Optional[int] = None
+
+
+class Address(NamedTuple):
+    """Where HTTP requests come in."""
+    port: int = 0
+    cors: Optional[Cors] = None
+
+
+class Settings(NamedTuple):
+    invoke_port: int
+    asynchronous: Optional[Asynchronous]
+    urls: Dict[str, Address]  # by function
+    routes: Dict[str, str]
+    api: Address
+
+
+def mistakes(whole):
+    """What is wrong inside these members, whose own types have been looked at."""
+    names = [member["name"] for member in whole["functions"]]
+    given = whole.get("asynchronous")
+    if isinstance(given, dict):
+        yield from mistakes_of(given, OF_ASYNCHRONOUS, "asynchronous: ")
+        if is_text(given.get("onFailure")) and given["onFailure"] not in names:
+            yield f"asynchronous: onFailure: there is no function {shown(given['onFailure'])}"
+    for member in whole["functions"]:
+        if isinstance(member.get("url"), dict):
+            yield from mistakes_of_address(member["url"], f"function {member['name']}: url: ")
+    yield from mistakes_of_address(whole.get("api", {}), "api: ")
+    if "api" in whole and "routes" not in whole:
+        yield "api: there are no routes: write \"routes\", or leave it out"
+    yield from mistakes_of_routes(whole.get("routes", {}), names)
+
+
+def mistakes_of_address(given, where):
+    yield from mistakes_of(given, OF_ADDRESS, where)
+    if isinstance(given.get("cors"), dict):
+        yield from mistakes_of(given["cors"], OF_CORS, f"{where}cors: ")
+
+
+def mistakes_of_routes(routes, names):
+    seen = {}
+    for key, name in routes.items():
+        where = f"routes: {shown(key)}: "
+        if name not in names:
+            yield f"{where}there is no function {shown(name)}"
+        try:
+            shape = Route(key, name).shape
+        except WrongRoute as fault:
+            yield f"{where}{fault}"
+            continue
+        if shape in seen:
+            yield f"{where}it takes the same requests as {shown(seen[shape])}: leave one of the two out"
+        seen[shape] = key
+
+
+def cors_of(given):
+    if given is None:
+        return None
+    return Cors(tuple(given.get("allowOrigins", ())), tuple(given.get("allowMethods", ())), tuple(given.get("allowHeaders", ())),
+                tuple(given.get("exposeHeaders", ())), given.get("allowCredentials", False), given.get("maxAge"))
+
+
+def address_of(given):
+    given = given if isinstance(given, dict) else {}
+    return Address(given.get("port", 0), cors_of(given.get("cors")))
+
+
+def asynchronous_of(given):
+    if not given and given != {}:
+        return None
+    given = given if isinstance(given, dict) else {}
+    return Asynchronous(given.get("retries", MOST_RETRIES), tuple(given.get("delays", DELAYS)), given.get("maximumAge", OLDEST),
+                        given.get("onFailure"))
+
+
+def settings_of(whole):
+    """What UP.json says, in which there is no mistake; none if nothing stands in front of the functions."""
+    asynchronous = asynchronous_of(whole.get("asynchronous"))
+    urls = {member["name"]: address_of(member["url"]) for member in whole["functions"]
+            if member.get("url") or member.get("url") == {}}
+    if not (asynchronous or urls or whole.get("routes")):
+        return None
+    return Settings(whole.get("invokePort", 0), asynchronous, urls, whole.get("routes", {}), address_of(whole.get("api")))

@@ -1,0 +1,215 @@
+"""The history of a service as small objects: of a text, or followed as it grows (docs/formats.md has the text's form).
+
+    follower = Follower(port)
+    while True:
+        for entry in follower.read():           # those that have come since the last time, the oldest first
+            print(entry.number, entry.moment, entry.kind, entry.environment, entry.own)
+
+An entry never changes once it is there: the answers that a call gave, also to calls before it, stand in its own entry."""
+import http.client
+import io
+import json
+from collections import Counter
+from typing import NamedTuple, Optional, Tuple
+from urllib.parse import unquote_to_bytes
+
+OPENING = b"form 2\n"
+EXPIRE = "expire"
+OF_FUNCTIONS = ("invoke", "reserve")
+OF_ENVIRONMENTS = ("next", "response", "failure", "response-too-large", "init-failure", "register", "ext-next", "ext-init-failure",
+                   "ext-exit-failure", "spindown", EXPIRE)
+
+
+class Answer(NamedTuple):
+    """What an entry answered: `ticket` is the number of the entry whose call is answered."""
+    ticket: int
+    kind: str  # the first word: "deliver", "output", "refused" ..
+    fields: Tuple[str, ...]  # the other words
+
+    @property
+    def body(self) -> Optional[bytes]:
+        """Its text, decoded, if it has one."""
+        return text_of(self.fields)
+
+
+class Entry(NamedTuple):
+    """A call that was taken, or an environment that expired, with the answers that it gave."""
+    number: int  # from 0: the ticket of its call
+    moment: int  # milliseconds
+    kind: str  # the call's word: "invoke", "next" ..; "expire" for an expiry
+    fields: Tuple[str, ...]  # the call's other words
+    answers: Tuple[Answer, ...]
+
+    @property
+    def own(self) -> Optional[Answer]:
+        """The answer to its own call; none if that waits."""
+        return next((answer for answer in self.answers if answer.ticket == self.number), None)
+
+    @property
+    def environment(self) -> Optional[int]:
+        """The number of the environment that the call names, from 1."""
+        return int(self.fields[0]) if self.kind in OF_ENVIRONMENTS else None
+
+    @property
+    def function(self) -> Optional[str]:
+        """The name of the function that the call names."""
+        return self.fields[0] if self.kind in OF_FUNCTIONS else None
+
+    @property
+    def count(self) -> Optional[int]:
+        """The count in the identifier that the call names: of a request, or of an extension."""
+        return int(self.fields[1]) if self.kind in ("response", "failure", "response-too-large", "ext-next", "ext-init-failure",
+                                                    "ext-exit-failure") else None
+
+    @property
+    def body(self) -> Optional[bytes]:
+        """The payload, the output or the report, decoded; of a registration the extension's name."""
+        return text_of(self.fields)
+
+
+def text_of(fields):
+    """The last text field, decoded; none if there is none."""
+    found = next((field for field in reversed(fields) if field.startswith("=")), None)
+    return None if found is None else decoded(found)
+
+
+def decoded(field):
+    """The bytes of a field `=TEXT`; a `%` without two hexadecimal digits is itself."""
+    return unquote_to_bytes(field[1:])
+
+
+def count_in(identifier):
+    """The count of a request, extension or event identifier."""
+    return int(identifier[-12:], 16)
+
+
+def request_identifier(salt, function, count):
+    """The identifier of the Invoke that is the `count`-th of the function with this number, both from 1."""
+    high = salt & ~0xF000 | 0x8000
+    whole = f"{high:016x}8{function:03x}{count:012x}"
+    return "-".join((whole[:8], whole[8:12], whole[12:16], whole[16:20], whole[20:]))
+
+
+def entries_of(lines, first=0):
+    """The entries of the lines behind a history's opening, which begin with the entry number `first`."""
+    number, head, answers = first - 1, None, []
+    for line in lines:
+        if line.startswith("# "):
+            _, _, ticket, kind, *fields = line.split(" ")
+            answers.append(Answer(int(ticket), kind, tuple(fields)))
+        elif line:
+            if head:
+                yield entry_of(number, head, answers)
+            number, head, answers = number + 1, line, []
+    if head:
+        yield entry_of(number, head, answers)
+
+
+def entry_of(number, head, answers):
+    words = head.split(" ")
+    if words[0] == "##":
+        del words[0]
+    return Entry(number, int(words[0]), words[1], tuple(words[2:]), tuple(answers))
+
+
+def opened(history):
+    """The configuration and the entries of a whole history's text."""
+    lines = history.split("\n")
+    if lines[0] != "form 2" or len(lines) < 2:
+        raise ValueError("a history begins with the line `form 2` and a line with the configuration")
+    return json.loads(lines[1]), entries_of(lines[2:])
+
+
+def parked(history):
+    """The polls that wait, by the text of a whole history: the numbers of the environments whose runtime waits, and for
+    each environment how many extensions wait."""
+    waits = {}
+    for entry in opened(history)[1]:
+        if entry.kind in ("next", "ext-next"):
+            waits[entry.number] = entry
+        for answer in entry.answers:
+            waits.pop(answer.ticket, None)
+    extensions = Counter(entry.environment for entry in waits.values() if entry.kind == "ext-next")
+    return {entry.environment for entry in waits.values() if entry.kind == "next"}, extensions
+
+
+def sized_entries(lines, number):
+    """The entries of the lines (bytes, each with its end), the first of which has this number, with the bytes of each."""
+    held, size = [], 0
+    for line in lines:
+        if held and not line.startswith(b"# "):
+            yield from ((entry, size) for entry in entries_of(held, number))
+            held, size, number = [], 0, number + 1
+        held.append(line.decode("ascii").rstrip("\n"))
+        size += len(line)
+    if held:
+        yield from ((entry, size) for entry in entries_of(held, number))
+
+
+class Follower:
+    """Reads the history of the service whose callers' port this is, as it grows.
+
+    It asks `/_local/history?from=N`. A service that does not know `from` gives the whole history each time: what was
+    read before is then skipped, and nothing is asked unless the service has more entries than were read."""
+
+    def __init__(self, port, timeout=300):
+        self.next = 0  # the number of the first entry that was not read yet
+        self._connection = http.client.HTTPConnection("127.0.0.1", port, timeout=timeout)
+        self._bytes = 0  # how many of the whole history were read
+        self._gives_all = False  # whatever it is asked
+
+    def read(self):
+        """The entries that have come since the last time. OSError or HTTPException if the service does not answer."""
+        return list(self.stream())
+
+    def stream(self):
+        """The same one by one, as they come: of a long history only one at a time is in memory. If the service ceases to
+        answer in the middle, those that were given are not given again."""
+        if self._gives_all and json.loads(self._ask("/_local/stats").read())["entries"] <= self.next:
+            return
+        is_read = False
+        try:
+            with io.BufferedReader(self._ask(f"/_local/history?from={self.next}")) as text:
+                for entry, size in sized_entries(self._new_lines(text), self.next):
+                    self.next += 1
+                    self._bytes += size
+                    yield entry
+            is_read = True
+        finally:
+            if not is_read:
+                self._connection.close()
+
+    def _new_lines(self, text):
+        """The lines behind what was read before."""
+        first = text.readline()
+        self._gives_all = first == OPENING
+        if self._gives_all and not self.next:
+            self._bytes = len(first) + len(text.readline())
+        elif self._gives_all:
+            left = self._bytes - len(first)
+            while left > 0 and (skipped := text.read(min(left, 1 << 20))):
+                left -= len(skipped)
+        elif first:
+            yield first
+        yield from text
+
+    def close(self):
+        self._connection.close()
+
+    def _ask(self, path):
+        """The answer to a GET, on a connection that is kept; once more on a new one if the service had closed it."""
+        kept = self._connection.sock is not None
+        try:
+            return self._get(path)
+        except (OSError, http.client.HTTPException):
+            self._connection.close()
+            if not kept:
+                raise
+        return self._get(path)
+
+    def _get(self, path):
+        self._connection.request("GET", path)
+        answer = self._connection.getresponse()
+        if answer.status != 200:
+            raise http.client.HTTPException(f"GET {path}: {answer.status} {answer.read()[:200].decode(errors='replace')}")
+        return answer

@@ -1,0 +1,277 @@
+"""A service whose handlers run in this process: what the pytest plugin gives to a test, and usable without pytest.
+
+    with LambdaLocal(greet=handler) as service:
+        service.invoke("greet", {"name": "Ada"})
+
+A function has one environment, or as many as its member `environments` says: its handler then runs in as many threads.
+A handler takes the event, or the event and its context, as Lambda calls it; `context.headers` are those of the
+invocation. The process's environment variables stay as they are."""
+import functools
+import http.client
+import inspect
+import json
+import os
+import subprocess
+import sys
+import threading
+import time
+import traceback
+import types
+import urllib.error
+import urllib.request
+
+from .configuration import OF_FUNCTION, Kind, is_whole, mistakes_of
+from .paths import ROOT
+from .service import RUNTIME, Service, program_path
+
+OWN = {"environments": Kind(lambda value: is_whole(value, 257) and value > 0, "a whole number from 1 to 256"),
+       "memory": Kind(lambda value: is_whole(value, 1 << 32), "a whole number of MB")}
+MEMBERS = {**{name: kind for name, kind in OF_FUNCTION.items() if name != "name"}, **OWN,
+           "ports": Kind(lambda value: isinstance(value, list) and all(is_whole(port, 1 << 16) for port in value),
+                         "a list of ports, 0 for a free one")}
+FAULTS_KEPT = 100  # the newest of those that no invoke has asked for
+PAUSE = 0.02  # seconds, until an environment that was reset is asked again
+
+
+class FunctionError(Exception):
+    """What the function, or the service for it, reported to its caller: `.report` is the body. Its `__cause__` is what
+    the handler raised."""
+
+    def __init__(self, report):
+        super().__init__(f"{report.get('errorType')}: {report.get('errorMessage')}" if isinstance(report, dict) else str(report))
+        self.report = report
+
+
+@functools.lru_cache(maxsize=None)
+def prepared(program):
+    """The program behind the launcher, which looks at all sources each time that it is started: once is enough."""
+    if os.path.realpath(program) != os.path.join(ROOT, "lambda_local"):
+        return program
+    told = subprocess.run([program, "path"], stdout=subprocess.PIPE, text=True)
+    path = told.stdout.strip()
+    return path if told.returncode == 0 and os.access(path, os.X_OK) else program
+
+
+def function_of(name, members, handler):
+    """A function's part of the configuration, with free ports, and its memory."""
+    where = f"function {name}"
+    if handler is not None and not callable(handler):
+        raise ValueError(f"{where}: its handler is {handler!r}: give a function of an event, or of an event and its context")
+    if not isinstance(members, dict):
+        raise ValueError(f"{where}: its members are {members!r}: give a dict, such as {{\"timeout\": 5}}")
+    for mistake in mistakes_of(members, MEMBERS, f"{where}: "):
+        raise ValueError(mistake)
+    if "environments" in members and "ports" in members:
+        raise ValueError(f"{where}: it has ports and environments: leave one of the two out")
+    part = {member: value for member, value in members.items() if member not in OWN}
+    return {"name": name, "ports": [0] * members.get("environments", 1), **part}, str(members.get("memory", 128))
+
+
+def context_of(headers, memory):
+    """What a handler may ask of its invocation (Developer Guide, "Using the Lambda context object to retrieve Python
+    function information"), and the headers."""
+    arn, deadline = headers["Lambda-Runtime-Invoked-Function-Arn"], int(headers["Lambda-Runtime-Deadline-Ms"])
+    name = arn.split(":")[6]
+    return types.SimpleNamespace(
+        headers=headers, aws_request_id=headers["Lambda-Runtime-Aws-Request-Id"], invoked_function_arn=arn, function_name=name,
+        function_version="$LATEST", memory_limit_in_mb=memory, log_group_name=f"/aws/lambda/{name}", log_stream_name="local/[$LATEST]1",
+        identity=types.SimpleNamespace(cognito_identity_id=None, cognito_identity_pool_id=None), client_context=None,
+        get_remaining_time_in_millis=lambda: max(0, deadline - int(1000 * time.time())), log=lambda text: sys.stdout.write(str(text)))
+
+
+def takes_context(handler):
+    try:
+        inspect.signature(handler).bind(None, None)
+    except TypeError:
+        return False
+    except ValueError:  # a callable that tells nothing of itself
+        pass
+    return True
+
+
+def report_of(fault, request):
+    """The fault as Lambda's Python runtime reports it; its trace is printed, without this module's own frames."""
+    frame = fault.__traceback__
+    while frame and frame.tb_frame.f_code.co_filename == __file__:
+        frame = frame.tb_next
+    print(*traceback.format_exception(type(fault), fault, frame), sep="", end="", file=sys.stderr)
+    return {"errorMessage": str(fault), "errorType": type(fault).__name__, "requestId": request,
+            "stackTrace": traceback.format_list(traceback.extract_tb(frame))}
+
+
+class Runtime(threading.Thread):
+    """The runtime of one environment."""
+
+    def __init__(self, owner, port, handler, memory):
+        super().__init__(name=f"lambda_local {port}", daemon=True)
+        self.owner, self.handler, self.memory, self.has_context = owner, handler, memory, takes_context(handler)
+        self.connection = http.client.HTTPConnection("127.0.0.1", port)
+
+    def ask(self, method, path, body=None):
+        self.connection.request(method, RUNTIME + path, body)
+        reply = self.connection.getresponse()
+        return reply.status, reply.headers, reply.read()
+
+    def run(self):
+        try:
+            while not self.owner.has_ended():
+                try:
+                    self.serve()
+                except (OSError, http.client.HTTPException):
+                    self.connection.close()
+                if not self.owner.has_ended():
+                    time.sleep(PAUSE)
+        finally:
+            self.connection.close()
+
+    def serve(self):
+        """Handles invocations until the environment closes; it then begins anew."""
+        while True:
+            status, headers, payload = self.ask("GET", "invocation/next")
+            if status != 200:
+                return
+            kind, body = self.outcome(payload, headers)
+            self.ask("POST", f"invocation/{headers['Lambda-Runtime-Aws-Request-Id']}/{kind}", body)
+
+    def outcome(self, payload, headers):
+        """What an invocation comes to: "response" or "error", and the body to post."""
+        request = headers["Lambda-Runtime-Aws-Request-Id"]
+        try:
+            event = json.loads(payload)
+            output = self.handler(event, context_of(headers, self.memory)) if self.has_context else self.handler(event)
+        except BaseException as fault:  # also pytest.fail and sys.exit: who invoked it is to see them
+            self.owner.keep(request, fault)
+            return "error", json.dumps(report_of(fault, request))
+        try:
+            return "response", json.dumps(output)
+        except Exception as fault:
+            self.owner.keep(request, fault)
+            report = {**report_of(fault, request), "errorType": "Runtime.MarshalError",
+                      "errorMessage": f"Unable to marshal response: {fault}"}
+            return "error", json.dumps(report)
+
+
+class LambdaLocal:
+    """A service of these functions: `timeout`, `reserved`, `environments` .. of a function by `functions`."""
+
+    service, endpoint_url, stopped, log = None, None, False, ""
+
+    def __init__(self, functions=None, program=None, **handlers):
+        self.program, self.runtimes, self.faults = program, [], {}
+        if functions or handlers:
+            self.start(functions, **handlers)
+
+    def start(self, functions=None, **handlers):
+        if self.service:
+            raise RuntimeError("it has been started: name all functions in one start(), or make another LambdaLocal()")
+        members = {**dict.fromkeys(handlers, {}), **(functions or {})}
+        if not members:
+            raise ValueError("start() needs a function: start(NAME=handler)")
+        parts = [function_of(name, member, handlers.get(name)) for name, member in members.items()]
+        configuration = {"account": "123456789012", "region": "us-east-1", "functions": [part for part, _ in parts]}
+        self.service = Service(configuration, self.program or prepared(program_path()))
+        self.endpoint_url = self.service.endpoint_url
+        for (_, memory), part in zip(parts, self.service.configuration["functions"]):
+            if handler := handlers.get(part["name"]):
+                self.runtimes += [Runtime(self, port, handler, memory) for port in part["ports"]]
+        for runtime in self.runtimes:
+            runtime.start()
+        return self
+
+    def has_ended(self):
+        return self.stopped or self.service.process.poll() is not None
+
+    def keep(self, request, fault):
+        """What a handler raised, until its caller asks."""
+        self.faults[request] = fault
+        if len(self.faults) > FAULTS_KEPT:
+            self.faults.pop(next(iter(self.faults)), None)
+
+    def started(self):
+        """The service; a fault that says what to do if there is none."""
+        if self.service is None:
+            raise RuntimeError("no function is started yet: call start(NAME=handler) first")
+        if self.has_ended():
+            raise RuntimeError("the service was stopped" if self.stopped else f"the service has ended: {self.service.lines[-1:]}")
+        return self.service
+
+    def invoke(self, name, event=None, patience=2.0):
+        """What the handler gave; FunctionError if it failed. An environment that has answered and not yet asked again is
+        busy: for `patience` seconds a throttle by it is tried again."""
+        if self.endpoint_url is None or self.stopped:
+            self.started()
+        end = time.monotonic() + patience
+        while True:
+            request = urllib.request.Request(f"{self.endpoint_url}/2015-03-31/functions/{name}/invocations", json.dumps(event).encode(),
+                                             method="POST")
+            try:
+                with urllib.request.urlopen(request, timeout=1000) as answer:
+                    body = json.loads(answer.read() or b"null")
+                    if answer.headers.get("X-Amz-Function-Error"):
+                        raise FunctionError(body) from self.faults.pop(answer.headers.get("x-amzn-RequestId"), None)
+                    return body
+            except urllib.error.HTTPError as fault:
+                text = fault.read()
+                fault.close()
+                if fault.code != 429 or time.monotonic() > end:
+                    raise FunctionError({"errorType": fault.headers.get("x-amzn-ErrorType"),
+                                         "errorMessage": text.decode(errors="replace")}) from None
+                time.sleep(0.005)
+            except urllib.error.URLError:
+                if self.service:
+                    self.started()
+                raise
+
+    def client(self, **words):
+        """A boto3 client of this service."""
+        if self.endpoint_url is None:
+            self.started()
+        try:
+            import boto3
+        except ImportError:
+            raise RuntimeError("boto3 is not installed: `pip install boto3`, or use .invoke()") from None
+        return boto3.client("lambda", **{"endpoint_url": self.endpoint_url, "region_name": "us-east-1", "aws_access_key_id": "local",
+                                         "aws_secret_access_key": "local", **words})
+
+    def stats(self):
+        return self.started().stats()
+
+    def history(self):
+        return self.service.history() if self.service and not self.stopped else self.log
+
+    def settled(self, seconds=5):
+        """Waits until nothing is in flight; whether it came to that."""
+        end = time.monotonic() + seconds
+        while self.stats()["inFlight"]:
+            if time.monotonic() > end:
+                return False
+            time.sleep(0.005)
+        return True
+
+    def stop(self):
+        """Stops it, and checks its counts and that its history replays to itself."""
+        if self.service is None or self.stopped:
+            return
+        try:
+            self.log, stats = self.service.history(), self.service.stats()
+        except (OSError, http.client.HTTPException):
+            self.stopped = True
+            self.service.kill()
+            raise AssertionError(f"the service has ended: {self.service.lines[-1:]}") from None
+        self.stopped = True
+        status, counts = self.service.stop()
+        for runtime in self.runtimes:
+            runtime.join(2)  # (a handler that hangs is a daemon, and is left)
+        words = counts.split()
+        told = [int(word) for word in words[1::2]]
+        assert status == 0, f"the service ended with {status}: {self.service.lines[-1:]}"
+        # (what is in flight at the stop fails)
+        assert words[::2] == ["admitted", "throttled", "failed"] and told[:2] == [stats["admitted"], stats["throttled"]], (counts, stats)
+        assert told[2] >= stats["failed"], (counts, stats)
+        assert self.service.replays(self.log), "the history does not replay to its own answers"
+
+    def __enter__(self):
+        return self
+
+    def __exit__(self, *_):
+        self.stop()

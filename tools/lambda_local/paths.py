@@ -1,0 +1,25 @@
+"""Where the files that come with the tools stand: in a checkout or a package of it, or installed by pip."""
+import os
+import sys
+
+PACKAGE = os.path.dirname(os.path.realpath(__file__))
+ROOT = os.path.dirname(os.path.dirname(PACKAGE))
+
+
+def bundled(name):
+    """The path of a file of `examples/`; none if it is not here."""
+    folders = (os.path.join(PACKAGE, "examples"), os.path.join(ROOT, "examples"))
+    return next((path for path in (os.path.join(folder, name) for folder in folders) if os.path.isfile(path)), None)
+
+
+def own_program():
+    """The program that was installed with the tools, else the launcher of the checkout."""
+    installed = os.path.join(PACKAGE, "bin", "lambda_local")
+    return installed if os.path.isfile(installed) else os.path.join(ROOT, "lambda_local")
+
+
+def tool(name):
+    """The words that start one of the tools with this Python, from wherever they stand."""
+    above = os.path.dirname(PACKAGE)
+    code = f"import sys; sys.path.insert(0, {above!r}); from lambda_local.cli import main; sys.exit(main())"
+    return [sys.executable, "-c", code, name]

@@ -1,0 +1,81 @@
+"""lambda_local for tests, as a pytest plugin: a service on free ports whose handlers run in the test's own process, so
+that breakpoints, coverage and monkeypatches work.
+
+    def test_greet(lambda_local):
+        lambda_local.start(greet=lambda event: {"hello": event["name"]})
+        assert lambda_local.invoke("greet", {"name": "Ada"}) == {"hello": "Ada"}
+
+`lambda_local_session` is one service for all tests of the session: start it in a session-wide fixture of your own. A
+handler's error is raised by `invoke` as FunctionError, from what the handler raised. The end stops the service and
+checks its counts, and that its history replays to itself. The report of a failed test has the history and its timeline,
+and names the files where both stand whole. The program is LAMBDA_LOCAL_PROGRAM, else the one that comes with the tools.
+`in_process.LambdaLocal` does without pytest."""
+import http.client
+import subprocess
+
+from .in_process import FunctionError, LambdaLocal  # noqa: F401
+from .paths import tool
+
+try:
+    import pytest
+except ImportError:
+    pytest = None
+
+if pytest:
+    from .rerun_marker import pytest_configure, pytest_runtest_call  # noqa: F401
+
+    SHOWN = 100  # lines of each in a report
+    TITLE = "lambda_local history"
+
+    @pytest.fixture
+    def lambda_local(request, tmp_path_factory):
+        """A service of this test's own: `start` starts it."""
+        service = LambdaLocal()
+        request.node.lambda_local = (service, tmp_path_factory)
+        yield service
+        service.stop()
+
+    @pytest.fixture(scope="session")
+    def lambda_local_session(request, tmp_path_factory):
+        """One service for the session: `start` starts it, once."""
+        service = LambdaLocal()
+        request.session.lambda_local = (service, tmp_path_factory)
+        yield service
+        service.stop()
+
+    def last_lines(text, path):
+        lines = text.splitlines()
+        return "\n".join([*([f".. {len(lines) - SHOWN} lines before these: {path}"] if len(lines) > SHOWN else []), *lines[-SHOWN:]])
+
+    def timeline(*words):
+        """What the timeline says of a history."""
+        return subprocess.run([*tool("timeline"), *map(str, words)], stdout=subprocess.PIPE, stderr=subprocess.STDOUT, text=True).stdout
+
+    def sections(history, folder):
+        """What a report says of a history, which stands whole in the folder, as does a page with its timeline."""
+        path, page = folder / "history.txt", folder / "timeline.html"
+        path.write_text(history)
+        yield f"{TITLE}: {path}", last_lines(history, path)
+        drawn = timeline("-o", page, path)
+        yield f"lambda_local timeline: {page}", last_lines(timeline(path) + drawn, page)
+
+    def services_of(item):
+        """The test's own service, and the session's if the test uses it, each with the factory of folders."""
+        if own := getattr(item, "lambda_local", None):
+            yield own
+        if "lambda_local_session" in getattr(item, "fixturenames", ()):
+            if shared := getattr(item.session, "lambda_local", None):
+                yield shared
+
+    @pytest.hookimpl(hookwrapper=True)
+    def pytest_runtest_makereport(item, call):
+        outcome = yield
+        report = outcome.get_result()
+        if not report.failed or any(title.startswith(TITLE) for title, _ in report.sections):
+            return  # (a plugin that is named twice, as by its short name too, reports once)
+        for service, folders in services_of(item):
+            if service.service:
+                try:
+                    report.sections += sections(service.history(), folders.mktemp("lambda_local"))
+                except (OSError, http.client.HTTPException) as fault:
+                    report.sections.append((TITLE, f"not to be had: {fault}"))

@@ -1,0 +1,75 @@
+"""Sends the invocations of a recorded history to today's functions, and compares what they answer.
+
+  tools/rerun history.txt UP.json                          with the concurrency that was recorded
+  tools/rerun --one-by-one history.txt UP.json             each once the one before it is answered
+  tools/rerun --ignore /time --ignore '/items/*/id' ..     but for these members of an output, whatever they are
+  tools/rerun --update history.txt UP.json                 writes the new history over the old one
+
+HISTORY is what GET /_local/history gives, and what `tools/up --history FILE` saves. UP.json is that of tools/up. Invocations
+that reached no function then (throttled, stopped, not answered) are not sent. docs/rerun.md has an example.
+
+Each invocation is equal; changed, with what differs by JSON pointer; failed now (with what), or failed then.
+Exit statuses: 0, all are equal; 1, something differs; 2, a fault in the arguments or the files, or the functions could not be
+run to the end."""
+import argparse
+import os
+import sys
+import tempfile
+
+from ..service import Fault
+from .again import rerun
+from .compare import pointer_of
+from .functions import Functions
+from .record import read
+from .report import EQUAL, text_of, write_junit
+
+
+def options_of():
+    parser = argparse.ArgumentParser(prog="tools/rerun", description=__doc__, formatter_class=argparse.RawDescriptionHelpFormatter)
+    parser.add_argument("history", metavar="HISTORY")
+    parser.add_argument("up", metavar="UP.json")
+    parser.add_argument("--one-by-one", action="store_true", help="never two invocations at once")
+    parser.add_argument("--ignore", metavar="POINTER", action="append", default=[],
+                        help="leave this member of outputs out of the comparison; * is any member (may be repeated)")
+    parser.add_argument("--update", action="store_true", help="write the new history over HISTORY")
+    parser.add_argument("--junit", metavar="FILE", help="write a report for CI systems")
+    parser.add_argument("--ready", metavar="SECONDS", type=float, default=60, help="wait at most so long for the functions (60)")
+    parser.add_argument("--verbose", action="store_true", help="show the lines of tools/up and of the functions")
+    parser.add_argument("--program", metavar="P",
+                        help="the program (default: LAMBDA_LOCAL_PROGRAM, else the one that comes with the tools)")
+    return parser.parse_args()
+
+
+def write(path, text):
+    """Writes a file whole or not at all."""
+    try:
+        with tempfile.NamedTemporaryFile("w", dir=os.path.dirname(os.path.abspath(path)), delete=False) as file:
+            file.write(text)
+        os.chmod(file.name, 0o644)
+        os.replace(file.name, path)
+    except OSError as fault:
+        raise Fault(2, f"--update: {path}: {fault.strerror}") from None
+
+
+def run(options):
+    pointers = [pointer_of(text) for text in options.ignore]
+    recording = read(options.history)
+    functions = Functions(options.up, recording, options.program, options.ready, options.verbose)
+    results, history = functions.used(
+        lambda: rerun(functions.service, recording, pointers, options.one_by_one, functions.happened.is_set))
+    print("\n".join(text_of(results, recording)))
+    if options.junit:
+        write_junit(options.junit, results)
+    if options.update:
+        write(options.history, history)
+    return 0 if all(result.verdict == EQUAL for result in results) else 1
+
+
+def main():
+    """Runs again what the command line names."""
+    options = options_of()
+    try:
+        return run(options)
+    except Fault as fault:
+        print(f"rerun: {fault}", file=sys.stderr)
+        return fault.status if fault.status > 128 else 2

@@ -1,0 +1,88 @@
+"""Sends recorded invocations to a service, as many at once as were in flight when they were recorded."""
+import http.client
+import threading
+import time
+from typing import NamedTuple, Optional
+from urllib.parse import quote
+
+from ..service import Fault
+
+LATE = 30  # seconds beyond a function's timeout, after which the service does not answer
+THROTTLED = 10  # seconds for which an invocation that was admitted when it was recorded is tried again
+PAUSE, LOOKS = 0.05, 40
+
+
+class Sent(NamedTuple):
+    """What came of an invocation: the status, the request identifier if it was admitted, and the body."""
+    status: int
+    identifier: Optional[str]
+    body: bytes
+    seconds: float
+
+
+class Attempt(threading.Thread):
+    """One invocation. `is_sent` once the service has it, so that the next one comes behind it."""
+
+    def __init__(self, port, invocation, timeout):
+        super().__init__(daemon=True)
+        self.port, self.invocation, self.timeout = port, invocation, timeout
+        self.is_sent, self.sent, self.fault = threading.Event(), None, None
+
+    def run(self):
+        begun = time.monotonic()
+        try:
+            status, identifier, body = self.invoke()
+            while status == 429 and time.monotonic() - begun < THROTTLED:
+                time.sleep(PAUSE)
+                status, identifier, body = self.invoke()
+            self.sent = Sent(status, identifier, body, time.monotonic() - begun)
+        except (OSError, http.client.HTTPException) as fault:
+            self.fault = str(fault) or type(fault).__name__
+        finally:
+            self.is_sent.set()
+
+    def invoke(self):
+        path = f"/2015-03-31/functions/{quote(self.invocation.function)}/invocations"
+        if self.invocation.qualifier:
+            path += "?Qualifier=$LATEST"
+        headers = {} if self.invocation.trace is None else {"X-Amzn-Trace-Id": self.invocation.trace}
+        connection = http.client.HTTPConnection("127.0.0.1", self.port, timeout=self.timeout)
+        try:
+            connection.request("POST", path, self.invocation.payload, headers)
+            self.is_sent.set()
+            answer = connection.getresponse()
+            return answer.status, answer.getheader("x-amzn-RequestId"), answer.read()
+        finally:
+            connection.close()
+
+
+def play(port, invocations, timeouts, one_by_one=False, is_over=lambda: False):
+    """Sends the invocations in their order, each once those are answered that were answered before it came, or once all are
+    answered that came before it. Gives what came of each. `is_over` says that the service has gone."""
+    running, done = [], []
+    for invocation in invocations:
+        for attempt in [other for other in running if one_by_one or other.invocation.end < invocation.ticket]:
+            wait(attempt, is_over)
+            running.remove(attempt)
+        attempt = Attempt(port, invocation, timeouts.get(invocation.function, 0) + LATE)
+        attempt.start()
+        attempt.is_sent.wait()
+        running.append(attempt)
+        done.append(attempt)
+    for attempt in running:
+        wait(attempt, is_over)
+    return [attempt.sent for attempt in done]
+
+
+def wait(attempt, is_over):
+    """Until it is answered. If the service does not answer, it may have ended, which is known a moment later."""
+    words, looks = f"call {attempt.invocation.ticket} of {attempt.invocation.function}", 0
+    while attempt.is_alive() or (attempt.fault and looks < LOOKS):
+        attempt.join(PAUSE)
+        if attempt.fault:
+            looks += 1
+            time.sleep(PAUSE)
+        if is_over():
+            raise Fault(2, f"the service has ended while {words} was sent again")
+    if attempt.fault:
+        raise Fault(2, f"the service does not answer {words}: {attempt.fault}")

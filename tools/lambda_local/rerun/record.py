@@ -1,0 +1,84 @@
+"""The invocations of a history, each with its answer."""
+import io
+import json
+from collections import Counter
+from typing import Dict, List, NamedTuple, Optional
+
+from ..history import count_in, decoded, entries_of
+from ..service import Fault
+from ..timeline.read import Lines, history_entries, read_configuration
+
+ANSWERED = ("output", "error", "timeout", "init-timeout", "too-large-output")  # by a function, or in its place
+
+
+class Invocation(NamedTuple):
+    """An Invoke of a history. Its answer's `kind` is "open" if it has none."""
+    ticket: int
+    function: str
+    place: int  # among the Invokes of its function, from 1: the count of its request identifier
+    qualifier: bool  # `$LATEST` was named
+    trace: Optional[str]
+    payload: bytes
+    kind: str
+    body: Optional[bytes]  # of its answer
+    end: Optional[int]  # the entry that answered it
+
+    @property
+    def was_served(self):
+        return self.kind in ANSWERED
+
+
+class Recording(NamedTuple):
+    salt: int
+    timeouts: Dict[str, int]  # seconds by function
+    invocations: List[Invocation]
+
+
+def read(path):
+    """The recording in a file."""
+    try:
+        with open(path, "rb") as file:
+            text = file.read()
+    except OSError as fault:
+        raise Fault(2, f"{path}: {fault.strerror}: name a file with a history") from None
+    return parsed(text, path)
+
+
+def parsed(text, path):
+    """The recording in a history's text, whose lines are looked at first."""
+    try:
+        lines = Lines(io.BytesIO(text))
+        configuration, form_2 = read_configuration(lines)
+        if not configuration.is_of_a_history:
+            raise Fault(2, "this is a script or another file, and no history: save what GET /_local/history answers")
+        if not text.endswith(b"\n"):
+            number = text.count(b"\n") + 1
+            raise Fault(2, f"line {number} has no end: the history is cut off")
+        for _ in history_entries(lines, configuration, form_2):
+            pass
+    except Fault as fault:
+        raise Fault(2, f"{path}: {fault}") from None
+    entries = list(entries_of(text.decode("ascii", "surrogateescape").replace("\r\n", "\n").split("\n")[2:]))
+    names = configuration.names
+    timeouts = {name: timeout // 1000 for name, timeout in zip(names, configuration.timeouts)}
+    return Recording(json.loads(configuration.line)["salt"], timeouts, list(invocations_of(entries)))
+
+
+def invocations_of(entries):
+    answers = {answer.ticket: (entry.number, answer) for entry in entries for answer in entry.answers}
+    counts = Counter()
+    for entry in entries:
+        if entry.kind != "invoke":
+            continue
+        counts[entry.function] += 1
+        end, answer = answers.get(entry.number, (None, None))
+        _, qualifier, trace, _ = entry.fields
+        yield Invocation(entry.number, entry.function, counts[entry.function], qualifier == "q",
+                         None if trace == "-" else decoded(trace).decode("latin-1"), entry.body, answer.kind if answer else "open",
+                         answer.body if answer else None, end)
+
+
+def find(invocations, function, identifier):
+    """The invocation that has this request identifier."""
+    place = count_in(identifier)
+    return next((each for each in invocations if each.function == function and each.place == place), None)

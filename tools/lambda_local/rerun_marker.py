@@ -1,0 +1,46 @@
+"""A marker of the pytest plugin: after the test, recorded invocations are sent again to the functions that it started.
+
+    @pytest.mark.lambda_local_rerun("history.txt", ignore=["/time"])
+    def test_yesterday(lambda_local):
+        lambda_local.start(orders=app.handler)
+
+The file is looked for beside the test. `one_by_one=True` sends them one after the other. docs/rerun.md tells more."""
+import os
+
+import pytest
+
+NAME = "lambda_local_rerun"
+FIXTURES = ("lambda_local", "lambda_local_session")
+
+
+def pytest_configure(config):
+    config.addinivalue_line("markers", f"{NAME}(history, ignore=(), one_by_one=False): after the test, sends the invocations of this "
+                                       "history again to the functions that it started, and compares their outputs")
+
+
+@pytest.hookimpl(trylast=True)
+def pytest_runtest_call(item):
+    """Behind the test itself, if that did not fail."""
+    marker = item.get_closest_marker(NAME)
+    if marker and not getattr(item, "lambda_local_reran", False):
+        item.lambda_local_reran = True  # (also if the plugin is named twice)
+        again(item, *marker.args, **marker.kwargs)
+
+
+def again(item, history, ignore=(), one_by_one=False):
+    from .rerun.again import rerun  # (only tests with the marker need it)
+    from .rerun.compare import pointer_of
+    from .rerun.record import read
+    from .rerun.report import EQUAL, text_of
+    from .service import Fault
+    service = next((item.funcargs[name].service for name in FIXTURES if name in item.funcargs), None)
+    if service is None:
+        pytest.fail(f"{NAME}: start the functions in the test, by its fixture lambda_local or lambda_local_session", pytrace=False)
+    try:
+        recording = read(os.path.join(os.path.dirname(str(item.fspath)), history))
+        results, _ = rerun(service, recording, [pointer_of(text) for text in ignore], one_by_one)
+        words = [] if all(result.verdict == EQUAL for result in results) else [history, *text_of(results, recording)]
+    except Fault as fault:
+        words = [str(fault)]
+    if words:
+        pytest.fail(f"{NAME}: " + "\n".join(words), pytrace=False)

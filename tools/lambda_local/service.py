@@ -1,0 +1,258 @@
+"""A `lambda_local serve` of one's own, on free ports: what the tools have in common.
+
+The program is the one given, else LAMBDA_LOCAL_PROGRAM, else the one that was installed with the tools, else the
+repository's ./lambda_local. Free ports are the system's or, if LAMBDA_LOCAL_PORTS=FIRST-LAST is set, of that range."""
+import contextlib
+import http.client
+import json
+import os
+import random
+import shutil
+import signal
+import socket
+import subprocess
+import tempfile
+import threading
+import time
+
+from .configuration import explained
+from .guard import GUARD
+from .history import parked  # noqa: F401 (for those who ask a service)
+from .paths import own_program
+
+RUNTIME = "/2018-06-01/runtime/"
+EXTENSION = "/2020-01-01/extension/"
+NO_NETWORK = "network: failed"  # the program's line if it cannot listen on a port
+
+
+class Fault(Exception):
+    """What ends a tool: a status, and a line that says what to do."""
+
+    def __init__(self, status, message):
+        super().__init__(message)
+        self.status = status
+
+
+def program_path(given=None):
+    found = given or os.environ.get("LAMBDA_LOCAL_PROGRAM") or own_program()
+    if not shutil.which(found):
+        raise Fault(4, f"{found} is no program: name one by --program or LAMBDA_LOCAL_PROGRAM")
+    return found
+
+
+def ask(port, method, path, body=None, headers={}, timeout=30):
+    """Status, headers (names in lower case) and body of one request on a connection of its own."""
+    connection = http.client.HTTPConnection("127.0.0.1", port, timeout=timeout)
+    try:
+        connection.request(method, path, body, headers)
+        answer = connection.getresponse()
+        return answer.status, {name.lower(): value for name, value in answer.getheaders()}, answer.read()
+    finally:
+        connection.close()
+
+
+@contextlib.contextmanager
+def undisturbed():
+    """Puts off the signals that end a tool: a process that is started and not known yet could not be ended."""
+    if threading.current_thread() is not threading.main_thread():
+        yield
+        return
+    came = []
+    before = {number: signal.signal(number, lambda number, _: came.append(number))
+              for number in (signal.SIGTERM, signal.SIGINT, signal.SIGHUP)}
+    try:
+        yield
+    finally:
+        for number, handler in before.items():
+            signal.signal(number, handler)
+        for number in came:
+            signal.raise_signal(number)
+
+
+def free_ports(count, taken):
+    """So many ports that nobody listens on now, none of those taken."""
+    first, last = 0, 0
+    if words := os.environ.get("LAMBDA_LOCAL_PORTS"):
+        try:
+            first, last = (int(word) for word in words.split("-"))
+            assert 0 < first <= last < 65536
+        except (ValueError, AssertionError):
+            raise Fault(2, f"LAMBDA_LOCAL_PORTS={words}: write it as FIRST-LAST, for example 20000-23999") from None
+    candidates = iter(random.sample(range(first, last + 1), last + 1 - first)) if first else None
+    held, found = [], []
+    try:
+        while len(found) < count:
+            port = next(candidates, None) if candidates else 0
+            if port is None:
+                raise Fault(4, f"LAMBDA_LOCAL_PORTS={words}: not enough of these ports are free, {count} are needed")
+            listener = socket.socket()
+            held.append(listener)
+            try:
+                listener.bind(("127.0.0.1", port))
+            except OSError:
+                if candidates:
+                    continue
+                raise
+            if listener.getsockname()[1] not in taken:
+                found.append(listener.getsockname()[1])
+        return found
+    finally:
+        for listener in held:
+            listener.close()
+
+
+def is_taken(port):
+    """Whether somebody listens on this port."""
+    with socket.socket() as listener:
+        listener.setsockopt(socket.SOL_SOCKET, socket.SO_REUSEADDR, 1)
+        try:
+            listener.bind(("127.0.0.1", port))
+        except OSError:
+            return True
+    return False
+
+
+class Service:
+    """A running service. Of the configuration, ports of 0 (and an absent `invokePort`) are replaced by free ones.
+    `path` is the file that the configuration is from, for messages."""
+
+    def __init__(self, configuration, program=None, say=lambda line: None, path=None):
+        self.program, self.say, self.lines = program_path(program), say, []
+        self.given, self.path = configuration, path
+        self.folder = tempfile.mkdtemp(prefix="lambda_local.")
+        GUARD.hold(self.folder)
+        try:
+            for _ in range(5):  # between looking and listening another program can take a port
+                picked = self._choose()
+                if self._start():
+                    return
+                self._refuse_taken_ports()
+                if not picked or NO_NETWORK not in self.lines:
+                    break
+            raise Fault(self.process.returncode or 4, self._why_not())
+        except BaseException:
+            self.kill()
+            raise
+
+    def _refuse_taken_ports(self):
+        """If ports that were asked for are taken, another try is in vain."""
+        if NO_NETWORK not in self.lines:
+            return
+        owners = {self.given.get("invokePort"): "invokePort"}
+        owners.update({port: f"function {function['name']}" for function in self.given["functions"] for port in function["ports"]})
+        taken = [f"port {port} ({owner})" for port, owner in owners.items() if port and is_taken(port)]
+        if taken:
+            raise Fault(4, f"{self._place()}{', '.join(taken)}: another program listens there: leave the port out, and a free one is used")
+
+    def _place(self):
+        return f"{self.path}: " if self.path else ""
+
+    def _why_not(self):
+        """Why it did not start, in words if it names a fault of the configuration."""
+        told = self.lines[-1] if self.lines else f"ended with status {self.process.returncode}"
+        place, _, name = told.partition(": ")
+        reason = explained(name, self.given) if place == "configuration" else ""
+        return f"{self._place()}{reason} (the service says {name})" if reason else f"the service did not start: {told}"
+
+    def _choose(self):
+        configuration = json.loads(json.dumps(self.given))
+        functions = configuration["functions"]
+        given = {configuration.get("invokePort", 0)} | {port for function in functions for port in function["ports"]}
+        wanted = sum(1 for function in functions for port in function["ports"] if port == 0) + (not configuration.get("invokePort"))
+        found = iter(free_ports(wanted, given))
+        if not configuration.get("invokePort"):
+            configuration["invokePort"] = next(found)
+        for function in functions:
+            function["ports"] = [port or next(found) for port in function["ports"]]
+        self.configuration, self.port = configuration, configuration["invokePort"]
+        self.endpoint_url = f"http://127.0.0.1:{self.port}"
+        return wanted
+
+    def _start(self):
+        path = os.path.join(self.folder, "configuration.json")
+        with open(path, "w") as file:
+            json.dump(self.configuration, file)
+        self.lines = []
+        # (in a session of its own, so that a terminal's Ctrl-C does not end it out of order)
+        with undisturbed():
+            command, pipe = GUARD.announcing([self.program, "serve", path])
+            self.process = subprocess.Popen(command, stdin=pipe, stdout=subprocess.PIPE, stderr=subprocess.PIPE, text=True,
+                                            errors="replace", start_new_session=True)
+            self.listening = threading.Event()
+            self.reader = threading.Thread(target=self._read, daemon=True)
+            self.reader.start()
+        begun = time.monotonic()
+        while not self.listening.wait(5):
+            self.say(f"waits for the service since {time.monotonic() - begun:.0f} s")
+        if self.listening_line:
+            return True
+        self.process.wait()
+        GUARD.release(self.process.pid)
+        self.process.stdout.close()
+        self.reader.join(5)
+        return False
+
+    listening_line = False
+
+    def _read(self):
+        self.listening_line = False
+        with self.process.stderr as stream:
+            for line in stream:
+                line = line.rstrip("\n")
+                self.lines.append(line)
+                if line.split(" ")[-1] == "listening":
+                    self.listening_line = True
+                    self.listening.set()
+                elif line.split(" ")[-1] != "stopped" and (self.listening_line or not line.startswith((NO_NETWORK, "configuration: "))):
+                    self.say(line)
+        self.listening.set()
+
+    def stats(self):
+        return json.loads(ask(self.port, "GET", "/_local/stats")[2])
+
+    def history(self):
+        return ask(self.port, "GET", "/_local/history", timeout=300)[2].decode()
+
+    def stop(self, seconds=20):
+        """Stops it in order: its status, and the line with its counts. It is killed after so many seconds."""
+        end = time.monotonic() + seconds
+        while self.process.poll() is None:
+            try:
+                if ask(self.port, "POST", "/_local/stop", timeout=seconds)[0] == 202:
+                    break
+                time.sleep(0.1)  # (no memory for it just now)
+            except (OSError, http.client.HTTPException):
+                time.sleep(0.05)
+            if time.monotonic() > end:
+                break
+        try:
+            self.process.wait(max(0.1, end - time.monotonic()))
+        except subprocess.TimeoutExpired:
+            self.say(f"the service did not end within {seconds} s and is killed")
+            self._kill_group()
+        counts = self.process.stdout.read().strip()
+        self.kill()
+        return self.process.returncode, counts
+
+    def _kill_group(self):
+        """Where the launcher builds the program, it cleans up when it is asked to end."""
+        for number in (signal.SIGTERM, signal.SIGKILL):
+            if self.process.poll() is None:
+                os.killpg(self.process.pid, number)
+                with contextlib.suppress(subprocess.TimeoutExpired):
+                    self.process.wait(3 if number == signal.SIGTERM else None)
+
+    def kill(self):
+        """Ends it in any case, and leaves nothing behind."""
+        if hasattr(self, "process"):
+            self._kill_group()
+            GUARD.release(self.process.pid)
+            self.process.stdout.close()
+            self.reader.join(5)
+        shutil.rmtree(self.folder, ignore_errors=True)
+        GUARD.release(self.folder)
+
+    def replays(self, history):
+        """Whether the history's replay gives its own answers."""
+        done = subprocess.run([self.program, "replay"], input=history, capture_output=True, text=True)
+        return done.returncode == 0 and done.stdout.splitlines() == [line[2:] for line in history.splitlines() if line.startswith("# ")]

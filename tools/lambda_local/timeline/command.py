@@ -1,0 +1,250 @@
+"""Draws what went on in lambda_local: a history or a script as a picture, as a trace, or as a log.
+
+  curl -s http://127.0.0.1:9000/_local/history | tools/timeline -o timeline.html
+  tools/timeline examples/timeout.txt                 one line an event
+  tools/timeline --trace -o trace.json history.txt    for https://ui.perfetto.dev or chrome://tracing
+  tools/timeline --svg -o picture.svg script.txt      the drawing alone
+  tools/timeline --from +1.5 --to +2 history.txt      half a second of it
+  tools/timeline --live http://127.0.0.1:9000         a page that shows a running service, until Ctrl-C
+
+A history (what GET /_local/history gives) has its answers in it. A script has none: it is replayed by the program,
+or its answers are read from a file (--answers). If a history's replay answers otherwise, as after an edit, the page and
+the text say so. docs/formats.md has both formats, docs/timeline.md shows pictures.
+
+A MOMENT is one of the history, in milliseconds (1795556558434), or +SECONDS from its first entry (+1.5).
+
+Exit statuses: 0; 2 for a fault in the arguments or in the input; 3 if the answers are not those of the calls;
+4 if the program could not be run or the output not be written.
+"""
+import argparse
+import os
+import re
+import shutil
+import sys
+import time
+
+from ..service import Fault, program_path
+from .drawing import Drawing, svg
+from .live import serve
+from .page import html
+from .read import Answers, Lines, history_entries, read_configuration, script_entries
+from .replay import Replay, Spooled, difference, ready_program
+from .text import Text
+from .trace import Trace
+from .window import Moment, Window
+from .world import World
+
+MOST_DRAWN, MOST_LIVE = 1000, 300  # calls in a drawing, and on a live page, if nothing else is asked
+DIFFERS = "differs"
+
+
+def moment(word):
+    """A MOMENT of the command line."""
+    found = re.fullmatch(r"(\+?)(\d+)(?:\.(\d{1,3}))?", word)
+    if not found or (found[3] and not found[1]):
+        raise argparse.ArgumentTypeError(f"{word!r} is no moment: write milliseconds as in the history, such as 1795556558434, or "
+                                         "+SECONDS from its first entry, such as +1.5")
+    if found[1]:
+        return Moment(1000 * int(found[2]) + int((found[3] or "0").ljust(3, "0")), True)
+    return Moment(int(found[2]), False)
+
+
+def arguments():
+    parser = argparse.ArgumentParser(
+        prog="timeline", description=__doc__, formatter_class=argparse.RawDescriptionHelpFormatter)
+    form = parser.add_mutually_exclusive_group()
+    for name, words in (("text", "one line an event (the default)"), ("trace", "trace-event JSON for Perfetto and chrome://tracing"),
+                        ("html", "one self-contained page"), ("svg", "the drawing alone")):
+        form.add_argument(f"--{name}", dest="form", action="store_const", const=name, help=words)
+    parser.add_argument("-o", metavar="FILE", dest="output", help="write there; .html, .json and .svg choose the form")
+    given = parser.add_mutually_exclusive_group()
+    given.add_argument("--program", metavar="P", help="replay the calls with this program (else LAMBDA_LOCAL_PROGRAM, else "
+                                                      "the one that comes with the tools)")
+    given.add_argument("--answers", metavar="FILE", help="take the answers from what a replay wrote")
+    parser.add_argument("--script", action="store_true", help="read the input as a script, though it looks like a history")
+    parser.add_argument("--limit", metavar="N", type=int, help=f"show at most so many calls (a drawing: {MOST_DRAWN:,}; else all)")
+    parser.add_argument("--from", metavar="MOMENT", type=moment, dest="begin", help="show what goes on from this moment on")
+    parser.add_argument("--to", metavar="MOMENT", type=moment, dest="end", help="show what goes on up to this moment")
+    parser.add_argument("--all", action="store_true", help="show what tools/up itself does as well: the extension lambda_local.up")
+    parser.add_argument("--live", metavar="URL", help=f"show the last calls of the service at this address (--limit, else {MOST_LIVE})")
+    parser.add_argument("--scale", choices=("entries", "time"), default="entries",
+                        help="a place for each entry, or an axis true to scale")
+    parser.add_argument("input", nargs="?", default="-", help="a history or a script (standard input)")
+    chosen = parser.parse_args()
+    by_name = {".html": "html", ".json": "trace", ".svg": "svg"}
+    chosen.form = chosen.form or by_name.get(os.path.splitext(chosen.output or "")[1], "text")
+    if chosen.limit is not None and chosen.limit < 1:
+        parser.error("--limit is at least 1")
+    if chosen.begin and chosen.end and chosen.begin.is_after(chosen.end):
+        parser.error("--to is before --from")
+    if chosen.live:
+        refuse_beside_live(parser, chosen)
+    return chosen
+
+
+def refuse_beside_live(parser, chosen):
+    """A live page takes --limit and --all alone."""
+    given = {"-o": chosen.output, "--program": chosen.program, "--answers": chosen.answers, "--script": chosen.script,
+             "--from": chosen.begin, "--to": chosen.end, "an input": chosen.input != "-", f"--{chosen.form}": chosen.form != "text",
+             "--scale time": chosen.scale == "time"}
+    for name, value in given.items():
+        if value:
+            parser.error(f"--live shows what goes on: leave out {name}")
+
+
+def open_input(name):
+    try:
+        stream = sys.stdin.buffer if name == "-" else open(name, "rb")
+        stream.peek(1)
+        return stream
+    except OSError as fault:
+        raise Fault(2, f"{name}: {fault.strerror}: name a file with a history or a script") from None
+
+
+def watched(entries):
+    """The entries; on a terminal, how many have been read where that takes longer than a second."""
+    last, shows = time.monotonic(), sys.stderr.isatty()
+    for n, entry in enumerate(entries):
+        if shows and n % 4096 == 0 and time.monotonic() - last > 1:
+            last = time.monotonic()
+            print(f"\rtimeline: {n:,} entries ..", end="", file=sys.stderr, flush=True)
+        yield entry
+
+
+class Input:
+    """What is read: its lines behind the configuration, and a file with the whole of it if a replay needs one."""
+
+    def __init__(self, name):
+        self.name = name
+        self.stream = open_input(name)
+        self.spooled = None
+        if name == "-" or not os.path.isfile(name):
+            self.stream = self.spooled = Spooled(self.stream)
+        self.lines = Lines(self.stream)
+        self.configuration, self.form_2 = read_configuration(self.lines)
+
+    def path(self):
+        """A file with all that was read so far."""
+        return self.spooled.path() if self.spooled else self.name
+
+    def read_from_a_file(self):
+        """Takes all that comes into a file, and reads from there on."""
+        if self.spooled:
+            shutil.copyfileobj(self.spooled.stream, self.spooled.file)
+            self.lines = Lines(open(self.path(), "rb"))
+            read_configuration(self.lines)
+
+    def close(self):
+        if self.spooled:
+            self.spooled.file.close()
+        if self.name != "-":
+            (self.spooled or self).stream.close()
+
+
+def scripted(chosen, given, world, closing):
+    """The entries of a script, with the answers of the program or of a file; and what comes behind the last one."""
+    if chosen.answers:
+        answers, finish = Answers(open_input(chosen.answers), chosen.answers), lambda: None
+    else:
+        given.read_from_a_file()
+        replay = Replay(program_path(chosen.program), given.path())
+        closing.append(replay.kill)
+        answers, finish = Answers(replay.process.stdout, "the replay"), replay.finish
+    return script_entries(given.lines, given.configuration, given.form_2, answers, world, finish), finish
+
+
+def compared(given, closing):
+    """A class and a text: what a comparison of the history with its replay says."""
+    if not given.lines.whole:
+        return "", "Not compared with its replay, since its last line is cut off."
+    program = ready_program()
+    if program is None:
+        return "", "Not compared with its replay, since no program is here."
+    try:
+        replay = Replay(program, given.path())
+    except Fault:
+        return "", f"Not compared with its replay, since {program} could not be run."
+    closing.append(replay.kill)
+    words = difference(given.path(), replay)
+    if words is None:
+        return "", "Its replay gives the same answers."
+    return DIFFERS, f"This history differs from its replay: {words}. Its own answers are shown; --script shows those of the replay."
+
+
+def follow(chosen, given, sink, closing):
+    """Follows the input to its end. Gives the world, and what is to be said of it: pairs of a class and a text."""
+    world = World(given.configuration, sink)
+    is_history = given.configuration.is_of_a_history and not (chosen.program or chosen.answers or chosen.script)
+    if is_history:
+        entries, finish = history_entries(given.lines, given.configuration, given.form_2), lambda: None
+    else:
+        entries, finish = scripted(chosen, given, world, closing)
+    for call, moment, e, answers in watched(entries):
+        world.take(call, moment, e, answers)
+    finish()
+    world.finish(sink)
+    notes = [compared(given, closing)] if is_history else []
+    return world, notes + [("note", words) for words in [sink.left_out()] if words]
+
+
+def run(chosen, write, closing):
+    given = Input(chosen.input)
+    closing.append(given.close)
+    configuration, log, limit = given.configuration, [], chosen.limit
+    window = lambda **sinks: Window(chosen.begin, chosen.end, limit, chosen.all, **sinks)
+    if chosen.form == "text":
+        sink = window(events=[Text(configuration, write)])
+    elif chosen.form == "trace":
+        sink = window(spans=[Trace(configuration, write)])
+    else:
+        drawing = Drawing(configuration, chosen.scale)
+        drawing.name = "Timeline" if chosen.input == "-" else f"Timeline of {os.path.basename(chosen.input)}"
+        limit = limit or MOST_DRAWN
+        sink = window(events=[Text(configuration, log.append)] if chosen.form == "html" else [], spans=[drawing])
+    world, notes = follow(chosen, given, sink, closing)
+    if chosen.form == "svg":
+        write(svg(drawing))
+    elif chosen.form == "html":
+        write(html(drawing, world, notes, log))
+    for kind, words in notes:
+        if chosen.form == "text" and kind == DIFFERS:
+            write(words + "\n")
+        elif kind:
+            print(f"timeline: {words}", file=sys.stderr)
+
+
+def main():
+    chosen = arguments()
+    closing, partial = [], None
+    try:
+        if chosen.live:
+            return serve(chosen.live, chosen.limit or MOST_LIVE, chosen.all)
+        try:
+            if chosen.output and (not os.path.exists(chosen.output) or os.path.isfile(chosen.output)):
+                partial = chosen.output + ".partial"
+            out = open(partial or chosen.output, "w", encoding="utf-8") if chosen.output else open(
+                sys.stdout.fileno(), "w", encoding="utf-8", closefd=False)
+        except OSError as fault:
+            raise Fault(4, f"{chosen.output}: {fault.strerror}")
+        try:
+            run(chosen, out.write, closing)
+            out.close()
+            if partial:
+                os.replace(partial, chosen.output)
+                partial = None
+        except BrokenPipeError:
+            os.dup2(os.open(os.devnull, os.O_WRONLY), sys.stdout.fileno())
+            return 4
+        except OSError as fault:
+            raise Fault(4, f"input or output failed: {fault.strerror}")
+    except Fault as fault:
+        print(f"timeline: {fault}", file=sys.stderr)
+        return fault.status
+    except KeyboardInterrupt:
+        return 130
+    finally:
+        for close in closing:
+            close()
+        if partial and os.path.exists(partial):
+            os.remove(partial)
+    return 0

@@ -1,0 +1,116 @@
+"""What a drawing shows: the calls of a window, what went on around them, and where each entry stands."""
+import bisect
+
+from .sink import Sink
+from .words import what
+
+LISTS = ("moments", "calls", "bands", "resets", "works", "steps", "expiries", "refused")
+
+
+class Kept(Sink):
+    """Keeps what is drawn: calls, and what goes on around them."""
+
+    draws_the_past = True  # a reservation that was set before the window is drawn from its left edge on
+
+    def __init__(self, configuration, scale="entries"):
+        self.configuration, self.scale = configuration, scale
+        self.zero = self.first = None  # the moment at which the axis begins, and the number of the first entry that is drawn
+        self.moments, self.calls, self.bands, self.resets, self.works, self.steps, self.expiries, self.refused = ([] for _ in LISTS)
+
+    def begin(self, moment):
+        self.zero = moment
+
+    def full(self, moment, call):
+        self.refused.append((moment, what(self.configuration, call)))
+
+    def answered(self, call):
+        self.calls.append(call)
+
+    def still_open(self, call, moment, entry):
+        call.end, call.end_entry = moment, None
+        self.calls.append(call)
+
+    def expired(self, moment, entry, environment):
+        self.expiries.append((entry, environment.number, environment.phase))
+
+    def phase(self, environment, moment, entry):
+        self.bands.append((environment.number, environment.phase, environment.generation, environment.reason, environment.since,
+                           environment.since_entry, moment, entry, environment.deadline))
+
+    def turned(self, environment, moment, entry, phase, deadline, reason):
+        if phase == "Closing":
+            self.resets.append((environment.number, moment, entry, reason, environment.generation))
+
+    def worked(self, work, moment, entry):
+        self.works.append((work, moment, entry))
+
+    def reservation(self, moment, entry, f, count):
+        self.steps.append((entry, moment, f, count))
+
+    def entered(self, entry, moment):
+        if self.first is None:
+            self.first = entry
+        self.moments.append(moment)
+
+    def copied(self, other):
+        """Gives all to another one, which may go on by itself."""
+        other.zero, other.first, other.scale = self.zero, self.first, self.scale
+        for name in LISTS:
+            setattr(other, name, list(getattr(self, name)))
+        return other
+
+    def forget(self, entry):
+        """Drops what was over before this entry."""
+        if self.first is None or entry <= self.first:
+            return
+        del self.moments[:entry - self.first]
+        self.first = entry
+        self.calls = [call for call in self.calls if call.end_entry >= entry]
+        self.bands = [band for band in self.bands if band[7] >= entry]
+        self.works = [work for work in self.works if work[2] >= entry]
+        self.resets = [reset for reset in self.resets if reset[2] >= entry]
+        self.expiries = [expiry for expiry in self.expiries if expiry[0] >= entry]
+        before = {step[2]: step for step in self.steps if step[0] < entry}  # the last one of each function still holds
+        self.steps = [step for step in self.steps if step[0] >= entry or step is before[step[2]]]
+
+    def end(self, world):
+        self.calls.sort(key=lambda call: call.ticket)
+        self.works.sort(key=lambda work: work[0].entry)
+        self.place_entries()
+
+    # where things stand
+
+    def place_entries(self):
+        """Each entry has a place of its own, so that what happens in one moment can be told apart."""
+        at, self.places = 16.0, []
+        for i, moment in enumerate(self.moments):
+            if i:
+                gap = moment - self.moments[i - 1]
+                at += self.step(gap)
+            self.places.append(at)
+        if self.scale == "time" and self.moments and self.moments[-1] > self.moments[0]:
+            unit = max(1000, min(24_000, 16 * len(self.moments))) / (self.moments[-1] - self.moments[0])
+            self.places = [16 + unit * (moment - self.moments[0]) for moment in self.moments]
+        elif at > 24_000:
+            self.places = [16 + (place - 16) * 24_000 / at for place in self.places]
+        self.width = (self.places[-1] if self.places else 16) + 110
+
+    @staticmethod
+    def step(gap):
+        return 16 if gap == 0 else 20 + 16 * (gap.bit_length() + gap / (1 << gap.bit_length()) - 0.5) / 1.7
+
+    def x(self, entry):
+        """Where an entry stands; an entry before the window stands at its left edge, one after it at its right edge."""
+        if entry is None or self.first is None or entry - self.first >= len(self.places):
+            return self.width - 24
+        return self.places[entry - self.first] if entry >= self.first else 4
+
+    def x_of_moment(self, moment):
+        """Where a deadline stands, between the entries around it; None where it is after them all."""
+        i = bisect.bisect_left(self.moments, moment)
+        if i == len(self.moments):
+            return None
+        if i == 0 or self.moments[i] == moment:
+            return self.places[i]
+        share = (moment - self.moments[i - 1]) / (self.moments[i] - self.moments[i - 1])
+        return self.places[i - 1] + share * (self.places[i] - self.places[i - 1])

@@ -1,0 +1,134 @@
+"""Follows a service that runs, and shows it on a page that updates itself (`served`)."""
+import http.client
+import itertools
+import signal
+import sys
+import threading
+from datetime import datetime, timezone
+from urllib.parse import urlsplit
+
+from ..history import OPENING, Follower
+from ..service import Fault
+from .live_page import fragment
+from .read import Configuration
+from .recent import Recent
+from .served import Server
+
+PAUSE = 0.5  # seconds between two looks at the service
+AT_ONCE = 1000  # entries that are taken before a page may be made of them
+SILENCE = 30  # seconds after which a service that does not answer has gone
+
+
+def port_of(url):
+    """The port of a service's address."""
+    try:
+        parts = urlsplit(url)
+        if parts.scheme == "http" and parts.hostname in ("127.0.0.1", "localhost") and parts.port and parts.path in ("", "/"):
+            return parts.port
+    except ValueError:
+        pass
+    raise Fault(2, f"--live {url}: write the service's address on this machine, such as http://127.0.0.1:9000")
+
+
+def configuration_of(port):
+    """The configuration of a service, which is the second line of its history."""
+    connection = http.client.HTTPConnection("127.0.0.1", port, timeout=SILENCE)
+    try:
+        connection.request("GET", "/_local/history")
+        answer = connection.getresponse()
+        opening = answer.readline(len(OPENING) + 1) if answer.status == 200 else b""
+        if opening != OPENING:
+            raise Fault(2, f"GET /_local/history gives no history there (status {answer.status}): this is no lambda_local")
+        return Configuration(answer.readline().rstrip(b"\n"), True)
+    finally:
+        connection.close()
+
+
+class Live:
+    """What is known of the service, kept up to date by a thread. `lock` holds while that is read or changed."""
+
+    def __init__(self, url, limit, shows_all):
+        self.url, self.port, self.limit, self.shows_all = url, port_of(url), limit, shows_all
+        self.lock, self.ended, self.version, self.made = threading.Lock(), threading.Event(), 0, None
+        self.gone = None  # since when the service does not answer, in words
+        try:
+            self.begin()
+        except Fault as fault:
+            raise Fault(2, f"--live {url}: {fault}") from None
+        except (OSError, http.client.HTTPException) as fault:
+            raise Fault(2, f"--live {url}: no service answers there: {words_of(fault)}") from None
+        self.thread = threading.Thread(target=self.follow, daemon=True)
+
+    def begin(self):
+        """Begins anew with the service that answers now."""
+        configuration = configuration_of(self.port)
+        self.follower = Follower(self.port, timeout=SILENCE)
+        with self.lock:
+            self.recent, self.gone, self.version = Recent(configuration, self.limit, self.shows_all), None, self.version + 1
+
+    def follow(self):
+        while not self.ended.wait(PAUSE if self.gone is None else 4 * PAUSE):
+            try:
+                if self.gone is not None:
+                    self.begin()
+                    say(f"{self.url} answers again: its history begins anew")
+                self.look()
+            except (OSError, http.client.HTTPException) as fault:
+                self.lose(words_of(fault))
+            except (Fault, ValueError) as fault:  # what answers there is none, or not any more
+                self.lose(str(fault))
+
+    def look(self):
+        """Takes what has come since the last look."""
+        stream = self.follower.stream()
+        while entries := list(itertools.islice(stream, AT_ONCE)):
+            with self.lock:
+                self.recent.take(entries)
+                self.version += 1
+
+    def lose(self, why):
+        self.follower.close()
+        if self.gone is None:
+            with self.lock:
+                self.gone, self.version = f"{datetime.now(timezone.utc):%H:%M:%SZ}: {why}", self.version + 1
+            say(f"the service {self.url} has gone at {self.gone}")
+
+    def drawn(self):
+        """The version, and the page's part that belongs to it as HTML."""
+        with self.lock:
+            if self.made is None or self.made[0] != self.version:
+                self.made = self.version, fragment(self.recent.drawing(), self.recent.world, self.limit, self.gone)
+            return self.made
+
+    def end(self):
+        self.ended.set()
+        self.thread.join(SILENCE)
+        self.follower.close()
+
+
+def words_of(fault):
+    return getattr(fault, "strerror", None) or str(fault) or type(fault).__name__
+
+
+def say(words):
+    print(f"timeline: {words}", file=sys.stderr, flush=True)
+
+
+def serve(url, limit, shows_all):
+    """Shows the service until a signal ends it."""
+    live = Live(url, limit, shows_all)
+    server = Server(live)
+    stopped = threading.Event()
+    for number in (signal.SIGINT, signal.SIGTERM, signal.SIGHUP):
+        signal.signal(number, lambda *_: stopped.set())
+    live.thread.start()
+    serving = threading.Thread(target=server.serve_forever, daemon=True)
+    serving.start()
+    print(f"{server.url} shows {url}, until Ctrl-C", flush=True)
+    try:
+        stopped.wait()
+    finally:
+        server.shutdown()
+        server.server_close()
+        live.end()
+    return 0

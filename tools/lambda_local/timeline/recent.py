@@ -1,0 +1,54 @@
+"""The last calls of a service that runs, and what goes on around them: of bounded size, however long it runs."""
+from collections import deque
+
+from ..history import EXPIRE
+from ..service import Fault
+from .drawing import Drawing
+from .read import read_call
+from .window import Window
+from .world import World
+
+ENTRIES_OF_A_CALL = 4  # at most so many entries are kept for each call that is shown: others may be hidden, or expiries
+TAKEN_AT_ONCE = 1000  # entries, before those that are not shown any more are dropped
+
+
+class Recent:
+    def __init__(self, configuration, limit, shows_all):
+        self.configuration, self.limit, self.shows_all = configuration, limit, shows_all
+        self.kept = Drawing(configuration)
+        self.world = World(configuration, Window(shows_all=shows_all, spans=[self.kept]))
+        self.tickets = deque(maxlen=limit)
+
+    def take(self, entries):
+        """Follows what has come."""
+        for n, entry in enumerate(entries, 1):
+            self.take_one(entry)
+            if n % TAKEN_AT_ONCE == 0:
+                self.forget()
+        self.forget()
+
+    def take_one(self, entry):
+        answers = [(answer.ticket, " ".join([answer.kind, *answer.fields]).encode()) for answer in entry.answers]
+        if entry.kind == EXPIRE:
+            self.world.take(None, entry.moment, entry.environment, answers)
+            return
+        line = " ".join([str(entry.moment), entry.kind, *entry.fields])
+        call = read_call(line.encode(), self.configuration, True)
+        if call is None:
+            raise Fault(3, f"entry {entry.number} of the service is no call that docs/formats.md has: {line[:60]!r}")
+        self.world.take(call, call.moment, call.environment, answers)
+        if not call.hidden:
+            self.tickets.append(call.ticket)
+
+    def forget(self):
+        """Drops what lies before the calls that are shown."""
+        first = self.tickets[0] if self.tickets else self.world.entry
+        self.kept.forget(max(first, self.world.entry - ENTRIES_OF_A_CALL * self.limit))
+
+    def drawing(self):
+        """What there is now, with what still goes on."""
+        drawing = self.kept.copied(Drawing(self.configuration))
+        drawing.links = True
+        self.world.finish(Window(shows_all=self.shows_all, spans=[drawing]))
+        drawing.draw()
+        return drawing

@@ -1,0 +1,56 @@
+"""The log: one line an event."""
+from .sink import Sink
+from .words import length_words, moment_words, payload_words, what, who
+
+
+class Text(Sink):
+    """One line an event, as it happens."""
+
+    def __init__(self, configuration, write):
+        self.configuration, self.write, self.now = configuration, write, 0
+        self.last, self.stamp = None, ""
+
+    def line(self, words):
+        if self.now != self.last:
+            self.last, self.stamp = self.now, f"{moment_words(self.now):>10}"
+        self.write(f"{self.stamp}  {words}\n")
+
+    def begin(self, moment):
+        self.now = moment
+
+    def full(self, moment, call):
+        self.now = moment
+        self.line(f"account: {what(self.configuration, call)}: refused JournalFull, so it has no number")
+
+    def expired(self, moment, entry, environment):
+        self.now = moment
+        self.line(f"{self.configuration.place(environment.number)}: the deadline of {environment.phase} has come (entry {entry})")
+
+    def taken(self, call, own):
+        self.now = call.moment
+        if own is None:
+            payload = payload_words(call)
+            self.line(f"{who(self.configuration, call)}: {what(self.configuration, call)}, call {call.ticket}"
+                      + (f", {payload}" if payload else "") + ", waits")
+
+    def answered(self, call):
+        what_words = what(self.configuration, call)
+        if call.ticket == call.end_entry:
+            payload = payload_words(call)
+            self.line(f"{who(self.configuration, call)}: {what_words}, call {call.ticket}"
+                      + (f", {payload}" if payload else "") + f": {call.said}")
+        else:
+            self.line(f"{who(self.configuration, call)}: {what_words}, call {call.ticket}, is answered after "
+                      f"{length_words(call.end - call.moment)}: {call.said}")
+
+    def still_open(self, call, moment, entry):
+        self.line(f"{who(self.configuration, call)}: {what(self.configuration, call)}, call {call.ticket}, has no answer yet")
+
+    def turned(self, environment, moment, entry, phase, deadline, reason):
+        place = self.configuration.place(environment.number)
+        if phase == "Closing":
+            self.line(f"{place}: reset, {reason}: Closing")
+        else:
+            begins = phase == "Starting" and environment.phase == "Closing"
+            generation = f", generation {environment.generation + 1}" if begins else ""
+            self.line(f"{place}: {phase}{generation}" + (f", until {deadline}" if deadline is not None else ""))

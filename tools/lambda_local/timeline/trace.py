@@ -1,0 +1,103 @@
+"""Trace events, for Perfetto and chrome://tracing."""
+import json
+
+from .sink import Sink
+from .words import extension_words, payload_words, what
+from .world import outcome
+
+
+class Trace(Sink):
+    """The trace-event JSON that Perfetto and chrome://tracing open. Each call is one event of the category call."""
+
+    draws_the_past = False
+
+    def __init__(self, configuration, write):
+        self.configuration, self.write = configuration, write
+        self.lanes, self.names, self.between = {}, {}, '{"displayTimeUnit":"ms","traceEvents":[\n'
+
+    def event(self, **members):
+        self.write(self.between + json.dumps(members, separators=(",", ":")))
+        self.between = ",\n"
+
+    def name(self, process, thread, process_name, name):
+        if process not in self.names:
+            self.names[process] = {}
+            self.event(ph="M", pid=process, tid=0, name="process_name", args={"name": process_name})
+            self.event(ph="M", pid=process, tid=0, name="process_sort_index", args={"sort_index": process})
+        self.event(ph="M", pid=process, tid=thread, name="thread_name", args={"name": name})
+        self.event(ph="M", pid=process, tid=thread, name="thread_sort_index", args={"sort_index": thread})
+
+    def place(self, lane):
+        """The numbers of a lane's process and thread."""
+        if lane not in self.lanes:
+            if lane[0] == "caller":
+                place, name = (1, lane[1]), f"caller {lane[1]}"
+            elif lane[0] == "account":
+                place, name = (2, 1), "account"
+            else:
+                process = 10 + lane[1]
+                others = sum(1 for other in self.lanes if other[0] == "extension" and other[1] == lane[1])
+                thread = {"environment": 1, "runtime": 2}.get(lane[0], 3 + others)
+                place, name = (process, thread), {"environment": "phase", "runtime": "runtime"}.get(lane[0]) or extension_words(lane[2])
+            process_name = {1: "callers", 2: "account"}.get(place[0]) or self.configuration.place(lane[1])
+            self.name(*place, process_name, name)
+            self.lanes[lane] = place
+        return self.lanes[lane]
+
+    def span(self, lane, category, name, begin, end, args):
+        process, thread = self.place(lane)
+        self.event(ph="X", cat=category, pid=process, tid=thread, name=name, ts=1000 * begin, dur=1000 * (end - begin), args=args)
+
+    def mark(self, lane, category, name, moment, args):
+        process, thread = self.place(lane)
+        self.event(ph="i", s="p", cat=category, pid=process, tid=thread, name=name, ts=1000 * moment, args=args)
+
+    def begin(self, moment):
+        for e in range(1, len(self.configuration.owners) + 1):
+            self.place(("environment", e))
+
+    def full(self, moment, call):
+        self.mark(("account",), "full", f"{what(self.configuration, call)}: JournalFull", moment, {})
+
+    def expired(self, moment, entry, environment):
+        self.mark(("environment", environment.number), "expiry", f"the deadline of {environment.phase} has come", moment, {"entry": entry})
+
+    def call(self, call, end, colour):
+        args = {"call": call.ticket, "outcome": outcome(call), "answer": call.said or "none yet"}
+        if payload := payload_words(call):
+            args["payload"] = payload
+        words = what(self.configuration, call)
+        process, thread = self.place(call.lane)
+        self.event(ph="X", cat="call", pid=process, tid=thread, name=f"{words}: {call.answer[0] if call.answer else 'open'}",
+                   ts=1000 * call.moment, dur=1000 * (end - call.moment), cname=colour, args=args)
+
+    # the names of colours that chrome://tracing has; Perfetto chooses by the event's name, which has the outcome in it
+    COLOURS = {"good": "good", "handed": "thread_state_sleeping", "ending": "yellow", "error": "bad", "timeout": "terrible",
+               "throttled": "olive", "ended": "grey", "refused": "black", "open": "white"}
+
+    def answered(self, call):
+        self.call(call, call.end, self.COLOURS[outcome(call)])
+
+    def still_open(self, call, moment, entry):
+        self.call(call, moment, "white")
+
+    def phase(self, environment, moment, entry):
+        args = {"generation": environment.generation}
+        if environment.deadline is not None:
+            args["deadline"] = environment.deadline
+        reset = f" ({environment.reason})" if environment.reason else ""
+        self.span(("environment", environment.number), "phase", environment.phase + reset, environment.since, moment, args)
+
+    def turned(self, environment, moment, entry, phase, deadline, reason):
+        if phase == "Closing":
+            self.mark(("environment", environment.number), "reset", f"reset: {reason}", moment, {"generation": environment.generation})
+
+    def worked(self, work, moment, entry):
+        self.span(work.lane, "work", f"works on {work.name}", work.moment, moment, {"deadline": work.until})
+
+    def reservation(self, moment, entry, f, count):
+        self.mark(("account",), "reservation", f"{self.configuration.names[f]}: "
+                  + ("no reservation" if count is None else f"{count} reserved"), moment, {})
+
+    def end(self, world):
+        self.write((self.between if self.between.startswith("{") else "\n") + "]}\n")

@@ -1,0 +1,69 @@
+"""What all forms say of moments, lengths, calls and those who make them."""
+import functools
+from datetime import datetime, timezone
+
+WALL_CLOCK = range(100_000_000_000, 253_402_300_800_000)  # moments of the clock, to the year 9999; others are a script's
+
+
+def moment_words(moment):
+    if moment not in WALL_CLOCK:
+        return f"{moment} ms"
+    return f"{second_words(moment // 1000)}.{moment % 1000:03}Z"
+
+
+def axis_words(moment, first):
+    """A moment as the axis has it, and --from takes it: in seconds after the first entry, or a script's own."""
+    return f"+{(moment - first) / 1000:.3f} s" if moment in WALL_CLOCK else f"{moment:,} ms"
+
+
+def since_words(moment, first):
+    """A moment on both axes: on the clock, and in seconds after the first entry; a script's on its only one."""
+    if first is None or moment not in WALL_CLOCK or moment < first:
+        return f"{moment:,} ms"
+    return f"{moment_words(moment)} (+{(moment - first) / 1000:.3f} s)"
+
+
+@functools.lru_cache(maxsize=64)
+def second_words(second):
+    return datetime.fromtimestamp(second, timezone.utc).strftime("%Y-%m-%dT%H:%M:%S")
+
+
+def who(configuration, call):
+    lane = call.lane
+    if lane[0] == "caller":
+        return f"caller {lane[1]}"
+    if lane[0] == "account":
+        return "account"
+    place = configuration.place(lane[1])
+    return place if lane[0] == "environment" else f"{place}, " + ("runtime" if lane[0] == "runtime" else extension_words(lane[2]))
+
+
+def extension_words(name):
+    return "unknown extension" if name is None else f"extension {name}"
+
+
+def what(configuration, call):
+    """A call's name with what it names."""
+    words = [call.kind]
+    if call.function is not None:
+        words.append(configuration.names[call.function])
+    if call.kind == "reserve":
+        words.append("-" if call.count is None else str(call.count))
+    elif call.kind in ("response", "failure", "response-too-large"):
+        words.append(f"to request {call.count}")
+    elif call.kind == "withdraw":
+        words.append(f"call {call.count}")
+    elif call.kind == "register":
+        events = [word for letter, word in (("i", "INVOKE"), ("s", "SHUTDOWN")) if letter in call.events]
+        words.append(f"for {' and '.join(events) or 'no event'}")
+    return " ".join(words)
+
+
+def length_words(milliseconds):
+    return f"{milliseconds:,} ms" if milliseconds < 10_000 else f"{milliseconds / 1000:,.1f} s"
+
+
+def payload_words(call):
+    if call.text is None or call.kind == "register":
+        return ""
+    return f"{call.size:,} byte{'' if call.size == 1 else 's'}: {call.text}" if call.size else "0 bytes"

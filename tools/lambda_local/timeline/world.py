@@ -1,0 +1,362 @@
+"""Follows the entries of a history by the life cycle, and notifies a sink of each thing that begins or ends."""
+import heapq
+
+from ..service import Fault
+from .read import OF_EXTENSIONS, POLLS, shown
+
+# the outcome of a call, by the first word of its answer
+OUTCOMES = {
+    "output": "good", "accepted": "good", "done": "good", "registered": "good", "reserved": "good", "unreserved": "good",
+    "deliver": "handed", "tell": "handed", "shutdown": "ending", "error": "error", "too-large-output": "error",
+    "timeout": "timeout", "init-timeout": "timeout", "throttled": "throttled", "stopped": "ended", "withdrawn": "ended",
+    "refused": "refused",
+}
+FAILED = ("error", "timeout", "throttled", "refused")  # the outcomes of a call that failed
+
+
+def outcome(call):
+    if call.answer is None:
+        return "open"
+    if call.kind in POLLS and call.answer[0] == "refused" and call.answer[1] in ("Container", "Replaced"):
+        return "ended"
+    return OUTCOMES[call.answer[0]]
+
+
+def count_in(identifier):
+    return int(identifier[-12:], 16)
+
+
+def read_answer(words):
+    """An answer: its words, the text cut short, and the same for a person."""
+    if len(words) > 400 or b"=" in words:
+        head, mark, text = words.partition(b" =")
+        answer = head.decode("ascii", "replace").split(" ")
+        said = shown(text) if mark else None
+    else:
+        answer, said = words.decode("ascii", "replace").split(" "), None
+    try:
+        if answer[0] not in OUTCOMES:
+            raise ValueError
+        if answer[0] == "deliver":
+            told = f"deliver request {count_in(answer[1])}, until {int(answer[2])}"
+        elif answer[0] == "tell":
+            told = f"tell event {count_in(answer[1])}: request {count_in(answer[2])}, until {int(answer[3])}"
+        elif answer[0] == "shutdown":
+            told = f"shutdown event {count_in(answer[1])}: {answer[2]}, until {int(answer[3])}"
+        elif answer[0] == "registered":
+            told = f"registered as extension {count_in(answer[1])}"
+        else:
+            if answer[0] in ("throttled", "refused", "reserved"):
+                answer[1]
+            told = " ".join(answer)
+    except (ValueError, IndexError):
+        raise Fault(3, f"an answer that docs/formats.md doesn't have: {shown(words)[:80]!r}")
+    return answer, told + (f" {said}" if said else "")
+
+
+class Extension:
+    __slots__ = ("name", "invoke", "shutdown", "poll", "told", "again", "exited", "works")
+
+    def __init__(self, name, events):
+        self.name, self.invoke, self.shutdown = name, "i" in events, "s" in events
+        self.poll = self.works = None
+        self.told = self.again = self.exited = False
+
+
+class Environment:
+    """An environment's phase, as docs/semantics.md tells it; the answers say all that a call itself doesn't."""
+
+    def __init__(self, number, function):
+        self.number, self.function = number, function
+        self.generation = 1
+        self.phase, self.since, self.since_entry = "Starting", None, None
+        self.deadline = self.bound = self.reason = None
+        self.poll, self.extensions, self.works = None, {}, None
+
+
+class Work:
+    """What a runtime does between its delivery and its response, or an extension between being told and asking again."""
+
+    __slots__ = ("lane", "name", "moment", "entry", "until", "request", "outcome")
+
+    def __init__(self, lane, name, moment, entry, until, request):
+        self.lane, self.name, self.moment, self.entry, self.until, self.request = lane, name, moment, entry, until, request
+        self.outcome = "open"
+
+
+class World:
+    """Follows the entries, and tells a sink each thing that was begun, ended, or reset."""
+
+    def __init__(self, configuration, sink):
+        self.configuration, self.sink = configuration, sink
+        self.environments = [Environment(e + 1, f) for e, f in enumerate(configuration.owners)]
+        self.open, self.placed = {}, {}
+        self.stopped, self.entry, self.moment, self.calls, self.refused_full = False, -1, 0, 0, 0
+        self.free_callers, self.callers = [], 0
+        self.reserved = list(configuration.reserved)
+        self.deadlines = []
+        self.outcomes = {}
+
+    def full(self, call):
+        """A call that a full journal refused: it has no entry and no ticket."""
+        self.refused_full += 1
+        self.sink.full(max(call.moment, self.moment), call)
+
+    def due(self, now):
+        found = []
+        while self.deadlines and self.deadlines[0][0] <= now:
+            deadline, e = heapq.heappop(self.deadlines)
+            if self.environments[e - 1].deadline == deadline and (deadline, e) not in found:
+                found.append((deadline, e))
+        return [e for _, e in found]
+
+    def take(self, call, moment, e, answers):
+        """One entry."""
+        self.entry += 1
+        if moment < self.moment:
+            raise Fault(3, f"entry {self.entry}: its moment {moment} is before {self.moment}, that of the entry before it")
+        if self.entry == 0:
+            self.sink.begin(moment)
+            for f, count in enumerate(self.reserved):
+                if count is not None:
+                    self.sink.reservation(moment, 0, f, count)
+            for environment in self.environments:
+                environment.since, environment.since_entry = moment, 0
+        self.moment = moment
+        answers = [(ticket, *read_answer(words)) for ticket, words in answers]
+        own = next((answer for ticket, answer, _ in answers if ticket == self.entry), None)
+        concerned = [self.environments[e - 1]] if e else []
+        if call is None:
+            self.sink.expired(moment, self.entry, concerned[0])
+        else:
+            concerned = self.begin(call, own, concerned)
+        for environment in concerned:
+            self.note_call(environment, call, own)
+        handed = []
+        for ticket, answer, told in answers:
+            if ticket == self.entry:
+                self.end(ticket, answer, told, handed)
+        for environment in concerned:
+            self.cell(environment, call, own, moment)
+        for ticket, answer, told in answers:
+            if ticket != self.entry:
+                self.end(ticket, answer, told, handed)
+        for environment in concerned:
+            self.settle(environment, call, moment)
+        for environment, actor, poll, answer in handed:
+            actor.poll = None
+            self.works(environment, actor, answer)
+        if call is not None and call.kind == "stop":
+            self.stopped = True
+        if call is not None and call.kind == "reserve" and own and own[0] in ("reserved", "unreserved"):
+            self.reserved[call.function] = call.count
+            self.sink.reservation(moment, self.entry, call.function, call.count)
+        self.sink.entered(self.entry, moment)
+
+    def begin(self, call, own, concerned):
+        """A call is taken: it gets its ticket and its lane. Gives the environments that it concerns."""
+        self.calls += 1
+        call.ticket = call.entry = self.entry
+        if call.kind == "invoke":
+            if self.free_callers:
+                lane = heapq.heappop(self.free_callers)
+            else:
+                self.callers += 1
+                lane = self.callers
+            call.lane = ("caller", lane)
+            if own is None:
+                environment = self.place(call.function)
+                self.placed[call.ticket] = environment
+                concerned = [environment] if environment else []
+        elif call.kind in OF_EXTENSIONS:
+            environment = concerned[0]
+            if call.kind == "register":
+                name = call.text
+            else:
+                extension = environment.extensions.get(call.count)
+                name = extension.name if extension else None
+            call.lane = ("extension", environment.number, name)
+        elif call.kind == "withdraw":
+            poll = self.open.get(call.count)
+            poll = poll if poll and poll.kind in POLLS else None
+            call.lane = poll.lane if poll else ("account",)
+            if poll:
+                concerned = [self.environments[poll.environment - 1]]
+        elif call.kind == "spindown":
+            call.lane = ("environment", concerned[0].number)
+        elif call.environment:
+            call.lane = ("runtime", concerned[0].number)
+        else:
+            call.lane = ("account",)
+            if call.kind == "stop":
+                concerned = self.environments
+        self.open[call.ticket] = call
+        self.sink.taken(call, own)
+        return concerned
+
+    def place(self, f):
+        """Where an admitted Invoke goes: an Idle environment, else one that starts, else one that closes."""
+        for phase in ("Idle", "Starting", "Closing"):
+            for environment in self.environments:
+                if environment.function == f and environment.phase == phase and environment.bound is None:
+                    return environment
+        return None
+
+    def note_call(self, environment, call, own):
+        """What a call says of who asks for the next event, and who is there."""
+        if call is None:
+            return
+        if call.kind == "next":
+            if own is None or own[0] == "deliver":
+                environment.poll = call.ticket
+        elif call.kind == "ext-next" and call.count in environment.extensions:
+            extension = environment.extensions[call.count]
+            self.rests(environment, extension)
+            extension.again |= extension.told
+            if own is None or own[0] == "tell":
+                extension.poll = call.ticket
+        elif call.kind == "register" and own and own[0] == "registered":
+            environment.extensions[count_in(own[1])] = Extension(call.text, call.events)
+        elif call.kind in ("ext-init-failure", "ext-exit-failure") and own == ["accepted"]:
+            if call.count in environment.extensions:
+                environment.extensions[call.count].exited = True
+
+    def cell(self, environment, call, own, moment):
+        """What the call makes of the phase."""
+        phase, kind = environment.phase, call.kind if call else "expire"
+        accepted = own == ["accepted"]
+        environment.was = phase
+        closable = phase in ("Starting", "Idle", "Busy")
+        if kind == "expire":
+            reason = "TIMEOUT" if phase in ("Starting", "Busy") else None
+        elif kind == "stop":
+            reason = "SPINDOWN" if closable and not self.stopped else None
+            if phase == "Closing":
+                environment.bound = None
+        elif kind == "spindown":
+            reason = "SPINDOWN" if accepted else None
+        elif kind in ("init-failure", "ext-init-failure", "ext-exit-failure"):
+            reason = "FAILURE" if accepted and closable else None
+        else:
+            reason = None
+        if reason:
+            self.change(environment, "Closing", moment + 2000, reason)
+            environment.bound = None
+        elif kind == "invoke":
+            environment.bound = call.ticket
+            if phase == "Idle":
+                self.change(environment, "Busy", moment + self.configuration.timeouts[environment.function])
+            elif phase == "Starting":
+                self.start_clock(environment, moment)
+        elif phase == "Starting" and (
+            kind == "next" or (kind == "ext-next" and call.count in environment.extensions)
+            or (kind == "register" and own and own[0] == "registered")
+        ):
+            self.start_clock(environment, moment)
+
+    def start_clock(self, environment, moment):
+        if environment.deadline is None:
+            self.set_deadline(environment, moment + 10_000)
+
+    def set_deadline(self, environment, deadline):
+        environment.deadline = deadline
+        if deadline is not None:
+            heapq.heappush(self.deadlines, (deadline, environment.number))
+            if len(self.deadlines) > 8 * len(self.environments) + 64:  # most deadlines never come: forget those
+                self.deadlines = [(e.deadline, e.number) for e in self.environments if e.deadline is not None]
+                heapq.heapify(self.deadlines)
+
+    def settle(self, environment, call, moment):
+        """A Closing that waits for nobody ends; else all who have asked make an environment ready."""
+        extensions = environment.extensions.values()
+        if environment.phase == "Closing":
+            awaited = any(x.shutdown and not x.exited and not (x.told and x.again) for x in extensions)
+            if not awaited or (environment.was == "Closing" and call is None):
+                self.rests(environment, environment)
+                for extension in extensions:
+                    self.rests(environment, extension)
+                environment.poll, environment.extensions = None, {}
+                bound = environment.bound if environment.bound in self.open else None
+                environment.bound = bound
+                if self.stopped or (call is not None and call.kind == "stop"):
+                    self.change(environment, "Off", None)
+                else:
+                    self.change(environment, "Starting", None if bound is None else moment + 10_000)
+                    environment.generation += 1
+            return
+        names = [x.name for x in extensions]
+        ready = environment.poll is not None and all(x.poll is not None for x in extensions) and all(
+            name in names for name in self.configuration.expected[environment.function])
+        waits = environment.bound is not None and environment.bound in self.open
+        if ready and environment.phase == "Starting":
+            if environment.bound is None:
+                self.change(environment, "Idle", None)
+            else:
+                self.change(environment, "Busy", moment + self.configuration.timeouts[environment.function])
+        elif ready and environment.phase == "Busy" and not waits:
+            environment.bound = None
+            self.change(environment, "Idle", None)
+        elif not ready and environment.phase == "Idle":
+            self.change(environment, "Starting", None)
+
+    def change(self, environment, phase, deadline, reason=None):
+        self.sink.phase(environment, self.moment, self.entry)
+        self.sink.turned(environment, self.moment, self.entry, phase, deadline, reason)
+        environment.phase, environment.reason = phase, reason
+        environment.since, environment.since_entry = self.moment, self.entry
+        self.set_deadline(environment, deadline)
+
+    def end(self, ticket, answer, told, handed):
+        """A call gets its answer."""
+        call = self.open.pop(ticket, None)
+        if call is None:
+            raise Fault(3, f"entry {self.entry} answers call {ticket}, which is not open: these answers are not those of "
+                           "the calls, or the history has gaps")
+        call.end, call.end_entry, call.answer, call.said = self.moment, self.entry, answer, told
+        word = answer[0]
+        if call.kind == "invoke":
+            heapq.heappush(self.free_callers, call.lane[1])
+            environment = self.placed.pop(ticket, None)
+            if environment and environment.works and environment.works.request == ticket:
+                environment.works.outcome = outcome(call)
+                self.rests(environment, environment)
+        elif call.kind in POLLS:
+            environment = self.environments[call.environment - 1]
+            actor = environment if call.kind == "next" else environment.extensions.get(call.count)
+            if word in ("deliver", "tell") and actor:
+                handed.append((environment, actor, call, answer))
+            elif actor:
+                if actor.poll == ticket:
+                    actor.poll = None
+                if word == "shutdown":
+                    actor.told = True
+                    self.works(environment, actor, answer)
+        self.outcomes[call.kind, word] = self.outcomes.get((call.kind, word), 0) + 1
+        self.sink.answered(call)
+
+    def works(self, environment, actor, answer):
+        self.rests(environment, actor)
+        if actor is environment:
+            lane, request, until = ("runtime", environment.number), environment.bound, int(answer[2])
+            name = f"request {count_in(answer[1])}"
+        else:
+            lane, request, until = ("extension", environment.number, actor.name), None, int(answer[3])
+            name = answer[2] if answer[0] == "shutdown" else f"event {count_in(answer[1])}"
+        actor.works = Work(lane, name, self.moment, self.entry, until, request)
+
+    def rests(self, environment, actor):
+        if actor.works:
+            self.sink.worked(actor.works, self.moment, self.entry)
+            actor.works = None
+
+    def finish(self, sink):
+        """After the last entry: what is still open ends with the picture. Changes nothing here: more may follow."""
+        for environment in self.environments:
+            for actor in [environment, *environment.extensions.values()]:
+                if actor.works:
+                    sink.worked(actor.works, self.moment, None)
+            if environment.since is not None:
+                sink.phase(environment, self.moment, None)
+        for call in self.open.values():
+            sink.still_open(call, self.moment, self.entry)
+        sink.end(self)

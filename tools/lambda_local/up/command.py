@@ -1,0 +1,102 @@
+"""Starts lambda_local with a runtime for each environment, and keeps the runtimes alive.
+
+  tools/up UP.json                           until Ctrl-C or SIGTERM, which stop the service in order
+  tools/up UP.json -- pytest                 waits until all is ready, runs the command against it, saves the history
+                                             if it fails, stops, and ends with the command's status
+  tools/up --reload UP.json                  begins a function's idle environments anew when its files change
+  tools/up --debug greet UP.json             a debugger may hold `greet` in its Init as long as nobody invokes it; a
+                                             command behind -- is run once it has left it
+
+UP.json is a service's configuration (docs/formats.md) in which each function has more members:
+  runtime        "python" or "node": the bundled runtime serves `handler`, such as "app.handler"
+  command        in its place, what starts another runtime: a list of words, or a text that is split as a shell would
+  environments   how many it has, if no `ports` are given (default: 1)
+  variables      an object: environment variables of its processes
+  directory      where they run (default: the folder of UP.json)
+  memory         what AWS_LAMBDA_FUNCTION_MEMORY_SIZE says (default: 128)
+  extensions     an object: the name by which an extension registers, and its command; or null: you start it yourself
+  watch          files and folders for --reload (default: its directory)
+  url            true: a port that turns HTTP requests into events of a Function URL
+At the top, "asynchronous": true takes invocations of the type Event, and "routes" is an HTTP API (docs/events.md).
+`account` and `region` may be absent; so may ports and `invokePort`: then free ones are used. A function without a
+runtime or command is yours to start, at the address that is printed. docs/up.md tells what happens when.
+
+Its own lines and those of the functions go to standard error. Exit statuses: the command's, else the service's
+(docs/formats.md); 2 for a fault in the arguments or in UP.json; 4 if something cannot be started; 5 if an environment
+does not become ready."""
+import argparse
+import sys
+
+from ..service import Fault
+from .log import Log
+from .session import Session
+
+USAGE = "tools/up [OPTION..] UP.json [-- COMMAND ..]"
+
+
+def salt_of(text):
+    number = int(text)
+    if not 0 <= number < 1 << 64:
+        raise ValueError
+    return number
+
+
+salt_of.__name__ = "whole number below 2^64"  # (so does argparse call it in its message)
+
+
+def seconds_of(text):
+    number = float(text)
+    if not 0 <= number < 1e6:
+        raise ValueError
+    return number
+
+
+seconds_of.__name__ = "number of seconds"
+
+
+def parser():
+    made = argparse.ArgumentParser(prog="tools/up", usage=USAGE, description=__doc__, formatter_class=argparse.RawDescriptionHelpFormatter)
+    made.add_argument("up", metavar="UP.json")
+    made.add_argument("--reload", action="store_true", help="spin idle environments down when files change")
+    made.add_argument("--debug", metavar="F", help="let a debugger hold the function F in its Init")
+    made.add_argument("--history", metavar="FILE", help="save the history there, payloads and all (if a command fails, it is saved as "
+                                                        "lambda_local.history.txt by default)")
+    made.add_argument("--ready", metavar="SECONDS", type=float, default=60, help="wait at most so long for all environments (60)")
+    made.add_argument("--drain", metavar="SECONDS", type=seconds_of, default=5, help="at the end wait at most so long for asynchronous "
+                                                                                      "invocations (5)")
+    made.add_argument("--salt", metavar="N", type=salt_of, help="the salt of all identifiers (that of UP.json, else the time)")
+    made.add_argument("--keep-credentials", action="store_true", help="leave your AWS credentials to the command and the functions")
+    made.add_argument("--quiet", action="store_true", help="tell failures and what functions print alone")
+    made.add_argument("--log", choices=("text", "json"), default="text", help="the form of each line (text)")
+    made.add_argument("--program", metavar="P", help="the program (default: LAMBDA_LOCAL_PROGRAM, else the repository's ./lambda_local)")
+    return made
+
+
+def options_of(words):
+    """The options of a command line. A fault ends it with status 2."""
+    command, split = [], words.index("--") if "--" in words else None
+    if split is not None:
+        words, command = words[:split], words[split + 1:]
+        if not command:
+            raise Fault(2, "write a command behind --, or leave -- out")
+    options, others = parser().parse_known_args(words)
+    if others and not others[0].startswith("-"):
+        raise Fault(2, f"write -- before the command: tools/up {options.up} -- {' '.join(others)}")
+    if others:
+        parser().error(f"there is no option {others[0]}: tools/up --help names them; a command stands behind --")
+    options.command = command
+    return options
+
+
+def main():
+    log = None
+    try:
+        options = options_of(sys.argv[1:])
+        log = Log(options.log, options.quiet)
+        return Session(options, log).run()
+    except Fault as fault:
+        if log and log.form == "json":
+            log("up", str(fault), level="error", status=fault.status)
+        else:
+            print(f"up: {fault}", file=sys.stderr)
+        return fault.status

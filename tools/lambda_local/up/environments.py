@@ -1,0 +1,262 @@
+"""The processes of one environment: one generation of them after the other, as the service says.
+
+tools/up is an extension of the environment, registered for SHUTDOWN alone: so it is told the end of a generation, and
+can report the end of a process."""
+import contextlib
+import http.client
+import json
+import os
+import select
+import threading
+import time
+
+from ..service import EXTENSION, RUNTIME, ask
+from .members import NAME
+from .processes import Process, reason_of
+from .restarts import Restarts
+
+SHUTDOWN_SECONDS = 2.0  # an environment's, for its extensions
+SPARE = 0.1  # of them, for tools/up itself
+SOON = 1.0  # a runtime that ends within so many seconds of its start, without an invocation, ended early
+
+
+class Environment(threading.Thread):
+    def __init__(self, service, watch, function, number, port, variables, restarts, stopping, log):
+        self.number, self.function, self.port, self.variables = number, function, port, variables
+        self.service, self.watch, self.stopping, self.log = service, watch, stopping, log
+        super().__init__(name=watch.environment(number).name)
+        self.runtime, self.extensions = None, []  # processes; of extensions each with the name by which it registers
+        self.generation, self.identifier = 0, None  # of tools/up in this generation
+        self.restarts, self.hurry = restarts, threading.Event()
+        self.reporting, self.report, self.tried = threading.Lock(), None, set()  # what callers hear in a pause
+        self.last_report = b"{}"
+
+    def say(self, line, **members):
+        self.log(self.name, f"-- {line}", **members)
+
+    def run(self):
+        try:
+            while not self.stopping.is_set() and self.one_generation():
+                pass
+        except (OSError, http.client.HTTPException) as fault:
+            if self.service.process.poll() is None and not self.stopping.is_set():
+                self.say(f"lost the service: {fault}", level="error")
+        finally:
+            self.end(0)
+
+    # ---- a generation ------------------------------------------------------------------------------------------------
+
+    def one_generation(self):
+        """Whether another one follows."""
+        self.wait_out_pause()
+        self.identifier = None
+        if self.stopping.is_set() or self.function.debug and not self.begin_unseen():
+            return not self.stopping.is_set()
+        self.identifier = self.register()
+        if self.identifier is None:
+            return False
+        waiting = http.client.HTTPConnection("127.0.0.1", self.port)
+        try:
+            waiting.request("GET", EXTENSION + "event/next", headers=self.me())
+            try:
+                self.start_extensions()
+                if not self.function.debug:
+                    self.start_runtime()
+            except OSError as fault:
+                self.ended_by(f"Runtime could not be started: {fault}", "Runtime.ExitError", self.identifier)
+                return self.close(0, time.time() + SHUTDOWN_SECONDS)
+            return self.attend(waiting)
+        finally:
+            waiting.close()
+
+    def me(self):
+        return {"Lambda-Extension-Identifier": self.identifier}
+
+    def register(self):
+        """This generation's identifier; none after the end."""
+        told = None
+        while True:
+            status, headers, body = ask(self.port, "POST", EXTENSION + "register", '{"events":["SHUTDOWN"]}',
+                                        {"Lambda-Extension-Name": NAME})
+            if status == 200:
+                return headers["lambda-extension-identifier"]
+            if status == 500 and b"ContainerError" in body:
+                return None
+            if status == 500 and body != told:
+                self.say("cannot begin anew: the service answers " + body.decode(errors="replace"), level="error")
+                told = body
+            # (403: an extension that is started by hand still shuts down)
+            if self.stopping.wait(1 if status == 500 else 0.1):
+                return None
+
+    def start_extensions(self):
+        """Before the runtime: once it and all who came have asked, nobody registers. (For a debugger behind it, since
+        the first to register starts Init's clock, and this tool is awaited too.)"""
+        for name, words in self.function.extensions.items():
+            if words:
+                self.extensions.append((name, Process(f"{self.name} {name}", words, self.function, self.variables, self.log)))
+
+    def start_runtime(self):
+        self.generation += 1
+        self.runtime = Process(self.name, self.function.command, self.function, self.variables, self.log)
+
+    def begin_unseen(self):
+        """For a debugger: this tool's registration would start Init's clock, so it waits for the runtime's first Next."""
+        try:
+            self.start_runtime()
+        except OSError as fault:
+            self.say(str(fault), level="error")
+            self.restarts.note(True)
+            return False
+        self.say("may stop in its Init as long as it likes, while nobody invokes it")
+        while not self.stopping.is_set():
+            self.watch.refresh()
+            if self.watch.environment(self.number).generation.runtime_waits:
+                return True
+            if self.runtime.ended(0.2):
+                reason = reason_of(self.runtime.status())
+                self.end(0)
+                self.say(f"Init failed: {reason}", level="error", kind="exit")
+                self.fail_init(self.remember(reason, "Runtime.ExitError"))
+                self.restarts.note(True)
+                return False
+        return False
+
+    def attend(self, waiting):
+        """Until the service says that the environment closes, or a process ends."""
+        processes = [self.runtime] + [process for _, process in self.extensions]
+        sources = select.poll()
+        sources.register(waiting.sock, select.POLLIN)
+        for process in processes:
+            sources.register(process.handle, select.POLLIN)
+        told = waiting.sock.fileno()
+        ready = {source for source, _ in sources.poll()}
+        if told not in ready:
+            # A runtime that is told the end can have gone before this tool is told: a short wait tells the two apart.
+            for process in processes:
+                sources.unregister(process.handle)
+            ready |= {source for source, _ in sources.poll(50)}
+        if told in ready:
+            return self.shut_down(waiting)
+        gone = next(process for process in processes if process.handle in ready)
+        return self.runtime_exited() if gone is self.runtime else self.extension_exited(gone, waiting)
+
+    def runtime_exited(self):
+        reason = reason_of(self.runtime.status())
+        self.ended_by(reason, "Runtime.ExitError", self.identifier)
+        return self.close(0, time.time() + SHUTDOWN_SECONDS)
+
+    def extension_exited(self, process, waiting):
+        """It is reported in its own name, so that its shutdown isn't waited for, and the service says that all closes."""
+        name = next(name for name, other in self.extensions if other is process)
+        generation = self.watch.generation(self.number, self.identifier)
+        found = generation.named(name) if generation else None
+        reason, identifier = reason_of(process.status(), "Extension"), found.identifier if found else self.identifier
+        self.ended_by(reason, "Extension.Crash", identifier, process.name)
+        return self.shut_down(waiting) if found else self.close(0, time.time() + SHUTDOWN_SECONDS)
+
+    def ended_by(self, reason, kind, identifier, who=None):
+        """The service's caller hears at once that a process has ended."""
+        with self.watch.muted(self.number):
+            ask(self.port, "POST", EXTENSION + "exit/error", self.remember(reason, kind),
+                {"Lambda-Extension-Identifier": identifier, "Lambda-Extension-Function-Error-Type": kind})
+        generation = self.watch.generation(self.number, self.identifier)
+        init = "" if generation and generation.is_ready else "Init failed: "
+        self.say(f"{init}{who + ': ' if who else ''}{reason}", level="error", kind="exit", function=self.function.name, errorType=kind)
+
+    def remember(self, reason, kind):
+        """The body of a report, which callers get in a pause as well."""
+        self.last_report = json.dumps({"errorMessage": reason, "errorType": kind}).encode()
+        return self.last_report
+
+    # ---- its end -----------------------------------------------------------------------------------------------------
+
+    def shut_down(self, waiting):
+        answer = waiting.getresponse()
+        body = answer.read()
+        if answer.status != 200:
+            self.end(0)
+            return True
+        event = json.loads(body)
+        reason, deadline = event["shutdownReason"], event["deadlineMs"] / 1000
+        if not self.stopping.is_set():
+            self.say(f"shuts down, {reason}")
+        return self.close(min(deadline - time.time(), SHUTDOWN_SECONDS) - SPARE, deadline, reason == "SPINDOWN", asks=True)
+
+    def close(self, seconds, deadline, spins_down=False, asks=False):
+        """Ends all processes, says that this generation is done, and waits for the end of its Closing."""
+        lived = time.monotonic() - self.runtime.begun if self.runtime else 0.0
+        self.end(seconds if asks else max(0.0, deadline - time.time() - SPARE), spins_down)
+        if asks:
+            ask(self.port, "GET", EXTENSION + "event/next", headers=self.me())
+        generation = self.watch.generation(self.number, self.identifier)
+        while generation and not generation.is_over and time.time() < deadline + 0.005 and not self.stopping.wait(0.02):
+            generation = self.watch.generation(self.number, self.identifier)
+        if generation and generation.report:
+            self.last_report = generation.report
+        elif generation and not generation.is_ready:
+            self.remember("Init timed out", "Init.Timeout")
+        is_early = lived < SOON if generation is None else not generation.deliveries and (not generation.is_ready or lived < SOON)
+        self.restarts.note(is_early and not spins_down)
+        return True
+
+    def end(self, seconds, gently=False):
+        """Ends all processes: the runtime at once or gently, extensions by themselves within so many seconds."""
+        until = time.monotonic() + seconds
+        if self.runtime:
+            self.runtime.end(min(0.5, max(0.0, seconds)) if gently else 0)
+            self.runtime = None
+        while self.extensions:
+            name, process = self.extensions.pop()
+            process.ended(until - time.monotonic())
+            process.end()
+            if seconds > 0:
+                self.say_done(name)
+
+    def say_done(self, name):
+        """Asks in the name of an extension that has gone. One that had not been told the end yet is told by the first
+        time; what it asks after that says that it is done."""
+        generation = self.watch.generation(self.number, self.identifier) if self.identifier else None
+        extension = generation.named(name) if generation and generation.closes else None
+        if extension is None or not extension.hears_end or extension.done:
+            return
+        me = {"Lambda-Extension-Identifier": extension.identifier}
+        with contextlib.suppress(OSError, http.client.HTTPException):
+            if ask(self.port, "GET", EXTENSION + "event/next", headers=me, timeout=SHUTDOWN_SECONDS)[0] == 200:
+                ask(self.port, "GET", EXTENSION + "event/next", headers=me, timeout=SHUTDOWN_SECONDS)
+
+    # ---- between two generations -------------------------------------------------------------------------------------
+
+    def wait_out_pause(self):
+        """After generations that ended early. A caller who comes meanwhile hears why at once."""
+        if self.restarts.needs_a_change or self.restarts.pause:
+            self.report = self.last_report
+            if self.restarts.needs_a_change:
+                self.say("it has failed three times: it is started again when a file changes", level="warning")
+                self.hurry.wait()
+            else:
+                self.say(f"started again in {self.restarts.pause} s: it ends as soon as it has begun", level="warning")
+                self.hurry.wait(self.restarts.pause)
+            with self.reporting:
+                self.report = None
+        if self.hurry.is_set():
+            self.restarts.note(False)
+        self.hurry.clear()
+
+    def answer_callers(self):
+        """In a pause: ends the Init that an invocation may be bound to, with what was reported last."""
+        with self.reporting:
+            waiting = set(self.watch.waiting(self.function.name)) if self.report is not None else set()
+            if waiting - self.tried:
+                self.fail_init(self.report)
+                self.watch.refresh()
+            self.tried = waiting
+
+    def fail_init(self, report):
+        """Reports a failed Init for the runtime, which its caller hears; no line is told of it."""
+        try:
+            kind = str(json.loads(report).get("errorType") or "Runtime.ExitError")
+        except (ValueError, AttributeError):
+            kind = "Runtime.ExitError"
+        with self.watch.muted(self.number):
+            ask(self.port, "POST", RUNTIME + "init/error", report, {"Lambda-Runtime-Function-Error-Type": kind})

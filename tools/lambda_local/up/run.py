@@ -1,0 +1,78 @@
+"""The command behind --, and its end."""
+import os
+import signal
+import subprocess
+import threading
+import time
+
+from ..guard import GUARD, Single
+from ..service import Fault
+
+PATIENCE = 10.0  # seconds for a command that was interrupted
+TERM_SECONDS = 5.0
+
+
+def has_terminal():
+    """Whether a terminal's Ctrl-C comes to the group of this process, and so to each process in it."""
+    try:
+        terminal = os.open("/dev/tty", os.O_RDONLY | os.O_NOCTTY)
+    except OSError:
+        return False
+    try:
+        return os.tcgetpgrp(terminal) == os.getpgrp()
+    except OSError:
+        return False
+    finally:
+        os.close(terminal)
+
+
+class Run:
+    """A command that runs. In a terminal's foreground it shares this process's group: so it reads from the terminal, and
+    Ctrl-C comes to both. Elsewhere it has a group of its own: so whoever interrupts this process, or its whole group,
+    interrupts it once, by this process."""
+
+    def __init__(self, words, variables, when_ended):
+        self.shares = has_terminal()
+        try:
+            self.child = subprocess.Popen(words, env=variables, start_new_session=not self.shares)
+        except OSError as fault:
+            raise Fault(4, f"{words[0]}: {fault.strerror}: write a program behind --") from None
+        self.held = Single(self.child.pid) if self.shares else self.child.pid
+        GUARD.hold(self.held)
+        self.waiting = threading.Thread(target=self._wait, args=(when_ended,))
+        self.waiting.start()
+
+    def _wait(self, when_ended):
+        os.waitid(os.P_PID, self.child.pid, os.WEXITED | os.WNOWAIT)
+        GUARD.release(self.held)  # (while its number cannot be another's)
+        self.child.wait()
+        when_ended()
+
+    def is_over(self):
+        return not self.waiting.is_alive()
+
+    def interrupt(self, is_hurried):
+        """After a Ctrl-C: it may end by itself, with all that it does at its end, unless somebody hurries."""
+        if not self.shares:
+            self._signal(signal.SIGINT)
+        end = time.monotonic() + PATIENCE
+        while not self.is_over() and time.monotonic() < end and not is_hurried():
+            self.waiting.join(0.05)
+
+    def end(self):
+        for number, seconds in ((signal.SIGTERM, TERM_SECONDS), (signal.SIGKILL, None)):
+            if not self.is_over():
+                self._signal(number)
+                self.waiting.join(seconds)
+
+    def _signal(self, number):
+        try:
+            (os.kill if self.shares else os.killpg)(self.child.pid, number)
+        except ProcessLookupError:
+            pass
+
+    @property
+    def status(self):
+        """As a shell has it."""
+        self.waiting.join()
+        return self.child.returncode if self.child.returncode >= 0 else 128 - self.child.returncode

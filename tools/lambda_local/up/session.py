@@ -1,0 +1,195 @@
+"""One run of tools/up: all is started, the command is run or a signal waited for, and all is stopped in order."""
+import http.client
+import signal
+import threading
+import time
+
+from ..front.front import Front
+from ..service import Fault, Service
+from . import surroundings
+from .environments import Environment
+from .lines import Lines
+from .members import load
+from .reload import Reload
+from .reports import Report
+from .restarts import Restarts
+from .run import Run
+from .watch import Watch
+
+SAVED = "lambda_local.history.txt"
+NAMED = 8  # environments in one line
+
+
+class Session:
+    def __init__(self, options, log):
+        self.options, self.log, self.service, self.command = options, log, None, None
+        self.happened, self.stopping = threading.Event(), threading.Event()  # something to look at; all is to end
+        self.signals, self.signal_number, self.kills_at = 0, 0, 2
+        salt = options.salt
+        configuration, self.functions, front = load(options.up, options.debug, salt)
+        self.front = Front(front, options.up, options.drain, log) if front else None
+        if salt is None and "salt" not in configuration:
+            configuration["salt"] = int(1000 * time.time()) << 16  # so that no two runs have the same identifiers
+        # From here on a signal ends it in order; a second one kills.
+        for number in (signal.SIGTERM, signal.SIGINT, signal.SIGHUP):
+            signal.signal(number, self.signalled)
+        self.service = Service(configuration, options.program, lambda line: log("service", line, kind="service"), options.up)
+        if self.front:
+            self.front.serve(self.service)
+        self.watch = Watch(self.service, Lines(log, self.functions), log, self.stopping)
+        self.environments = list(self.make_environments())
+        self.watch.hooks = [environment.answer_callers for environment in self.environments]
+        self.threads = [self.watch, *self.environments]
+        self.clients = surroundings.Clients(log, self.stopping)
+        if options.reload:
+            self.threads.append(Reload(self.environments, self.service, self.stopping, log))
+
+    def say(self, line, **members):
+        self.log("up", line, **members)
+
+    def make_environments(self):
+        number = 0
+        for function, part in zip(self.functions, self.service.configuration["functions"]):
+            if function.debug:
+                self.say(f"{function.name}: one environment and a timeout of {part['timeout']} s, for the debugger")
+            for port in part["ports"]:
+                number += 1
+                here = self.watch.environment(number)
+                self.say(f"{here.name}: 127.0.0.1:{port}{'' if function.command else ', start its runtime yourself'}", kind="address",
+                         function=function.name, environment=here.place, port=port)
+                if function.command:
+                    variables = surroundings.of_environment(self.service, function, number, port, self.options.keep_credentials)
+                    restarts = Restarts(self.options.reload)
+                    yield Environment(self.service, self.watch, function, number, port, variables, restarts, self.stopping, self.log)
+
+    def signalled(self, number, _frame):
+        if self.service is None:  # it is being built, or does not listen yet: nothing has to end in order
+            raise SystemExit(128 + number)
+        self.signals, self.signal_number = self.signals + 1, number
+        if self.signals == 1 and number == signal.SIGINT and self.command:
+            self.kills_at = 3  # (the second one is for the command)
+        self.happened.set()
+        if self.signals >= self.kills_at and self.service.process.poll() is None:
+            # (it ends, and with it each environment's thread, which kills its processes)
+            self.service.process.kill()
+
+    def wait(self):
+        """Until something happens. (The system may give a signal to any thread, and Python runs its handler in this one: only
+        when it comes out of a wait.)"""
+        while not self.happened.wait(0.1):
+            pass
+
+    def run(self):
+        status = 0
+        self.say(f"callers: AWS_ENDPOINT_URL_LAMBDA={self.service.endpoint_url}", kind="address", always=not self.options.command,
+                 endpoint=self.service.endpoint_url)
+        for function, text, url in self.front.addresses() if self.front else ():
+            self.say(text, kind="address", always=not self.options.command, function=function, endpoint=url)
+        for thread in self.threads:
+            thread.start()
+        threading.Thread(target=lambda: (self.service.process.wait(), self.happened.set()), daemon=True).start()
+        try:
+            if self.wait_until_ready():
+                self.clients.start()
+                if self.options.command:
+                    status = self.run_command()
+                else:
+                    self.wait()
+            if self.signals and self.options.command and self.command is None:
+                status = 128 + self.signal_number
+        except Fault as fault:
+            self.say(str(fault), level="error")
+            status = fault.status
+        finally:
+            served = self.finish(failed=status != 0)
+        return status or served
+
+    # ---- ready -------------------------------------------------------------------------------------------------------
+
+    def late(self):
+        """The environments whose Init is not over, and those of them that are waited for: if no command is to be run, one
+        that is debugged and one that a changed file must mend may take any time."""
+        late = [environment for environment in self.environments if not self.watch.environment(environment.number).generation.is_ready]
+        if self.options.command:
+            return late, late
+        return late, [environment for environment in late if not (environment.function.debug or environment.restarts.needs_a_change)]
+
+    def wait_until_ready(self):
+        """Whether all that is waited for is ready before time is over or something else happens."""
+        begun, tell_at = time.monotonic(), 2
+        while not self.happened.wait(0.05):
+            self.watch.refresh()
+            (late, awaited), passed = self.late(), time.monotonic() - begun
+            if not awaited:
+                self.say(f"ready but for {self.names(late)}" if late else "ready", kind="ready")
+                return True
+            hurried = [environment for environment in awaited if not environment.function.debug]
+            if hurried and passed > self.options.ready:
+                raise Fault(5, f"not ready after {self.options.ready:g} s: " + "; ".join(map(self.lateness, hurried[:NAMED])))
+            if passed > tell_at:
+                tell_at = 2 * tell_at
+                self.say(f"waits for {self.names(hurried or awaited)}{'' if hurried else ', which is being debugged'}")
+        return False
+
+    @staticmethod
+    def names(environments):
+        return ", ".join(environment.name for environment in environments[:NAMED]) + (" .." if len(environments) > NAMED else "")
+
+    def lateness(self, environment):
+        """Why an environment is not ready."""
+        if environment.restarts.early:
+            return f"{environment.name}, whose Init fails: {Report(environment.last_report, environment.function.directory)}"
+        here = self.watch.environment(environment.number)
+        return f"{environment.name}, {Lines.waited_for(here, here.generation)}"
+
+    # ---- the command -------------------------------------------------------------------------------------------------
+
+    def run_command(self):
+        variables = surroundings.of_callers(self.service, self.options.keep_credentials)
+        self.command = Run(self.options.command, variables, self.happened.set)
+        self.wait()
+        if not self.command.is_over() and self.signal_number == signal.SIGINT:
+            self.say("the command may take 10 s to end; Ctrl-C again ends it")
+            self.command.interrupt(lambda: self.signals > 1)
+        if not self.command.is_over():
+            self.say("ends the command" if self.signals else "the service has ended, and so the command is ended")
+            self.command.end()
+        return self.command.status
+
+    # ---- the end -----------------------------------------------------------------------------------------------------
+
+    def save(self):
+        path = self.options.history or SAVED
+        try:
+            with open(path, "w") as file:
+                file.write(self.service.history())
+            self.say(f"the history is in {path}")
+        except (OSError, http.client.HTTPException) as fault:
+            self.say(f"the history could not be saved: {fault}", level="error")
+
+    def finish(self, failed):
+        """Stops the service and all processes in order; the service's status. The history is saved if that is asked, or
+        the command failed."""
+        if self.front:
+            self.front.drain(lambda: self.service.process.poll() is not None)
+        gone = self.service.process.poll() is not None
+        self.watch.refresh()
+        if (self.options.history or self.options.command and failed) and not gone:
+            self.save()
+        self.stopping.set()
+        for environment in self.environments:
+            environment.hurry.set()
+        status, counts = self.service.stop()
+        if self.front:
+            self.front.end()
+        for thread in [*self.threads, self.clients]:
+            if thread.ident is not None:
+                thread.join()
+        self.watch.lines.tell_throttled(at_the_end=True)
+        if status == 0 and gone:
+            self.say("the service was stopped by POST /_local/stop")
+        elif gone or status:
+            self.say(f"the service ended with status {status}: {' '.join(self.service.lines[-1:])}", level="error")
+        if counts:
+            self.say(counts, kind="counts")
+        return status if status >= 0 else 4

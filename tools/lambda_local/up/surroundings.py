@@ -1,0 +1,90 @@
+"""The environment variables of the command and of functions, and whether the clients on PATH read them."""
+import os
+import re
+import signal
+import subprocess
+import threading
+import time
+
+from ..guard import GUARD
+
+# What a client would take in place of the dummies, or read to go elsewhere.
+LEFT_OUT = ("AWS_PROFILE", "AWS_DEFAULT_PROFILE", "AWS_SESSION_TOKEN", "AWS_SECURITY_TOKEN", "AWS_ROLE_ARN", "AWS_WEB_IDENTITY_TOKEN_FILE",
+            "AWS_CONTAINER_CREDENTIALS_RELATIVE_URI", "AWS_CONTAINER_CREDENTIALS_FULL_URI")
+DUMMIES = {"AWS_ACCESS_KEY_ID": "local", "AWS_SECRET_ACCESS_KEY": "local"}
+# The first that read AWS_ENDPOINT_URL_LAMBDA; older ones call AWS itself.
+OLDEST_BOTO3 = (1, 28)
+OLDEST_AWS = {1: (1, 29), 2: (2, 13)}
+LONGEST_SECONDS = 10.0  # for a client to say its version
+
+
+def of_callers(service, keeps_credentials):
+    """The variables of whoever calls functions: this process's own, and those that lead here."""
+    region = service.configuration["region"]
+    found = {name: value for name, value in os.environ.items() if name != "AWS_IGNORE_CONFIGURED_ENDPOINT_URLS"}
+    if not keeps_credentials:
+        found = {**{name: value for name, value in found.items() if name not in LEFT_OUT}, **DUMMIES}
+    return {**found, "AWS_REGION": region, "AWS_DEFAULT_REGION": region, "AWS_ENDPOINT_URL_LAMBDA": service.endpoint_url}
+
+
+def of_environment(service, function, number, port, keeps_credentials):
+    """The variables of an environment's processes (Developer Guide, "Defined runtime environment variables")."""
+    return {
+        "TZ": ":UTC", "PYTHONUNBUFFERED": "1", **of_callers(service, keeps_credentials),
+        **({} if keeps_credentials else {"AWS_SESSION_TOKEN": "local"}),
+        "AWS_LAMBDA_RUNTIME_API": f"127.0.0.1:{port}",
+        "_HANDLER": function.handler, "LAMBDA_TASK_ROOT": os.path.realpath(function.directory),
+        "AWS_LAMBDA_FUNCTION_NAME": function.name, "AWS_LAMBDA_FUNCTION_VERSION": "$LATEST",
+        "AWS_LAMBDA_FUNCTION_MEMORY_SIZE": str(function.memory), "AWS_LAMBDA_INITIALIZATION_TYPE": "on-demand",
+        "AWS_LAMBDA_LOG_GROUP_NAME": f"/aws/lambda/{function.name}", "AWS_LAMBDA_LOG_STREAM_NAME": f"local/[$LATEST]{number}",
+        **function.variables}
+
+
+def written(version):
+    return ".".join(map(str, version))
+
+
+def warning(client, version, newer, otherwise):
+    return (f"{client} {written(version)} ignores AWS_ENDPOINT_URL_LAMBDA and would call AWS itself: take {newer} or newer, "
+            f"or give it {otherwise}")
+
+
+def old_clients(version_of):
+    """A sentence on each client on PATH that is too old to come here by itself."""
+    boto3 = version_of(["python3", "-c", "import importlib.metadata as m; print(m.version('boto3'))"])
+    if boto3 and boto3 < OLDEST_BOTO3:
+        yield warning("boto3", boto3, written(OLDEST_BOTO3), "endpoint_url=os.environ['AWS_ENDPOINT_URL_LAMBDA']")
+    aws = version_of(["aws", "--version"])
+    if aws and aws < OLDEST_AWS.get(aws[0], (0, 0)):
+        newer = " or ".join(map(written, OLDEST_AWS.values()))
+        yield warning("aws", aws, newer, '--endpoint-url "$AWS_ENDPOINT_URL_LAMBDA"')
+
+
+class Clients(threading.Thread):
+    """Looks for old clients while all else starts."""
+
+    def __init__(self, log, stopping):
+        super().__init__(name="clients")
+        self.log, self.stopping = log, stopping
+
+    def run(self):
+        for sentence in old_clients(self.version_of):
+            self.log("up", sentence, level="warning", kind="client")
+
+    def version_of(self, words):
+        """The first version that a program prints; none if it is not here, fails, or takes long."""
+        if self.stopping.is_set():
+            return None
+        command, pipe = GUARD.announcing(words)
+        child = subprocess.Popen(command, stdin=pipe, stdout=subprocess.PIPE, stderr=subprocess.STDOUT, text=True, errors="replace",
+                                 start_new_session=True)
+        printed, end = None, time.monotonic() + LONGEST_SECONDS
+        while printed is None:
+            try:
+                printed, _ = child.communicate(timeout=0.1)
+            except subprocess.TimeoutExpired:
+                if self.stopping.is_set() or time.monotonic() > end:
+                    os.killpg(child.pid, signal.SIGKILL)
+        GUARD.release(child.pid)
+        found = re.search(r"(?:^|/)(\d+)\.(\d+)", printed) if child.returncode == 0 else None
+        return (int(found[1]), int(found[2])) if found else None

@@ -1,0 +1,90 @@
+"""Follows the service's history while tools/up runs: for its lines, and for what environments ask about themselves."""
+import contextlib
+import http.client
+import threading
+import time
+
+from ..history import Follower
+from ..life import FAILURES, Closes, Life
+
+NEARLY_FULL = 0.9
+
+
+class Watch(threading.Thread):
+    def __init__(self, service, lines, log, stopping):
+        super().__init__(name="watch", daemon=True)
+        self.lines, self.log, self.stopping = lines, log, stopping
+        self.life, self.follower, self.lock = Life(service.configuration), Follower(service.port), threading.RLock()
+        self.most = service.configuration.get("maxEntries", 1_000_000)
+        self.warnings, self.hooks, self.mute = set(), [], None
+
+    def run(self):
+        took = 0.0
+        # A service that gives its whole history each time is asked seldom enough.
+        while not self.stopping.wait(max(0.1, 10 * took)):
+            begun = time.monotonic()
+            self.refresh()
+            took = time.monotonic() - begun
+            # (A service that has just ended answers nobody.)
+            with contextlib.suppress(OSError, http.client.HTTPException):
+                for hook in self.hooks:
+                    hook()
+
+    def refresh(self):
+        """Takes what has come since the last time. If the service does not answer, the next time does."""
+        with self.lock:
+            try:
+                entries = self.follower.read()
+            except (OSError, http.client.HTTPException):
+                return
+            for entry in entries:
+                for event in self.life.take(entry):
+                    if not self._is_muted(event):
+                        self.lines.take(event)
+            self.lines.tell_throttled()
+            self._look_at_room()
+
+    @contextlib.contextmanager
+    def muted(self, environment):
+        """What is reported here of this environment is told elsewhere."""
+        with self.lock:
+            self.refresh()
+            self.mute = environment
+            try:
+                yield
+                self.refresh()
+            finally:
+                self.mute = None
+
+    def _is_muted(self, event):
+        return isinstance(event, Closes) and event.kind in FAILURES and event.environment.number == self.mute
+
+    def _look_at_room(self):
+        """Room for a stop is kept back: each environment may expire before it, and once more at it."""
+        count, kept = self.follower.next, 2 * (len(self.life.environments) + 1)
+        if count > self.most - kept:
+            self._warn("full", f"the history is full ({count} entries): every call is answered 500 `Journal is full`; "
+                               "stop, or write a higher maxEntries into UP.json", "error")
+        elif count >= NEARLY_FULL * self.most:
+            self._warn("nearly", f"the history has {count} of its {self.most} entries: once it is full every call is answered 500; "
+                                 "write a higher maxEntries into UP.json", "warning")
+
+    def _warn(self, name, text, level):
+        if name not in self.warnings:
+            self.warnings.add(name)
+            self.log("up", text, level=level, kind="history")
+
+    def environment(self, number):
+        return self.life.environments[number]
+
+    def generation(self, number, identifier):
+        """The generation of this environment in which an extension is registered, as it is now; none if it is not known."""
+        with self.lock:
+            self.refresh()
+            return self.environment(number).of(identifier)
+
+    def waiting(self, function):
+        """The tickets of the function's invocations that no runtime was given yet."""
+        with self.lock:
+            return [ticket for ticket, invocation in self.life.invocations.items()
+                    if invocation.function == function and invocation.delivered is None]

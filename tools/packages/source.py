@@ -1,0 +1,122 @@
+"""What a package is made of: the files of the last commit, and the proved program of its sources."""
+import hashlib
+import io
+import os
+import platform
+import shutil
+import subprocess
+import tarfile
+
+ROOT = os.path.dirname(os.path.dirname(os.path.dirname(os.path.realpath(__file__))))
+PACKAGED = ("lambda_local", "README.md", "CHANGELOG.md", "LICENSE", "docs", "examples", "tools", "tests/clients")
+MAKERS = ("tools/package", "tools/packages/", "tools/release")  # which stand in a checkout alone
+PROVED = ("crates.txt", "HANDLES", ":(glob)crates/*/src/**", ":(glob)crates/*/specs/**", ":(glob)crates/*/proofs/**")
+STAMP = ("sources", "kit", "program", "gate")  # the lines of what proved a program
+TRIAL, ANSWER = "examples/first_call.txt", "crates/lambda_local/stdout"
+
+
+class Fault(Exception):
+    """Why there is no package: a status, and a line that says what to do."""
+
+    def __init__(self, status, message):
+        super().__init__(message)
+        self.status = status
+
+
+def git(*words, **more):
+    """What git says of the checkout."""
+    done = subprocess.run(["git", "-C", ROOT, *words], stdout=subprocess.PIPE, env={**os.environ, "TZ": "UTC"}, **more)
+    if done.returncode:
+        raise Fault(2, f"git {words[0]} ended with status {done.returncode} in {ROOT}: clone the repository first")
+    return done.stdout
+
+
+def read(*parts):
+    with open(os.path.join(ROOT, *parts), "rb") as file:
+        return file.read()
+
+
+def is_executable(mode):
+    return bool(mode & 0o100)
+
+
+class Source:
+    """The last commit with the proved program of its sources."""
+
+    def __init__(self, say):
+        self.say = say
+        if (platform.system(), platform.machine()) != ("Linux", "x86_64"):
+            raise Fault(2, f"the program is for x86-64 Linux, and this is {platform.system()} {platform.machine()}")
+        self.commit, self.moment, self.person, self.version = git(
+            "log", "-1", "--abbrev=12", "--date=format-local:%Y.%-m.%-d", "--format=%H%n%ct%n%cn <%ce>%n%cd+g%h").decode().split("\n")[:4]
+        self.moment = int(self.moment)
+        self._refuse_changes()
+        path = self._find_program()
+        self.program = read(path)
+        self.proved = f"version {self.version}\ncommit {self.commit}\n{self._what_proved(path)}".encode()
+        self._try(path)
+        self.files = dict(self._read_commit())
+
+    @staticmethod
+    def _refuse_changes():
+        """Other files of the checkout do not matter: a package has those of the commit."""
+        changed = git("status", "--porcelain", "--untracked-files=all", "--", *PACKAGED, *PROVED).decode().splitlines()
+        if changed:
+            names = ", ".join([line[3:] for line in changed[:5]] + [".."] * (len(changed) > 5))
+            raise Fault(2, f"commit first, or move away what does not belong here; not committed: {names}")
+
+    @staticmethod
+    def _find_program():
+        """The program that ./lambda_local starts. Without one it is proved and built, if the kit is here."""
+        launcher = os.path.join(ROOT, "lambda_local")
+        plain = {name: value for name, value in os.environ.items() if name != "LAMBDA_LOCAL_PROGRAM"}
+
+        def find():
+            return subprocess.run([launcher, "path"], env=plain, stdout=subprocess.PIPE, stderr=subprocess.PIPE, text=True)
+
+        found = find()
+        if found.returncode and shutil.which("rt"):
+            subprocess.run([launcher, "build"], env=plain, stdout=subprocess.DEVNULL)
+            found = find()
+        if found.returncode:
+            raise Fault(4, (found.stderr.strip().splitlines() or ["there is no program"])[-1].replace("lambda_local: ", ""))
+        return found.stdout.rstrip("\n")
+
+    def _what_proved(self, path):
+        """The lines on what proved the program, which are said too."""
+        lines = [line for line in read(path + ".proved").decode().splitlines() if line.split(" ")[0] in STAMP]
+        if f"program {hashlib.sha256(self.program).hexdigest()}" not in lines:
+            raise Fault(4, f"{path} is not the program that {path}.proved tells of: './lambda_local build' makes both")
+        for line in lines:
+            self.say(line)
+        return "".join(line + "\n" for line in lines)
+
+    @staticmethod
+    def _try(path):
+        """Without this machine's settings, as its users will start it."""
+        got = subprocess.run([path], input=read(TRIAL), stdout=subprocess.PIPE, stderr=subprocess.DEVNULL, env={}, cwd="/").stdout
+        if got != read(ANSWER):
+            raise Fault(1, f"the program does not answer {TRIAL} as it should")
+
+    @staticmethod
+    def _read_commit():
+        """The name of each packaged file, with its mode and contents."""
+        with tarfile.open(fileobj=io.BytesIO(git("archive", "--format=tar", "HEAD", *PACKAGED))) as tar:
+            for member in tar:
+                if member.isfile() and not member.name.startswith(MAKERS) and not member.name.endswith(".gitignore"):
+                    yield member.name, (0o755 if is_executable(member.mode) else 0o644, tar.extractfile(member).read())
+
+    def below(self, folder):
+        """The files below a folder, by their names in it."""
+        return {name[len(folder) + 1:]: file for name, file in self.files.items() if name.startswith(folder + "/")}
+
+
+def put(path, data):
+    """Writes a package at once, or not at all."""
+    try:
+        with open(path + ".new", "wb") as file:
+            file.write(data)
+        os.replace(path + ".new", path)
+    except OSError as fault:
+        raise Fault(4, f"{path}: {fault.strerror}: name a folder that can be written") from None
+    return path
