@@ -35,8 +35,9 @@ const PAUSE: u64 = 1;
 /// How many newcomers a port is let take in before it is another port's turn.
 const MOST_IN_A_TURN: u32 = 8;
 
-/// How often it is looked, at a pause between two looks, whether a connection has made room.
-const LOOKS_FOR_ROOM: u32 = 20;
+/// How often it is looked, at a pause between two looks, whether a connection has made room: its thread may
+/// have to wait for a processor.
+const LOOKS_FOR_ROOM: u32 = 250;
 
 /// How many seconds are between two looks at who stands still.
 const BETWEEN_ROUNDS: u64 = 1;
