@@ -1,7 +1,6 @@
 """What bench/serve/run measures, and how it prints it: tables that can be pasted into docs/speed.md. Runs are
 interleaved: each run starts every service once, anew, beginning with another one each time, and a ratio is of two
 services in the same run. A figure is the median of the runs; in brackets stand the least and the greatest."""
-import os
 import statistics
 import sys
 import time
@@ -36,7 +35,8 @@ def ratio(it):
 
 
 def ratios(values):
-    return ratio(statistics.median(values)) + (f" ({ratio(min(values))} to {ratio(max(values))})" if len(values) > 1 else "")
+    return (ratio(statistics.median(values))
+            + (f" ({ratio(min(values))} to {ratio(max(values))})" if len(values) > 1 else ""))
 
 
 def memory_free():
@@ -108,17 +108,20 @@ class Tables:
 
     def round_trip(self, kind, environments, size, invocations, processors):
         with Service(kind, environments, processors[0]) as service:
-            with Client(self.load, service, "round", environments, size, invocations, processors=processors[1]) as client:
+            with Client(self.load, service, "round", environments, size, invocations,
+                        processors=processors[1]) as client:
                 used, switched = service.processor(), service.switches()
                 rate, half, most, throttles = map(float, client.go())
                 if throttles > invocations / 100:
-                    print(f"bench: {kind.name}: {throttles:,.0f} of {invocations:,} invocations were throttled, and made again", file=sys.stderr, flush=True)
-                return {"rate": rate, "half": half, "most": most, "processor": (service.processor() - used) / invocations * 1e6,
+                    print(f"bench: {kind.name}: {throttles:,.0f} of {invocations:,} invocations were throttled, and "
+                          f"made again", file=sys.stderr, flush=True)
+                return {"rate": rate, "half": half, "most": most,
+                        "processor": (service.processor() - used) / invocations * 1e6,
                         "switches": (service.switches() - switched) / invocations}
 
     def round_trips(self):
-        self.head("processors", "environments", "payload", "service", "a second", "p50 µs", "p99 µs", "processor µs", "switches",
-                  *(f"rate / {base.name}" for base in self.bases()), "processor / plain C")
+        self.head("processors", "environments", "payload", "service", "a second", "p50 µs", "p99 µs", "processor µs",
+                  "switches", *(f"rate / {base.name}" for base in self.bases()), "processor / plain C")
         ours = self.kinds[0]
         for size, called in SIZES.items():
             for environments in (1, 8, 64):
@@ -126,15 +129,20 @@ class Tables:
                 invocations = max(invocations // 2 if environments == 1 else invocations, environments)
                 for name, processors in self.placements.items():
                     where = f"{called}, environments {environments}, processors {name}"
-                    # What came and what went out of each invocation is kept, the client has buffers, and Go's collector takes twice.
+                    # What came and what went out of each invocation is kept, the client has buffers, and Go's collector
+                    # takes twice.
                     wanted = 2 * size * (invocations * 1.05 + 2 * environments) * (2 if self.go else 1)
                     if wanted > memory_free():
-                        print(f"bench: {where}: left out, since it wants {wanted / 1e9:.1f} GB of memory", file=sys.stderr, flush=True)
+                        print(f"bench: {where}: left out, since it wants {wanted / 1e9:.1f} GB of memory",
+                              file=sys.stderr, flush=True)
                         continue
-                    samples = self.interleaved(where, lambda kind: self.round_trip(kind, environments, size, invocations, processors))
-                    self.note(f"at {called}: {RATES[size]} of plain C's rate", self.against(samples, ours, self.plain, "rate"), where)
+                    samples = self.interleaved(
+                        where, lambda kind: self.round_trip(kind, environments, size, invocations, processors))
+                    self.note(f"at {called}: {RATES[size]} of plain C's rate",
+                              self.against(samples, ours, self.plain, "rate"), where)
                     if size == 100:
-                        self.note(f"at {called}: {OF_GO} of Go's rate", self.go and self.against(samples, ours, self.go, "rate"), where)
+                        self.note(f"at {called}: {OF_GO} of Go's rate",
+                                  self.go and self.against(samples, ours, self.go, "rate"), where)
                     aims = {self.plain: RATES[size], self.go: OF_GO if size == 100 else None}
                     for kind, its in samples.items():
                         self.row(name, str(environments), called, kind.name, *([
@@ -154,13 +162,16 @@ class Tables:
         return found
 
     def beside_large(self):
-        self.head("processors", "100 B, 2 environments", "alone: p50 µs", "p99 µs", "while another connection sends 6 MB: p50 µs", "p99 µs",
+        self.head("processors", "100 B, 2 environments", "alone: p50 µs", "p99 µs",
+                  "while another connection sends 6 MB: p50 µs", "p99 µs",
                   "6 MB a second", *(f"that p99 / {base.name}" for base in self.bases()))
         for name, processors in self.placements.items():
-            samples = self.interleaved(f"100 B beside 6 MB, processors {name}", lambda kind: self.small_ones(kind, processors))
+            samples = self.interleaved(f"100 B beside 6 MB, processors {name}",
+                                       lambda kind: self.small_ones(kind, processors))
             for kind, its in samples.items():
                 self.row(name, kind.name, *([
-                    *(spread([it[what] for it in its]) for what in ("alone half", "alone most", "beside half", "beside most")),
+                    *(spread([it[what] for it in its])
+                      for what in ("alone half", "alone most", "beside half", "beside most")),
                     median([it["rate"] for it in its]),
                     *(self.beside(samples, kind, base, "beside most") for base in self.bases()),
                 ] if its else ["failed", *["-"] * (4 + len(self.bases()))]))
@@ -168,7 +179,8 @@ class Tables:
     def short_ones(self, kind, callers, processors):
         count = self.few(20_000)
         with Service(kind, 1, processors[0]) as service:
-            with Client(self.load, service, "short", max(count // 10, callers), callers, processors=processors[1]) as client:
+            with Client(self.load, service, "short", max(count // 10, callers), callers,
+                        processors=processors[1]) as client:
                 client.go()
             with Client(self.load, service, "short", count, callers, processors=processors[1]) as client:
                 memory, used = service.memory(), service.processor()
@@ -178,19 +190,21 @@ class Tables:
                 return {"rate": rate, "processor": used / count * 1e6, "grown": service.memory() - memory}
 
     def short(self):
-        self.head("processors", "callers", "short connections", "a second", "processor µs a connection", f"KiB grown after {self.few(20_000):,}",
-                  *(f"rate / {base.name}" for base in self.bases()))
+        self.head("processors", "callers", "short connections", "a second", "processor µs a connection",
+                  f"KiB grown after {self.few(20_000):,}", *(f"rate / {base.name}" for base in self.bases()))
         for callers in (1, 8):
             for name, processors in self.placements.items():
                 where = f"short connections, callers {callers}, processors {name}"
                 samples = self.interleaved(where, lambda kind: self.short_ones(kind, callers, processors))
-                self.note(f"{OF_SHORT} of plain C's short connections a second", self.against(samples, self.kinds[0], self.plain, "rate"), where)
+                self.note(f"{OF_SHORT} of plain C's short connections a second",
+                          self.against(samples, self.kinds[0], self.plain, "rate"), where)
                 for kind, its in samples.items():
                     self.row(name, str(callers), kind.name, *([
                         spread([it["rate"] for it in its]),
                         median([it["processor"] for it in its]),
                         f"{statistics.median(it['grown'] for it in its):,.0f}",
-                        *(self.beside(samples, kind, base, "rate", OF_SHORT if base is self.plain else None) for base in self.bases()),
+                        *(self.beside(samples, kind, base, "rate", OF_SHORT if base is self.plain else None)
+                          for base in self.bases()),
                     ] if its else ["failed", *["-"] * (2 + len(self.bases()))]))
 
     def use(self, service, seconds):
@@ -209,20 +223,24 @@ class Tables:
             with Client(self.load, service, "park", environments, extensions) as client:
                 client.go()
                 service.settle()
-                grown = [now - then for now, then in zip((service.memory(), service.descriptors(), service.threads()), before)]
+                after = service.memory(), service.descriptors(), service.threads()
+                grown = [now - then for now, then in zip(after, before)]
                 full = self.use(service, 2 if self.is_quick else 10)
                 (parked,) = client.go()
                 if int(parked) != count:
-                    raise Trouble(f"{kind.name}: {int(parked):,} of {count:,} connections are still parked; the others were answered or closed")
+                    raise Trouble(f"{kind.name}: {int(parked):,} of {count:,} connections are still parked; the others "
+                                  f"were answered or closed")
         memory, descriptors, threads = (it / count for it in grown)
         return {"memory": memory, "descriptors": descriptors, "threads": threads, "none": none, "full": full}
 
     def parked(self):
         self.head("1,008 parked connections", "KiB a connection", "descriptors a connection", "threads a connection",
-                  "idle with them: % of a processor", f"idle without, {PARKED[0]} environments: % of a processor", "KiB / plain C")
+                  "idle with them: % of a processor", f"idle without, {PARKED[0]} environments: % of a processor",
+                  "KiB / plain C")
         samples = self.interleaved("parked connections", self.parked_ones, min(self.runs, 3))
         ours = samples[self.kinds[0]]
-        self.note(f"under {MOST_KIB} KiB a parked connection", ours and [it["memory"] for it in ours], "1,008 parked connections")
+        self.note(f"under {MOST_KIB} KiB a parked connection", ours and [it["memory"] for it in ours],
+                  "1,008 parked connections")
         for kind, its in samples.items():
             self.row(kind.name, *([
                 spread([it["memory"] for it in its]) + (f", aim under {MOST_KIB}" if kind is self.kinds[0] else ""),

@@ -1,5 +1,5 @@
-"""The services that bench/serve/run measures, and their client: how they are built, started on free ports and on which
-processors, what the system counts of them, and that none outlives the run."""
+"""The services that bench/serve/run and bench/serve/instructions measure, and their client: how they are built, started
+on free ports and on which processors, what the system counts of them, and that none outlives the run."""
 import ctypes
 import os
 import random
@@ -29,7 +29,8 @@ def tail(file):
 
 
 def stays_behind(parent):
-    """What a child does before its program: it ends with this process, however that ends, and takes many descriptors."""
+    """What a child does before its program: it ends with this process, however that ends, and takes many
+    descriptors."""
     libc = ctypes.CDLL(None)
 
     def prepare():
@@ -52,7 +53,8 @@ def compile_c(folder, name):
     if not compiler:
         raise Trouble("no C compiler (cc) is here, and the client is written in C")
     program = os.path.join(folder, name)
-    done = subprocess.run([compiler, "-O2", "-pthread", "-o", program, os.path.join(HERE, name + ".c")], stderr=subprocess.PIPE, text=True)
+    done = subprocess.run([compiler, "-O2", "-pthread", "-o", program, os.path.join(HERE, name + ".c")],
+                          stderr=subprocess.PIPE, text=True)
     if done.returncode:
         raise Trouble(f"{name}.c does not compile: {done.stderr[-400:]}")
     return program
@@ -64,9 +66,11 @@ def compile_go(folder):
     if not compiler:
         raise Trouble("no Go is on this machine")
     program = os.path.join(folder, "plain_go")
-    settings = {"GOCACHE": os.path.join(folder, "go"), **os.environ, "GO111MODULE": "off", "GOTOOLCHAIN": "local", "GOFLAGS": ""}
+    settings = {"GOCACHE": os.path.join(folder, "go"), **os.environ, "GO111MODULE": "off", "GOTOOLCHAIN": "local",
+                "GOFLAGS": ""}
     try:
-        done = subprocess.run([compiler, "build", "-o", program, os.path.join(HERE, "plain.go")], env=settings, stderr=subprocess.PIPE,
+        done = subprocess.run([compiler, "build", "-o", program, os.path.join(HERE, "plain.go")], env=settings,
+                              stderr=subprocess.PIPE,
                               text=True, timeout=600)
     except subprocess.TimeoutExpired:
         raise Trouble("Go had not built plain.go in ten minutes") from None
@@ -94,10 +98,11 @@ def free_ports(count):
 
 
 class Kind:
-    """A service that can be started: its name in the tables, and its program."""
+    """A service that can be started: its name in the tables, its program, and the command that runs it, if any."""
 
-    def __init__(self, name, program, is_ours):
-        self.name, self.program, self.is_ours = name, program, is_ours
+    def __init__(self, name, program, is_ours, under=()):
+        self.name, self.program, self.is_ours, self.under = name, program, is_ours, list(under)
+        self.listens = LISTENS * 6 if under else LISTENS
 
     def words(self, folder, port, environments):
         if not self.is_ours:
@@ -107,7 +112,7 @@ class Kind:
         path = os.path.join(folder, "config.json")
         with open(path, "w") as file:
             json.dump(config, file)
-        return [self.program, "serve", path]
+        return [*self.under, self.program, "serve", path]
 
 
 class Service:
@@ -122,13 +127,16 @@ class Service:
         try:
             self.port = free_ports(self.environments + 1)
             words = self.kind.words(self.folder.name, self.port, self.environments)
-            self.process = start(words, self.processors, stdin=subprocess.DEVNULL, stdout=subprocess.DEVNULL, stderr=self.said)
-            end = time.monotonic() + LISTENS
+            self.process = start(words, self.processors, stdin=subprocess.DEVNULL, stdout=subprocess.DEVNULL,
+                                 stderr=self.said)
+            end = time.monotonic() + self.kind.listens
             while b"listening" not in os.pread(self.said.fileno(), 65536, 0):
                 if self.process.poll() is not None:
-                    raise Trouble(f"{self.kind.name} ended with status {self.process.returncode} before it listened; it said: {tail(self.said)}")
+                    raise Trouble(f"{self.kind.name} ended with status {self.process.returncode} before it listened; "
+                                  f"it said: {tail(self.said)}")
                 if time.monotonic() > end:
-                    raise Trouble(f"{self.kind.name} does not listen after {LISTENS} seconds; it said: {tail(self.said)}")
+                    raise Trouble(f"{self.kind.name} does not listen after {self.kind.listens} seconds; it said: "
+                                  f"{tail(self.said)}")
                 time.sleep(0.01)
         except BaseException:
             self.__exit__()
@@ -159,7 +167,8 @@ class Service:
         total = 0
         for thread in os.listdir(f"/proc/{self.process.pid}/task"):
             try:
-                total += self.of_status(f"/proc/{self.process.pid}/task/{thread}", "voluntary_ctxt_switches:", "nonvoluntary_ctxt_switches:")
+                total += self.of_status(f"/proc/{self.process.pid}/task/{thread}", "voluntary_ctxt_switches:",
+                                        "nonvoluntary_ctxt_switches:")
             except (FileNotFoundError, ProcessLookupError):
                 pass
         return total
@@ -169,6 +178,34 @@ class Service:
 
     def threads(self):
         return len(os.listdir(f"/proc/{self.process.pid}/task"))
+
+    def rest(self):
+        """Waits until all its threads sleep, at two looks in a row."""
+        sleeping, pause, end = 0, 0.0005, time.monotonic() + ANSWERS
+        while sleeping < 2:
+            time.sleep(pause)
+            pause = min(pause * 1.5, 0.02)
+            states = []
+            for thread in os.listdir(f"/proc/{self.process.pid}/task"):
+                try:
+                    with open(f"/proc/{self.process.pid}/task/{thread}/stat", "rb") as file:
+                        states.append(file.read().rpartition(b")")[2].split()[0])
+                except (FileNotFoundError, ProcessLookupError):
+                    pass
+            sleeping = sleeping + 1 if set(states) == {b"S"} else 0
+            if self.process.poll() is not None:
+                raise Trouble(f"{self.kind.name} ended with status {self.process.returncode}; it said: "
+                              f"{tail(self.said)}")
+            if time.monotonic() > end:
+                raise Trouble(f"{self.kind.name} does not come to rest in {ANSWERS} seconds")
+
+    def end(self):
+        """Ends it by SIGTERM, at which a tool that it runs under writes what it found."""
+        self.process.terminate()
+        try:
+            self.process.wait(60)
+        except subprocess.TimeoutExpired:
+            raise Trouble(f"{self.kind.name} does not end in 60 seconds; it said: {tail(self.said)}") from None
 
     def settle(self):
         """Waits until the memory and the descriptors stay as they are, ten seconds at most."""
@@ -183,11 +220,13 @@ class Client:
     """The client at work on a service, ready and not begun, until the end of its block."""
 
     def __init__(self, program, service, what, *numbers, processors=None):
-        self.service, self.words, self.processors = service, [program, what, str(service.port), *map(str, numbers)], processors
+        self.service, self.words, self.processors = service, [program, what, str(service.port),
+                                                              *map(str, numbers)], processors
 
     def __enter__(self):
         self.said = tempfile.TemporaryFile()
-        self.process = start(self.words, self.processors, stdin=subprocess.PIPE, stdout=subprocess.PIPE, stderr=self.said, bufsize=0)
+        self.process = start(self.words, self.processors, stdin=subprocess.PIPE, stdout=subprocess.PIPE,
+                             stderr=self.said, bufsize=0)
         try:
             self.hear()
         except BaseException:
@@ -211,9 +250,11 @@ class Client:
         name = self.service.kind.name
         told = f"`{' '.join(['load', *self.words[1:]])}`"
         if self.service.process.poll() is not None:
-            raise Trouble(f"{name} ended with status {self.service.process.returncode} under {told}; it said: {tail(self.service.said)}")
+            raise Trouble(f"{name} ended with status {self.service.process.returncode} under {told}; it said: "
+                          f"{tail(self.service.said)}")
         if not ready:
-            raise Trouble(f"{name}: {told} had no result after {ANSWERS} seconds; the service said: {tail(self.service.said)}")
+            raise Trouble(f"{name}: {told} had no result after {ANSWERS} seconds; the service said: "
+                          f"{tail(self.service.said)}")
         raise Trouble(f"{name}: {told} failed: {tail(self.said)}; the service said: {tail(self.service.said)}")
 
     def go(self):
