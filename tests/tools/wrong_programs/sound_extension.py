@@ -1,10 +1,10 @@
 #!/usr/bin/env python3
 """An extension that does all that tools/conformance checks, in methods that the wrong ones override one by one."""
-import http.client
 import json
 import os
-import socket
 import sys
+
+from connection import Client
 
 PATH = "/2020-01-01/extension/"
 NAME = "sound"
@@ -14,9 +14,11 @@ class Failed(Exception):
     """What CONFORMANCE_FAILS asks for."""
 
 
-class Extension:
+class Extension(Client):
+    next_path = PATH + "event/next"
+
     def __init__(self):
-        self.connection = http.client.HTTPConnection(os.environ["AWS_LAMBDA_RUNTIME_API"])
+        super().__init__()
         self.identifier, self.fails_at = None, os.environ.get("CONFORMANCE_FAILS")
 
     def run(self):
@@ -61,10 +63,11 @@ class Extension:
         pass
 
     def one_event(self):
-        answer, event = self.next()
+        answer, body = self.next()
         if answer.status == 500:
             return self.at_500()
-        kind = event.get("eventType") if answer.status == 200 else None
+        event = json.loads(body) if answer.status == 200 else {}
+        kind = event.get("eventType")
         if kind == "INVOKE":
             return self.invoked(event)
         if kind == "SHUTDOWN":
@@ -72,7 +75,7 @@ class Extension:
         return self.unknown(event)
 
     def next(self):
-        return self.ask("GET", PATH + "event/next")
+        return self.ask("GET", self.next_path)
 
     def at_500(self):
         self.end(1)
@@ -101,28 +104,7 @@ class Extension:
         return {"Lambda-Extension-Identifier": self.identifier} if self.identifier else {}
 
     def ask(self, method, path, body=None, headers=None):
-        """The answer and its body; a poll that finds the connection ended is sent again on a new one."""
-        for attempt in (1, 2):
-            try:
-                self.connection.request(method, path, body and json.dumps(body), {**self.headers(), **(headers or {})})
-                answer = self.connection.getresponse()
-                return answer, self.read(answer.read())
-            except (ConnectionError, http.client.HTTPException, socket.timeout):
-                self.connection.close()
-                if method != "GET" or attempt == 2:
-                    raise
-                self.connection_ended()
-        raise AssertionError
-
-    @staticmethod
-    def read(body):
-        try:
-            return json.loads(body)
-        except ValueError:
-            return {}
-
-    def connection_ended(self):
-        """The service has ended the connection."""
+        return super().ask(method, path, body and json.dumps(body), headers)
 
 
 if __name__ == "__main__":

@@ -1,14 +1,14 @@
 #!/usr/bin/env python3
 """A runtime that does all that tools/conformance checks, in methods that the wrong ones override one by one."""
-import http.client
 import importlib
 import json
 import os
-import socket
 import sys
 import time
 import traceback
 from types import SimpleNamespace
+
+from connection import Client
 
 PATH = "/2018-06-01/runtime/"
 
@@ -17,11 +17,9 @@ class Parts(list):
     """Texts that are streamed."""
 
 
-class Runtime:
-    def __init__(self):
-        self.address = os.environ["AWS_LAMBDA_RUNTIME_API"]
-        self.connection = http.client.HTTPConnection(self.address)
-        self.handler = None
+class Runtime(Client):
+    handler = None
+    next_path = PATH + "invocation/next"
 
     # -- the life of the process
 
@@ -115,24 +113,8 @@ class Runtime:
     def error_headers(self, fault):
         return {"Lambda-Runtime-Function-Error-Type": f"Runtime.{type(fault).__name__}"}
 
-    # -- a request
-
     def ask(self, method, path, body=None, headers=None, chunked=False):
-        """The answer and its body; a poll that finds the connection ended is sent again on a new one."""
-        for attempt in (1, 2):
-            try:
-                self.connection.request(method, PATH + path, body, headers or {}, encode_chunked=chunked)
-                answer = self.connection.getresponse()
-                return answer, answer.read()
-            except (ConnectionError, http.client.HTTPException, socket.timeout):
-                self.connection.close()
-                if method != "GET" or attempt == 2:
-                    raise
-                self.connection_ended()
-        raise AssertionError
-
-    def connection_ended(self):
-        """The service has ended the connection."""
+        return super().ask(method, PATH + path, body, headers, chunked)
 
 
 if __name__ == "__main__":

@@ -4,13 +4,12 @@ import atexit
 import http.client
 import json
 import os
-import select
 import signal
-import socket
 import sys
 import tempfile
 import time
 
+import shared_mistakes
 from sound_runtime import Parts, Runtime
 
 
@@ -71,19 +70,8 @@ class SwallowsExits(Runtime):
 
 # ---- requests and connections ----------------------------------------------------------------------------------------
 
-class PollsTwice(Runtime):
-    """Asks for an invocation on a second connection too, if none comes at once."""
+class PollsTwice(shared_mistakes.PollsTwice, Runtime):
     check = "one_next"
-
-    def next(self):
-        older = http.client.HTTPConnection(self.address)
-        older.request("GET", "/2018-06-01/runtime/invocation/next")
-        if select.select([older.sock], [], [], 0.5)[0]:
-            self.connection.close()  # (what it does not ask on may end meanwhile)
-            answer = older.getresponse()
-            return answer, answer.read()
-        newer, first = super().next(), older.getresponse()
-        return newer if first.status == 403 else (first, first.read())
 
 
 class AsksBeforeItResponds(Runtime):
@@ -106,26 +94,12 @@ class RespondsTwice(Runtime):
             Runtime().ask("POST", f"invocation/{request}/response", self.dump(output))
 
 
-class DiesWithItsConnection(Runtime):
-    check = "connection_end"
-
-    def connection_ended(self):
-        sys.exit(1)
+class DiesWithItsConnection(shared_mistakes.DiesWithItsConnection, Runtime):
+    pass
 
 
-class GivesNextUp(Runtime):
-    """Has a timeout of three seconds on all requests."""
-    check = "next_without_timeout"
-
-    def begin(self):
-        self.connection.timeout = 3
-
-    def ask(self, *arguments, **named):
-        while True:
-            try:
-                return super().ask(*arguments, **named)
-            except socket.timeout:
-                pass
+class GivesNextUp(shared_mistakes.GivesNextUp, Runtime):
+    pass
 
 
 # ---- many invocations ------------------------------------------------------------------------------------------------
@@ -188,21 +162,16 @@ class ConnectsForEachRequest(Runtime):
 
 
 class EndsWhenItIsLate(Runtime):
-    check, noted = "late_response", True
+    check, noted, refusal = "late_response", True, 403
 
     def sent(self, answer, request, output):
-        if answer.status == 403:
+        if answer.status == self.refusal:
             sys.exit(1)
         super().sent(answer, request, output)
 
 
-class EndsWhenItIsTooLarge(Runtime):
-    check, noted = "too_large", True
-
-    def sent(self, answer, request, output):
-        if answer.status == 413:
-            sys.exit(1)
-        super().sent(answer, request, output)
+class EndsWhenItIsTooLarge(EndsWhenItIsLate):
+    check, refusal = "too_large", 413
 
 
 class DoesNotStream(Runtime):

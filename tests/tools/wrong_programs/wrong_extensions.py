@@ -2,17 +2,15 @@
 """Extensions with one mistake each. A class is named after its mistake, and `check` is the check that catches it.
 
 usage: wrong_extensions.py MISTAKE"""
-import http.client
 import os
-import select
 import signal
-import socket
 import subprocess
 import sys
 import tempfile
 import time
 
-from sound_extension import PATH, Extension
+import shared_mistakes
+from sound_extension import Extension
 
 
 # ---- registration ----------------------------------------------------------------------------------------------------
@@ -88,19 +86,8 @@ class IsLate(Extension):
             time.sleep(max(0, event["deadlineMs"] / 1000 - time.time()) + 1)
 
 
-class PollsTwice(Extension):
-    """Asks for an event on a second connection too, if none comes at once."""
+class PollsTwice(shared_mistakes.PollsTwice, Extension):
     check = "one_poll"
-
-    def next(self):
-        older = http.client.HTTPConnection(os.environ["AWS_LAMBDA_RUNTIME_API"])
-        older.request("GET", PATH + "event/next", headers=self.headers())
-        if select.select([older.sock], [], [], 0.5)[0]:
-            self.connection.close()  # (what it does not ask on may end meanwhile)
-            answer = older.getresponse()
-            return answer, self.read(answer.read())
-        newer, first = super().next(), older.getresponse()
-        return newer if first.status == 403 else (first, self.read(first.read()))
 
 
 # ---- the end ---------------------------------------------------------------------------------------------------------
@@ -230,26 +217,12 @@ class DiesWithoutTelemetry(Extension):
             self.end(1)
 
 
-class DiesWithItsConnection(Extension):
-    check = "connection_end"
-
-    def connection_ended(self):
-        self.end(1)
+class DiesWithItsConnection(shared_mistakes.DiesWithItsConnection, Extension):
+    pass
 
 
-class GivesNextUp(Extension):
-    """Has a timeout of three seconds on all requests."""
-    check = "next_without_timeout"
-
-    def begin(self):
-        self.connection.timeout = 3
-
-    def ask(self, *arguments, **named):
-        while True:
-            try:
-                return super().ask(*arguments, **named)
-            except socket.timeout:
-                pass
+class GivesNextUp(shared_mistakes.GivesNextUp, Extension):
+    pass
 
 
 # ---- what the documents leave open, or is not there: a NOTE ----------------------------------------------------------

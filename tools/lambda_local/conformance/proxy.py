@@ -1,5 +1,6 @@
-"""Stands between a runtime or an extension and an environment's port: forwards bytes as they come, and records each request
-with its reply and their times. A rule may answer in the service's place, alter a reply, or close the connection after it.
+"""Stands between a runtime or an extension and an environment's port: forwards bytes as they come, and how each of the two
+ends the connection, and records each request with its reply and their times. A rule may answer in the service's place, or
+close the connection after a reply.
 
     proxy = Proxy(port)                                      # listens at 127.0.0.1:proxy.port
     proxy.rule = Rule("response", reply=(500, b"{}"))        # of the next response, once
@@ -7,6 +8,7 @@ with its reply and their times. A rule may answer in the service's place, alter 
 import json
 import selectors
 import socket
+import struct
 import threading
 import time
 
@@ -34,7 +36,7 @@ class Exchange:
     def __init__(self, connection, peer, request):
         self.connection, self.peer = connection, peer  # the connection's number, from 1, and the peer's port
         self.begun, self.since = time.monotonic(), CLOCK.now()
-        self.asked = self.answered = self.left = None  # the request is whole; the reply is; the peer has gone before that
+        self.asked = self.answered = self.left = None  # the request is whole; the reply is; one of the two has gone before that
         self.method, _, rest = request.start.partition(" ")
         self.path = rest.partition(" ")[0]
         self.request, self.reply = request, None
@@ -97,7 +99,7 @@ class Proxy:
     """Forwards the connections that it takes to the port of the service."""
 
     def __init__(self, target):
-        self.target, self.exchanges, self.connections, self.faults = target, [], 0, []
+        self.target, self.exchanges, self.connections = target, [], 0
         self.rule = None  # for the next request of its kind
         self.always = {}  # by kind: rules for each request
         self.changed = threading.Condition()
@@ -148,18 +150,17 @@ class Proxy:
             threading.Thread(target=self._serve, args=(client, number, peer), daemon=True).start()
 
     def _serve(self, client, number, peer):
-        link = Link(self, client, number, peer)
-        try:
-            link.run()
-        except Malformed as fault:
-            self.faults.append(str(fault))
-        except OSError:
-            pass  # (one of the two has gone, which the exchanges say)
-        finally:
-            link.end()
-            with self.changed:
-                self._open.discard(client)
-            client.close()
+        with selectors.DefaultSelector() as sources:
+            link = Link(self, client, number, peer, sources)
+            try:
+                link.run()
+            except OSError:
+                pass  # (one of the two has gone, which the exchanges say)
+            finally:
+                link.end()
+                with self.changed:
+                    self._open.discard(client)
+                client.close()
 
     def note(self, change):
         with self.changed:
@@ -176,31 +177,84 @@ class Proxy:
 
 
 class Link:
-    """One connection of the client and, from its first request on, one to the service."""
+    """One connection of the client and, from its first request on, one to the service. How one of the two ends its side, or
+    resets the connection, is passed on to the other: a service that answers before the request is whole ends its own side
+    and may read on (RFC 9112, section 9.6)."""
 
-    def __init__(self, proxy, client, number, peer):
-        self.proxy, self.client, self.number, self.peer = proxy, client, number, peer
+    def __init__(self, proxy, client, number, peer, sources):
+        self.proxy, self.client, self.number, self.peer, self.sources = proxy, client, number, peer, sources
         self.service = None
         self.request = self.reply = self.exchange = None
         self.held = b""  # a head that is not whole yet
         self.waiting = b""  # what the client has sent behind a whole request
+        self.reads = True  # until what comes is no HTTP/1.1, or no request that the service would take
+        self.service_ended = self.service_refuses = False  # it sends no more; it has reset the connection
         client.setsockopt(socket.IPPROTO_TCP, socket.TCP_NODELAY, 1)
 
     def run(self):
-        with selectors.DefaultSelector() as sources:
-            sources.register(self.client, selectors.EVENT_READ)
-            while True:
-                for key, _ in sources.select():
-                    data = key.fileobj.recv(PART)
-                    taken = self.from_client(data) if key.fileobj is self.client else self.from_service(data)
-                    if not taken:
-                        return
-                if self.service and len(sources.get_map()) == 1:
-                    sources.register(self.service, selectors.EVENT_READ)
+        self.sources.register(self.client, selectors.EVENT_READ)
+        while self.sources.get_map():
+            for key, _ in self.sources.select():
+                if not self.take_from(key.fileobj):
+                    return
+
+    def take_from(self, side):
+        """Hands on what came: whether the link goes on."""
+        try:
+            data = side.recv(PART)
+        except OSError:
+            return self.reset_other(side)
+        if not data:
+            return self.end_other(side)
+        return self.from_client(data) if side is self.client else self.from_service(data)
+
+    # -- the ends
+
+    def end_other(self, side):
+        """The side's peer sends no more: nor does the link to the other one."""
+        self.sources.unregister(side)
+        if side is self.client:
+            self.note_left()
+            if self.service:
+                self.to_service(self.held + self.waiting)
+                self.service.shutdown(socket.SHUT_WR)
+            return self.service is not None
+        self.service_ended = True
+        if self.service_refuses:
+            return self.reset_other(side)
+        goes_on = self.finish() if self.reply and self.reply.ended() else self.go_on()
+        self.note_left()
+        self.client.shutdown(socket.SHUT_WR)
+        return goes_on
+
+    def reset_other(self, side):
+        """The side's peer has reset the connection: so does the link."""
+        other = self.service if side is self.client else self.client
+        if other:
+            other.setsockopt(socket.SOL_SOCKET, socket.SO_LINGER, struct.pack("ii", 1, 0))
+        return False
+
+    def stop_reading(self):
+        """From now on bytes are handed on as they are."""
+        self.reads, self.request = False, None
+        data, self.held, self.waiting = self.held + self.waiting, b"", b""
+        return self.to_service(data)
+
+    def note_left(self):
+        exchange = self.exchange
+        if exchange and not exchange.ended:
+            self.proxy.note(lambda: setattr(exchange, "left", time.monotonic()))
+
+    def end(self):
+        self.note_left()
+        if self.service:
+            self.service.close()
+
+    # -- requests
 
     def from_client(self, data):
-        if not data:
-            return False
+        if not self.reads:
+            return self.to_service(data)
         if self.exchange and self.exchange.asked:  # (pipelined: its turn comes when the reply has gone)
             self.waiting += data
             return True
@@ -210,7 +264,11 @@ class Link:
         """Hands on bytes of a request: its head once it is whole, the rest as it comes."""
         self.request = self.request or Message()
         had_head = self.request.head_ended
-        self.waiting = self.request.feed(data)
+        try:
+            self.waiting = self.request.feed(data)
+        except Malformed:
+            self.held += data
+            return self.stop_reading()
         data = data[:len(data) - len(self.waiting)]
         if not had_head:
             self.held += data
@@ -219,70 +277,83 @@ class Link:
             data, self.held = self.held, b""
             self.begin()
         rule = self.exchange.by_rule
-        if not (rule and rule.reply):
-            self.connect().sendall(data)
-        if self.request.whole:
-            self.proxy.note(lambda: setattr(self.exchange, "asked", time.monotonic()))
-            if rule and rule.reply:
-                return self.answer_by(rule)
-        return True
+        if not (rule and rule.reply) and not self.to_service(data):
+            return False
+        if not self.request.whole:
+            return True
+        self.proxy.note(lambda: setattr(self.exchange, "asked", time.monotonic()))
+        return self.answer_by(rule) if rule and rule.reply else self.go_on()
 
     def begin(self):
         self.exchange = Exchange(self.number, self.peer, self.request)
         self.exchange.by_rule = self.proxy.take_rule(self.exchange.kind)
         self.proxy.note(lambda: self.proxy.exchanges.append(self.exchange))
 
-    def connect(self):
+    def to_service(self, data):
+        """Whether the link goes on. Where the service has reset the connection, what it sent before comes to the client first."""
         if self.service is None:
             self.service = socket.create_connection(("127.0.0.1", self.proxy.target))
             self.service.setsockopt(socket.IPPROTO_TCP, socket.TCP_NODELAY, 1)
-        return self.service
+            self.sources.register(self.service, selectors.EVENT_READ)
+        try:
+            self.service.sendall(data)
+        except OSError:
+            self.service_refuses = True
+        return not (self.service_refuses and self.service_ended) or self.reset_other(self.service)
+
+    # -- replies
 
     def answer_by(self, rule):
         data = rule.bytes()
         self.reply = Message()
         self.reply.feed(data)
-        self.client.sendall(data)
-        return self.finish()
+        return self.finish(data)
 
     def from_service(self, data):
-        if not data:
-            if self.reply and self.reply.ended():
-                self.finish()
-            return False
         while data:
+            if not self.reads:
+                self.client.sendall(data)
+                return True
             self.reply = self.reply or Message(has_body=self.exchange is None or self.exchange.method != "HEAD")
-            rest = self.reply.feed(data)
+            try:
+                rest = self.reply.feed(data)
+            except Malformed:
+                self.stop_reading()
+                continue
+            part, data = data[:len(data) - len(rest)], rest
             if self.reply.whole and not self.reply.start.split(" ")[1].startswith("1"):
-                # (noted first: who has the reply may act on it before this thread runs again)
-                if not self.finish(data[:len(data) - len(rest)]):
+                if not self.finish(part):
                     return False
-            else:
-                self.client.sendall(data[:len(data) - len(rest)])
-                if self.reply.whole:
-                    self.reply = None
-            data = rest
+                continue
+            self.client.sendall(part)
+            if self.reply.whole:
+                self.reply = None
         return True
 
     def finish(self, data=b""):
-        """The reply is whole: whether the connection goes on."""
-        exchange, reply = self.exchange, self.reply
-        self.exchange = self.request = self.reply = None
+        """The reply is whole with these bytes: whether the link goes on."""
+        exchange, reply, self.reply = self.exchange, self.reply, None
 
         def change():
             exchange.reply, exchange.answered = reply, time.monotonic()
-        if exchange:
+        if exchange:  # (noted first: who has the reply may act on it before this thread runs again)
             self.proxy.note(change)
         if data:
             self.client.sendall(data)
         if exchange and exchange.by_rule and exchange.by_rule.close:
             return False
-        waiting, self.waiting = self.waiting, b""
-        return self.forward(waiting) if waiting else True
+        return self.go_on()
 
-    def end(self):
-        exchange = self.exchange
-        if exchange and not exchange.answered:
-            self.proxy.note(lambda: setattr(exchange, "left", time.monotonic()))
-        if self.service:
-            self.service.close()
+    def go_on(self):
+        """A request or a reply is whole: with the next request if both are."""
+        if self.exchange and not self.exchange.asked:
+            return True
+        if self.exchange and self.exchange.answered:
+            self.exchange = self.request = None
+        if self.service_ended:
+            return self.stop_reading()
+        waiting = self.waiting
+        if self.exchange or not waiting:
+            return True
+        self.waiting = b""
+        return self.forward(waiting)
