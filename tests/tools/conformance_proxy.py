@@ -1,0 +1,271 @@
+#!/usr/bin/env python3
+"""Checks the proxy of tools/conformance: a client and a service meet through it what they meet without it, however one of
+the two ends the connection, and it records what was asked and answered. Ends with 'N passed, M failed'.
+
+usage: tests/tools/conformance_proxy.py"""
+import os
+import socket
+import struct
+import sys
+import threading
+
+ROOT = os.path.dirname(os.path.dirname(os.path.dirname(os.path.realpath(__file__))))
+sys.path[:0] = [os.path.join(ROOT, "tools"), os.path.join(ROOT, "tests", "library")]
+import counted  # noqa: E402
+from counted import check  # noqa: E402
+from lambda_local.conformance.proxy import Proxy, Rule  # noqa: E402
+
+LARGE = 20_000_000  # bytes: more than all buffers on the way hold
+TOO_LARGE = b"HTTP/1.1 413 Payload Too Large\r\nContent-Length: 3\r\n\r\n413"
+CLOSES = b"HTTP/1.1 413 Payload Too Large\r\nConnection: close\r\nContent-Length: 3\r\n\r\n413"
+FINE = b"HTTP/1.1 202 Accepted\r\nContent-Length: 2\r\n\r\nok"
+NEXT = b"GET /2018-06-01/runtime/invocation/next HTTP/1.1\r\nHost: x\r\n\r\n"
+SECONDS = 60  # after which a side that waits has failed
+
+
+def response(body, declared=None):
+    head = f"POST /2018-06-01/runtime/invocation/1/response HTTP/1.1\r\nHost: x\r\nContent-Length: {declared or len(body)}\r\n\r\n"
+    return head.encode() + body
+
+
+class Side:
+    """A connected socket, and what it has met."""
+
+    def __init__(self, connection):
+        self.connection, self.received, self.met = connection, 0, []
+        connection.settimeout(SECONDS)
+
+    def send(self, data):
+        try:
+            self.connection.sendall(data)
+        except ConnectionError:
+            self.met.append("sends in vain")
+
+    def read(self, count):
+        """So many bytes, or fewer where they end."""
+        data = bytearray()
+        while len(data) < count:
+            try:
+                part = self.connection.recv(min(262_144, count - len(data)))
+            except ConnectionError:
+                self.met.append("a reset")
+                break
+            if not part:
+                self.met.append("the end")
+                break
+            data += part
+        return bytes(data)
+
+    def takes(self, count):
+        """Reads so many bytes, and notes them."""
+        self.met.append(self.read(count))
+
+    def counts(self, count):
+        self.met.append(len(self.read(count)))
+
+    def ends_its_side(self):
+        self.connection.shutdown(socket.SHUT_WR)
+
+    def resets(self):
+        self.connection.setsockopt(socket.SOL_SOCKET, socket.SO_LINGER, struct.pack("ii", 1, 0))
+        self.connection.close()
+
+
+def played(service, client, proxied, rule=None):
+    """What the two meet, and what the proxy between them records, if there is one."""
+    with socket.create_server(("127.0.0.1", 0)) as listener:
+        proxy = Proxy(listener.getsockname()[1]) if proxied else None
+        met = []
+
+        def serve():
+            with listener.accept()[0] as connection:
+                side = Side(connection)
+                service(side)
+                met.extend(side.met)
+        serving = threading.Thread(target=serve, daemon=True)
+        serving.start()
+        if proxy:
+            proxy.rule = rule
+        with socket.create_connection(("127.0.0.1", proxy.port if proxy else listener.getsockname()[1])) as connection:
+            side = Side(connection)
+            client(side)
+        serving.join(SECONDS)
+        if not proxy:
+            return side.met, met
+        proxy.wait(lambda: all(one.ended for one in proxy.exchanges), SECONDS)
+        recorded = [(one.kind, one.status, len(one.request.body), one.left is None) for one in proxy.exchanges]
+        proxy.close()
+        return side.met, met, recorded
+
+
+def answers_early(reply):
+    """As the service answers what is declared to be too large: its end follows, and what comes is thrown away."""
+    def service(side):
+        side.read(200)
+        side.send(reply)
+        side.ends_its_side()
+        side.counts(2 * LARGE)
+    return service
+
+
+def sends_all_then_reads(side):
+    side.send(response(b"x" * LARGE))
+    side.takes(1000)
+
+
+def answers_early_and_resets(side):
+    side.read(200)
+    side.send(TOO_LARGE)
+    side.connection.close()
+
+
+def sends_much_then_reads(side):
+    side.send(response(b"x" * LARGE))
+    side.takes(len(TOO_LARGE))
+
+
+def answers_early_and_goes_on(side):
+    side.read(200)
+    side.send(TOO_LARGE)
+    side.counts(len(response(b"x" * LARGE)) - 200)
+    side.counts(len(NEXT))
+    side.send(FINE)
+    side.takes(1)
+
+
+def sends_all_and_asks_again(side):
+    side.send(response(b"x" * LARGE))
+    side.takes(len(TOO_LARGE))
+    side.send(NEXT)
+    side.takes(len(FINE))
+
+
+def answers_and_ends(side):
+    side.counts(len(response(b"{}")))
+    side.send(FINE)
+    side.ends_its_side()
+    side.counts(1000)
+
+
+def asks_on_what_has_ended(side):
+    side.send(response(b"{}"))
+    side.takes(1000)
+    side.send(NEXT)
+
+
+def cuts_its_reply(side):
+    side.counts(len(NEXT))
+    side.send(FINE[:-1])
+
+
+def asks_once(side):
+    side.send(NEXT)
+    side.takes(1000)
+
+
+def answers_after_the_end(side):
+    side.counts(1000)
+    side.send(FINE)
+
+
+def ends_its_side_first(side):
+    side.send(NEXT)
+    side.ends_its_side()
+    side.takes(1000)
+
+
+def waits_in_vain(side):
+    side.counts(len(NEXT))
+    side.counts(1)
+
+
+def gives_up(side):
+    side.send(NEXT)
+
+
+def resets_at_once(side):
+    side.send(NEXT)
+    side.resets()
+
+
+def answers_twice(side):
+    side.read(2 * len(NEXT))
+    side.send(FINE + FINE)
+    side.takes(1)
+
+
+def asks_twice_at_once(side):
+    side.send(NEXT + NEXT)
+    side.takes(2 * len(FINE))
+
+
+def refuses_what_is_no_http(side):
+    side.counts(5)
+    side.send(b"HTTP/1.1 400 Bad Request\r\n\r\n")
+
+
+def is_no_http(side):
+    side.send(b"GET x\r\nno colon\r\n\r\n")
+    side.takes(1000)
+
+
+WAYS = (
+    ("an early answer, and the service throws the rest away", answers_early(TOO_LARGE), sends_all_then_reads,
+     [("response", 413, LARGE, True)]),
+    ("the same with Connection: close", answers_early(CLOSES), sends_all_then_reads, [("response", 413, LARGE, True)]),
+    ("an early answer, and the service goes on", answers_early_and_goes_on, sends_all_and_asks_again,
+     [("response", 413, LARGE, True), ("next", 202, 0, True)]),
+    ("an answer, the service's end, and a request behind it", answers_and_ends, asks_on_what_has_ended, [("response", 202, 2, True)]),
+    ("an end within the answer", cuts_its_reply, asks_once, [("next", None, 0, False)]),
+    ("an answer after the client's end", answers_after_the_end, ends_its_side_first, [("next", 202, 0, False)]),
+    ("a client that gives up", waits_in_vain, gives_up, [("next", None, 0, False)]),
+    ("a client that resets", waits_in_vain, resets_at_once, [("next", None, 0, False)]),
+    ("what is no HTTP", refuses_what_is_no_http, is_no_http, []),
+)
+
+
+def each_way():
+    for name, service, client, wanted in WAYS:
+        direct, (*through, recorded) = played(service, client, False), played(service, client, True)
+        check(f"{name}: both meet the same through the proxy", tuple(through), direct)
+        check(f"{name}: it is recorded", recorded, wanted)
+
+
+def a_reset():
+    """(What else one meets that sends into a reset depends on when it comes.)"""
+    for proxied in (False, True):
+        client = played(answers_early_and_resets, sends_much_then_reads, proxied)[0]
+        check(f"an early answer, and the service resets{', through the proxy' * proxied}", client, ["sends in vain", TOO_LARGE])
+
+
+def pipelined():
+    """(The proxy hands on one request at a time.)"""
+    def answers_one_by_one(side):
+        for _ in range(2):
+            side.counts(len(NEXT))
+            side.send(FINE)
+        side.takes(1)
+    client, service, recorded = played(answers_one_by_one, asks_twice_at_once, True)
+    check("two requests at once have two answers", (client, service), ([FINE + FINE], [len(NEXT), len(NEXT), "the end", b""]))
+    check("and are recorded", recorded, [("next", 202, 0, True)] * 2)
+
+
+def rules():
+    def is_not_asked(side):
+        side.takes(1)
+    rule = Rule("next", reply=(500, b"{}"))
+    with socket.create_server(("127.0.0.1", 0)) as listener:
+        proxy = Proxy(listener.getsockname()[1])
+        proxy.rule = rule
+        with socket.create_connection(("127.0.0.1", proxy.port)) as connection:
+            side = Side(connection)
+            side.send(NEXT)
+            side.takes(len(rule.bytes()))
+        check("a rule answers in the service's place", side.met, [rule.bytes()])
+        proxy.close()
+    client, _, recorded = played(answers_and_ends, asks_on_what_has_ended, True, Rule("response", close=True))
+    check("a rule closes the connection after the answer", (client, recorded), (["the end", FINE], [("response", 202, 2, True)]))
+
+
+if __name__ == "__main__":
+    sys.exit(counted.run(each_way, a_reset, pipelined, rules))
