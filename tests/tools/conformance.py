@@ -31,11 +31,12 @@ AT_ONCE = os.cpu_count() or 2  # runs of the kit
 PYTHON = [sys.executable, "-S"]  # (it starts in half the time)
 QUICK = ["--idle-seconds", "1"]
 FEW = [*QUICK, "--invocations", "20"]
+LATE = [*QUICK, "--init-seconds", "2"]
 # A mistake that shows only after a while, or against another limit.
 RUNTIMES = {"GivesNextUp": ["--invocations", "20"], "KeepsEveryEvent": [*QUICK, "--invocations", "800"],
             "LeavesFilesOpen": [*QUICK, "--invocations", "100"],
             "StartsSlowly": [*FEW, "--init-seconds", "1"]}
-EXTENSIONS = {"GivesNextUp": [], "RegistersLate": [*QUICK, "--init-seconds", "3"], "AsksForEventsLate": [*QUICK, "--init-seconds", "3"],
+EXTENSIONS = {"GivesNextUp": [], "RegistersLate": LATE, "AsksForEventsLate": LATE,
               "AsksForOneMoreEvent": [*QUICK, "--events", "INVOKE"], "IsForInvokeAlone": [*QUICK, "--events", "INVOKE"],
               "IsForShutdownAlone": [*QUICK, "--events", "SHUTDOWN"]}
 
@@ -45,7 +46,7 @@ class Run:
 
     def __init__(self, *words, temporary=None):
         variables = {**os.environ, "TMPDIR": temporary} if temporary else None
-        done = subprocess.run([TOOL, *words], cwd=HANDLERS, env=variables, capture_output=True, text=True, timeout=600)
+        done = subprocess.run([TOOL, *words], cwd=HANDLERS, env=variables, capture_output=True, text=True, timeout=3600)
         self.words, self.status, self.output, self.errors = words, done.returncode, done.stdout, done.stderr
 
     def verdicts(self, outcome):
@@ -229,9 +230,9 @@ def nothing_is_left():
             process.stdout.readline()  # (the first verdict: the scenarios run)
             begun = len(processes_of(temporary)) > 3
             process.send_signal(number)
-            status = process.wait(20)
+            status = process.wait(120)
             process.stdout.close()
-            end = time.monotonic() + 10
+            end = time.monotonic() + 60
             while (processes_of(temporary) or os.listdir(temporary)) and time.monotonic() < end:
                 time.sleep(0.05)
             left = (processes_of(temporary), os.listdir(temporary))

@@ -7,13 +7,13 @@ comments. Its calls are answered again, by the program that is given, and each a
 
 Exit statuses: 0, the answers are the same; 1, they differ, and the first difference is named with its line; 2, this is
 not a history; 4, the program could not be started or ended otherwise."""
-import argparse
 import itertools
 import re
 import subprocess
 import sys
 
 from .service import Fault, program_path
+from .usage import parser_of
 
 ANSWER = re.compile(rb"# (\d+ \d+ .*)")
 
@@ -70,7 +70,7 @@ def shown(answer, width=200):
 
 def main():
     """Compares the history that the command line names."""
-    parser = argparse.ArgumentParser(prog="lambda_local check", description=__doc__, formatter_class=argparse.RawDescriptionHelpFormatter)
+    parser = parser_of("check", __doc__)
     parser.add_argument("history", metavar="HISTORY")
     parser.add_argument("--program", metavar="P", help="the program (default: LAMBDA_LOCAL_PROGRAM, else the repository's ./lambda_local)")
     options = parser.parse_args()

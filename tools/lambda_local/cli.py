@@ -58,7 +58,7 @@ def main():
     if words[:1] in (["-h"], ["--help"]):
         return show_help()
     if words and words[0] in TOOLS:
-        sys.argv[:] = words
+        sys.argv[:] = [f"lambda_local {words[0]}", *words[1:]]
         return importlib.import_module(TOOLS[words[0]], __package__).main()
     if words not in SHAPES and not (words[:1] == ["serve"] and len(words) == 2):
         print(f"lambda_local: '{' '.join(words)}' is not one of its commands: --help lists them", file=sys.stderr)

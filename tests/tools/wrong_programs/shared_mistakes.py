@@ -1,8 +1,11 @@
 """Mistakes that both a runtime and an extension can make: classes to be put before Runtime or Extension."""
 import http.client
+import os
 import select
 import socket
 import sys
+
+TOO_LONG = 25  # seconds, for an Init of which the kit has stretched the test's limit of two seconds tenfold
 
 
 class PollsTwice:
@@ -26,12 +29,19 @@ class DiesWithItsConnection:
         sys.exit(1)
 
 
+def is_scenario(name):
+    """Whether it is started for this scenario. (What takes too long by itself does so in one scenario: on a busy machine it
+    would be too long in others too.)"""
+    return os.environ["AWS_LAMBDA_FUNCTION_NAME"] == name
+
+
 class GivesNextUp:
     """Has a timeout of three seconds on all requests."""
     check = "next_without_timeout"
 
     def begin(self):
-        self.connection.timeout = 3
+        if is_scenario("idle_for_long"):
+            self.connection.timeout = 3
 
     def ask(self, *arguments, **named):
         while True:

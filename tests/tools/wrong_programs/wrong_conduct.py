@@ -10,6 +10,7 @@ import tempfile
 import time
 
 import shared_mistakes
+from shared_mistakes import TOO_LONG, is_scenario
 from sound_runtime import Parts, Runtime
 
 
@@ -19,7 +20,8 @@ class StartsSlowly(Runtime):
     check = "init_in_time"
 
     def begin(self):
-        time.sleep(1.5)
+        if is_scenario("first_next"):
+            time.sleep(TOO_LONG)
 
 
 class SpinsAt500(Runtime):
@@ -128,12 +130,16 @@ class SharesAFile(Runtime):
 
     def respond(self, request, output):
         path = os.path.join(tempfile.gettempdir(), f"wrong_runtime.{os.environ['AWS_LAMBDA_FUNCTION_NAME']}.output")
-        if isinstance(output, int) and output >= 300:
-            with open(path, "w") as file:
-                file.write(json.dumps(output))
-            time.sleep(0.3)
-            with open(path) as file:
-                output = json.loads(file.read())
+        if is_scenario("several_at_once"):
+            with open(path, "a+") as file:
+                file.write(f"{output}\n")
+                outputs, end = [], time.monotonic() + 10
+                while len(outputs) < 2 and time.monotonic() < end:  # (the others come, if late on a busy machine)
+                    time.sleep(0.05)
+                    file.flush()
+                    file.seek(0)
+                    outputs = file.read().split()
+            output = json.loads(outputs[-1])
         return super().respond(request, output)
 
 

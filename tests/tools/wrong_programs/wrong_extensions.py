@@ -10,6 +10,7 @@ import tempfile
 import time
 
 import shared_mistakes
+from shared_mistakes import TOO_LONG, is_scenario
 from sound_extension import Extension
 
 
@@ -19,7 +20,8 @@ class RegistersLate(Extension):
     check = "registers"
 
     def begin(self):
-        time.sleep(4.5)
+        if is_scenario("registration"):
+            time.sleep(TOO_LONG)
 
 
 class AsksForEventsLate(Extension):
@@ -27,7 +29,8 @@ class AsksForEventsLate(Extension):
 
     def initialize(self):
         super().initialize()
-        time.sleep(4.5)
+        if is_scenario("registration"):
+            time.sleep(TOO_LONG)
 
 
 class HasAnotherName(Extension):
@@ -71,7 +74,7 @@ class AsksOnce(Extension):
         super().invoked(event)
         self.invocations += 1
         if self.invocations == 2:
-            time.sleep(60)
+            signal.pause()
 
 
 class IsLate(Extension):
@@ -97,7 +100,7 @@ class GoesOnAtSpindown(Extension):
 
     def shut_down(self, reason):
         if reason == self.reason:
-            time.sleep(60)
+            signal.pause()
         super().shut_down(reason)
 
 

@@ -44,6 +44,10 @@ class Clock:
                 return False
         return True
 
+    def sleep(self, seconds):
+        """Lets so many seconds pass."""
+        self.wait(lambda part: time.sleep(part), seconds)
+
     def _run(self):
         while True:
             begun = time.monotonic()

@@ -1,14 +1,15 @@
-"""tools/conformance: checks runtimes, extensions and other local Lambdas against the public documents.
+"""Checks runtimes, extensions and other local Lambdas against the public documents.
 
-  tools/conformance runtime [OPTION..] -- COMMAND ..      a runtime
-  tools/conformance extension --name NAME -- COMMAND ..   an external extension
-  tools/conformance service --invoke URL --runtime HOST:PORT    another local Lambda
+  lambda_local conformance runtime [OPTION..] -- COMMAND ..      a runtime
+  lambda_local conformance extension --name NAME -- COMMAND ..   an external extension
+  lambda_local conformance service --invoke URL --runtime HOST:PORT    another local Lambda
 
-`tools/conformance SUBCOMMAND --help` has the options, docs/conformance.md the checks."""
+`lambda_local conformance SUBCOMMAND --help` has the options, docs/conformance.md the checks."""
 import importlib
 import sys
 
 from ..service import Fault
+from ..usage import called
 
 SUBCOMMANDS = ("runtime", "extension", "service")
 
@@ -16,10 +17,11 @@ SUBCOMMANDS = ("runtime", "extension", "service")
 def main():
     words = sys.argv[1:]
     if words and words[0] in ("-h", "--help"):
-        print(__doc__)
+        print(called(__doc__))
         return 0
     if not words or words[0] not in SUBCOMMANDS:
-        print(f"conformance: write one of {', '.join(SUBCOMMANDS)} as its first word (`tools/conformance --help`)", file=sys.stderr)
+        name = called("lambda_local conformance")
+        print(f"conformance: write one of {', '.join(SUBCOMMANDS)} as its first word (`{name} --help`)", file=sys.stderr)
         return 2
     try:
         return importlib.import_module(f"lambda_local.conformance.{words[0]}").main(words[1:])

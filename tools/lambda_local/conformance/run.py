@@ -12,6 +12,7 @@ from .report import Report
 from .stage import Stage, Tools, patient
 from ..guard import GUARD
 from ..service import Fault
+from ..usage import parser_of as parser_of_tool
 
 
 class Parser(argparse.ArgumentParser):
@@ -21,9 +22,8 @@ class Parser(argparse.ArgumentParser):
         raise Fault(2, f"{message} (`{self.prog} --help` lists the options)")
 
 
-def parser_of(name, description, usage):
-    parser = Parser(prog=f"tools/conformance {name}", description=description, usage=f"tools/conformance {name} {usage} -- COMMAND ..",
-                    formatter_class=argparse.RawDescriptionHelpFormatter)
+def parser_of(name, description, options):
+    parser = parser_of_tool(f"conformance {name}", description, f"{options} -- COMMAND ..", Parser)
     parser.add_argument("--init-seconds", metavar="S", type=seconds, default=10, help="how long an Init may take (10)")
     parser.add_argument("--only", metavar="NAME", action="append", default=[], help="a scenario or a check; may stand several times")
     parser.add_argument("--list", action="store_true", help="list the scenarios and checks, each with its page, and start nothing")

@@ -8,7 +8,7 @@ import os
 import time
 from typing import NamedTuple
 
-from ..service import Service, ask, parked
+from ..service import Fault, Service, ask, parked
 from .clock import CLOCK
 from .kit import FAIL, NOTE, PASS, Missing
 from .process import variables_of
@@ -88,19 +88,21 @@ class Environment:
         if self.process:
             self.process.kill()
 
-    def asked(self, count=1, seconds=None, kind="next"):
-        """Whether it has made its count-th request of a kind before so many seconds (by default those of the Init) are over
-        or its process has ended."""
+    def asked(self, count=1, seconds=None, kind="next", real_seconds=0):
+        """Whether it has made its count-th request of a kind before so many seconds (by default those of the Init) are over,
+        by the kit's clock and by the real one, or its process has ended."""
         process = self.process
-        end = CLOCK.now() + (self.stage.patience if seconds is None else seconds)
-        while len(self.proxy.of(kind)) < count and CLOCK.now() < end and not (process and process.ended):
+        end, real_end = CLOCK.now() + (self.stage.patience if seconds is None else seconds), time.monotonic() + real_seconds
+        while len(self.proxy.of(kind)) < count and not (process and process.ended):
+            if CLOCK.now() >= end and time.monotonic() >= real_end:
+                break
             self.proxy.wait(lambda: sum(one.kind == kind for one in self.proxy.exchanges) >= count, 0.1)
         return len(self.proxy.of(kind)) >= count
 
-    def asked_after(self, exchange, seconds, kind="next"):
+    def asked_after(self, exchange, seconds, kind="next", real_seconds=0):
         """Whether it asks again within so many seconds after the answer to this exchange."""
         before = sum(one.begun < exchange.answered for one in self.proxy.of(kind))
-        return self.asked(before + 1, seconds, kind)
+        return self.asked(before + 1, seconds, kind, real_seconds)
 
     def saw(self, kind, seconds, count=1):
         """Waits for the count-th whole exchange of a kind: that exchange, or None."""
@@ -160,6 +162,14 @@ class Stage:
             environment.proxy.close()
         self._callers.shutdown()
         self._asking.shutdown()
+
+    def refuse_if_it_ended(self):
+        """A command that ends before it asks for anything is none that can be tested."""
+        environment = self.environment
+        if environment.process.ended and not environment.proxy.exchanges:
+            written = environment.process.written()
+            raise Fault(2, f"{' '.join(self.tools.command)}: {environment.process.how_it_ended()} before it asked for anything"
+                           + (f"; its last line: {shown(written)}" if written else ""))
 
     # -- judging
 

@@ -1,22 +1,23 @@
 """Sends the invocations of a recorded history to today's functions, and compares what they answer.
 
-  tools/rerun history.txt UP.json                          with the concurrency that was recorded
-  tools/rerun --one-by-one history.txt UP.json             each once the one before it is answered
-  tools/rerun --ignore /time --ignore '/items/*/id' ..     but for these members of an output, whatever they are
-  tools/rerun --update history.txt UP.json                 writes the new history over the old one
+  lambda_local rerun history.txt UP.json                          with the concurrency that was recorded
+  lambda_local rerun --one-by-one history.txt UP.json             each once the one before it is answered
+  lambda_local rerun --ignore /time --ignore '/items/*/id' ..     but for these members of an output, whatever they are
+  lambda_local rerun --update history.txt UP.json                 writes the new history over the old one
 
-HISTORY is what GET /_local/history gives, and what `tools/up --history FILE` saves. UP.json is that of tools/up. Invocations
-that reached no function then (throttled, stopped, not answered) are not sent. docs/rerun.md has an example.
+HISTORY is what GET /_local/history gives, and what `lambda_local up --history FILE` saves. UP.json is that of
+`lambda_local up`. Invocations that reached no function then (throttled, stopped, not answered) are not sent.
+docs/rerun.md has an example.
 
 Each invocation is equal; changed, with what differs by JSON pointer; failed now (with what), or failed then.
 Exit statuses: 0, all are equal; 1, something differs; 2, a fault in the arguments or the files, or the functions could not be
 run to the end."""
-import argparse
 import os
 import sys
 import tempfile
 
 from ..service import Fault
+from ..usage import called, parser_of
 from .again import rerun
 from .compare import pointer_of
 from .functions import Functions
@@ -25,7 +26,7 @@ from .report import EQUAL, text_of, write_junit
 
 
 def options_of():
-    parser = argparse.ArgumentParser(prog="tools/rerun", description=__doc__, formatter_class=argparse.RawDescriptionHelpFormatter)
+    parser = parser_of("rerun", __doc__)
     parser.add_argument("history", metavar="HISTORY")
     parser.add_argument("up", metavar="UP.json")
     parser.add_argument("--one-by-one", action="store_true", help="never two invocations at once")
@@ -34,7 +35,7 @@ def options_of():
     parser.add_argument("--update", action="store_true", help="write the new history over HISTORY")
     parser.add_argument("--junit", metavar="FILE", help="write a report for CI systems")
     parser.add_argument("--ready", metavar="SECONDS", type=float, default=60, help="wait at most so long for the functions (60)")
-    parser.add_argument("--verbose", action="store_true", help="show the lines of tools/up and of the functions")
+    parser.add_argument("--verbose", action="store_true", help=called("show the lines of lambda_local up and of the functions"))
     parser.add_argument("--program", metavar="P",
                         help="the program (default: LAMBDA_LOCAL_PROGRAM, else the one that comes with the tools)")
     return parser.parse_args()

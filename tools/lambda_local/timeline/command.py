@@ -1,11 +1,11 @@
 """Draws what went on in lambda_local: a history or a script as a picture, as a trace, or as a log.
 
-  curl -s http://127.0.0.1:9000/_local/history | tools/timeline -o timeline.html
-  tools/timeline examples/timeout.txt                 one line an event
-  tools/timeline --trace -o trace.json history.txt    for https://ui.perfetto.dev or chrome://tracing
-  tools/timeline --svg -o picture.svg script.txt      the drawing alone
-  tools/timeline --from +1.5 --to +2 history.txt      half a second of it
-  tools/timeline --live http://127.0.0.1:9000         a page that shows a running service, until Ctrl-C
+  curl -s http://127.0.0.1:9000/_local/history | lambda_local timeline -o timeline.html
+  lambda_local timeline examples/timeout.txt                 one line an event
+  lambda_local timeline --trace -o trace.json history.txt    for https://ui.perfetto.dev or chrome://tracing
+  lambda_local timeline --svg -o picture.svg script.txt      the drawing alone
+  lambda_local timeline --from +1.5 --to +2 history.txt      half a second of it
+  lambda_local timeline --live http://127.0.0.1:9000         a page that shows a running service, until Ctrl-C
 
 A history (what GET /_local/history gives) has its answers in it. A script has none: it is replayed by the program,
 or its answers are read from a file (--answers). If a history's replay answers otherwise, as after an edit, the page and
@@ -24,6 +24,7 @@ import sys
 import time
 
 from ..service import Fault, program_path
+from ..usage import called, parser_of
 from .drawing import Drawing, svg
 from .live import serve
 from .page import html
@@ -50,8 +51,7 @@ def moment(word):
 
 
 def arguments():
-    parser = argparse.ArgumentParser(
-        prog="timeline", description=__doc__, formatter_class=argparse.RawDescriptionHelpFormatter)
+    parser = parser_of("timeline", __doc__)
     form = parser.add_mutually_exclusive_group()
     for name, words in (("text", "one line an event (the default)"), ("trace", "trace-event JSON for Perfetto and chrome://tracing"),
                         ("html", "one self-contained page"), ("svg", "the drawing alone")):
@@ -65,7 +65,7 @@ def arguments():
     parser.add_argument("--limit", metavar="N", type=int, help=f"show at most so many calls (a drawing: {MOST_DRAWN:,}; else all)")
     parser.add_argument("--from", metavar="MOMENT", type=moment, dest="begin", help="show what goes on from this moment on")
     parser.add_argument("--to", metavar="MOMENT", type=moment, dest="end", help="show what goes on up to this moment")
-    parser.add_argument("--all", action="store_true", help="show what tools/up itself does as well: the extension lambda_local.up")
+    parser.add_argument("--all", action="store_true", help=called("show what lambda_local up itself does as well: the extension lambda_local.up"))
     parser.add_argument("--live", metavar="URL", help=f"show the last calls of the service at this address (--limit, else {MOST_LIVE})")
     parser.add_argument("--scale", choices=("entries", "time"), default="entries",
                         help="a place for each entry, or an axis true to scale")

@@ -1,11 +1,11 @@
 """Starts lambda_local with a runtime for each environment, and keeps the runtimes alive.
 
-  tools/up UP.json                           until Ctrl-C or SIGTERM, which stop the service in order
-  tools/up UP.json -- pytest                 waits until all is ready, runs the command against it, saves the history
-                                             if it fails, stops, and ends with the command's status
-  tools/up --reload UP.json                  begins a function's idle environments anew when its files change
-  tools/up --debug greet UP.json             a debugger may hold `greet` in its Init as long as nobody invokes it; a
-                                             command behind -- is run once it has left it
+  lambda_local up UP.json                           until Ctrl-C or SIGTERM, which stop the service in order
+  lambda_local up UP.json -- pytest                 waits until all is ready, runs the command against it, saves the history
+                                                    if it fails, stops, and ends with the command's status
+  lambda_local up --reload UP.json                  begins a function's idle environments anew when its files change
+  lambda_local up --debug greet UP.json             a debugger may hold `greet` in its Init as long as nobody invokes it; a
+                                                    command behind -- is run once it has left it
 
 UP.json is a service's configuration (docs/formats.md) in which each function has more members:
   runtime        "python" or "node": the bundled runtime serves `handler`, such as "app.handler"
@@ -24,14 +24,14 @@ runtime or command is yours to start, at the address that is printed. docs/up.md
 Its own lines and those of the functions go to standard error. Exit statuses: the command's, else the service's
 (docs/formats.md); 2 for a fault in the arguments or in UP.json; 4 if something cannot be started; 5 if an environment
 does not become ready."""
-import argparse
 import sys
 
 from ..service import Fault
+from ..usage import called, parser_of
 from .log import Log
 from .session import Session
 
-USAGE = "tools/up [OPTION..] UP.json [-- COMMAND ..]"
+USAGE = "[OPTION..] UP.json [-- COMMAND ..]"
 
 
 def salt_of(text):
@@ -55,7 +55,7 @@ seconds_of.__name__ = "number of seconds"
 
 
 def parser():
-    made = argparse.ArgumentParser(prog="tools/up", usage=USAGE, description=__doc__, formatter_class=argparse.RawDescriptionHelpFormatter)
+    made = parser_of("up", __doc__, USAGE)
     made.add_argument("up", metavar="UP.json")
     made.add_argument("--reload", action="store_true", help="spin idle environments down when files change")
     made.add_argument("--debug", metavar="F", help="let a debugger hold the function F in its Init")
@@ -81,9 +81,9 @@ def options_of(words):
             raise Fault(2, "write a command behind --, or leave -- out")
     options, others = parser().parse_known_args(words)
     if others and not others[0].startswith("-"):
-        raise Fault(2, f"write -- before the command: tools/up {options.up} -- {' '.join(others)}")
+        raise Fault(2, called(f"write -- before the command: lambda_local up {options.up} -- {' '.join(others)}"))
     if others:
-        parser().error(f"there is no option {others[0]}: tools/up --help names them; a command stands behind --")
+        parser().error(called(f"there is no option {others[0]}: lambda_local up --help names them; a command stands behind --"))
     options.command = command
     return options
 

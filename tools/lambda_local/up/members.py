@@ -8,6 +8,7 @@ from ..configuration import OF_FUNCTION, OF_SERVICE, Kind, is_list_of, is_text, 
 from ..front import settings
 from ..paths import bundled
 from ..service import Fault
+from ..usage import called
 from .processes import program_of
 
 NAME = "lambda_local.up"  # under which tools/up registers
@@ -120,7 +121,7 @@ def read(path):
         with open(path) as file:
             whole = json.load(file)
     except OSError as fault:
-        raise Fault(2, f"{path}: {fault.strerror}: name a file as `tools/up --help` describes it") from None
+        raise Fault(2, f"{path}: {fault.strerror}: name a file as `{called('lambda_local up')} --help` describes it") from None
     except ValueError as fault:
         raise Fault(2, f"{path}: this is no JSON: {fault}") from None
     except RecursionError:

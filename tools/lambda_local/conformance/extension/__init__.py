@@ -1,8 +1,8 @@
 """Checks whether an external extension does what the Extensions API prescribes.
 
-  tools/conformance extension --name NAME -- COMMAND ..                   one for INVOKE and SHUTDOWN
-  tools/conformance extension --name NAME --events SHUTDOWN -- COMMAND ..
-  tools/conformance extension --list                                      the checks, each with its public page
+  lambda_local conformance extension --name NAME -- COMMAND ..                   one for INVOKE and SHUTDOWN
+  lambda_local conformance extension --name NAME --events SHUTDOWN -- COMMAND ..
+  lambda_local conformance extension --list                                      the checks, each with its public page
 
 COMMAND is started for each scenario, in this folder, with the variables that Lambda sets; the kit plays the runtime beside
 it. NAME is what it registers as: for Lambda the full file name of the extension. With CONFORMANCE_FAILS=init or exit in
@@ -15,7 +15,6 @@ import argparse
 from ...service import Fault
 from .. import kit
 from ..run import check_arguments, listed, parser_of, play, seconds, split
-from ..stage import shown
 from .scenarios import SCENARIOS
 from .stage import ExtensionStage
 
@@ -34,13 +33,9 @@ def rehearse(tools):
     scenario = kit.Scenario("rehearsal", (), None, {})
     with ExtensionStage(tools, scenario, kit.Jury(scenario)) as stage:
         stage.start()
-        environment = stage.environment
-        if environment.asked(kind="register"):
+        if stage.environment.asked(kind="register"):
             return True
-        if environment.process.ended and not environment.proxy.exchanges:
-            written = environment.process.written()
-            raise Fault(2, f"{' '.join(tools.command)}: {environment.process.how_it_ended()} before it asked for anything"
-                           + (f"; its last line: {shown(written)}" if written else ""))
+        stage.refuse_if_it_ended()
         return False
 
 

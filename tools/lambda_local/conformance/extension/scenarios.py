@@ -1,9 +1,9 @@
 """The checks of an external extension."""
 import os
 import signal
-import time
 
 from .. import pages
+from ..clock import CLOCK
 from ..kit import NOTE, Missing, scenarios_of
 from ..process import members
 from ..proxy import Rule
@@ -46,7 +46,7 @@ def registration(stage):
     first = environment.proxy.of("event")[0] if polled else None
     stage.check("asks_for_events", polled and first.since - exchange.since <= options.init_seconds,
                 f"{first.since - exchange.since:.2f} s after its registration" if polled else f"no Next: {stage.said()}")
-    time.sleep(SETTLES)
+    CLOCK.sleep(SETTLES)
     wrong = [one for one in environment.proxy.of("event") if one.request.headers.get("lambda-extension-identifier") != stage.identifier]
     stage.check("identifier", not wrong, f"{len(wrong)} times another one or none")
 
@@ -64,17 +64,18 @@ def invocations(stage):
         stage.idle()
         stage.invoke(str(number).encode())
         event = stage.event("INVOKE", number + 1)
-        if not environment.asked_after(event, 2 * stage.timeout, "event"):
+        # (the service resets the environment at the timeout, by the real clock)
+        if not environment.asked_after(event, 2 * TIMEOUT, "event", stage.timeout + TIMEOUT):
             silent += 1
             break
         seconds = stage.polls_after(event)[0].begun - event.answered
         if seconds > stage.timeout:
             late.append(seconds)
             break  # (the environment was reset)
-    time.sleep(SETTLES)
+    CLOCK.sleep(SETTLES)
     polls = environment.proxy.of("event")
     overlap = any(one.ended is None or other.begun < one.ended for one, other in zip(polls, polls[1:]))
-    stage.check("asks_after_invoke", not silent, f"no Next within {2 * stage.timeout} s after an INVOKE: {stage.said()}")
+    stage.check("asks_after_invoke", not silent, f"no Next within {2 * TIMEOUT} s after an INVOKE: {stage.said()}")
     stage.check("invoke_in_time", not late, f"{late[0] if late else 0:.1f} s after its INVOKE, of a timeout of {stage.timeout} s")
     stage.check("one_poll", not overlap, "a second Next while one waited")
     return None

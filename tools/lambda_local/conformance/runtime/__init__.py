@@ -1,8 +1,8 @@
 """Checks whether a runtime does what the Runtime API prescribes.
 
-  tools/conformance runtime -- COMMAND ..           all checks
-  tools/conformance runtime --only error_type --pictures failed -- COMMAND ..
-  tools/conformance runtime --list                  the checks, each with its public page
+  lambda_local conformance runtime -- COMMAND ..           all checks
+  lambda_local conformance runtime --only error_type --pictures failed -- COMMAND ..
+  lambda_local conformance runtime --list                  the checks, each with its public page
 
 COMMAND is started for each scenario, in this folder, with the variables that Lambda sets; it runs the handler of the kit
 (docs/conformance.md defines it, examples/conformance has it for four runtimes). Each check is a PASS, a FAIL, or a NOTE
@@ -11,10 +11,9 @@ if the documents leave it open.
 Exit statuses: 0; 1 if a check is a FAIL; 2 for wrong usage, or a command that cannot be tested."""
 import argparse
 
-from ...service import Fault
 from .. import kit
 from ..run import check_arguments, listed, parser_of, play, seconds, split
-from ..stage import Stage, shown
+from ..stage import Stage
 from . import connections, context, errors, life, load, payloads
 
 SCENARIOS = [*life.SCENARIOS, *payloads.SCENARIOS, *context.SCENARIOS, *errors.SCENARIOS, *connections.SCENARIOS, *load.SCENARIOS]
@@ -24,13 +23,9 @@ def rehearse(tools):
     """Whether it asks for an invocation. A command that ends before it asks for anything is none that can be tested."""
     scenario = kit.Scenario("rehearsal", (), None, {})
     with Stage(tools, scenario, kit.Jury(scenario)) as stage:
-        environment = stage.environment
-        if environment.asked():
+        if stage.environment.asked():
             return True
-        if environment.process.ended and not environment.proxy.exchanges:
-            written = environment.process.written()
-            raise Fault(2, f"{' '.join(tools.command)}: {environment.process.how_it_ended()} before it asked for anything"
-                           + (f"; its last line: {shown(written)}" if written else ""))
+        stage.refuse_if_it_ended()
         return False
 
 

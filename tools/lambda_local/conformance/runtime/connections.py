@@ -1,7 +1,6 @@
 """Requests and connections: how many, one after the other, and what becomes of them."""
-import time
-
 from .. import pages
+from ..clock import CLOCK
 from ..kit import Missing, scenarios_of
 from ..proxy import Rule
 from ..stage import shown
@@ -21,7 +20,7 @@ def one_after_the_other(stage):
     for number in range(ROUNDS):
         stage.output({"do": "sleep", "value": 20 * (number % 2)})
     stage.idle()
-    time.sleep(SETTLES)
+    CLOCK.sleep(SETTLES)
     proxy = stage.environment.proxy
     polls = proxy.of("next")
     overlap = next(((one, other) for one, other in zip(polls, polls[1:]) if one.ended is None or other.begun < one.ended), None)

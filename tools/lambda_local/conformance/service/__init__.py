@@ -1,7 +1,7 @@
 """Compares another local Lambda, with one environment, with the definitions.
 
-  tools/conformance service --invoke http://127.0.0.1:8080 --runtime 127.0.0.1:9001
-  tools/conformance service --invoke URL --runtime HOST:PORT --seconds 60 --seed 7 --known accepted.txt --junit report.xml
+  lambda_local conformance service --invoke http://127.0.0.1:8080 --runtime 127.0.0.1:9001
+  lambda_local conformance service --invoke URL --runtime HOST:PORT --seconds 60 --seed 7 --known accepted.txt --junit report.xml
 
 The tool plays a caller, a runtime and extensions, in worked and in random sequences of calls, one call after the other; no
 runtime of the service's own may be connected. The same calls are replayed by `lambda_local replay`, and each answer is
@@ -16,6 +16,7 @@ import socket
 import time
 
 from ...service import Fault, program_path
+from ...usage import parser_of
 from ..run import Parser, ended_by_signal, seconds
 from .calls import Call
 from .course import ANSWER_SECONDS, Course, Unrecoverable
@@ -138,7 +139,7 @@ def count(text):
 
 
 def main(words):
-    parser = Parser(prog="tools/conformance service", description=__doc__, formatter_class=argparse.RawDescriptionHelpFormatter)
+    parser = parser_of("conformance service", __doc__, made=Parser)
     parser.add_argument("--invoke", metavar="URL", help="the port for callers, for example http://127.0.0.1:8080")
     parser.add_argument("--runtime", metavar="HOST:PORT", help="the Runtime API, for example 127.0.0.1:9001")
     parser.add_argument("--function", metavar="NAME", default="function", help="the function's name (function)")
