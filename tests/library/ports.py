@@ -1,0 +1,21 @@
+"""Free ports for tests whose services have them side by side."""
+import os
+import random
+import sys
+
+sys.path.insert(0, os.path.join(os.path.dirname(os.path.dirname(os.path.dirname(os.path.realpath(__file__)))), "tools"))
+from lambda_local.service import is_taken  # noqa: E402
+
+
+def free_range(count):
+    """The first of so many ports side by side on which no one listens, none of them one that the system gives to
+    connections."""
+    with open("/proc/sys/net/ipv4/ip_local_port_range") as file:
+        lowest, highest = map(int, file.read().split())
+    sides = [(first, behind) for first, behind in ((20000, lowest), (highest + 1, 65536)) if behind - first >= 10 * count]
+    for _ in range(1000):
+        begin, end = random.choice(sides or [(20000, 65536)])
+        first = random.randrange(begin, end - count + 1)
+        if not any(map(is_taken, range(first, first + count))):
+            return first
+    raise OSError(f"there are no {count} free ports side by side")
