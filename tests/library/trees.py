@@ -1,9 +1,11 @@
-"""Copies of this checkout in which a check may change what it likes."""
+"""Copies of this checkout in which a check may change what it likes, and what their commands say."""
+import contextlib
 import gzip
 import hashlib
 import os
 import shutil
 import subprocess
+import tempfile
 
 ROOT = os.path.dirname(os.path.dirname(os.path.dirname(os.path.realpath(__file__))))
 RELEASED = "crates/lambda_local/out/lambda_local"  # where a released program is unpacked to
@@ -21,6 +23,40 @@ def write(path, data, mode=0o644):
     with open(path, "wb") as file:
         file.write(data)
     os.chmod(path, mode)
+
+
+def text_of(*parts):
+    with open(os.path.join(*parts), encoding="utf-8") as file:
+        return file.read()
+
+
+def run(words, cwd="/", stdin="", user=None, **variables):
+    """What a command ends with: its status, and what it wrote on both streams."""
+    who = {"user": user, "group": user, "extra_groups": []} if user is not None else {}
+    ran = subprocess.run(words, cwd=cwd, env=plain(**variables), input=stdin, timeout=600, stdout=subprocess.PIPE, stderr=subprocess.PIPE,
+                         text=True, **who)
+    return ran.returncode, ran.stdout, ran.stderr
+
+
+def first_call(words, **more):
+    """Status, whether the answers are those of the first example, and what was said beside them."""
+    status, output, said = run(words, stdin=text_of(ROOT, "examples", "first_call.txt"), **more)
+    return status, output == text_of(ROOT, "crates", "lambda_local", "stdout"), said
+
+
+def program():
+    """The program that the copies release: LAMBDA_LOCAL_PROGRAM, else what ./lambda_local finds."""
+    given = os.environ.get("LAMBDA_LOCAL_PROGRAM")
+    found = subprocess.run([os.path.join(ROOT, "lambda_local"), "path"], stdout=subprocess.PIPE, text=True, check=not given)
+    return given or found.stdout.strip()
+
+
+@contextlib.contextmanager
+def copied():
+    """A copy that releases the program, below a path with spaces, which other users can read."""
+    with tempfile.TemporaryDirectory() as folder:
+        os.chmod(folder, 0o755)
+        yield copy_tree(os.path.join(folder, "a clone"), program())
 
 
 def copy_tree(folder, released=None):

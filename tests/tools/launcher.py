@@ -2,7 +2,6 @@
 """Checks ./lambda_local in copies of the checkout that release the program: what it says, which program it starts, that
 it starts at once, and what it notices. The program is LAMBDA_LOCAL_PROGRAM, else what ./lambda_local finds. Ends with
 'N passed, M failed'."""
-import contextlib
 import json
 import os
 import re
@@ -18,8 +17,9 @@ import time
 ROOT = os.path.dirname(os.path.dirname(os.path.dirname(os.path.realpath(__file__))))
 sys.path[:0] = [os.path.join(ROOT, "tests", "library")]
 import counted  # noqa: E402
+import trees  # noqa: E402
 from counted import check  # noqa: E402
-from trees import RELEASED, copy_tree, plain, release, write  # noqa: E402
+from trees import RELEASED, copied, copy_tree, plain, program, release, text_of, write  # noqa: E402
 
 OTHER_USER = 65534
 SOURCE = "crates/lambda_local/src/main.rt"
@@ -30,38 +30,14 @@ TOOLS = ("check", "conformance", "from_template", "rerun", "timeline", "up")
 COMMANDS = ("serve", "replay", "path", "build", "stamp", *TOOLS)
 
 
-def program():
-    """The program that the copies release."""
-    given = os.environ.get("LAMBDA_LOCAL_PROGRAM")
-    found = subprocess.run([os.path.join(ROOT, "lambda_local"), "path"], stdout=subprocess.PIPE, text=True, check=not given)
-    return given or found.stdout.strip()
-
-
-@contextlib.contextmanager
-def copied():
-    """A copy below a path with spaces, which other users can read."""
-    with tempfile.TemporaryDirectory() as folder:
-        os.chmod(folder, 0o755)
-        yield copy_tree(os.path.join(folder, "a clone"), program())
-
-
-def run(root, *words, cwd=None, stdin="", launcher="lambda_local", user=None, **variables):
-    """What a command of a copy ends with: its status, and what it wrote on both streams."""
-    who = {"user": user, "group": user, "extra_groups": []} if user is not None else {}
-    ran = subprocess.run([os.path.join(root, launcher), *words], cwd=cwd or root, env=plain(**variables), input=stdin, timeout=120,
-                         stdout=subprocess.PIPE, stderr=subprocess.PIPE, text=True, **who)
-    return ran.returncode, ran.stdout, ran.stderr
-
-
-def text_of(*parts):
-    with open(os.path.join(*parts), encoding="utf-8") as file:
-        return file.read()
+def run(root, *words, cwd=None, launcher="lambda_local", **more):
+    """What the launcher of a copy ends with: its status, and what it wrote on both streams."""
+    return trees.run([os.path.join(root, launcher), *words], cwd or root, **more)
 
 
 def first_call(root, **more):
     """Status, whether the answers are those of the first example, and what was said beside them."""
-    status, output, said = run(root, stdin=text_of(ROOT, "examples", "first_call.txt"), **more)
-    return status, output == text_of(ROOT, "crates", "lambda_local", "stdout"), said
+    return trees.first_call([os.path.join(root, "lambda_local")], cwd=root, **more)
 
 
 def starts():
@@ -108,7 +84,11 @@ def says():
         check("-h is the same", run(root, "-h")[1], output)
         for tool in TOOLS:
             status, output, said = run(root, tool, "--help")
-            check(f"{tool} --help", (status, tool in output.splitlines()[0], said), (0, True, ""))
+            check(f"{tool} --help", (status, f"lambda_local {tool} " in output, said), (0, True, ""))
+            check("has no other name for a tool", re.findall(r"tools/\w+", output), [])
+            status, output, said = run(root, "--help", launcher=f"tools/{tool}")
+            check(f"tools/{tool} --help", (status, f"tools/{tool} " in output, said), (0, True, ""))
+            check("has no other name for a tool", re.findall(rf"lambda_local (?:{'|'.join(TOOLS)})\b", output), [])
         for words in (["nothing"], ["serve"], ["replay", "file"], ["serve", "a", "b"], ["path", "x"], ["--quick"]):
             status, output, said = run(root, *words)
             fine = status == 2 and not output and said.count("\n") == 1 and "'" + " ".join(words) + "'" in said and "--help" in said

@@ -18,8 +18,9 @@ import time
 ROOT = os.path.dirname(os.path.dirname(os.path.dirname(os.path.realpath(__file__))))
 sys.path[:0] = [os.path.join(ROOT, "tests", "library")]
 import counted  # noqa: E402
+import trees  # noqa: E402
 from counted import check  # noqa: E402
-from trees import commit, copy_tree, plain, write  # noqa: E402
+from trees import commit, copy_tree, plain, program, run, text_of, write  # noqa: E402
 
 STAMP = ["sources", "kit", "program", "gate"]  # the lines of what proved a program
 VERSION = re.compile(r"2026\.1\.2\+g[0-9a-f]{12}")  # of the commit in a copy
@@ -43,36 +44,16 @@ def test_greet():
 packages = {}
 
 
-def program():
-    """The program that the copies release."""
-    given = os.environ.get("LAMBDA_LOCAL_PROGRAM")
-    found = subprocess.run([os.path.join(ROOT, "lambda_local"), "path"], stdout=subprocess.PIPE, text=True, check=not given)
-    return given or found.stdout.strip()
-
-
 @contextlib.contextmanager
 def copied():
-    """A copy of one commit, which releases the program."""
-    with tempfile.TemporaryDirectory() as folder:
-        root = copy_tree(os.path.join(folder, "a clone"), program())
+    """A copy of one commit."""
+    with trees.copied() as root:
         commit(root)
         yield root
 
 
-def run(words, cwd="/", stdin=None, **more):
-    """What a command ends with: its status, and what it wrote on both streams."""
-    ran = subprocess.run(words, cwd=cwd, env=plain(**more), input=stdin or "", timeout=300, stdout=subprocess.PIPE,
-                         stderr=subprocess.PIPE, text=True)
-    return ran.returncode, ran.stdout, ran.stderr
-
-
 def package(root, *words):
     return run([sys.executable, os.path.join(root, "tools", "package"), *words], cwd=root)
-
-
-def text_of(*parts):
-    with open(os.path.join(*parts), encoding="utf-8") as file:
-        return file.read()
 
 
 def bytes_of(path):
@@ -136,8 +117,8 @@ def commit_all(root):
 
 def answers(command, **more):
     """Whether a command answers the first example."""
-    status, output, said = run([*command], stdin=text_of(ROOT, "examples", "first_call.txt"), **more)
-    return status == 0 and not said and output == text_of(ROOT, "crates", "lambda_local", "stdout") or (status, output, said)
+    seen = trees.first_call([*command], **more)
+    return seen == (0, True, "") or seen
 
 
 def used(command, folder, **more):

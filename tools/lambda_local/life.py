@@ -9,43 +9,30 @@ What is told as an event: an invocation that ended, one that was throttled, and 
 from collections import Counter
 from typing import Dict, NamedTuple, Optional, Union
 
+from . import phases
 from .history import EXPIRE, count_in, request_identifier
+from .phases import FAILURES, reason_to_end
 
 ENDINGS = ("output", "error", "timeout", "init-timeout", "too-large-output", "stopped")
-FAILURES = ("init-failure", "ext-init-failure", "ext-exit-failure")
 
 
-class Extension:
-    """An extension that is registered in a generation."""
+class Extension(phases.Extension):
+    __slots__ = ("identifier", )
 
     def __init__(self, name, events, identifier):
-        self.name, self.identifier, self.hears_end = name, identifier, "s" in events
-        self.waits = False  # it has asked for the next event
-        self.told = False  # that the environment closes
-        self.done = False  # it has asked once more after that, or said that it exits
+        super().__init__(name, events)
+        self.identifier = identifier
 
 
-class Generation:
+class Generation(phases.Members):
     """What one environment does from its Init to its end."""
 
     def __init__(self):
-        self.extensions: Dict[int, Extension] = {}  # by the count of the identifier
-        self.runtime_waits = False
+        super().__init__()
         self.is_ready = False  # its Init is over
         self.deliveries = 0
         self.closes = self.is_over = False
         self.report: Optional[bytes] = None  # the body of the failure that closed it
-
-    def named(self, name):
-        return next((extension for extension in self.extensions.values() if extension.name == name), None)
-
-    def missing(self, expected):
-        """The names of the extensions that are expected and have not asked for work, in that order."""
-        return [name for name in expected if not (self.named(name) and self.named(name).waits)]
-
-    def is_awaited(self):
-        """Whether a Closing still waits for an extension."""
-        return any(extension.hears_end and not extension.done for extension in self.extensions.values())
 
 
 class Environment:
@@ -114,7 +101,7 @@ class Life:
         self.is_stopped = False
         self._counts = Counter()  # of the Invokes of each function
         self._identified: Dict[str, Invocation] = {}
-        self._polls = {}  # by ticket: the environment and the extension (none: the runtime) that wait
+        self._polls = {}  # by ticket: the environment, and the extension, or the generation for its runtime, that wait
 
     def take(self, entry):
         """The events of an entry."""
@@ -127,7 +114,7 @@ class Life:
         if entry.kind == "withdraw":
             self._is_over(int(entry.fields[0]))
         concerned = [environment] if environment else []
-        if entry.kind == "stop":
+        if entry.kind == "stop" and not self.is_stopped:
             self.is_stopped, concerned = True, list(self.environments.values())
         for one in concerned:
             yield from self._closed(one, entry)
@@ -148,43 +135,31 @@ class Life:
     def _note(self, environment, entry):
         """What a call says of the one who makes it."""
         generation, own = environment.generation, entry.own
-        extension = generation.extensions.get(entry.count) if entry.kind.startswith("ext-") else None
-        if entry.kind == "next" and (own is None or own.kind == "deliver"):
-            self._polls[entry.number] = (environment, None)
-            generation.runtime_waits = True
-        elif entry.kind == "ext-next" and extension:
-            extension.done = extension.done or extension.told
-            if own is None or own.kind in ("tell", "shutdown"):
-                self._polls[entry.number] = (environment, extension)
-                extension.waits = True
-        elif entry.kind == "register" and own.kind == "registered":
-            name = entry.body.decode(errors="replace")
-            generation.extensions[count_in(own.fields[0])] = Extension(name, entry.fields[2], own.fields[0])
-        elif entry.kind in FAILURES[1:] and own.kind == "accepted" and extension:
-            extension.done = True
+
+        def newcomer():
+            return count_in(own.fields[0]), Extension(entry.body.decode(errors="replace"), entry.fields[2], own.fields[0])
+        generation.note(entry.kind, entry.count, entry.number, own and own.kind, newcomer)
+        for member in (generation, *generation.extensions.values()):
+            if member.poll == entry.number:
+                self._polls[entry.number] = (environment, member)
 
     def _answered(self, entry):
         for answer in entry.answers:
             if answer.kind in ENDINGS:
                 yield from self._ended(entry, answer)
             elif answer.ticket in self._polls:
-                environment, extension = self._is_over(answer.ticket)
+                environment, member = self._is_over(answer.ticket)
                 if answer.kind == "shutdown":
-                    extension.told = True
+                    member.told = True
                 elif answer.kind == "deliver":
                     self._delivered(environment, entry, answer)
 
     def _is_over(self, ticket):
-        """Notes that the poll with this ticket waits no more, and gives who made it. One that a newer poll of the same
-        replaced still waits by that."""
-        found = self._polls.pop(ticket, None)
-        if found and found not in self._polls.values():
-            environment, extension = found
-            if extension:
-                extension.waits = False
-            else:
-                environment.generation.runtime_waits = False
-        return found
+        """Notes that the poll with this ticket waits no more, and gives its environment and who made it."""
+        environment, member = self._polls.pop(ticket, (None, None))
+        if member and member.poll == ticket:
+            member.poll = None
+        return environment, member
 
     def _delivered(self, environment, entry, answer):
         environment.generation.deliveries += 1
@@ -203,11 +178,11 @@ class Life:
 
     def _closed(self, environment, entry):
         """A generation that begins to close by this entry."""
-        generation, accepted = environment.generation, entry.own is not None and entry.own.kind == "accepted"
+        generation = environment.generation
         if generation.closes:
             generation.is_over = generation.is_over or entry.kind == EXPIRE
             return
-        if not (entry.kind in (EXPIRE, "stop") or accepted and (entry.kind in FAILURES or entry.kind == "spindown")):
+        if not reason_to_end(entry.kind, entry.own and entry.own.kind):
             return
         generation.closes = True
         if entry.kind in FAILURES:
@@ -222,5 +197,5 @@ class Life:
             if generation.is_over or not generation.is_awaited():
                 generation.is_over = True
                 environment.before, environment.generation = generation, Generation()
-        elif generation.runtime_waits and all(extension.waits for extension in generation.extensions.values()):
-            generation.is_ready = generation.is_ready or not generation.missing(environment.expected)
+        elif generation.all_wait(environment.expected):
+            generation.is_ready = True

@@ -1,6 +1,9 @@
 """Follows the entries of a history by the life cycle, and notifies a sink of each thing that begins or ends."""
 import heapq
 
+from .. import phases
+from ..history import EXPIRE, count_in
+from ..phases import reason_to_end
 from ..service import Fault
 from .read import OF_EXTENSIONS, POLLS, shown
 
@@ -20,10 +23,6 @@ def outcome(call):
     if call.kind in POLLS and call.answer[0] == "refused" and call.answer[1] in ("Container", "Replaced"):
         return "ended"
     return OUTCOMES[call.answer[0]]
-
-
-def count_in(identifier):
-    return int(identifier[-12:], 16)
 
 
 def read_answer(words):
@@ -54,24 +53,23 @@ def read_answer(words):
     return answer, told + (f" {said}" if said else "")
 
 
-class Extension:
-    __slots__ = ("name", "invoke", "shutdown", "poll", "told", "again", "exited", "works")
+class Extension(phases.Extension):
+    __slots__ = ("works", )
 
     def __init__(self, name, events):
-        self.name, self.invoke, self.shutdown = name, "i" in events, "s" in events
-        self.poll = self.works = None
-        self.told = self.again = self.exited = False
+        super().__init__(name, events)
+        self.works = None
 
 
-class Environment:
+class Environment(phases.Members):
     """An environment's phase, as docs/semantics.md tells it; the answers say all that a call itself doesn't."""
 
     def __init__(self, number, function):
+        super().__init__()
         self.number, self.function = number, function
         self.generation = 1
         self.phase, self.since, self.since_entry = "Starting", None, None
-        self.deadline = self.bound = self.reason = None
-        self.poll, self.extensions, self.works = None, {}, None
+        self.deadline = self.bound = self.reason = self.works = None
 
 
 class Work:
@@ -206,39 +204,19 @@ class World:
         """What a call says of who asks for the next event, and who is there."""
         if call is None:
             return
-        if call.kind == "next":
-            if own is None or own[0] == "deliver":
-                environment.poll = call.ticket
-        elif call.kind == "ext-next" and call.count in environment.extensions:
-            extension = environment.extensions[call.count]
-            self.rests(environment, extension)
-            extension.again |= extension.told
-            if own is None or own[0] == "tell":
-                extension.poll = call.ticket
-        elif call.kind == "register" and own and own[0] == "registered":
-            environment.extensions[count_in(own[1])] = Extension(call.text, call.events)
-        elif call.kind in ("ext-init-failure", "ext-exit-failure") and own == ["accepted"]:
-            if call.count in environment.extensions:
-                environment.extensions[call.count].exited = True
+        if call.kind == "ext-next" and call.count in environment.extensions:
+            self.rests(environment, environment.extensions[call.count])
+        environment.note(call.kind, call.count, call.ticket, own and own[0],
+                         lambda: (count_in(own[1]), Extension(call.text, call.events)))
 
     def cell(self, environment, call, own, moment):
         """What the call makes of the phase."""
-        phase, kind = environment.phase, call.kind if call else "expire"
-        accepted = own == ["accepted"]
+        phase, kind = environment.phase, call.kind if call else EXPIRE
         environment.was = phase
-        closable = phase in ("Starting", "Idle", "Busy")
-        if kind == "expire":
-            reason = "TIMEOUT" if phase in ("Starting", "Busy") else None
-        elif kind == "stop":
-            reason = "SPINDOWN" if closable and not self.stopped else None
-            if phase == "Closing":
-                environment.bound = None
-        elif kind == "spindown":
-            reason = "SPINDOWN" if accepted else None
-        elif kind in ("init-failure", "ext-init-failure", "ext-exit-failure"):
-            reason = "FAILURE" if accepted and closable else None
-        else:
-            reason = None
+        if kind == "stop" and phase == "Closing":
+            environment.bound = None
+        can_end = phase in ("Starting", "Busy") or phase == "Idle" and call is not None
+        reason = reason_to_end(kind, own and own[0]) if can_end and not (kind == "stop" and self.stopped) else None
         if reason:
             self.change(environment, "Closing", moment + 2000, reason)
             environment.bound = None
@@ -268,12 +246,10 @@ class World:
 
     def settle(self, environment, call, moment):
         """A Closing that waits for nobody ends; else all who have asked make an environment ready."""
-        extensions = environment.extensions.values()
         if environment.phase == "Closing":
-            awaited = any(x.shutdown and not x.exited and not (x.told and x.again) for x in extensions)
-            if not awaited or (environment.was == "Closing" and call is None):
+            if not environment.is_awaited() or (environment.was == "Closing" and call is None):
                 self.rests(environment, environment)
-                for extension in extensions:
+                for extension in environment.extensions.values():
                     self.rests(environment, extension)
                 environment.poll, environment.extensions = None, {}
                 bound = environment.bound if environment.bound in self.open else None
@@ -284,9 +260,7 @@ class World:
                     self.change(environment, "Starting", None if bound is None else moment + 10_000)
                     environment.generation += 1
             return
-        names = [x.name for x in extensions]
-        ready = environment.poll is not None and all(x.poll is not None for x in extensions) and all(
-            name in names for name in self.configuration.expected[environment.function])
+        ready = environment.all_wait(self.configuration.expected[environment.function])
         waits = environment.bound is not None and environment.bound in self.open
         if ready and environment.phase == "Starting":
             if environment.bound is None:

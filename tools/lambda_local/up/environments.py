@@ -111,7 +111,7 @@ class Environment(threading.Thread):
         self.say("may stop in its Init as long as it likes, while nobody invokes it")
         while not self.stopping.is_set():
             self.watch.refresh()
-            if self.watch.environment(self.number).generation.runtime_waits:
+            if self.watch.environment(self.number).generation.poll is not None:
                 return True
             if self.runtime.ended(0.2):
                 reason = reason_of(self.runtime.status())
@@ -218,7 +218,7 @@ class Environment(threading.Thread):
         time; what it asks after that says that it is done."""
         generation = self.watch.generation(self.number, self.identifier) if self.identifier else None
         extension = generation.named(name) if generation and generation.closes else None
-        if extension is None or not extension.hears_end or extension.done:
+        if extension is None or not extension.shutdown or extension.is_done:
             return
         me = {"Lambda-Extension-Identifier": extension.identifier}
         with contextlib.suppress(OSError, http.client.HTTPException):

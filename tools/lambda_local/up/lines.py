@@ -65,7 +65,7 @@ class Lines:
         """Who has not come in an Init."""
         late = [f"its extension {name}, which must {'ask for its next event' if generation.named(name) else 'register by this name'}"
                 for name in generation.missing(environment.expected) if name != NAME]
-        if not generation.runtime_waits:
+        if generation.poll is None:
             late.append("its runtime, which must ask for its next invocation")
         return "which waited for " + (" and ".join(late) or "tools/up")
 
