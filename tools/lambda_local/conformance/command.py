@@ -1,7 +1,7 @@
 """Checks runtimes, extensions and other local Lambdas against the public documents.
 
-  lambda_local conformance runtime [OPTION..] -- COMMAND ..      a runtime
-  lambda_local conformance extension --name NAME -- COMMAND ..   an external extension
+  lambda_local conformance runtime [OPTION..] -- COMMAND ..            a runtime
+  lambda_local conformance extension --name NAME -- COMMAND ..         an external extension
   lambda_local conformance service --invoke URL --runtime HOST:PORT    another local Lambda
 
 `lambda_local conformance SUBCOMMAND --help` has the options, docs/conformance.md the checks."""
