@@ -12,7 +12,7 @@ def free_range(count):
     connections."""
     with open("/proc/sys/net/ipv4/ip_local_port_range") as file:
         lowest, highest = map(int, file.read().split())
-    sides = [(first, behind) for first, behind in ((20000, lowest), (highest + 1, 65536)) if behind - first >= 10 * count]
+    sides = [side for side in ((20000, lowest), (highest + 1, 65536)) if side[1] - side[0] >= 10 * count]
     for _ in range(1000):
         begin, end = random.choice(sides or [(20000, 65536)])
         first = random.randrange(begin, end - count + 1)

@@ -33,8 +33,8 @@ def text_of(*parts):
 def run(words, cwd="/", stdin="", user=None, **variables):
     """What a command ends with: its status, and what it wrote on both streams."""
     who = {"user": user, "group": user, "extra_groups": []} if user is not None else {}
-    ran = subprocess.run(words, cwd=cwd, env=plain(**variables), input=stdin, timeout=600, stdout=subprocess.PIPE, stderr=subprocess.PIPE,
-                         text=True, **who)
+    ran = subprocess.run(words, cwd=cwd, env=plain(**variables), input=stdin, timeout=600, text=True, stdout=subprocess.PIPE,
+                         stderr=subprocess.PIPE, **who)
     return ran.returncode, ran.stdout, ran.stderr
 
 
@@ -46,9 +46,10 @@ def first_call(words, **more):
 
 def program():
     """The program that the copies release: LAMBDA_LOCAL_PROGRAM, else what ./lambda_local finds."""
-    given = os.environ.get("LAMBDA_LOCAL_PROGRAM")
-    found = subprocess.run([os.path.join(ROOT, "lambda_local"), "path"], stdout=subprocess.PIPE, text=True, check=not given)
-    return given or found.stdout.strip()
+    if given := os.environ.get("LAMBDA_LOCAL_PROGRAM"):
+        return given
+    found = subprocess.run([os.path.join(ROOT, "lambda_local"), "path"], stdout=subprocess.PIPE, text=True, check=True)
+    return found.stdout.strip()
 
 
 @contextlib.contextmanager

@@ -1,6 +1,6 @@
 #!/usr/bin/env python3
-"""Checks the proxy of tools/conformance: a client and a service meet through it what they meet without it, however one of
-the two ends the connection, and it records what was asked and answered. Ends with 'N passed, M failed'.
+"""Checks the proxy of tools/conformance: a client and a service meet through it what they meet without it, however one
+of the two ends the connection, and it records what was asked and answered. Ends with 'N passed, M failed'.
 
 usage: tests/tools/conformance_proxy.py"""
 import os
@@ -23,9 +23,8 @@ NEXT = b"GET /2018-06-01/runtime/invocation/next HTTP/1.1\r\nHost: x\r\n\r\n"
 SECONDS = 60  # after which a side that waits has failed
 
 
-def response(body, declared=None):
-    head = f"POST /2018-06-01/runtime/invocation/1/response HTTP/1.1\r\nHost: x\r\nContent-Length: {declared or len(body)}\r\n\r\n"
-    return head.encode() + body
+def response(body):
+    return b"POST /2018-06-01/runtime/invocation/1/response HTTP/1.1\r\nHost: x\r\nContent-Length: %d\r\n\r\n" % len(body) + body
 
 
 class Side:
@@ -215,7 +214,8 @@ WAYS = (
     ("the same with Connection: close", answers_early(CLOSES), sends_all_then_reads, [("response", 413, LARGE, True)]),
     ("an early answer, and the service goes on", answers_early_and_goes_on, sends_all_and_asks_again,
      [("response", 413, LARGE, True), ("next", 202, 0, True)]),
-    ("an answer, the service's end, and a request behind it", answers_and_ends, asks_on_what_has_ended, [("response", 202, 2, True)]),
+    ("an answer, the service's end, and a request behind it", answers_and_ends, asks_on_what_has_ended,
+     [("response", 202, 2, True)]),
     ("an end within the answer", cuts_its_reply, asks_once, [("next", None, 0, False)]),
     ("an answer after the client's end", answers_after_the_end, ends_its_side_first, [("next", 202, 0, False)]),
     ("a client that gives up", waits_in_vain, gives_up, [("next", None, 0, False)]),
@@ -235,7 +235,8 @@ def a_reset():
     """(What else one meets that sends into a reset depends on when it comes.)"""
     for proxied in (False, True):
         client = played(answers_early_and_resets, sends_much_then_reads, proxied)[0]
-        check(f"an early answer, and the service resets{', through the proxy' * proxied}", client, ["sends in vain", TOO_LARGE])
+        check(f"an early answer, and the service resets{', through the proxy' * proxied}", client,
+              ["sends in vain", TOO_LARGE])
 
 
 def pipelined():
@@ -246,7 +247,8 @@ def pipelined():
             side.send(FINE)
         side.takes(1)
     client, service, recorded = played(answers_one_by_one, asks_twice_at_once, True)
-    check("two requests at once have two answers", (client, service), ([FINE + FINE], [len(NEXT), len(NEXT), "the end", b""]))
+    check("two requests at once have two answers", (client, service),
+          ([FINE + FINE], [len(NEXT), len(NEXT), "the end", b""]))
     check("and are recorded", recorded, [("next", 202, 0, True)] * 2)
 
 
@@ -264,7 +266,8 @@ def rules():
         check("a rule answers in the service's place", side.met, [rule.bytes()])
         proxy.close()
     client, _, recorded = played(answers_and_ends, asks_on_what_has_ended, True, Rule("response", close=True))
-    check("a rule closes the connection after the answer", (client, recorded), (["the end", FINE], [("response", 202, 2, True)]))
+    check("a rule closes the connection after the answer", (client, recorded),
+          (["the end", FINE], [("response", 202, 2, True)]))
 
 
 if __name__ == "__main__":

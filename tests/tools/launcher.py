@@ -19,7 +19,7 @@ sys.path[:0] = [os.path.join(ROOT, "tests", "library")]
 import counted  # noqa: E402
 import trees  # noqa: E402
 from counted import check  # noqa: E402
-from trees import RELEASED, copied, copy_tree, plain, program, release, text_of, write  # noqa: E402
+from trees import RELEASED, copied, plain, program, release, text_of, write  # noqa: E402
 
 OTHER_USER = 65534
 SOURCE = "crates/lambda_local/src/main.rt"

@@ -137,7 +137,8 @@ class Life:
         generation, own = environment.generation, entry.own
 
         def newcomer():
-            return count_in(own.fields[0]), Extension(entry.body.decode(errors="replace"), entry.fields[2], own.fields[0])
+            name, identifier = entry.body.decode(errors="replace"), own.fields[0]
+            return count_in(identifier), Extension(name, entry.fields[2], identifier)
         generation.note(entry.kind, entry.count, entry.number, own and own.kind, newcomer)
         for member in (generation, *generation.extensions.values()):
             if member.poll == entry.number:

@@ -10,7 +10,7 @@ NAMED = re.compile(rf"\blambda_local ({'|'.join(TOOLS)})\b")
 
 
 def called(text):
-    """A text that names tools as the command lambda_local does, with the names by which they are called here. Columns stay."""
+    """A text that names tools as `lambda_local NAME`, with the names by which they are called here. Columns stay."""
     if sys.argv[0].startswith("lambda_local "):
         return text
     return "\n".join(renamed(line) for line in text.split("\n"))

@@ -15,14 +15,15 @@ class Client:
         return {}
 
     def ask(self, method, path, body=None, headers=None, chunked=False):
-        """The answer and its body. If the connection has ended meanwhile there is a new one; a poll that finds that out only
-        on its way is sent again."""
+        """The answer and its body. If the connection has ended meanwhile there is a new one; a poll that finds that out
+        only on its way is sent again."""
         if self.connection.sock and select.select([self.connection.sock], [], [], 0)[0]:
             self.connection.close()
             self.connection_ended()
+        headers = {**self.headers(), **(headers or {})}
         for attempt in (1, 2):
             try:
-                self.connection.request(method, path, body, {**self.headers(), **(headers or {})}, encode_chunked=chunked)
+                self.connection.request(method, path, body, headers, encode_chunked=chunked)
                 answer = self.connection.getresponse()
                 return answer, answer.read()
             except (ConnectionError, http.client.HTTPException, socket.timeout):

@@ -20,8 +20,8 @@ def main():
         print(called(__doc__))
         return 0
     if not words or words[0] not in SUBCOMMANDS:
-        name = called("lambda_local conformance")
-        print(f"conformance: write one of {', '.join(SUBCOMMANDS)} as its first word (`{name} --help`)", file=sys.stderr)
+        usage = called("lambda_local conformance --help")
+        print(f"conformance: write one of {', '.join(SUBCOMMANDS)} as its first word (`{usage}`)", file=sys.stderr)
         return 2
     try:
         return importlib.import_module(f"lambda_local.conformance.{words[0]}").main(words[1:])

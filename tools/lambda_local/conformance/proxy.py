@@ -1,6 +1,6 @@
-"""Stands between a runtime or an extension and an environment's port: forwards bytes as they come, and how each of the two
-ends the connection, and records each request with its reply and their times. A rule may answer in the service's place, or
-close the connection after a reply.
+"""Stands between a runtime or an extension and an environment's port: forwards bytes as they come, and how each of the
+two ends the connection, and records each request with its reply and their times. A rule may answer in the service's place,
+or close the connection after a reply.
 
     proxy = Proxy(port)                                      # listens at 127.0.0.1:proxy.port
     proxy.rule = Rule("response", reply=(500, b"{}"))        # of the next response, once
@@ -36,7 +36,8 @@ class Exchange:
     def __init__(self, connection, peer, request):
         self.connection, self.peer = connection, peer  # the connection's number, from 1, and the peer's port
         self.begun, self.since = time.monotonic(), CLOCK.now()
-        self.asked = self.answered = self.left = None  # the request is whole; the reply is; one of the two has gone before that
+        self.asked = self.answered = None  # the request is whole; the reply is
+        self.left = None  # one of the two has gone before that
         self.method, _, rest = request.start.partition(" ")
         self.path = rest.partition(" ")[0]
         self.request, self.reply = request, None
@@ -177,9 +178,9 @@ class Proxy:
 
 
 class Link:
-    """One connection of the client and, from its first request on, one to the service. How one of the two ends its side, or
-    resets the connection, is passed on to the other: a service that answers before the request is whole ends its own side
-    and may read on (RFC 9112, section 9.6)."""
+    """One connection of the client and, from its first request on, one to the service. How one of the two ends its side,
+    or resets the connection, is passed on to the other: a service that answers before the request is whole ends its own
+    side and may read on (RFC 9112, section 9.6)."""
 
     def __init__(self, proxy, client, number, peer, sources):
         self.proxy, self.client, self.number, self.peer, self.sources = proxy, client, number, peer, sources
@@ -290,7 +291,7 @@ class Link:
         self.proxy.note(lambda: self.proxy.exchanges.append(self.exchange))
 
     def to_service(self, data):
-        """Whether the link goes on. Where the service has reset the connection, what it sent before comes to the client first."""
+        """Whether the link goes on. If the service has reset the connection, what it sent before that comes first."""
         if self.service is None:
             self.service = socket.create_connection(("127.0.0.1", self.proxy.target))
             self.service.setsockopt(socket.IPPROTO_TCP, socket.TCP_NODELAY, 1)

@@ -105,6 +105,6 @@ def play(name, registry, options, command, rehearse, title, stage=Stage):
 
 
 def at_once():
-    """How many scenarios run beside one another: most of them wait most of the time."""
-    return max(4, 3 * (os.cpu_count() or 1))
-
+    """How many scenarios run beside one another: most of them wait most of the time, but for those of a busy machine."""
+    processors = os.cpu_count() or 1
+    return max(4, processors, round(3 * processors / CLOCK.slowness()))

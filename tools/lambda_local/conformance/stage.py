@@ -89,10 +89,10 @@ class Environment:
             self.process.kill()
 
     def asked(self, count=1, seconds=None, kind="next", real_seconds=0):
-        """Whether it has made its count-th request of a kind before so many seconds (by default those of the Init) are over,
-        by the kit's clock and by the real one, or its process has ended."""
-        process = self.process
-        end, real_end = CLOCK.now() + (self.stage.patience if seconds is None else seconds), time.monotonic() + real_seconds
+        """Whether it has made its count-th request of a kind before so many seconds (by default those of the Init) are
+        over, by the kit's clock and by the real one, or its process has ended."""
+        process, real_end = self.process, time.monotonic() + real_seconds
+        end = CLOCK.now() + (self.stage.patience if seconds is None else seconds)
         while len(self.proxy.of(kind)) < count and not (process and process.ended):
             if CLOCK.now() >= end and time.monotonic() >= real_end:
                 break
@@ -167,8 +167,8 @@ class Stage:
         """A command that ends before it asks for anything is none that can be tested."""
         environment = self.environment
         if environment.process.ended and not environment.proxy.exchanges:
-            written = environment.process.written()
-            raise Fault(2, f"{' '.join(self.tools.command)}: {environment.process.how_it_ended()} before it asked for anything"
+            command, written = " ".join(self.tools.command), environment.process.written()
+            raise Fault(2, f"{command}: {environment.process.how_it_ended()} before it asked for anything"
                            + (f"; its last line: {shown(written)}" if written else ""))
 
     # -- judging

@@ -65,7 +65,8 @@ def arguments():
     parser.add_argument("--limit", metavar="N", type=int, help=f"show at most so many calls (a drawing: {MOST_DRAWN:,}; else all)")
     parser.add_argument("--from", metavar="MOMENT", type=moment, dest="begin", help="show what goes on from this moment on")
     parser.add_argument("--to", metavar="MOMENT", type=moment, dest="end", help="show what goes on up to this moment")
-    parser.add_argument("--all", action="store_true", help=called("show what lambda_local up itself does as well: the extension lambda_local.up"))
+    parser.add_argument("--all", action="store_true",
+                        help=called("show what lambda_local up itself does as well: the extension lambda_local.up"))
     parser.add_argument("--live", metavar="URL", help=f"show the last calls of the service at this address (--limit, else {MOST_LIVE})")
     parser.add_argument("--scale", choices=("entries", "time"), default="entries",
                         help="a place for each entry, or an axis true to scale")

@@ -1,11 +1,11 @@
 """Starts lambda_local with a runtime for each environment, and keeps the runtimes alive.
 
-  lambda_local up UP.json                           until Ctrl-C or SIGTERM, which stop the service in order
-  lambda_local up UP.json -- pytest                 waits until all is ready, runs the command against it, saves the history
-                                                    if it fails, stops, and ends with the command's status
-  lambda_local up --reload UP.json                  begins a function's idle environments anew when its files change
-  lambda_local up --debug greet UP.json             a debugger may hold `greet` in its Init as long as nobody invokes it; a
-                                                    command behind -- is run once it has left it
+  lambda_local up UP.json                   until Ctrl-C or SIGTERM, which stop the service in order
+  lambda_local up UP.json -- pytest         waits until all is ready, runs the command against it, saves the history
+                                            if it fails, stops, and ends with the command's status
+  lambda_local up --reload UP.json          begins a function's idle environments anew when its files change
+  lambda_local up --debug greet UP.json     a debugger may hold `greet` in its Init as long as nobody invokes it; a
+                                            command behind -- is run once it has left it
 
 UP.json is a service's configuration (docs/formats.md) in which each function has more members:
   runtime        "python" or "node": the bundled runtime serves `handler`, such as "app.handler"
@@ -83,7 +83,8 @@ def options_of(words):
     if others and not others[0].startswith("-"):
         raise Fault(2, called(f"write -- before the command: lambda_local up {options.up} -- {' '.join(others)}"))
     if others:
-        parser().error(called(f"there is no option {others[0]}: lambda_local up --help names them; a command stands behind --"))
+        usage = called("lambda_local up --help")
+        parser().error(f"there is no option {others[0]}: {usage} names them; a command stands behind --")
     options.command = command
     return options
 

@@ -121,7 +121,8 @@ def read(path):
         with open(path) as file:
             whole = json.load(file)
     except OSError as fault:
-        raise Fault(2, f"{path}: {fault.strerror}: name a file as `{called('lambda_local up')} --help` describes it") from None
+        usage = called("lambda_local up --help")
+        raise Fault(2, f"{path}: {fault.strerror}: name a file as `{usage}` describes it") from None
     except ValueError as fault:
         raise Fault(2, f"{path}: this is no JSON: {fault}") from None
     except RecursionError:

@@ -75,13 +75,11 @@ class ExtensionStage(Stage):
         """(Each scenario begins by itself.)"""
 
     def start(self):
-        """Starts the extension's process, and with it the kit's companion."""
-        if self._wants_companion:
-            self.companion = Companion(self.environment.service_port)
+        """Starts the extension's process."""
         self.environment.start()
 
     def begin(self):
-        """A generation: the extension registers and asks for its first event, and then the runtime begins."""
+        """A generation: the extension registers and asks for its first event, then come the kit's companion and runtime."""
         before, polls = len(self.environment.proxy.of("register")), len(self.environment.proxy.of("event"))
         self.start()
         environment = self.environment
@@ -92,6 +90,8 @@ class ExtensionStage(Stage):
             raise Missing(f"its registration was answered {registered.status} {shown(registered.reply.body)}")
         if not environment.asked(polls + 1, kind="event"):
             raise Missing(f"it did not ask for an event: {self.said()}")
+        if self._wants_companion:  # (the service gives an Init ten seconds from its first call on)
+            self.companion = Companion(self.environment.service_port)
         self.play()
 
     def play(self):
