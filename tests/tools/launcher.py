@@ -82,7 +82,8 @@ def says():
         check("--help", (status, said), (0, ""))
         check("names each command", [it for it in COMMANDS if not re.search(rf"\b{it}\b", output)], [])
         check("-h is the same", run(root, "-h")[1], output)
-        for tool in TOOLS:
+        check("from_template --help", run(root, "from_template", "--help")[0], 0)
+        for tool in sorted({*TOOLS} - {"from_template"}):
             status, output, said = run(root, tool, "--help")
             check(f"{tool} --help", (status, f"lambda_local {tool} " in output, said), (0, True, ""))
             check("has no other name for a tool", re.findall(r"tools/\w+", output), [])
