@@ -33,6 +33,7 @@ use account_book::{Book, Life, OpenFault};
 use arn_ids::{Checked, FnNo};
 use call_model::{Call, Entry, Stats, Ticket};
 use lambda_wire::Reply;
+use script::Draft;
 use shared_history::Source;
 use std::alloc::{AllocError, Global};
 use std::marker::{Brand, Model};
@@ -106,6 +107,16 @@ fn ring_out<B: Bell>(step: Step<B>) -> Ticket
         bell.ring();
     }
     ticket
+}
+
+/// The text of an entry that was drafted under the lock.
+fn finish(draft: Option<Draft>) -> Result<Option<Vec<u8>>, AllocError>
+    ensures { IfOk result (λ text. option_map (λ bytes. bytes.items) text ≡ draft) }
+{
+    match draft {
+        None => Ok(None),
+        Some(draft) => Ok(Some(draft.finish()?)),
+    }
 }
 
 impl<S: Identity, B: Bell> Locked<S, B> {
@@ -266,10 +277,9 @@ impl<S: Identity, B: Bell> Locked<S, B> {
         line: &Line<S>,
         front: &mut Front<S>,
         ticket: Ticket,
-    ) -> Result<Option<Vec<u8>>, AllocError>
+    ) -> Result<Option<Draft>, AllocError>
         ensures seen { Sees S.config front.old front.new }
-        ensures text { IfOk result (λ text.
-            IsTextOf S.config S.salt ticket (option_map (λ bytes. bytes.items) text) front.new) }
+        ensures text { IfOk result (λ draft. IsTextOf S.config S.salt ticket draft front.new) }
     {
         self.desk.facts();
         self.pen.show(line, front);
@@ -502,7 +512,7 @@ impl<S: Identity, B: Bell> Account<S, B> {
     }
 
     /// The text of the entry with a ticket, in the history as it is, which the token then has seen; none
-    /// past the end.
+    /// past the end. Its bodies are escaped with the lock free.
     ///
     /// The only error is want of memory.
     pub fn history(
@@ -515,7 +525,8 @@ impl<S: Identity, B: Bell> Account<S, B> {
         ensures text { IfOk result (λ text.
             IsTextOf S.config S.salt ticket (option_map (λ bytes. bytes.items) text) front.new) }
     {
-        self.locked.lock(rt).history(&self.line, front, ticket)
+        let draft = self.locked.lock(rt).history(&self.line, front, ticket);
+        finish(draft?)
     }
 
     /// Adds the shares of all tallies up, and compares what they keep with the history, once no
