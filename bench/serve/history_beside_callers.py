@@ -1,8 +1,8 @@
 #!/usr/bin/env python3
 """Measures what a caller of 100 B waits for while others read a history of large entries: p50, p99 and the longest, alone
-and while `GET /_local/history` is read in a loop by each of some readers. Before, it fills the history: N entries with
-6 MiB each, invocations whose payload the runtime sends back. Callers, runtime and readers are processes of their own.
-Wants Linux and the proved program (./lambda_local build), or another one by its path.
+and while readers get `/_local/history` in a loop. Before, it fills the history with N entries of 6 MiB: invocations
+whose payload the runtime sends back. Caller, runtime and readers are processes of their own. Wants Linux and the proved
+program (./lambda_local build), or another one by its path.
 
 usage: bench/serve/history_beside_callers.py [--program PROGRAM] [--entries N] [--readers N] [--seconds S]"""
 import argparse
@@ -23,6 +23,10 @@ SMALL = b'"' + 98 * b"x" + b'"'
 LARGE = b'"' + b"some words " * ((6_291_456 - 2) // 11) + b'"'
 
 
+def connect(port):
+    return http.client.HTTPConnection("127.0.0.1", port, timeout=60)
+
+
 def ask(connection, method, path, body=None):
     connection.request(method, path, body)
     answer = connection.getresponse()
@@ -34,7 +38,7 @@ def ask(connection, method, path, body=None):
 
 def send_back(port):
     """A runtime that answers each invocation with its payload."""
-    connection = http.client.HTTPConnection("127.0.0.1", port)
+    connection = connect(port)
     while True:
         answer, payload = ask(connection, "GET", NEXT)
         name = answer.headers["Lambda-Runtime-Aws-Request-Id"]
@@ -45,7 +49,7 @@ def read_histories(port, count):
     """Reads the history again and again, and counts its bytes."""
     into = bytearray(1 << 20)
     while True:
-        connection = http.client.HTTPConnection("127.0.0.1", port)
+        connection = connect(port)
         connection.request("GET", "/_local/history")
         answer = connection.getresponse()
         while got := answer.readinto(into):
@@ -56,7 +60,7 @@ def read_histories(port, count):
 
 def call(port, seconds, waits):
     """Invokes with a small payload for this long: sends how long each call took, in milliseconds."""
-    connection = http.client.HTTPConnection("127.0.0.1", port)
+    connection = connect(port)
     took = []
     end = time.monotonic() + seconds
     while time.monotonic() < end:
@@ -66,36 +70,48 @@ def call(port, seconds, waits):
     waits.send(sorted(took))
 
 
-def begin(work, *arguments):
-    process = multiprocessing.Process(target=work, args=arguments, daemon=True)
-    process.start()
-    return process
+class Processes:
+    """Processes of this program's functions, which end with its block."""
+
+    def __enter__(self):
+        self.begun = []
+        return self
+
+    def begin(self, work, *arguments):
+        process = multiprocessing.Process(target=work, args=arguments, daemon=True)
+        process.start()
+        self.begun.append(process)
+        return process
+
+    def __exit__(self, *_):
+        for it in self.begun:
+            it.kill()
+            it.join()
 
 
-def measure(name, port, seconds):
+def measure(name, processes, port, seconds):
     here, there = multiprocessing.Pipe()
-    caller = begin(call, port, seconds, there)
+    processes.begin(call, port, seconds, there)
     if not here.poll(seconds + 60):
-        raise Trouble(f"a caller had not ended {name}")
+        raise Trouble(f"a caller had not ended, {name}")
     took = here.recv()
-    caller.join()
     p50, p99 = took[len(took) // 2], took[len(took) * 99 // 100]
     print(f"| {name} | {len(took)} | {p50:.2f} | {p99:.2f} | {took[-1]:.2f} |", flush=True)
 
 
-def run(service, entries, readers, seconds):
-    begin(send_back, service.port + 1)
-    caller = http.client.HTTPConnection("127.0.0.1", service.port)
+def run(service, processes, entries, readers, seconds):
+    processes.begin(send_back, service.port + 1)
+    caller = connect(service.port)
     for _ in range((entries + 1) // 2):
         ask(caller, "POST", INVOKE, LARGE)
     caller.close()
     print("| | calls | p50 ms | p99 ms | longest ms |\n|---|---|---|---|---|")
-    measure("alone", service.port, seconds)
+    measure("alone", processes, service.port, seconds)
     count = multiprocessing.Value("Q", 0)
-    reading = [begin(read_histories, service.port, count) for _ in range(readers)]
+    reading = [processes.begin(read_histories, service.port, count) for _ in range(readers)]
     time.sleep(0.5)
     before, start = count.value, time.monotonic()
-    measure(f"beside {readers} of the history", service.port, seconds)
+    measure(f"beside {readers} of the history", processes, service.port, seconds)
     rate = (count.value - before) / (time.monotonic() - start) / 1e6
     if not all(it.is_alive() for it in reading):
         raise Trouble("a reader of the history has ended")
@@ -110,8 +126,8 @@ def main():
     parser.add_argument("--seconds", type=float, default=20)
     given = parser.parse_args()
     try:
-        with Service(Kind("lambda_local", given.program, True), 1) as service:
-            run(service, given.entries, given.readers, given.seconds)
+        with Service(Kind("lambda_local", given.program, True), 1) as service, Processes() as processes:
+            run(service, processes, given.entries, given.readers, given.seconds)
     except (Trouble, OSError, http.client.HTTPException) as trouble:
         print("bench:", trouble, file=sys.stderr)
         return 1

@@ -1,6 +1,7 @@
 //! The lines of answers, and the text of an entry in a history.
 
-ghost use Rattle.std.specs.Prelude.{◌≡◌, ℕ, ◌<◌, List, [], ◌∷◌, ◌++◌, decimal, length, take, drop, reverse, slice_index_or, OnOk, OnErr, IfOk};
+ghost use Rattle.std.specs.Prelude.{◌≡◌, ℕ, ◌<◌, List, [], ◌∷◌, ◌++◌, decimal, length, take, drop, reverse};
+ghost use Rattle.std.specs.Prelude.{slice_index_or, OnOk, OnErr, IfOk};
 ghost use Rattle.arn_ids.specs.declared.identifiers.IdKind.TheVariants.{Event};
 ghost use Rattle.call_types.specs.declared.call.Entry.{Entry};
 ghost use Rattle.call_types.specs.Words.{reason_word};
@@ -68,7 +69,9 @@ fn push_delivery<W: Sink>(
     invoke: Ticket,
     deadline: u64,
 ) -> Result<(), AllocError>
-    ensures { let h = reverse past.now.entries.now.0 in Adds result (spaced (spec.request_word past.now.salt h invoke ∷ decimal deadline ∷ spec.body_word h invoke ∷ [])) (W.text out.old) (W.text out.new) }
+    ensures { let h = reverse past.now.entries.now.0 in
+        Adds result (spaced (spec.request_word past.now.salt h invoke ∷ decimal deadline
+        ∷ spec.body_word h invoke ∷ [])) (W.text out.old) (W.text out.new) }
 {
     let words = [
         request_word(past, invoke),
@@ -86,7 +89,9 @@ fn push_event<W: Sink>(
     deadline: u64,
     event: u64,
 ) -> Result<(), AllocError>
-    ensures { let h = reverse past.now.entries.now.0 in Adds result (spaced (spec.env_word past.now.salt Event h ticket event ∷ spec.request_word past.now.salt h invoke ∷ decimal deadline ∷ [])) (W.text out.old) (W.text out.new) }
+    ensures { let h = reverse past.now.entries.now.0 in
+        Adds result (spaced (spec.env_word past.now.salt Event h ticket event
+        ∷ spec.request_word past.now.salt h invoke ∷ decimal deadline ∷ [])) (W.text out.old) (W.text out.new) }
 {
     let words = [
         env_word(past, IdKind::Event, ticket, event),
@@ -104,7 +109,9 @@ fn push_ending<W: Sink>(
     until: u64,
     event: u64,
 ) -> Result<(), AllocError>
-    ensures { let h = reverse past.now.entries.now.0 in Adds result (spaced (spec.env_word past.now.salt Event h ticket event ∷ reason_word reason ∷ decimal until ∷ [])) (W.text out.old) (W.text out.new) }
+    ensures { let h = reverse past.now.entries.now.0 in
+        Adds result (spaced (spec.env_word past.now.salt Event h ticket event
+        ∷ reason_word reason ∷ decimal until ∷ [])) (W.text out.old) (W.text out.new) }
 {
     let words = [
         env_word(past, IdKind::Event, ticket, event),
@@ -122,7 +129,9 @@ fn push_other_words<W: Sink>(
     ticket: Ticket,
     answer: Answer,
 ) -> Result<(), AllocError>
-    ensures { Adds result (spaced (drop 1 (answer_words past.now.salt (reverse past.now.entries.now.0) ticket answer))) (W.text out.old) (W.text out.new) }
+    ensures { Adds result
+        (spaced (drop 1 (answer_words past.now.salt (reverse past.now.entries.now.0) ticket answer)))
+        (W.text out.old) (W.text out.new) }
 {
     match answer {
         Answer::Delivered { invoke, deadline } => push_delivery(out, past, invoke, deadline),
@@ -162,7 +171,8 @@ fn push_answer_words<W: Sink>(
     ticket: Ticket,
     answer: Answer,
 ) -> Result<(), AllocError>
-    ensures { Adds result (spaced (answer_words past.now.salt (reverse past.now.entries.now.0) ticket answer)) (W.text out.old) (W.text out.new) }
+    ensures { Adds result (spaced (answer_words past.now.salt (reverse past.now.entries.now.0) ticket answer))
+        (W.text out.old) (W.text out.new) }
 {
     push_spaced(out, &Word::Plain(first_word(answer)))?;
     push_other_words(out, past, ticket, answer)
@@ -191,7 +201,9 @@ fn push_answer<W: Sink>(
     ticket: Ticket,
     answer: Answer,
 ) -> Result<(), AllocError>
-    ensures { Adds result (mark.now ++ answer_line past.now.salt (reverse past.now.entries.now.0) number ticket answer) (W.text out.old) (W.text out.new) }
+    ensures { Adds result
+        (mark.now ++ answer_line past.now.salt (reverse past.now.entries.now.0) number ticket answer)
+        (W.text out.old) (W.text out.new) }
 {
     push_numbers(out, mark, number, ticket)?;
     push_answer_words(out, past, ticket, answer)?;
@@ -206,7 +218,8 @@ fn push_lines<W: Sink>(
     number: usize,
     answers: &[(Ticket, Answer)],
 ) -> Result<(), AllocError>
-    ensures { Adds result (marked_lines past.now.salt (reverse past.now.entries.now.0) mark.now number answers.now) (W.text out.old) (W.text out.new) }
+    ensures { Adds result (marked_lines past.now.salt (reverse past.now.entries.now.0) mark.now number answers.now)
+        (W.text out.old) (W.text out.new) }
 {
     for (ticket, answer) in answers {
         push_answer(out, past, mark, number, *ticket, *answer)?;
@@ -247,7 +260,8 @@ pub fn push_answers(
 ) -> Result<(), AllocError>
     requires counted { reverse counts.now.0 ≡ call_counts (reverse entries.now.0) }
     requires there { number < length entries.now.0 }
-    ensures ok { OnOk result ((d : Entry) → out.new.items ≡ out.old.items ++ answer_lines salt (reverse entries.now.0) number (slice_index_or entries.now.0 number d)) }
+    ensures ok { OnOk result ((d : Entry) → out.new.items
+        ≡ out.old.items ++ answer_lines salt (reverse entries.now.0) number (slice_index_or entries.now.0 number d)) }
     ensures err { OnErr result (out.new.items ≡ out.old.items) }
 {
     let start = out.len();
@@ -273,7 +287,8 @@ fn push_whole_entry<W: Sink>(
     number: usize,
     entry: &Entry,
 ) -> Result<(), AllocError>
-    ensures { Adds result (entry_text config.now past.now.salt (reverse past.now.entries.now.0) number entry.now) (W.text out.old) (W.text out.new) }
+    ensures { Adds result (entry_text config.now past.now.salt (reverse past.now.entries.now.0) number entry.now)
+        (W.text out.old) (W.text out.new) }
 {
     push_call(out, config, entry.moment, &entry.call)?;
     end_line(out)?;
@@ -297,7 +312,8 @@ pub fn draft_entry(
 ) -> Result<Draft, AllocError>
     requires counted { reverse counts.now.0 ≡ call_counts (reverse entries.now.0) }
     requires there { number < length entries.now.0 }
-    ensures { IfOk result (λ draft. (d : Entry) → draft ≡ entry_text config.now salt (reverse entries.now.0) number (slice_index_or entries.now.0 number d)) }
+    ensures { IfOk result (λ draft. (d : Entry) → draft
+        ≡ entry_text config.now salt (reverse entries.now.0) number (slice_index_or entries.now.0 number d)) }
 {
     let past = Past {
         salt,

@@ -91,7 +91,8 @@ fn push_report<'a, W: Sink>(
     count: u64,
     body: &'a Bytes,
 ) -> Result<(), AllocError>
-    ensures { Adds result (spaced (word.now ∷ decimal env ∷ decimal count ∷ text_field body.now ∷ [])) (W.text out.old) (W.text out.new) }
+    ensures { Adds result (spaced (word.now ∷ decimal env ∷ decimal count ∷ text_field body.now ∷ []))
+        (W.text out.old) (W.text out.new) }
 {
     push_words(
         out,
@@ -105,7 +106,8 @@ fn push_report<'a, W: Sink>(
 }
 
 fn push_init_failure<W: Sink>(out: &mut W, env: EnvNo, body: &Bytes) -> Result<(), AllocError>
-    ensures { Adds result (spaced (codes "init-failure" ∷ decimal env ∷ text_field body.now ∷ [])) (W.text out.old) (W.text out.new) }
+    ensures { Adds result (spaced (codes "init-failure" ∷ decimal env ∷ text_field body.now ∷ []))
+        (W.text out.old) (W.text out.new) }
 {
     let words = [Word::Plain("init-failure"), env_word(env), Word::Body(body)];
     push_words(out, &words)
@@ -118,7 +120,8 @@ fn push_invoke<'a, W: Sink>(
     trace: &'a Option<Text>,
     body: &'a Bytes,
 ) -> Result<(), AllocError>
-    ensures { Adds result (spaced (codes "invoke" ∷ name.now ∷ flag (codes "q") qualified ∷ or_dash text_field trace.now ∷ text_field body.now ∷ [])) (W.text out.old) (W.text out.new) }
+    ensures { Adds result (spaced (codes "invoke" ∷ name.now ∷ flag (codes "q") qualified
+        ∷ or_dash text_field trace.now ∷ text_field body.now ∷ [])) (W.text out.old) (W.text out.new) }
 {
     let words = [
         Word::Plain("invoke"),
@@ -138,7 +141,8 @@ fn push_register<W: Sink>(
     shutdown: bool,
     account: bool,
 ) -> Result<(), AllocError>
-    ensures { Adds result (spaced (codes "register" ∷ decimal env ∷ text_field name.now ∷ events invoke shutdown ∷ flag (codes "a") account ∷ [])) (W.text out.old) (W.text out.new) }
+    ensures { Adds result (spaced (codes "register" ∷ decimal env ∷ text_field name.now ∷ events invoke shutdown
+        ∷ flag (codes "a") account ∷ [])) (W.text out.old) (W.text out.new) }
 {
     let words = [
         Word::Plain("register"),
@@ -151,7 +155,8 @@ fn push_register<W: Sink>(
 }
 
 fn push_reserve<W: Sink>(out: &mut W, name: &str, count: Option<u32>) -> Result<(), AllocError>
-    ensures { Adds result (spaced (codes "reserve" ∷ name.now ∷ reservation count ∷ [])) (W.text out.old) (W.text out.new) }
+    ensures { Adds result (spaced (codes "reserve" ∷ name.now ∷ reservation count ∷ []))
+        (W.text out.old) (W.text out.new) }
 {
     let words = [
         Word::Plain("reserve"),
