@@ -1,7 +1,7 @@
 #!/usr/bin/env python3
 """Measures what a caller of 100 B waits for while others read a history of large entries: p50, p99 and the longest, alone
 and while readers get `/_local/history` in a loop. Before, it fills the history with N entries of 6 MiB: invocations
-whose payload the runtime sends back. Caller, runtime and readers are processes of their own. Wants Linux and the proved
+whose payload a runtime sends back. Caller, runtimes and readers are processes of their own. Wants Linux and the proved
 program (./lambda_local build), or another one by its path.
 
 usage: bench/serve/history_beside_callers.py [--program PROGRAM] [--entries N] [--readers N] [--seconds S]"""
@@ -19,12 +19,13 @@ ROOT = os.path.dirname(os.path.dirname(os.path.dirname(os.path.abspath(__file__)
 BUILT = os.path.join(ROOT, "crates", "lambda_local", "out", "lambda_local")
 NEXT = "/2018-06-01/runtime/invocation/next"
 INVOKE = "/2015-03-31/functions/f/invocations"
+ENVIRONMENTS = 4  # so that the caller, who is alone, never waits until a runtime asks again
 SMALL = b'"' + 98 * b"x" + b'"'
 LARGE = b'"' + b"some words " * ((6_291_456 - 2) // 11) + b'"'
 
 
-def connect(port):
-    return http.client.HTTPConnection("127.0.0.1", port, timeout=60)
+def connect(port, patience=60):
+    return http.client.HTTPConnection("127.0.0.1", port, timeout=patience)
 
 
 def ask(connection, method, path, body=None):
@@ -38,7 +39,7 @@ def ask(connection, method, path, body=None):
 
 def send_back(port):
     """A runtime that answers each invocation with its payload."""
-    connection = connect(port)
+    connection = connect(port, None)
     while True:
         answer, payload = ask(connection, "GET", NEXT)
         name = answer.headers["Lambda-Runtime-Aws-Request-Id"]
@@ -100,7 +101,8 @@ def measure(name, processes, port, seconds):
 
 
 def run(service, processes, entries, readers, seconds):
-    processes.begin(send_back, service.port + 1)
+    for place in range(ENVIRONMENTS):
+        processes.begin(send_back, service.port + 1 + place)
     caller = connect(service.port)
     for _ in range((entries + 1) // 2):
         ask(caller, "POST", INVOKE, LARGE)
@@ -126,7 +128,7 @@ def main():
     parser.add_argument("--seconds", type=float, default=20)
     given = parser.parse_args()
     try:
-        with Service(Kind("lambda_local", given.program, True), 1) as service, Processes() as processes:
+        with Service(Kind("lambda_local", given.program, True), ENVIRONMENTS) as service, Processes() as processes:
             run(service, processes, given.entries, given.readers, given.seconds)
     except (Trouble, OSError, http.client.HTTPException) as trouble:
         print("bench:", trouble, file=sys.stderr)
