@@ -28,7 +28,7 @@ ghost use Rattle.account_lock.specs.Shown.{IsTaken, IsTextOf, Sees, Shown};
 ghost use Rattle.account_lock.specs.Tallying.{HasPartsOf, KeepsCall};
 ghost use Rattle.account_lock.specs.declared.fault.SettleFault.TheVariants.{TallyMissing};
 
-use crate::{Bell, Declined, Desk, Look, Refused, SettleFault, Settled, Step};
+use crate::{Bell, Declined, Desk, Look, Refused, Settled, Step, Unsettled};
 use account_book::{Book, Life, OpenFault};
 use arn_ids::{Checked, FnNo};
 use call_model::{Call, Entry, Stats, Ticket};
@@ -533,23 +533,30 @@ impl<S: Identity, B: Bell> Account<S, B> {
     /// thread shares the account.
     ///
     /// # Errors
-    /// As `Desk::settle`; account and tallies are then gone. The fault is one of a history that calls
-    /// led to, and where no tally was missing, of one whose counts the tallies have. Where nothing is
-    /// kept and nothing need be, a missing tally is the only one.
-    pub fn settle<K: Keep>(self, tallies: Vec<Tally<K, S>>) -> Result<Settled<K, S>, SettleFault>
+    /// As `Desk::settle`; account and tallies are then gone. The fault comes with a token that has seen the
+    /// account's history, of which it is a fault, and if no tally was missing, the tallies have counted what
+    /// that history counts. Where nothing is kept and nothing need be, a missing tally is the only one.
+    pub fn settle<K: Keep>(self, tallies: Vec<Tally<K, S>>) -> Result<Settled<K, S>, Unsettled<S>>
         ensures book { IfOk result (λ settled.
             (settled.book.config ≡ S.config) × (settled.stats ≡ stats S.config settled.book.history)) }
         ensures settled { IfOk result (λ settled. IsSettled K.ALL settled.book.history tallies.items) }
         ensures tally { IfOk result (λ settled. (settled.tally.held.parts ≡ 2 ^ 32)
             × (settled.tally.held.counts ≡ counts_of settled.book.history)) }
-        ensures fault { IfErr result (λ fault. Shown S.config (λ h. IsFault K.ALL fault h tallies.items
-            × (fault ≢ TallyMissing → counts_in tallies.items ≡ counts_of h))) }
-        ensures nothing { IfErr result (λ fault.
-            K.ALL ≡ false → list_all keeps_nothing tallies.items ≡ true → fault ≡ TallyMissing) }
+        ensures seen { IfErr result (λ back. Sees S.config [] back.front) }
+        ensures fault { IfErr result (λ back. IsFault K.ALL back.fault back.front tallies.items) }
+        ensures counted { IfErr result
+            (λ back. back.fault ≢ TallyMissing → counts_in tallies.items ≡ counts_of back.front) }
+        ensures nothing { IfErr result (λ back.
+            K.ALL ≡ false → list_all keeps_nothing tallies.items ≡ true → back.fault ≡ TallyMissing) }
     {
-        let desk = self.into_desk();
+        let Account { locked, line } = self;
+        let Locked { desk, mut pen } = locked.into_inner();
         desk.facts();
-        desk.settle(tallies)
+        let front = pen.front(&line);
+        match desk.settle(tallies) {
+            Ok(settled) => Ok(settled),
+            Err(fault) => Err(Unsettled { fault, front }),
+        }
     }
 
     /// The desk, once no thread shares the account.
