@@ -1,8 +1,8 @@
 #!/usr/bin/env python3
-"""Measures what a caller of 100 B waits for while others read a history of large entries: p50, p99 and the longest, alone
-and while readers get `/_local/history` in a loop. Before, it fills the history with N entries of 6 MiB: invocations
-whose payload a runtime sends back. Caller, runtimes and readers are processes of their own. Wants Linux and the proved
-program (./lambda_local build), or another one by its path.
+"""Measures how long a caller of 100 B waits for its answers, alone and while readers get `/_local/history` in a loop:
+p50, p99 and the longest. Before, it fills the history with N entries of 6 MiB: invocations whose payload a runtime
+sends back. Caller, runtimes and readers are processes of their own. Wants Linux and the proved program
+(./lambda_local build), or another one by its path.
 
 usage: bench/serve/history_beside_callers.py [--program PROGRAM] [--entries N] [--readers N] [--seconds S]"""
 import argparse
