@@ -34,7 +34,7 @@ use arn_ids::{Checked, FnNo};
 use call_model::{Answer, Call, Entry, Past, Stats, Ticket};
 use entry_blocks::Blocks;
 use lambda_wire::Reply;
-use script::push_entry;
+use script::{Draft, draft_entry};
 use std::alloc::{AllocError, Global};
 use std::marker::Model;
 use std::sync::Arc;
@@ -395,26 +395,27 @@ impl Book {
         )
     }
 
-    /// The history text of the entry with a ticket: its call's line, and its answer lines behind
-    /// `# `; none past the end.
-    pub fn history(&self, ticket: Ticket) -> Result<Option<Vec<u8>>, AllocError>
-        ensures { IfOk result (λ text. MatchOption text (length self.now.history ≤ ticket)
-            (λ bytes. (ticket < length self.now.history) × ((d : Entry) → bytes.items ≡ entry_text self.now.config self.now.salt self.now.history ticket (slice_index_or (reverse self.now.history) ticket d)))) }
+    /// The history text of the entry with a ticket, in which no body is escaped yet: its call's line, and
+    /// its answer lines behind `# `; none past the end. Bodies are shared with the history, not copied.
+    ///
+    /// The only error is want of memory.
+    pub fn history(&self, ticket: Ticket) -> Result<Option<Draft>, AllocError>
+        ensures { IfOk result (λ draft. MatchOption draft (length self.now.history ≤ ticket)
+            (λ text. (ticket < length self.now.history) × ((d : Entry) → text ≡ entry_text self.now.config self.now.salt self.now.history ticket (slice_index_or (reverse self.now.history) ticket d)))) }
     {
         if ticket >= self.len() {
             return Ok(None);
         }
         let salt = self.salt();
-        let mut text = Vec::new(self.alloc);
-        push_entry(
-            &mut text,
+        let draft = draft_entry(
+            self.alloc,
             self.journal.config(),
             salt,
             self.journal.entries(),
             self.journal.counts(),
             ticket as usize,
         )?;
-        Ok(Some(text))
+        Ok(Some(draft))
     }
 
     /// What the client of the call with a ticket gets: the status, the headers and the body of its

@@ -28,11 +28,12 @@ ghost use Rattle.account_lock.specs.Shown.{IsTaken, IsTextOf, Sees, Shown};
 ghost use Rattle.account_lock.specs.Tallying.{HasPartsOf, KeepsCall};
 ghost use Rattle.account_lock.specs.declared.fault.SettleFault.TheVariants.{TallyMissing};
 
-use crate::{Bell, Declined, Desk, Look, Refused, SettleFault, Settled, Step};
+use crate::{Bell, Declined, Desk, Look, Refused, Settled, Step, Unsettled};
 use account_book::{Book, Life, OpenFault};
 use arn_ids::{Checked, FnNo};
 use call_model::{Call, Entry, Stats, Ticket};
 use lambda_wire::Reply;
+use script::Draft;
 use shared_history::Source;
 use std::alloc::{AllocError, Global};
 use std::marker::{Brand, Model};
@@ -106,6 +107,16 @@ fn ring_out<B: Bell>(step: Step<B>) -> Ticket
         bell.ring();
     }
     ticket
+}
+
+/// The text of an entry that was drafted under the lock.
+fn finish(draft: Option<Draft>) -> Result<Option<Vec<u8>>, AllocError>
+    ensures { IfOk result (λ text. option_map (λ bytes. bytes.items) text ≡ draft) }
+{
+    match draft {
+        None => Ok(None),
+        Some(draft) => Ok(Some(draft.finish()?)),
+    }
 }
 
 impl<S: Identity, B: Bell> Locked<S, B> {
@@ -266,10 +277,9 @@ impl<S: Identity, B: Bell> Locked<S, B> {
         line: &Line<S>,
         front: &mut Front<S>,
         ticket: Ticket,
-    ) -> Result<Option<Vec<u8>>, AllocError>
+    ) -> Result<Option<Draft>, AllocError>
         ensures seen { Sees S.config front.old front.new }
-        ensures text { IfOk result (λ text.
-            IsTextOf S.config S.salt ticket (option_map (λ bytes. bytes.items) text) front.new) }
+        ensures text { IfOk result (λ draft. IsTextOf S.config S.salt ticket draft front.new) }
     {
         self.desk.facts();
         self.pen.show(line, front);
@@ -502,7 +512,7 @@ impl<S: Identity, B: Bell> Account<S, B> {
     }
 
     /// The text of the entry with a ticket, in the history as it is, which the token then has seen; none
-    /// past the end.
+    /// past the end. Its bodies are escaped with the lock free.
     ///
     /// The only error is want of memory.
     pub fn history(
@@ -515,30 +525,38 @@ impl<S: Identity, B: Bell> Account<S, B> {
         ensures text { IfOk result (λ text.
             IsTextOf S.config S.salt ticket (option_map (λ bytes. bytes.items) text) front.new) }
     {
-        self.locked.lock(rt).history(&self.line, front, ticket)
+        let draft = self.locked.lock(rt).history(&self.line, front, ticket);
+        finish(draft?)
     }
 
     /// Adds the shares of all tallies up, and compares what they keep with the history, once no
     /// thread shares the account.
     ///
     /// # Errors
-    /// As `Desk::settle`; account and tallies are then gone. The fault is one of a history that calls
-    /// led to, and where no tally was missing, of one whose counts the tallies have. Where nothing is
-    /// kept and nothing need be, a missing tally is the only one.
-    pub fn settle<K: Keep>(self, tallies: Vec<Tally<K, S>>) -> Result<Settled<K, S>, SettleFault>
+    /// As `Desk::settle`; account and tallies are then gone. The fault comes with a token that has seen the
+    /// account's history, of which it is a fault, and if no tally was missing, the tallies have counted what
+    /// that history counts. Where nothing is kept and nothing need be, a missing tally is the only one.
+    pub fn settle<K: Keep>(self, tallies: Vec<Tally<K, S>>) -> Result<Settled<K, S>, Unsettled<S>>
         ensures book { IfOk result (λ settled.
             (settled.book.config ≡ S.config) × (settled.stats ≡ stats S.config settled.book.history)) }
         ensures settled { IfOk result (λ settled. IsSettled K.ALL settled.book.history tallies.items) }
         ensures tally { IfOk result (λ settled. (settled.tally.held.parts ≡ 2 ^ 32)
             × (settled.tally.held.counts ≡ counts_of settled.book.history)) }
-        ensures fault { IfErr result (λ fault. Shown S.config (λ h. IsFault K.ALL fault h tallies.items
-            × (fault ≢ TallyMissing → counts_in tallies.items ≡ counts_of h))) }
-        ensures nothing { IfErr result (λ fault.
-            K.ALL ≡ false → list_all keeps_nothing tallies.items ≡ true → fault ≡ TallyMissing) }
+        ensures seen { IfErr result (λ back. Sees S.config [] back.front) }
+        ensures fault { IfErr result (λ back. IsFault K.ALL back.fault back.front tallies.items) }
+        ensures counted { IfErr result
+            (λ back. back.fault ≢ TallyMissing → counts_in tallies.items ≡ counts_of back.front) }
+        ensures nothing { IfErr result (λ back.
+            K.ALL ≡ false → list_all keeps_nothing tallies.items ≡ true → back.fault ≡ TallyMissing) }
     {
-        let desk = self.into_desk();
+        let Account { locked, line } = self;
+        let Locked { desk, mut pen } = locked.into_inner();
         desk.facts();
-        desk.settle(tallies)
+        let front = pen.front(&line);
+        match desk.settle(tallies) {
+            Ok(settled) => Ok(settled),
+            Err(fault) => Err(Unsettled { fault, front }),
+        }
     }
 
     /// The desk, once no thread shares the account.

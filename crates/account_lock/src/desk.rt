@@ -31,6 +31,7 @@ use account_book::{Book, Life, Refusal};
 use arn_ids::{Checked, FnNo};
 use call_model::{Answer, Call, Stats, Ticket};
 use lambda_wire::Reply;
+use script::Draft;
 use std::alloc::{AllocError, Global};
 use std::marker::Model;
 use usage_ledger::{Keep, Ledgers, Tally, Totals};
@@ -235,12 +236,12 @@ impl<B: Bell, L: Ledgers> Desk<B, L> {
         self.book.opening()
     }
 
-    /// The history text of the entry with a ticket; none past the end.
+    /// The history text of the entry with a ticket, in which no body is escaped yet; none past the end.
     ///
     /// The only error is want of memory.
-    pub fn history(&self, ticket: Ticket) -> Result<Option<Vec<u8>>, AllocError>
-        ensures { IfOk result (λ text. MatchOption text (length self.now.book.history ≤ ticket)
-            (λ bytes. (ticket < length self.now.book.history) × ((d : Entry) → bytes.items
+    pub fn history(&self, ticket: Ticket) -> Result<Option<Draft>, AllocError>
+        ensures { IfOk result (λ draft. MatchOption draft (length self.now.book.history ≤ ticket)
+            (λ text. (ticket < length self.now.book.history) × ((d : Entry) → text
             ≡ entry_text self.now.book.config self.now.book.salt self.now.book.history ticket
             (slice_index_or (reverse self.now.book.history) ticket d)))) }
     {

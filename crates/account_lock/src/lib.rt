@@ -24,4 +24,4 @@ pub use bells::Bell;
 pub use desk::{Desk, Look, Refused, Step};
 pub use fault::SettleFault;
 pub use offering::Declined;
-pub use settle::Settled;
+pub use settle::{Settled, Unsettled};

@@ -18,7 +18,7 @@ use crate::{Bell, Desk, SettleFault};
 use account_book::Book;
 use call_model::{Answer, Stats};
 use std::alloc::Global;
-use usage_ledger::{Keep, Ledgers, Tally, Totals};
+use usage_ledger::{Front, Keep, Ledgers, Tally, Totals};
 
 /// A settled account: what was counted is what its book says.
 #[derive(Drop)]
@@ -29,6 +29,15 @@ pub struct Settled<K: Keep, L: Ledgers> {
     pub stats: Stats,
     /// The shares of all tallies in one, which has all parts.
     pub tally: Tally<K, L>,
+}
+
+/// Why an account was not settled, and a token that has seen its history to the end.
+#[derive(Drop)]
+pub struct Unsettled<L: Ledgers> {
+    /// The first fault that holds.
+    pub fault: SettleFault,
+    /// The token: the fault is one of the history that it has seen.
+    pub front: Front<L>,
 }
 
 /// Whether the tallies have all parts.

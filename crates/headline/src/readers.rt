@@ -1,18 +1,18 @@
 //! The calls that say the headline of their own history.
 
-ghost use Rattle.std.specs.Prelude.{◌≡◌, ◌≢◌, ◌^◌, true, false, IfOk, IfErr};
+ghost use Rattle.std.specs.Prelude.{◌≡◌, ◌≢◌, ◌^◌, [], true, false, IfOk, IfErr};
 ghost use Rattle.std.specs.List.{list_all};
 ghost use Rattle.call_model.specs.Counts.{stats};
 ghost use Rattle.account_lock.specs.Counting.{counts_of};
 ghost use Rattle.account_lock.specs.Gathered.{counts_in, keeps_nothing};
 ghost use Rattle.account_lock.specs.Settlement.{IsSettled, IsFault};
-ghost use Rattle.account_lock.specs.Shown.{Sees, Shown};
+ghost use Rattle.account_lock.specs.Shown.{Sees};
 ghost use Rattle.account_lock.specs.declared.fault.SettleFault.TheVariants.{TallyMissing};
 ghost use Rattle.headline.specs.Headline.{Headline};
 
 use crate::laws;
 use account_book::Book;
-use account_lock::{Account, Bell, Desk, Identity, SettleFault, Settled};
+use account_lock::{Account, Bell, Desk, Identity, Settled, Unsettled};
 use call_model::Stats;
 use std::sync::Wait;
 use usage_ledger::{Front, Keep, Ledgers, Tally};
@@ -54,20 +54,25 @@ pub fn of_account<S: Identity, B: Bell>(
 /// tallies have counted together is what that history counts.
 ///
 /// # Errors
-/// The first `SettleFault` that holds, in the order in which they are declared; account and tallies
-/// are then gone. Where no tally was missing, they have counted what a history counts of which the
-/// fault speaks. Where nothing is kept and nothing need be, a missing tally is the only fault, and no
-/// memory is asked for.
+/// The first `SettleFault` that holds, in the order in which they are declared, with a token that has seen
+/// the account's history, of which it is a fault; account and tallies are then gone. If no tally was
+/// missing, the tallies have counted what that history counts. Where nothing is kept and nothing need be, a
+/// missing tally is the only fault, and no memory is asked for.
 pub fn settle<S: Identity, B: Bell, K: Keep>(
     account: Account<S, B>,
     tallies: Vec<Tally<K, S>>,
-) -> Result<Settled<K, S>, SettleFault>
+) -> Result<Settled<K, S>, Unsettled<S>>
     ensures configured { IfOk result (λ settled. settled.book.config ≡ S.config) }
     ensures headline { IfOk result (λ settled. Headline S.config settled.book.history settled.stats) }
     ensures settled { IfOk result (λ settled. IsSettled K.ALL settled.book.history tallies.items) }
-    ensures tally { IfOk result (λ settled. (settled.tally.held.parts ≡ 2 ^ 32) × (settled.tally.held.counts ≡ counts_of settled.book.history)) }
-    ensures fault { IfErr result (λ fault. Shown S.config (λ h. IsFault K.ALL fault h tallies.items × (fault ≢ TallyMissing → counts_in tallies.items ≡ counts_of h))) }
-    ensures nothing { IfErr result (λ fault. K.ALL ≡ false → list_all keeps_nothing tallies.items ≡ true → fault ≡ TallyMissing) }
+    ensures tally { IfOk result (λ settled. (settled.tally.held.parts ≡ 2 ^ 32)
+        × (settled.tally.held.counts ≡ counts_of settled.book.history)) }
+    ensures seen { IfErr result (λ back. Sees S.config [] back.front) }
+    ensures fault { IfErr result (λ back. IsFault K.ALL back.fault back.front tallies.items) }
+    ensures counted { IfErr result
+        (λ back. back.fault ≢ TallyMissing → counts_in tallies.items ≡ counts_of back.front) }
+    ensures nothing { IfErr result (λ back.
+        K.ALL ≡ false → list_all keeps_nothing tallies.items ≡ true → back.fault ≡ TallyMissing) }
 {
     let settled = account.settle(tallies)?;
     settled.book.facts();

@@ -3,13 +3,14 @@
 ghost use Rattle.std.specs.Prelude.{◌≡◌};
 ghost use Rattle.lambda_local.specs.Status.{status_of};
 
-use account_lock::SettleFault;
+use account_lock::{SettleFault, Unsettled};
 use arn_ids::ConfigFault;
 use http_front::HostFault;
 use lambda_wire::WireFault;
 use std::alloc::AllocError;
 use std::io;
 use thiserror::Error;
+use usage_ledger::Ledgers;
 
 /// Why a service did not come to a settled end. Printed, it is the line that the program writes on
 /// standard error.
@@ -118,16 +119,16 @@ impl From<HostFault> for ServeFault {
     }
 }
 
-impl From<SettleFault> for ServeFault {
+impl<L: Ledgers> From<Unsettled<L>> for ServeFault {
     ghost use Rattle.std.specs.Prelude.{◌≡◌};
     ghost use Rattle.lambda_local.specs.Faults.{of_settling};
 
-    ghost from_gives = { λ fault made. made ≡ of_settling fault };
+    ghost from_gives = { λ unsettled made. made ≡ of_settling unsettled.fault };
 
-    fn from(fault: SettleFault) -> ServeFault {
-        match fault {
+    fn from(unsettled: Unsettled<L>) -> ServeFault {
+        match unsettled.fault {
             SettleFault::OutOfMemory => ServeFault::OutOfMemory,
-            _ => ServeFault::Settlement(fault),
+            fault => ServeFault::Settlement(fault),
         }
     }
 }

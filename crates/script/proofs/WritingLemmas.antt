@@ -30,6 +30,10 @@ pub adds_after : {T E : Type 0} (r : Result T E) (front text old mid new : List 
 adds_after (Ok x) front text old mid new e added = rw (added, e) (append_assoc old front text)
 adds_after (Err x) front text old mid new e added = kept_in_front front old mid new e added
 
+-- one word, behind a space
+pub adds_one : {T E : Type 0} → (r : Result T E) (a old new : List ℕ) → Adds r (32 ∷ a) old new → Adds r (spaced (a ∷ [])) old new
+adds_one r a old new added = rw append-nil added
+
 -- two words, each behind a space
 pub adds_two : {T E : Type 0} → (r : Result T E) (a b old mid new : List ℕ) → mid ≡ old ++ 32 ∷ a → Adds r (32 ∷ b) mid new → Adds r (spaced (a ∷ b ∷ [])) old new
 adds_two r a b old mid new e added = rw append-nil (adds_after r (32 ∷ a) (32 ∷ b) old mid new e added)

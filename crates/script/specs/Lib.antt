@@ -4,3 +4,4 @@ pub mod Views
 pub mod CallText
 pub mod AnswerText
 pub mod Writing
+pub mod Drafts

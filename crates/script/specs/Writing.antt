@@ -15,6 +15,7 @@ word_text (words.Plain text) = text.now
 word_text (words.Number n) = decimal n
 word_text (words.Identifier id) = hyphenated_text lower id
 word_text (words.Text bytes) = text_field bytes.now
+word_text (words.Body body) = text_field body.now
 
 -- words, each behind a space
 abbrev pub spaced : List (List ℕ) → List ℕ

@@ -1,6 +1,7 @@
 //! The lines of answers, and the text of an entry in a history.
 
-ghost use Rattle.std.specs.Prelude.{◌≡◌, ℕ, ◌<◌, List, [], ◌∷◌, ◌++◌, decimal, length, take, drop, reverse, slice_index_or, OnOk, OnErr};
+ghost use Rattle.std.specs.Prelude.{◌≡◌, ℕ, ◌<◌, List, [], ◌∷◌, ◌++◌, decimal, length, take, drop, reverse};
+ghost use Rattle.std.specs.Prelude.{slice_index_or, OnOk, OnErr, IfOk};
 ghost use Rattle.arn_ids.specs.declared.identifiers.IdKind.TheVariants.{Event};
 ghost use Rattle.call_types.specs.declared.call.Entry.{Entry};
 ghost use Rattle.call_types.specs.Words.{reason_word};
@@ -10,12 +11,14 @@ ghost use Rattle.call_model.specs.CallCounts.{call_counts};
 ghost use Rattle.script.specs.Writing.{Adds, spaced, marked_lines};
 
 use crate::call_writer::push_call;
+use crate::draft::Draft;
 use crate::past_words::{body_word, env_word, request_word};
+use crate::sink::Sink;
 use crate::words::{Word, end_line, push_last, push_name, push_spaced, push_word, push_words};
 use arn_ids::{Checked, IdKind};
 use call_model::{Answer, Entry, Past, Reason, Rejection, Ticket};
 use entry_blocks::Blocks;
-use std::alloc::AllocError;
+use std::alloc::{AllocError, Global};
 
 fn refusal_text(refusal: Rejection) -> &'static str
     ensures { result.now ≡ refusal_word refusal }
@@ -60,13 +63,15 @@ fn first_word(answer: Answer) -> &'static str
     }
 }
 
-fn push_delivery(
-    out: &mut Vec<u8>,
+fn push_delivery<W: Sink>(
+    out: &mut W,
     past: &Past,
     invoke: Ticket,
     deadline: u64,
 ) -> Result<(), AllocError>
-    ensures { let h = reverse past.now.entries.now.0 in Adds result (spaced (spec.request_word past.now.salt h invoke ∷ decimal deadline ∷ spec.body_word h invoke ∷ [])) out.old.items out.new.items }
+    ensures { let h = reverse past.now.entries.now.0 in
+        Adds result (spaced (spec.request_word past.now.salt h invoke ∷ decimal deadline
+        ∷ spec.body_word h invoke ∷ [])) (W.text out.old) (W.text out.new) }
 {
     let words = [
         request_word(past, invoke),
@@ -76,15 +81,17 @@ fn push_delivery(
     push_words(out, &words)
 }
 
-fn push_event(
-    out: &mut Vec<u8>,
+fn push_event<W: Sink>(
+    out: &mut W,
     past: &Past,
     ticket: Ticket,
     invoke: Ticket,
     deadline: u64,
     event: u64,
 ) -> Result<(), AllocError>
-    ensures { let h = reverse past.now.entries.now.0 in Adds result (spaced (spec.env_word past.now.salt Event h ticket event ∷ spec.request_word past.now.salt h invoke ∷ decimal deadline ∷ [])) out.old.items out.new.items }
+    ensures { let h = reverse past.now.entries.now.0 in
+        Adds result (spaced (spec.env_word past.now.salt Event h ticket event
+        ∷ spec.request_word past.now.salt h invoke ∷ decimal deadline ∷ [])) (W.text out.old) (W.text out.new) }
 {
     let words = [
         env_word(past, IdKind::Event, ticket, event),
@@ -94,15 +101,17 @@ fn push_event(
     push_words(out, &words)
 }
 
-fn push_ending(
-    out: &mut Vec<u8>,
+fn push_ending<W: Sink>(
+    out: &mut W,
     past: &Past,
     ticket: Ticket,
     reason: Reason,
     until: u64,
     event: u64,
 ) -> Result<(), AllocError>
-    ensures { let h = reverse past.now.entries.now.0 in Adds result (spaced (spec.env_word past.now.salt Event h ticket event ∷ reason_word reason ∷ decimal until ∷ [])) out.old.items out.new.items }
+    ensures { let h = reverse past.now.entries.now.0 in
+        Adds result (spaced (spec.env_word past.now.salt Event h ticket event
+        ∷ reason_word reason ∷ decimal until ∷ [])) (W.text out.old) (W.text out.new) }
 {
     let words = [
         env_word(past, IdKind::Event, ticket, event),
@@ -114,13 +123,15 @@ fn push_ending(
 
 /// Adds the words of an answer behind its first, each behind a space.
 #[tactic(auto, unfolding(crate::specs::AnswerText::answer_words))]
-fn push_other_words(
-    out: &mut Vec<u8>,
+fn push_other_words<W: Sink>(
+    out: &mut W,
     past: &Past,
     ticket: Ticket,
     answer: Answer,
 ) -> Result<(), AllocError>
-    ensures { Adds result (spaced (drop 1 (answer_words past.now.salt (reverse past.now.entries.now.0) ticket answer))) out.old.items out.new.items }
+    ensures { Adds result
+        (spaced (drop 1 (answer_words past.now.salt (reverse past.now.entries.now.0) ticket answer)))
+        (W.text out.old) (W.text out.new) }
 {
     match answer {
         Answer::Delivered { invoke, deadline } => push_delivery(out, past, invoke, deadline),
@@ -154,26 +165,27 @@ fn push_other_words(
 }
 
 /// Adds the words of an answer, each behind a space.
-fn push_answer_words(
-    out: &mut Vec<u8>,
+fn push_answer_words<W: Sink>(
+    out: &mut W,
     past: &Past,
     ticket: Ticket,
     answer: Answer,
 ) -> Result<(), AllocError>
-    ensures { Adds result (spaced (answer_words past.now.salt (reverse past.now.entries.now.0) ticket answer)) out.old.items out.new.items }
+    ensures { Adds result (spaced (answer_words past.now.salt (reverse past.now.entries.now.0) ticket answer))
+        (W.text out.old) (W.text out.new) }
 {
     push_spaced(out, &Word::Plain(first_word(answer)))?;
     push_other_words(out, past, ticket, answer)
 }
 
 /// Adds a mark, and the numbers that an answer's line begins with.
-fn push_numbers(
-    out: &mut Vec<u8>,
+fn push_numbers<W: Sink>(
+    out: &mut W,
     mark: &str,
     number: usize,
     ticket: Ticket,
 ) -> Result<(), AllocError>
-    ensures { Adds result (mark.now ++ (decimal number ++ 32 ∷ decimal ticket)) out.old.items out.new.items }
+    ensures { Adds result (mark.now ++ (decimal number ++ 32 ∷ decimal ticket)) (W.text out.old) (W.text out.new) }
 {
     push_word(out, &Word::Plain(mark))?;
     push_word(out, &Word::Number(number as u64))?;
@@ -181,15 +193,17 @@ fn push_numbers(
 }
 
 /// Adds the line of an answer, behind a mark.
-fn push_answer(
-    out: &mut Vec<u8>,
+fn push_answer<W: Sink>(
+    out: &mut W,
     past: &Past,
     mark: &str,
     number: usize,
     ticket: Ticket,
     answer: Answer,
 ) -> Result<(), AllocError>
-    ensures { Adds result (mark.now ++ answer_line past.now.salt (reverse past.now.entries.now.0) number ticket answer) out.old.items out.new.items }
+    ensures { Adds result
+        (mark.now ++ answer_line past.now.salt (reverse past.now.entries.now.0) number ticket answer)
+        (W.text out.old) (W.text out.new) }
 {
     push_numbers(out, mark, number, ticket)?;
     push_answer_words(out, past, ticket, answer)?;
@@ -197,14 +211,15 @@ fn push_answer(
 }
 
 /// Adds the lines of answers, each behind a mark.
-fn push_lines(
-    out: &mut Vec<u8>,
+fn push_lines<W: Sink>(
+    out: &mut W,
     past: &Past,
     mark: &str,
     number: usize,
     answers: &[(Ticket, Answer)],
 ) -> Result<(), AllocError>
-    ensures { Adds result (marked_lines past.now.salt (reverse past.now.entries.now.0) mark.now number answers.now) out.old.items out.new.items }
+    ensures { Adds result (marked_lines past.now.salt (reverse past.now.entries.now.0) mark.now number answers.now)
+        (W.text out.old) (W.text out.new) }
 {
     for (ticket, answer) in answers {
         push_answer(out, past, mark, number, *ticket, *answer)?;
@@ -245,7 +260,8 @@ pub fn push_answers(
 ) -> Result<(), AllocError>
     requires counted { reverse counts.now.0 ≡ call_counts (reverse entries.now.0) }
     requires there { number < length entries.now.0 }
-    ensures ok { OnOk result ((d : Entry) → out.new.items ≡ out.old.items ++ answer_lines salt (reverse entries.now.0) number (slice_index_or entries.now.0 number d)) }
+    ensures ok { OnOk result ((d : Entry) → out.new.items
+        ≡ out.old.items ++ answer_lines salt (reverse entries.now.0) number (slice_index_or entries.now.0 number d)) }
     ensures err { OnErr result (out.new.items ≡ out.old.items) }
 {
     let start = out.len();
@@ -264,52 +280,47 @@ pub fn push_answers(
     }
 }
 
-fn push_whole_entry(
-    out: &mut Vec<u8>,
+fn push_whole_entry<W: Sink>(
+    out: &mut W,
     config: &Checked,
     past: &Past,
     number: usize,
     entry: &Entry,
 ) -> Result<(), AllocError>
-    ensures { Adds result (entry_text config.now past.now.salt (reverse past.now.entries.now.0) number entry.now) out.old.items out.new.items }
+    ensures { Adds result (entry_text config.now past.now.salt (reverse past.now.entries.now.0) number entry.now)
+        (W.text out.old) (W.text out.new) }
 {
     push_call(out, config, entry.moment, &entry.call)?;
     end_line(out)?;
     push_lines(out, past, "# ", number, entry.answers.as_slice())
 }
 
-/// Adds the text of the entry with a number as a history has it: the line of its call, as
-/// `read_call` reads it, and the lines of its answers as `push_answers` writes them, each behind
-/// `# `. An expiry, which nobody called, is the comment `## M expire E`.
+/// The text of the entry with a number as a history has it, in which no body is escaped yet: the line of
+/// its call, as `read_call` reads it, and the lines of its answers as `push_answers` writes them, each
+/// behind `# `. An expiry, which nobody called, is the comment `## M expire E`.
 ///
 /// `entries` and `counts` are as for `push_answers`.
 ///
-/// The only error is want of memory, after which `out` is as it was.
-pub fn push_entry(
-    out: &mut Vec<u8>,
+/// The only error is want of memory.
+pub fn draft_entry(
+    alloc: Global,
     config: &Checked,
     salt: u64,
     entries: &Blocks<Entry>,
     counts: &Blocks<u64>,
     number: usize,
-) -> Result<(), AllocError>
+) -> Result<Draft, AllocError>
     requires counted { reverse counts.now.0 ≡ call_counts (reverse entries.now.0) }
     requires there { number < length entries.now.0 }
-    ensures ok { OnOk result ((d : Entry) → out.new.items ≡ out.old.items ++ entry_text config.now salt (reverse entries.now.0) number (slice_index_or entries.now.0 number d)) }
-    ensures err { OnErr result (out.new.items ≡ out.old.items) }
+    ensures { IfOk result (λ draft. (d : Entry) → draft
+        ≡ entry_text config.now salt (reverse entries.now.0) number (slice_index_or entries.now.0 number d)) }
 {
-    let start = out.len();
     let past = Past {
         salt,
         entries,
         counts,
     };
-    let entry = entries.at(number);
-    match push_whole_entry(out, config, &past, number, entry) {
-        Ok(()) => Ok(()),
-        Err(error) => {
-            out.truncate(start);
-            Err(error)
-        }
-    }
+    let mut draft = Draft::new(alloc);
+    push_whole_entry(&mut draft, config, &past, number, entries.at(number))?;
+    Ok(draft)
 }

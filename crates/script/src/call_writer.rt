@@ -6,6 +6,7 @@ ghost use Rattle.script.specs.CallText.{before_moment, call_words, call_text, fl
 ghost use Rattle.script.specs.TextFields.{text_field};
 ghost use Rattle.script.specs.Writing.{Adds, spaced, word_text};
 
+use crate::sink::Sink;
 use crate::words::{Word, push_name, push_named, push_word, push_words};
 use arn_ids::{Checked, EnvNo, FnNo, Text};
 use bytes::Bytes;
@@ -68,14 +69,14 @@ fn env_word(env: EnvNo) -> Word<'static>
     Word::Number(u64::from(env))
 }
 
-fn push_env(out: &mut Vec<u8>, word: &str, env: EnvNo) -> Result<(), AllocError>
-    ensures { Adds result (spaced (word.now ∷ decimal env ∷ [])) out.old.items out.new.items }
+fn push_env<W: Sink>(out: &mut W, word: &str, env: EnvNo) -> Result<(), AllocError>
+    ensures { Adds result (spaced (word.now ∷ decimal env ∷ [])) (W.text out.old) (W.text out.new) }
 {
     push_named(out, word, &env_word(env))
 }
 
-fn push_count(out: &mut Vec<u8>, word: &str, env: EnvNo, count: u64) -> Result<(), AllocError>
-    ensures { Adds result (spaced (word.now ∷ decimal env ∷ decimal count ∷ [])) out.old.items out.new.items }
+fn push_count<W: Sink>(out: &mut W, word: &str, env: EnvNo, count: u64) -> Result<(), AllocError>
+    ensures { Adds result (spaced (word.now ∷ decimal env ∷ decimal count ∷ [])) (W.text out.old) (W.text out.new) }
 {
     push_words(
         out,
@@ -83,14 +84,15 @@ fn push_count(out: &mut Vec<u8>, word: &str, env: EnvNo, count: u64) -> Result<(
     )
 }
 
-fn push_report<'a>(
-    out: &mut Vec<u8>,
+fn push_report<'a, W: Sink>(
+    out: &mut W,
     word: &'a str,
     env: EnvNo,
     count: u64,
     body: &'a Bytes,
 ) -> Result<(), AllocError>
-    ensures { Adds result (spaced (word.now ∷ decimal env ∷ decimal count ∷ text_field body.now ∷ [])) out.old.items out.new.items }
+    ensures { Adds result (spaced (word.now ∷ decimal env ∷ decimal count ∷ text_field body.now ∷ []))
+        (W.text out.old) (W.text out.new) }
 {
     push_words(
         out,
@@ -98,50 +100,49 @@ fn push_report<'a>(
             Word::Plain(word),
             env_word(env),
             Word::Number(count),
-            Word::Text(body.as_slice()),
+            Word::Body(body),
         ],
     )
 }
 
-fn push_init_failure(out: &mut Vec<u8>, env: EnvNo, body: &Bytes) -> Result<(), AllocError>
-    ensures { Adds result (spaced (codes "init-failure" ∷ decimal env ∷ text_field body.now ∷ [])) out.old.items out.new.items }
+fn push_init_failure<W: Sink>(out: &mut W, env: EnvNo, body: &Bytes) -> Result<(), AllocError>
+    ensures { Adds result (spaced (codes "init-failure" ∷ decimal env ∷ text_field body.now ∷ []))
+        (W.text out.old) (W.text out.new) }
 {
-    let words = [
-        Word::Plain("init-failure"),
-        env_word(env),
-        Word::Text(body.as_slice()),
-    ];
+    let words = [Word::Plain("init-failure"), env_word(env), Word::Body(body)];
     push_words(out, &words)
 }
 
-fn push_invoke<'a>(
-    out: &mut Vec<u8>,
+fn push_invoke<'a, W: Sink>(
+    out: &mut W,
     name: &'a str,
     qualified: bool,
     trace: &'a Option<Text>,
     body: &'a Bytes,
 ) -> Result<(), AllocError>
-    ensures { Adds result (spaced (codes "invoke" ∷ name.now ∷ flag (codes "q") qualified ∷ or_dash text_field trace.now ∷ text_field body.now ∷ [])) out.old.items out.new.items }
+    ensures { Adds result (spaced (codes "invoke" ∷ name.now ∷ flag (codes "q") qualified
+        ∷ or_dash text_field trace.now ∷ text_field body.now ∷ [])) (W.text out.old) (W.text out.new) }
 {
     let words = [
         Word::Plain("invoke"),
         Word::Plain(name),
         flag_word("q", qualified),
         trace_word(trace),
-        Word::Text(body.as_slice()),
+        Word::Body(body),
     ];
     push_words(out, &words)
 }
 
-fn push_register(
-    out: &mut Vec<u8>,
+fn push_register<W: Sink>(
+    out: &mut W,
     env: EnvNo,
     name: &Text,
     invoke: bool,
     shutdown: bool,
     account: bool,
 ) -> Result<(), AllocError>
-    ensures { Adds result (spaced (codes "register" ∷ decimal env ∷ text_field name.now ∷ events invoke shutdown ∷ flag (codes "a") account ∷ [])) out.old.items out.new.items }
+    ensures { Adds result (spaced (codes "register" ∷ decimal env ∷ text_field name.now ∷ events invoke shutdown
+        ∷ flag (codes "a") account ∷ [])) (W.text out.old) (W.text out.new) }
 {
     let words = [
         Word::Plain("register"),
@@ -153,8 +154,9 @@ fn push_register(
     push_words(out, &words)
 }
 
-fn push_reserve(out: &mut Vec<u8>, name: &str, count: Option<u32>) -> Result<(), AllocError>
-    ensures { Adds result (spaced (codes "reserve" ∷ name.now ∷ reservation count ∷ [])) out.old.items out.new.items }
+fn push_reserve<W: Sink>(out: &mut W, name: &str, count: Option<u32>) -> Result<(), AllocError>
+    ensures { Adds result (spaced (codes "reserve" ∷ name.now ∷ reservation count ∷ []))
+        (W.text out.old) (W.text out.new) }
 {
     let words = [
         Word::Plain("reserve"),
@@ -166,8 +168,8 @@ fn push_reserve(out: &mut Vec<u8>, name: &str, count: Option<u32>) -> Result<(),
 
 /// Adds the words of a call, each behind a space.
 #[tactic(auto, unfolding(crate::specs::CallText::call_words))]
-fn push_call_words(out: &mut Vec<u8>, config: &Checked, call: &Call) -> Result<(), AllocError>
-    ensures { Adds result (spaced (call_words config.now call.now)) out.old.items out.new.items }
+fn push_call_words<W: Sink>(out: &mut W, config: &Checked, call: &Call) -> Result<(), AllocError>
+    ensures { Adds result (spaced (call_words config.now call.now)) (W.text out.old) (W.text out.new) }
 {
     match call {
         Call::Invoke {
@@ -224,13 +226,13 @@ fn mark(call: &Call) -> &'static str
 }
 
 /// Adds the line of a call that is taken at a moment, without its ending.
-pub(crate) fn push_call(
-    out: &mut Vec<u8>,
+pub(crate) fn push_call<W: Sink>(
+    out: &mut W,
     config: &Checked,
     moment: u64,
     call: &Call,
 ) -> Result<(), AllocError>
-    ensures { Adds result (call_text config.now moment call.now) out.old.items out.new.items }
+    ensures { Adds result (call_text config.now moment call.now) (W.text out.old) (W.text out.new) }
 {
     push_word(out, &Word::Plain(mark(call)))?;
     push_word(out, &Word::Number(moment))?;

@@ -13,5 +13,7 @@ ghost use Rattle.arn_ids.specs.Limits.{greatest_moment};
 /// The line of a call is read as that call, for every call that a script can make, over every
 /// configuration without a fault.
 pub fn lines_read_back()
-    ensures { (config : Config) (moment : ℕ) (call : Call) → first_fault config ≡ None → moment ≤ greatest_moment → IsWithin config call → All (λ b. b < 256) (body_of call) → call_in true config (call_text config moment call) ≡ Some (moment, call) }
+    ensures { (config : Config) (moment : ℕ) (call : Call) → first_fault config ≡ None
+        → moment ≤ greatest_moment → IsWithin config call → All (λ b. b < 256) (body_of call)
+        → call_in true config (call_text config moment call) ≡ Some (moment, call) }
 {}

@@ -4,11 +4,14 @@
 mod answer_writer;
 mod call_reader;
 mod call_writer;
+mod draft;
 mod fields;
 pub mod laws;
 mod past_words;
+mod sink;
 mod text_fields;
 mod words;
 
-pub use answer_writer::{push_answers, push_entry};
+pub use answer_writer::{draft_entry, push_answers};
 pub use call_reader::read_call;
+pub use draft::Draft;

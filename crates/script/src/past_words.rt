@@ -2,12 +2,14 @@
 
 ghost use Rattle.std.specs.Prelude.{◌≡◌, reverse};
 ghost use Rattle.arn_ids.specs.Identifiers.{id_word as written};
+ghost use Rattle.call_types.specs.Calls.{body_of};
 ghost use Rattle.script.specs.AnswerText as spec;
+ghost use Rattle.script.specs.TextFields.{text_field};
 ghost use Rattle.script.specs.Writing.{word_text};
 
 use crate::words::Word;
 use arn_ids::{IdKind, event_id, extension_id, request_id};
-use call_model::{Past, Ticket};
+use call_model::{Call, Past, Ticket};
 
 /// An identifier; a dash for a number or a count that no identifier has.
 #[tactic(auto, unfolding(arn_ids::specs::Identifiers::id_word))]
@@ -49,12 +51,27 @@ pub(crate) fn env_word(past: &Past, kind: IdKind, ticket: Ticket, count: u64) ->
     id_word(past.salt, kind, env, count)
 }
 
+/// The bytes of a call, none where it has none.
+fn call_word(call: &Call) -> Word<'_>
+    ensures { word_text result ≡ text_field (body_of call.now) }
+{
+    match call {
+        Call::Invoke { body, .. }
+        | Call::Response { body, .. }
+        | Call::Failure { body, .. }
+        | Call::InitFailure { body, .. }
+        | Call::ExtInitFailure { body, .. }
+        | Call::ExtExitFailure { body, .. } => Word::Body(body),
+        _ => Word::Text(&[]),
+    }
+}
+
 /// The bytes of the call with a ticket.
 pub(crate) fn body_word<'a>(past: &Past<'a>, ticket: Ticket) -> Word<'a>
     ensures { word_text result ≡ spec.body_word (reverse past.now.entries.now.0) ticket }
 {
     match past.call(ticket) {
         None => Word::Text(&[]),
-        Some(call) => Word::Text(call.body()),
+        Some(call) => call_word(call),
     }
 }

@@ -6,6 +6,8 @@ ghost use Rattle.uuid.specs.Text.{hyphenated_text, lower};
 ghost use Rattle.script.specs.TextFields.{escaped, text_field};
 ghost use Rattle.script.specs.Writing.{Adds, spaced, word_text};
 
+use crate::sink::Sink;
+use bytes::Bytes;
 use itoa::Buffer;
 use percent_encoding::{AsciiSet, CONTROLS, PercentEncode, ascii_set, percent_encode};
 use std::alloc::AllocError;
@@ -24,6 +26,8 @@ pub(crate) enum Word<'a> {
     Identifier(Uuid),
     /// Bytes, percent-encoded behind an equals sign.
     Text(&'a [u8]),
+    /// A payload, an output or a report, percent-encoded behind an equals sign.
+    Body(&'a Bytes),
 }
 
 #[tactic(auto, using(crate::proofs::WritingLemmas::in_front, crate::proofs::WritingLemmas::still_in_front, crate::proofs::WritingLemmas::as_before))]
@@ -37,62 +41,71 @@ fn push_pieces(out: &mut Vec<u8>, pieces: PercentEncode) -> Result<(), AllocErro
 }
 
 /// Adds bytes, percent-encoded, which are not copied before.
-fn push_escaped(out: &mut Vec<u8>, bytes: &[u8]) -> Result<(), AllocError>
+pub(crate) fn push_escaped(out: &mut Vec<u8>, bytes: &[u8]) -> Result<(), AllocError>
     ensures { Adds result (escaped bytes.now) out.old.items out.new.items }
 {
     push_pieces(out, percent_encode(bytes, ESCAPED))
 }
 
 #[tactic(auto, using(crate::proofs::WritingLemmas::in_front, crate::proofs::WritingLemmas::still_in_front, crate::proofs::WritingLemmas::as_before))]
-fn push_number(out: &mut Vec<u8>, number: u64) -> Result<(), AllocError>
-    ensures { Adds result (decimal number) out.old.items out.new.items }
+fn push_number<W: Sink>(out: &mut W, number: u64) -> Result<(), AllocError>
+    ensures { Adds result (decimal number) (W.text out.old) (W.text out.new) }
 {
     let mut buffer = Buffer::new();
-    out.extend_from_slice(buffer.format(number).as_bytes())
+    out.push_bytes(buffer.format(number).as_bytes())
 }
 
 #[tactic(auto, using(crate::proofs::WritingLemmas::in_front, crate::proofs::WritingLemmas::still_in_front, crate::proofs::WritingLemmas::as_before))]
-fn push_identifier(out: &mut Vec<u8>, id: Uuid) -> Result<(), AllocError>
-    ensures { Adds result (hyphenated_text lower id) out.old.items out.new.items }
+fn push_identifier<W: Sink>(out: &mut W, id: Uuid) -> Result<(), AllocError>
+    ensures { Adds result (hyphenated_text lower id) (W.text out.old) (W.text out.new) }
 {
     let mut buffer = Uuid::encode_buffer();
     let text = id.hyphenated().encode_lower(&mut buffer);
-    out.extend_from_slice(text.as_bytes())
+    out.push_bytes(text.as_bytes())
 }
 
 #[tactic(auto, using(crate::proofs::WritingLemmas::in_front, crate::proofs::WritingLemmas::still_in_front, crate::proofs::WritingLemmas::as_before))]
-fn push_text(out: &mut Vec<u8>, bytes: &[u8]) -> Result<(), AllocError>
-    ensures { Adds result (text_field bytes.now) out.old.items out.new.items }
+fn push_text<W: Sink>(out: &mut W, bytes: &[u8]) -> Result<(), AllocError>
+    ensures { Adds result (text_field bytes.now) (W.text out.old) (W.text out.new) }
 {
-    out.push(b'=')?;
-    push_escaped(out, bytes)
+    out.push_bytes(b"=")?;
+    out.push_escaped(bytes)
+}
+
+#[tactic(auto, using(crate::proofs::WritingLemmas::in_front, crate::proofs::WritingLemmas::still_in_front, crate::proofs::WritingLemmas::as_before))]
+fn push_body<W: Sink>(out: &mut W, body: &Bytes) -> Result<(), AllocError>
+    ensures { Adds result (text_field body.now) (W.text out.old) (W.text out.new) }
+{
+    out.push_bytes(b"=")?;
+    out.push_body(body)
 }
 
 /// Adds a word.
 #[tactic(auto, using(crate::proofs::WritingLemmas::in_front, crate::proofs::WritingLemmas::still_in_front, crate::proofs::WritingLemmas::as_before))]
-pub(crate) fn push_word(out: &mut Vec<u8>, word: &Word) -> Result<(), AllocError>
-    ensures { Adds result (word_text word.now) out.old.items out.new.items }
+pub(crate) fn push_word<W: Sink>(out: &mut W, word: &Word) -> Result<(), AllocError>
+    ensures { Adds result (word_text word.now) (W.text out.old) (W.text out.new) }
 {
     match word {
-        Word::Plain(text) => out.extend_from_slice(text.as_bytes()),
+        Word::Plain(text) => out.push_bytes(text.as_bytes()),
         Word::Number(number) => push_number(out, *number),
         Word::Identifier(id) => push_identifier(out, *id),
         Word::Text(bytes) => push_text(out, bytes),
+        Word::Body(body) => push_body(out, body),
     }
 }
 
 /// Adds a word behind a space.
 #[tactic(auto, using(crate::proofs::WritingLemmas::in_front, crate::proofs::WritingLemmas::still_in_front, crate::proofs::WritingLemmas::as_before))]
-pub(crate) fn push_spaced(out: &mut Vec<u8>, word: &Word) -> Result<(), AllocError>
-    ensures { Adds result (32 ∷ word_text word.now) out.old.items out.new.items }
+pub(crate) fn push_spaced<W: Sink>(out: &mut W, word: &Word) -> Result<(), AllocError>
+    ensures { Adds result (32 ∷ word_text word.now) (W.text out.old) (W.text out.new) }
 {
-    out.push(b' ')?;
+    out.push_bytes(b" ")?;
     push_word(out, word)
 }
 
 /// Adds words, each behind a space.
-pub(crate) fn push_words(out: &mut Vec<u8>, words: &[Word]) -> Result<(), AllocError>
-    ensures { Adds result (spaced (map word_text words.now)) out.old.items out.new.items }
+pub(crate) fn push_words<W: Sink>(out: &mut W, words: &[Word]) -> Result<(), AllocError>
+    ensures { Adds result (spaced (map word_text words.now)) (W.text out.old) (W.text out.new) }
 {
     for word in words {
         push_spaced(out, word)?;
@@ -101,22 +114,22 @@ pub(crate) fn push_words(out: &mut Vec<u8>, words: &[Word]) -> Result<(), AllocE
 }
 
 /// Adds one word, behind a space.
-pub(crate) fn push_name(out: &mut Vec<u8>, name: &str) -> Result<(), AllocError>
-    ensures { Adds result (spaced (name.now ∷ [])) out.old.items out.new.items }
+pub(crate) fn push_name<W: Sink>(out: &mut W, name: &str) -> Result<(), AllocError>
+    ensures { Adds result (spaced (name.now ∷ [])) (W.text out.old) (W.text out.new) }
 {
     push_words(out, &[Word::Plain(name)])
 }
 
 /// Adds the one word that a line ends with, behind a space.
-pub(crate) fn push_last(out: &mut Vec<u8>, word: &Word) -> Result<(), AllocError>
-    ensures { Adds result (spaced (word_text word.now ∷ [])) out.old.items out.new.items }
+pub(crate) fn push_last<W: Sink>(out: &mut W, word: &Word) -> Result<(), AllocError>
+    ensures { Adds result (spaced (word_text word.now ∷ [])) (W.text out.old) (W.text out.new) }
 {
     push_spaced(out, word)
 }
 
 /// Adds a word and what it is about, each behind a space.
-pub(crate) fn push_named(out: &mut Vec<u8>, name: &str, word: &Word) -> Result<(), AllocError>
-    ensures { Adds result (spaced (name.now ∷ word_text word.now ∷ [])) out.old.items out.new.items }
+pub(crate) fn push_named<W: Sink>(out: &mut W, name: &str, word: &Word) -> Result<(), AllocError>
+    ensures { Adds result (spaced (name.now ∷ word_text word.now ∷ [])) (W.text out.old) (W.text out.new) }
 {
     push_spaced(out, &Word::Plain(name))?;
     push_spaced(out, word)
@@ -124,9 +137,8 @@ pub(crate) fn push_named(out: &mut Vec<u8>, name: &str, word: &Word) -> Result<(
 
 /// Ends a line.
 #[tactic(auto, using(crate::proofs::WritingLemmas::in_front, crate::proofs::WritingLemmas::still_in_front, crate::proofs::WritingLemmas::as_before))]
-pub(crate) fn end_line(out: &mut Vec<u8>) -> Result<(), AllocError>
-    ensures { Adds result (10 ∷ []) out.old.items out.new.items }
+pub(crate) fn end_line<W: Sink>(out: &mut W) -> Result<(), AllocError>
+    ensures { Adds result (10 ∷ []) (W.text out.old) (W.text out.new) }
 {
-    out.push(b'\n')?;
-    Ok(())
+    out.push_bytes(b"\n")
 }

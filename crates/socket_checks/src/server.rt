@@ -144,7 +144,7 @@ fn settled_by<S: Identity>(
 ) -> Result<Stats, SettleFault> {
     match account.settle(tallies) {
         Ok(settled) => Ok(settled.stats),
-        Err(fault) => Err(fault),
+        Err(unsettled) => Err(unsettled.fault),
     }
 }
 

@@ -80,13 +80,8 @@ fn replace_second<K: Keep, L: Ledgers>(
 }
 
 /// The counts of what is settled.
-fn counted<K: Keep, L: Ledgers>(
-    settled: Result<Settled<K, L>, SettleFault>,
-) -> Result<(Stats, u64), SettleFault> {
-    match settled {
-        Ok(settled) => Ok((settled.stats, settled.book.len())),
-        Err(fault) => Err(fault),
-    }
+fn counts_of<K: Keep, L: Ledgers>(settled: &Settled<K, L>) -> (Stats, u64) {
+    (settled.stats, settled.book.len())
 }
 
 /// The parts of a tally, where there is one.
@@ -97,16 +92,26 @@ fn parts_in<K: Keep, L: Ledgers>(tally: &Option<Tally<K, L>>) -> Option<u64> {
     }
 }
 
-/// Settles an account, or its desk; the counts.
+/// Settles an account; the counts.
 fn settle_account<S: Identity, K: Keep>(
     account: Account<S, Numbered>,
-    way: Way,
     tallies: Vec<Tally<K, S>>,
 ) -> Result<(Stats, u64), SettleFault> {
-    counted(match way {
-        Way::Account => account.settle(tallies),
-        Way::Desk => account.into_desk().settle(tallies),
-    })
+    match account.settle(tallies) {
+        Ok(settled) => Ok(counts_of(&settled)),
+        Err(unsettled) => Err(unsettled.fault),
+    }
+}
+
+/// Settles its desk; the counts.
+fn settle_desk<S: Identity, K: Keep>(
+    account: Account<S, Numbered>,
+    tallies: Vec<Tally<K, S>>,
+) -> Result<(Stats, u64), SettleFault> {
+    match account.into_desk().settle(tallies) {
+        Ok(settled) => Ok(counts_of(&settled)),
+        Err(fault) => Err(fault),
+    }
 }
 
 impl<R: Wait + Drop, S: Identity + Drop, K: Keep> Seats<R, S, K> {
@@ -178,8 +183,12 @@ impl<R: Wait + Drop, S: Identity + Drop, K: Keep> Stand for Seats<R, S, K> {
             way,
             ..
         } = self;
+        let settled = match way {
+            Way::Account => settle_account(place.account, tallies),
+            Way::Desk => settle_desk(place.account, tallies),
+        };
         Ending {
-            settled: settle_account(place.account, way, tallies),
+            settled,
             held_back: parts_in(&held_back),
         }
     }

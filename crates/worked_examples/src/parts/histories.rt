@@ -10,7 +10,7 @@ use crate::parts::written_answers::answer_of;
 use arn_ids::Checked;
 use call_model::{Answer, Answers, Entry, Ticket};
 use case_tables::{Case, CaseFault, Given};
-use script::{push_answers, push_entry};
+use script::{draft_entry, push_answers};
 use std::alloc::Global;
 use std::mem;
 
@@ -35,15 +35,15 @@ fn say_entry(
     if entries.len() as u64 <= number {
         return Err(LineFault::Malformed);
     }
-    let mut written = Vec::new(given.alloc());
-    push_entry(
-        &mut written,
+    let draft = draft_entry(
+        given.alloc(),
         config,
         salt,
         entries,
         past.counts(),
         number as usize,
     )?;
+    let written = draft.finish()?;
     given.push_bytes(written.as_slice());
     Ok(())
 }

@@ -12,7 +12,7 @@ use entry_blocks::Blocks;
 use http::request::Parts;
 use http_routes::{Decision, Shown};
 use lambda_wire::{PayloadScratch, Reply};
-use script::push_entry;
+use script::draft_entry;
 use std::alloc::{AllocError, Global};
 
 /// How many bytes of a body a line shows.
@@ -49,13 +49,8 @@ fn row_of<T: Drop>(alloc: Global, item: T) -> Result<Blocks<T>, AllocError>
     Ok(row)
 }
 
-/// Writes the line of a script that a call is read from.
-fn write_line(
-    line: &mut Vec<u8>,
-    alloc: Global,
-    config: &Checked,
-    call: Call,
-) -> Result<(), AllocError> {
+/// The line of a script that a call is read from.
+fn line_of(alloc: Global, config: &Checked, call: Call) -> Result<Vec<u8>, AllocError> {
     let entry = Entry {
         moment: 0,
         call,
@@ -65,7 +60,7 @@ fn write_line(
     let count = count_of(&entry);
     let entries = row_of(alloc, entry)?;
     let counts = row_of(alloc, count)?;
-    push_entry(line, config, 0, &entries, &counts, 0)
+    draft_entry(alloc, config, 0, &entries, &counts, 0)?.finish()
 }
 
 /// Adds a script's line. Where it ends with the request's body, and that is long, it is told how
@@ -86,9 +81,8 @@ fn push_line(line: &[u8], body: &[u8], given: &mut Given) {
 /// Adds the line of a call.
 fn push_call(config: &Checked, call: Call, body: &[u8], given: &mut Given) {
     given.push("submit ");
-    let mut line = Vec::new(given.alloc());
-    match write_line(&mut line, given.alloc(), config, call) {
-        Ok(()) => push_line(line.as_slice(), body, given),
+    match line_of(given.alloc(), config, call) {
+        Ok(line) => push_line(line.as_slice(), body, given),
         Err(_) => given.cut(),
     }
 }

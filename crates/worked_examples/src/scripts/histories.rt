@@ -26,7 +26,7 @@ fn take_lines(
 /// Adds the text of the entry with a ticket.
 fn push_entry(text: &mut Vec<u8>, book: &Book, ticket: Ticket) -> Result<(), AllocError> {
     match book.history(ticket) {
-        Ok(Some(entry)) => text.extend_from_slice(entry.as_slice()),
+        Ok(Some(draft)) => text.extend_from_slice(draft.finish()?.as_slice()),
         Ok(None) => Ok(()),
         Err(fault) => Err(fault),
     }

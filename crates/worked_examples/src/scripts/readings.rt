@@ -8,7 +8,7 @@ use arn_ids::FnNo;
 use call_model::{Answer, Ticket};
 use case_tables::Given;
 use lambda_wire::Reply;
-use std::alloc::AllocError;
+use script::Draft;
 
 /// Adds a number and what stands behind it; where there is none, `-`.
 fn push_number(given: &mut Given, number: Option<u64>, behind: &str) {
@@ -19,10 +19,18 @@ fn push_number(given: &mut Given, number: Option<u64>, behind: &str) {
     given.push(behind);
 }
 
-/// Adds bytes as lines, if there was memory for them; where there are none, `-`.
-fn push_text(given: &mut Given, text: Result<Option<Vec<u8>>, AllocError>) {
-    match text {
-        Ok(Some(bytes)) => push_bytes(given, bytes.as_slice()),
+/// Adds the text of an entry as lines, if there was memory for it.
+fn push_draft(given: &mut Given, draft: Draft) {
+    match draft.finish() {
+        Ok(text) => push_bytes(given, text.as_slice()),
+        Err(_) => given.cut(),
+    }
+}
+
+/// Adds the history text of the entry with a ticket; where there is none, `-`.
+fn push_history(book: &Book, ticket: Ticket, given: &mut Given) {
+    match book.history(ticket) {
+        Ok(Some(draft)) => push_draft(given, draft),
         Ok(None) => given.push("-\n"),
         Err(_) => given.cut(),
     }
@@ -120,7 +128,7 @@ pub fn push_reading(book: &Book, question: Question, given: &mut Given) {
     match question {
         Question::Entries => push_entries(book, given),
         Question::Opening => push_opening(book, given),
-        Question::History(ticket) => push_text(given, book.history(ticket)),
+        Question::History(ticket) => push_history(book, ticket, given),
         Question::Render(ticket) => push_rendered(book, ticket, given),
         Question::Stats => tell(given, &book.stats()),
         Question::Due(moment) => tell(given, &book.due(moment)),

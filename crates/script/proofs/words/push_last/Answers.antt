@@ -1,5 +1,5 @@
-use Rattle.std.proofs.lemmas.List.{append-nil}
+use Rattle.script.proofs.WritingLemmas.{adds_one}
 use Rattle.script.proofs.words.push_last.Goals as goal
 
 pub returns : goal.returns
-returns c = rw append-nil c.push_spaced.ensures
+returns g c = adds_one c.push_spaced.result _ _ _ c.push_spaced.ensures
