@@ -1,6 +1,6 @@
 //! A connection, and the signals that end it.
 
-ghost use Rattle.std.specs.Prelude.{◌≡◌, IfOk, IsFalse};
+ghost use Rattle.std.specs.Prelude.{◌≡◌, IfOk, IfSome, IsFalse, IsTrue, Some};
 ghost use Rattle.futures.specs.Task.{Keeps};
 
 use crate::park::Park;
@@ -24,7 +24,7 @@ pub struct Signals {
     pub room: Receiver<()>,
 }
 
-/// A connection until it ends of itself or by a signal.
+/// A connection until it ends of itself, which gives what it came to, or at once by a signal.
 #[derive(Drop)]
 pub(crate) struct Ending<C> {
     conn: C,
@@ -68,14 +68,16 @@ impl<C> Ending<C> {
 }
 
 impl<C: GracefulConnection<Output = hyper::Result<()>>> Future for Ending<C> {
-    type Output = ();
+    type Output = Option<hyper::Result<()>>;
 
     ghost can_poll = { λ e. C.can_poll e.conn };
 
-    fn poll(&mut self, cx: &mut Context<'_>) -> Poll<()> {
+    ghost gives = { λ e outcome. IfSome outcome (C.gives e.conn) };
+
+    fn poll(&mut self, cx: &mut Context<'_>) -> Poll<Option<hyper::Result<()>>> {
         if self.hard.poll(cx).is_ready() {
             self.soft = None;
-            return Poll::Ready(());
+            return Poll::Ready(None);
         }
         if let Some(soft) = &mut self.soft
             && soft.poll(cx).is_ready()
@@ -84,7 +86,7 @@ impl<C: GracefulConnection<Output = hyper::Result<()>>> Future for Ending<C> {
             self.conn.graceful_shutdown();
         }
         match self.conn.poll(cx) {
-            Poll::Ready(_) => Poll::Ready(()),
+            Poll::Ready(outcome) => Poll::Ready(Some(outcome)),
             Poll::Pending => Poll::Pending,
         }
     }
@@ -92,7 +94,8 @@ impl<C: GracefulConnection<Output = hyper::Result<()>>> Future for Ending<C> {
 
 /// A connection that ends too where its peer does while a request is parked, though bytes lie behind
 /// that request; and that, once it has ended of itself, lets its peer read the answer before the
-/// socket is closed. It ends if its place is wanted while it serves no request. It tells how it stands.
+/// socket is closed. It ends if its place is wanted while it serves no request. It tells how it stands,
+/// and gives what it came to, if it ended of itself.
 #[derive(Drop)]
 pub(crate) struct Watched<C, O> {
     ending: Box<Ending<C>>,
@@ -102,6 +105,8 @@ pub(crate) struct Watched<C, O> {
     open: O,
     pulse: Arc<Pulse>,
     has_ended: bool,
+    // What it came to, once it has ended of itself, until that is handed on.
+    outcome: Option<hyper::Result<()>>,
 }
 
 impl<C, O> Watched<C, O> {
@@ -124,6 +129,7 @@ impl<C, O> Watched<C, O> {
             open,
             pulse,
             has_ended: false,
+            outcome: None,
         }
     }
 
@@ -145,32 +151,43 @@ impl<C, O> Watched<C, O> {
 }
 
 impl<C: GracefulConnection<Output = hyper::Result<()>>, O: Park> Future for Watched<C, O> {
-    ghost use Rattle.std.specs.Prelude.{IsFalse};
+    ghost use Rattle.std.specs.Prelude.{◌≡◌, IfSome, IsFalse, IsTrue, Some};
 
-    type Output = ();
+    type Output = Option<hyper::Result<()>>;
 
     ghost can_poll = { λ w. IsFalse w.has_ended → C.can_poll w.ending.value.conn };
 
-    fn poll(&mut self, cx: &mut Context<'_>) -> Poll<()> {
+    ghost gives = { λ w given. (IsFalse w.has_ended → IfSome given (C.gives w.ending.value.conn))
+        × (IsTrue w.has_ended → IfSome given (λ outcome. w.outcome ≡ Some outcome)) };
+
+    fn poll(&mut self, cx: &mut Context<'_>) -> Poll<Option<hyper::Result<()>>> {
         if !self.has_ended {
             if self.makes_room(cx) {
-                return Poll::Ready(());
+                return Poll::Ready(None);
             }
             self.peer.begin_turn();
-            if self.ending.poll(cx).is_pending() {
-                self.peer.end_turn(&self.pulse);
-                if self.open.is_parked() {
-                    return self.peer.poll_ended(cx);
+            match self.ending.poll(cx) {
+                Poll::Pending => {
+                    self.peer.end_turn(&self.pulse);
+                    if self.open.is_parked() && self.peer.poll_ended(cx).is_ready() {
+                        return Poll::Ready(None);
+                    }
+                    return Poll::Pending;
                 }
-                return Poll::Pending;
+                Poll::Ready(outcome) => {
+                    self.outcome = outcome;
+                    self.has_ended = true;
+                }
             }
-            self.has_ended = true;
         }
         if self.ending.is_told(cx) {
-            return Poll::Ready(());
+            return Poll::Ready(self.outcome.take());
         }
         let drained = self.peer.poll_drained(cx);
         self.peer.await_end(&self.pulse);
-        drained
+        match drained {
+            Poll::Ready(()) => Poll::Ready(self.outcome.take()),
+            Poll::Pending => Poll::Pending,
+        }
     }
 }

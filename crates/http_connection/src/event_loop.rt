@@ -1,6 +1,8 @@
 //! What serves connections on one thread, one after the other.
 
+ghost use Rattle.std.specs.Prelude.{IfOk, IfSome};
 ghost use Rattle.hyper.specs.ServerDispatch.{GivesBodies};
+ghost use Rattle.http_connection.specs.Written.{Gave, Written};
 
 use crate::ending::{Ending, Signals, Watched};
 use crate::limits::PortKind;
@@ -58,7 +60,9 @@ impl EventLoop {
     }
 
     /// Serves the requests of a connection at such a port, one after the other, until the connection
-    /// ends, a signal ends it, or its peer ends while a request is parked. It blocks its thread.
+    /// ends, a signal ends it, or its peer ends while a request is parked. It blocks its thread. Gives
+    /// what the connection came to, if it ended of itself: what was written to it is then what the
+    /// service gave. If it was cut off, nothing is said of what was written.
     ///
     /// # Errors
     /// Where the socket can't be watched, or memory is refused; nothing was read of it then. Or where
@@ -72,7 +76,7 @@ impl EventLoop {
         signals: Signals,
         open: O,
         pulse: Arc<Pulse>,
-    ) -> io::Result<()>
+    ) -> io::Result<Option<hyper::Result<()>>>
     where
         R: Wait + Clock + RandomSource + AllocGlobal + Copy + Drop,
         V: Service<Request<Incoming<Wire>>, Response = Response<B>>,
@@ -83,6 +87,8 @@ impl EventLoop {
         O: Park,
         requires can_call { V.can_call service }
         requires bodies { (request : _) (future : _) → V.calls service request future → GivesBodies V.Future.gives B.can_poll future }
+        ensures written { IfOk result (λ ended. IfSome ended
+            (Written B.yields B.Data.converts (Gave V.calls V.Future.gives service))) }
     {
         let Ends {
             wire,
@@ -127,8 +133,9 @@ impl EventLoop {
         })
     }
 
-    /// Waits until a connection has ended. Its type is a parameter here: `hyper`'s own, once more in the
-    /// future that is waited for, is large to prove anything about.
+    /// Waits until a connection has ended, and gives what it came to, if it ended of itself. Its type is a
+    /// parameter here: `hyper`'s own, once more in the future that is waited for, is large to prove
+    /// anything about.
     fn wait_for<R, C, O>(
         &mut self,
         rt: &R,
@@ -137,12 +144,13 @@ impl EventLoop {
         peer: Wire,
         open: O,
         pulse: Arc<Pulse>,
-    ) -> io::Result<()>
+    ) -> io::Result<Option<hyper::Result<()>>>
     where
         R: Wait + Clock + RandomSource + AllocGlobal,
         C: GracefulConnection<Output = hyper::Result<()>>,
         O: Park,
         requires { C.can_poll ending.value.conn }
+        ensures { IfOk result (λ ended. IfSome ended (C.gives ending.value.conn)) }
     {
         self.runtime
             .block_on(rt, Watched::new(ending, room, peer, open, pulse))

@@ -1,1 +1,4 @@
 pub mod PortLemmas
+pub mod Answering
+pub mod Fronts
+pub mod AtDoors

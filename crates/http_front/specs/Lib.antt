@@ -3,3 +3,5 @@ pub mod Courses
 pub mod Hosts
 pub mod Ports
 pub mod Notices
+pub mod Exchanged
+pub mod Answered

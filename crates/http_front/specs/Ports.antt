@@ -1,5 +1,5 @@
 -- The ports of a configuration.
-use Rattle.std.specs.Prelude.{ℕ, zero, suc, ◌+◌, ◌*◌, ◌-◌, ◌^◌, min, max, List, [], ◌∷◌, ◌++◌, length, flat_map, map}
+use Rattle.std.specs.Prelude.{ℕ, zero, suc, ◌+◌, ◌*◌, ◌-◌, ◌^◌, min, max, List, [], ◌∷◌, ◌++◌, length, get_or, flat_map, map}
 use Rattle.arn_ids.specs.Environments.{owners}
 use Rattle.arn_ids.specs.declared.config.Config.{Config}
 use Rattle.arn_ids.specs.declared.config.Slot.{Slot}
@@ -28,6 +28,11 @@ ports_of slots = map (λ slot. slot.port) slots
 -- the loopback ports of all environments, in the order of their numbers
 abbrev pub environment_ports : Config → List ℕ
 environment_ports config = flat_map (λ function. ports_of function.slots) config.functions
+
+-- the number of a port: the account's, or that of its environment
+abbrev pub number_of : Config → Port → ℕ
+number_of config Account = config.invoke_port
+number_of config (Environment e) = get_or (environment_ports config) (e - 1) 0
 
 -- who decides at the doors of the first n environments, in the order of their numbers
 abbrev pub environment_doors : Config → ℕ → ℕ → List Served

@@ -1,7 +1,12 @@
 //! The thread of a place, which serves one connection after the other.
 
-ghost use Rattle.std.specs.Prelude.{◌≡◌};
+ghost use Rattle.std.specs.Prelude.{◌≡◌, IfOk, IfSome};
 ghost use Rattle.std.specs.Arc.{arc_value};
+ghost use Rattle.http_connection.specs.Written.{Written};
+ghost use Rattle.http_front.specs.Answered.{IsAnswerAt};
+ghost use Rattle.http_front.specs.Exchanged.{IsAnswer};
+ghost use Rattle.http_front.specs.Ports.{api_of};
+ghost use Rattle.long_poll.specs.Outcomes.{ShowsFrom};
 
 use crate::Side;
 use crate::door::Door;
@@ -9,12 +14,16 @@ use crate::front::Front;
 use crate::served::Served;
 use crate::sides::Sides;
 use crate::ticker::moment;
-use account_lock::{Account, Identity};
+use account_lock::{Account, Identity, laws};
+use bytes::Bytes;
 use call_model::Call;
 use connection_places::{Post, Worker};
 use decisions::Decide;
-use http_connection::{EventLoop, Machine, Park, PortKind, Pulse, Signals};
-use long_poll::{Clock, Connection, OneShotBell, OpenPoll, Service};
+use http_body::Body;
+use http_body_util::{Either, Full};
+use http_connection::{EventLoop, Machine, Park, PortKind, Pulse, Signals, Wire};
+use hyper::body::Incoming;
+use long_poll::{Clock, Connection, HistoryBody, OneShotBell, OpenPoll, Service};
 use std::alloc::{AllocError, AllocGlobal};
 use std::net::TcpStream;
 use std::sync::{Arc, Mutex, Wait};
@@ -81,8 +90,10 @@ pub(crate) struct Attendant<R, S: Identity, N, K: Keep> {
     pub(crate) patience: u32,
 }
 
-/// Serves a connection at such a port by a front. Its service and who decides are parameters here: their own types, once
-/// more in each of those that `hyper` makes of a connection, are large to prove anything about.
+/// Serves a connection at such a port by a front. Gives what it came to, if it ended of itself: each response
+/// that was written is then one that the front answers its request with. Its service and who decides are
+/// parameters here: their own types, once more in each of those that `hyper` makes of a connection, are
+/// large to prove anything about.
 fn serve_by<
     R: Machine,
     A: Service<K, L>,
@@ -98,7 +109,11 @@ fn serve_by<
     kind: PortKind,
     front: Front<R, A, D, N, K, L>,
     open: O,
-) -> io::Result<()> {
+) -> io::Result<Option<hyper::Result<()>>>
+    ensures { IfOk result (λ ended. IfSome ended
+        (Written ⟦<Either<Full<Bytes>, HistoryBody<R, A, K, L>> as Body>⟧.yields ⟦<Bytes as Into<Bytes>>⟧.converts
+        (IsAnswer N.Clock ⟦<Incoming<Wire> as Body>⟧.yields ⟦<Bytes as Into<Bytes>>⟧.converts front))) }
+{
     event_loop.serve(rt, line.socket, kind, front, line.signals, open, line.pulse)
 }
 
@@ -143,7 +158,7 @@ impl<R: Machine, S: Identity + Drop, N: Clock + Drop, K: Keep> Attendant<R, S, N
     fn attend_in_turn(&self, tools: &mut Tools<S>, first: Visit<S>) -> bool {
         let mut visit = first;
         for _ in self.rt.forever() {
-            if !self.attend(tools, visit) {
+            if self.attend(tools, visit).is_err() {
                 return false;
             }
             match self.post.next(&self.rt) {
@@ -154,29 +169,47 @@ impl<R: Machine, S: Identity + Drop, N: Clock + Drop, K: Keep> Attendant<R, S, N
         unreachable!()
     }
 
-    /// Serves a connection, and then withdraws its open Next (Runtime API, Next invocation). Gives
-    /// whether the event loop can serve another one.
-    fn attend(&self, tools: &mut Tools<S>, visit: Visit<S>) -> bool {
-        let Ok(open) = Arc::new(self.rt.alloc(), OpenPoll::new()) else {
-            return false;
-        };
-        let is_served = self.serve(tools, visit, &open);
+    /// Serves a connection, and then withdraws its open Next (Runtime API, Next invocation). Gives what it
+    /// came to, if it ended of itself: each response that was written to it then answers its request at the
+    /// connection's own door.
+    ///
+    /// # Errors
+    /// Where the event loop can't serve another one.
+    fn attend(&self, tools: &mut Tools<S>, visit: Visit<S>) -> io::Result<Option<hyper::Result<()>>>
+        ensures { IfOk result (λ ended. IfSome ended
+            (Written ⟦<Either<Full<Bytes>, HistoryBody<R, Account<S, OneShotBell>, K, S>> as Body>⟧.yields
+            ⟦<Bytes as Into<Bytes>>⟧.converts (IsAnswerAt (ShowsFrom (arc_value self.now.served.account)) visit.door
+            ⟦<Incoming<Wire> as Body>⟧.yields ⟦<Bytes as Into<Bytes>>⟧.converts (arc_value self.now.served.hosts)))) }
+    {
+        let open = Arc::new(self.rt.alloc(), OpenPoll::new()).map_err(AllocError::from)?;
+        let ended = self.serve(tools, visit, &open);
         self.withdraw(&open);
-        is_served
+        ended
     }
 
-    /// Serves a connection. Gives whether the event loop can serve another one.
-    fn serve(&self, tools: &mut Tools<S>, visit: Visit<S>, open: &Arc<OpenPoll>) -> bool {
+    /// Serves a connection. Gives what it came to, if it ended of itself.
+    ///
+    /// # Errors
+    /// Where the event loop can't serve another one.
+    fn serve(
+        &self,
+        tools: &mut Tools<S>,
+        visit: Visit<S>,
+        open: &Arc<OpenPoll>,
+    ) -> io::Result<Option<hyper::Result<()>>>
+        ensures { IfOk result (λ ended. IfSome ended
+            (Written ⟦<Either<Full<Bytes>, HistoryBody<R, Account<S, OneShotBell>, K, S>> as Body>⟧.yields
+            ⟦<Bytes as Into<Bytes>>⟧.converts (IsAnswerAt (ShowsFrom (arc_value self.now.served.account)) visit.door
+            ⟦<Incoming<Wire> as Body>⟧.yields ⟦<Bytes as Into<Bytes>>⟧.converts (arc_value self.now.served.hosts)))) }
+    {
         let Visit { line, door } = visit;
         let kind = door.kind();
-        let front = self.front(&mut tools.sides, door, open);
-        match (front, Arc::try_clone(open)) {
-            (Ok(front), Ok(open)) => {
-                let parked = OpenNext { open };
-                serve_by(&mut tools.event_loop, &self.rt, line, kind, front, parked).is_ok()
-            }
-            _ => false,
-        }
+        let front = self.front(&mut tools.sides, door, open)?;
+        let parked = OpenNext {
+            open: Arc::try_clone(open)?,
+        };
+        laws::stands_where_it_was_taken();
+        serve_by(&mut tools.event_loop, &self.rt, line, kind, front, parked)
     }
 }
 
@@ -186,13 +219,20 @@ impl<
     N: Clock + Drop,
     K: Keep,
 > Attendant<R, S, N, K> {
-    /// What answers the requests of a connection at a port.
+    /// What answers the requests of a connection at a port: of the same account, by who decides at its door.
     fn front(
         &self,
         sides: &mut Sides<S>,
         door: Door<S>,
         open: &Arc<OpenPoll>,
-    ) -> Result<Front<R, Account<S, OneShotBell>, Side, N, K, S>, AllocError> {
+    ) -> Result<Front<R, Account<S, OneShotBell>, Side, N, K, S>, AllocError>
+        ensures guarded { IfOk result (λ front. (front.api ≡ api_of door.port)
+            × (arc_value front.hosts ≡ arc_value self.now.served.hosts)) }
+        ensures account { IfOk result (λ front.
+            arc_value (arc_value front.connection).service ≡ arc_value self.now.served.account) }
+        ensures decided { IfOk result (λ front. arc_value (arc_value front.connection).decider ≡ door) }
+        ensures named { IfOk result (λ front. (door.config ≡ S.config) × (door.salt ≡ S.salt)) }
+    {
         let alloc = self.rt.alloc();
         let api = door.api();
         let hosts = Arc::try_clone(&self.served.hosts)?;
@@ -212,6 +252,9 @@ impl<
         open: &Arc<OpenPoll>,
     ) -> Result<Arc<Connection<R, Account<S, OneShotBell>, Side, N, K, S>>, AllocError>
         requires { (arc_value decider).config ≡ S.config }
+        ensures account { IfOk result (λ connection.
+            arc_value (arc_value connection).service ≡ arc_value self.now.served.account) }
+        ensures decider { IfOk result (λ connection. (arc_value connection).decider ≡ decider) }
     {
         let Served { account, clock, .. } = self.served.share()?;
         let tally = Arc::try_clone(&self.post.tally)?;

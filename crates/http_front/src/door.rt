@@ -15,8 +15,8 @@ use std::alloc::{AllocError, Global};
 use std::marker::{Model, PhantomData};
 use std::sync::Arc;
 
-/// Whose port it is, in the configuration that the account's type names, and the salt of the
-/// identifiers. (A `Side` has routes, which don't cross threads; so each thread opens its own.)
+/// Whose port it is, in the configuration and with the salt of the identifiers that the account's type
+/// names. (A `Side` has routes, which don't cross threads; so each thread opens its own.)
 #[derive(Drop)]
 pub(crate) struct Door<S: Identity> {
     port: Port,
@@ -34,13 +34,14 @@ impl<S: Identity> Model for Door<S> {
 
     ghost view = { λ d. record { config = arc_value d.config; salt = d.salt; port = d.port } };
 
-    ghost invariant = { λ d. (arc_value d.config ≡ S.config) × IsPortOf (arc_value d.config) d.port };
+    ghost invariant = { λ d. (arc_value d.config ≡ S.config) × (d.salt ≡ S.salt) × IsPortOf (arc_value d.config) d.port };
 }
 
 impl<S: Identity> Door<S> {
-    /// A port of this configuration.
+    /// A port of this configuration, with this salt.
     pub(crate) fn new(port: Port, config: Arc<Checked>, salt: u64) -> Door<S>
         requires configured { arc_value config ≡ S.config }
+        requires salted { salt ≡ S.salt }
         requires port { IsPortOf (arc_value config) port }
         ensures { result ≡ record { config = arc_value config; salt = salt; port = port } }
     {

@@ -5,7 +5,7 @@ ghost use Rattle.std.specs.Arc.{arc_value};
 ghost use Rattle.http_routes.specs.Decisions.{IsPortOf};
 ghost use Rattle.http_routes.specs.declared.side.Port.TheVariants.{Account};
 ghost use Rattle.http_front.specs.Hosts.{IsOfMachine};
-ghost use Rattle.http_front.specs.Ports.{ports_of, environment_ports, doors_of};
+ghost use Rattle.http_front.specs.Ports.{ports_of, environment_ports, number_of, doors_of};
 
 use crate::door::Door;
 use crate::host_fault::at_socket;
@@ -62,7 +62,7 @@ fn ports_in_order(alloc: Global, config: &Checked) -> Result<Vec<u16>, AllocErro
 }
 
 impl<S: Identity> Entrance<S> {
-    /// Listens at a port, for those whose requests the port decides.
+    /// Listens at the number that a port has in the configuration, for those whose requests the port decides.
     fn listen(
         &mut self,
         net: &impl Net,
@@ -72,12 +72,13 @@ impl<S: Identity> Entrance<S> {
         port: Port,
     ) -> Result<(), HostFault>
         requires configured { arc_value config.now ≡ S.config }
+        requires salted { salt ≡ S.salt }
         requires port { IsPortOf S.config port }
+        requires number { number ≡ number_of (arc_value config.now) port }
         ensures doors { OnOk result (map (λ gate. gate.door) self.new.gates.items ≡ map (λ gate. gate.door) self.old.gates.items ++ (record { config = arc_value config.now; salt = salt; port = port } ∷ [])) }
         ensures fault { IfErr result IsOfMachine }
     {
-        let address = SocketAddr::new(IpAddr::V4(Ipv4Addr::new(127, 0, 0, 1)), number);
-        let listener = self.bind(net, address)?;
+        let listener = self.bind(net, number)?;
         let door = Door::new(port, Arc::try_clone(config)?, salt);
         let gate = Gate {
             listener,
@@ -90,10 +91,11 @@ impl<S: Identity> Entrance<S> {
         }
     }
 
-    /// Listens at an address, for the gate that is made next.
-    fn bind(&self, net: &impl Net, address: SocketAddr) -> Result<TcpListener, HostFault>
+    /// Listens at a number on 127.0.0.1, for the gate that is made next.
+    fn bind(&self, net: &impl Net, number: u16) -> Result<TcpListener, HostFault>
         ensures { IfErr result IsOfMachine }
     {
+        let address = SocketAddr::new(IpAddr::V4(Ipv4Addr::new(127, 0, 0, 1)), number);
         let mut listener = TcpListener::bind(net, address).map_err(at_socket)?;
         self.poll
             .registry()
@@ -113,7 +115,8 @@ impl<S: Identity> Entrance<S> {
         config: &Arc<Checked>,
         salt: u64,
     ) -> Result<Entrance<S>, HostFault>
-        requires { arc_value config.now ≡ S.config }
+        requires configured { arc_value config.now ≡ S.config }
+        requires salted { salt ≡ S.salt }
         ensures doors { IfOk result (λ entrance. map (λ gate. gate.door) entrance.gates.items ≡ doors_of (arc_value config.now) salt) }
         ensures fault { IfErr result IsOfMachine }
     {
@@ -146,6 +149,7 @@ impl<S: Identity> Entrance<S> {
         salt: u64,
     ) -> Result<(), HostFault>
         requires configured { arc_value config.now ≡ S.config }
+        requires salted { salt ≡ S.salt }
         requires account { map (λ gate. gate.door) self.old.gates.items ≡ record { config = arc_value config.now; salt = salt; port = Account } ∷ [] }
         ensures doors { OnOk result (map (λ gate. gate.door) self.new.gates.items ≡ doors_of (arc_value config.now) salt) }
         ensures fault { IfErr result IsOfMachine }

@@ -1,6 +1,6 @@
 //! The server: its ports, and the threads of its connections.
 
-ghost use Rattle.std.specs.Prelude.{◌≡◌, ◌+◌, ◌^◌, ◌≤◌, ◌↔◌, length, IfErr, IsErrOf};
+ghost use Rattle.std.specs.Prelude.{◌≡◌, ◌⊎◌, ◌+◌, ◌^◌, ◌≤◌, ◌↔◌, length, IfErr, IsErrOf};
 ghost use Rattle.std.specs.Arc.{arc_value};
 ghost use Rattle.arn_ids.specs.Environments.{owners};
 ghost use Rattle.arn_ids.specs.declared.faults.ConfigFault.TheVariants.{BadEntries};
@@ -80,6 +80,7 @@ impl<
         requires salted { plan.salt ≡ S.salt }
         requires named { blanks ≡ S.names }
         ensures range { IsErrOf result (Config BadEntries) ↔ ((length (owners (arc_value plan.config)) + 1 ≤ plan.max_entries) × (plan.max_entries ≤ 2 ^ 32) → ⊥) }
+        ensures fault { IfErr result (λ fault. (fault ≡ Config BadEntries) ⊎ IsOfMachine fault) }
     {
         let Plan {
             config,
@@ -111,6 +112,7 @@ impl<
         patience: u32,
     ) -> Result<Host<R, S, N, K>, HostFault>
         requires configured { arc_value config.now ≡ S.config }
+        requires salted { salt ≡ S.salt }
         requires parts { 2 ≤ opened.1.held.parts }
         ensures { IfErr result IsOfMachine }
     {

@@ -1,5 +1,8 @@
 //! What is served.
 
+ghost use Rattle.std.specs.Prelude.{◌≡◌, IfOk};
+ghost use Rattle.std.specs.Arc.{arc_value};
+
 use account_lock::{Account, Identity};
 use long_poll::OneShotBell;
 use request_guard::Hosts;
@@ -26,7 +29,9 @@ impl<S: Identity + Drop, N: Drop> Served<S, N> {
         account: Account<S, OneShotBell>,
         clock: N,
         hosts: Hosts,
-    ) -> Result<Served<S, N>, AllocError> {
+    ) -> Result<Served<S, N>, AllocError>
+        ensures { IfOk result (λ served. (arc_value served.account ≡ account) × (arc_value served.hosts ≡ hosts)) }
+    {
         let account = Arc::new(alloc, account).map_err(AllocError::from)?;
         let clock = Arc::new(alloc, clock).map_err(AllocError::from)?;
         let hosts = Arc::new(alloc, hosts).map_err(AllocError::from)?;
@@ -40,7 +45,10 @@ impl<S: Identity + Drop, N: Drop> Served<S, N> {
     }
 
     /// The same for another thread.
-    pub(crate) fn share(&self) -> Result<Served<S, N>, AllocError> {
+    pub(crate) fn share(&self) -> Result<Served<S, N>, AllocError>
+        ensures account { IfOk result (λ served. arc_value served.account ≡ arc_value self.now.account) }
+        ensures hosts { IfOk result (λ served. arc_value served.hosts ≡ arc_value self.now.hosts) }
+    {
         let account = Arc::try_clone(&self.account)?;
         let clock = Arc::try_clone(&self.clock)?;
         let hosts = Arc::try_clone(&self.hosts)?;

@@ -1,0 +1,76 @@
+-- What is written to a connection.
+use Rattle.std.specs.Prelude.{◌≡◌, ◌⊎◌, ℕ, List, [], ◌∷◌, ◌++◌, Some, None, Result, Ok, IfSome, OnOk}
+use Rattle.std.specs.List.{AllZip, concat}
+use Rattle.futures.specs.Runs.{Runs}
+use Rattle.http.specs.Request.{head_of}
+use Rattle.http.specs.Response.{body_of}
+use Rattle.http.specs.declared.request.Parts.{Parts as Asked}
+use Rattle.http.specs.declared.request.Request.{Request}
+use Rattle.http.specs.declared.response.Parts.{Parts}
+use Rattle.http.specs.declared.response.Response.{Response}
+use Rattle.http_body.specs.Frame.{data_frame, trailers_frame}
+use Rattle.http_body.specs.declared.frame.Frame.{Frame}
+use Rattle.hyper.specs.Fields.{AreAmong}
+use Rattle.hyper.specs.Message.{Whole, heads_of}
+use Rattle.hyper.specs.Served.{frames_of, IsHeadOf, IsBodiless, IsOnly}
+use Rattle.hyper.specs.Server.{history}
+use Rattle.hyper.specs.declared.error.Error.{Error}
+use Rattle.hyper.specs.declared.proto.server.ServerConn.{ServerConn}
+
+-- A service gave this response to a request with this head.
+pub record Gave {S R F B E : Type 0} (calls : S → Request R → F → Type 0) (gives : F → Result (Response B) E → Type 0)
+    (service : S) (head : Asked) (response : Response B) : Type 0 where
+  pub request : Request R
+  pub head_is : head_of request ≡ head
+  pub future : F
+  pub called : calls service request future
+  pub given : gives future (Ok response)
+
+-- The bodies of responses yield frames, and the data of a frame has bytes.
+module _ {B D X : Type 0} (yields : B → Runs (Result (Frame D) X)) (has : D → List ℕ → Type 0) where
+  -- the bytes are those of the pieces, joined
+  abbrev pub Joins : List D → List ℕ → Type 0
+  Joins pieces bytes = (parts : List (List ℕ)) × AllZip has pieces parts × (bytes ≡ concat parts)
+
+  -- the body yields these pieces first
+  pub data Begins (body : B) : List D → Type 0 where
+    no_piece : Begins body []
+    one_more : (pieces : List D) (piece : D) → yields body (frames_of pieces) (Some (Ok (data_frame piece)))
+        → Begins body (pieces ++ piece ∷ [])
+
+  -- behind these pieces the body ends, or yields trailers, of which some are written
+  abbrev pub Ends : B → List D → Whole Parts → Type 0
+  Ends body pieces written =
+      (yields body (frames_of pieces) None × (written.trailers ≡ []))
+      ⊎ ((map : _) × yields body (frames_of pieces) (Some (Ok (trailers_frame map)))
+      × ((written.trailers ≡ []) ⊎ AreAmong written.trailers map))
+
+  -- To a request with this head a response was written whole: its status, its header fields, but for those that frame a
+  -- body, and its body; or none where no body may follow.
+  pub record IsWhole (head : Asked) (response : Response B) (written : Whole Parts) : Type 0 where
+    pub head_is : IsHeadOf written.head response
+    pub body_is : (IsBodiless head written.head × (written.bytes ≡ []) × (written.trailers ≡ []))
+        ⊎ ((pieces : List D) × Joins pieces written.bytes × Ends (body_of response) pieces written)
+
+  -- The beginning of a response was written: its head, and first pieces of its body.
+  pub record IsBegun (response : Response B) (begun : Parts × List ℕ) : Type 0 where
+    pub head_is : IsHeadOf begun.0 response
+    pub pieces : List D
+    pub joins : Joins pieces begun.1
+    pub begins : Begins (body_of response) pieces
+
+  module _ (answers : Asked → Response B → Type 0) where
+    -- What was written to a connection that ended of itself with this outcome: responses that answer the requests at
+    -- their places, in their order, each whole; and behind them at most the beginning of one more, that answers the
+    -- request which came next. `last` is how the connection stood at its end, with all that was taken and given. At
+    -- `Ok` nothing of that is left to send.
+    pub record Written {A : Type 0} (outcome : Result A Error) : Type 0 where
+      pub last : ServerConn
+      pub answered : List Asked
+      pub later : List Asked
+      pub came : heads_of (history last).taken ≡ answered ++ later
+      pub whole : AllZip (λ head written. (response : Response B) × answers head response × IsWhole head response written)
+          answered (history last).given.ended
+      pub begun : IfSome (history last).given.begun
+          (λ begun. IsOnly later (λ head. (response : Response B) × answers head response × IsBegun response begun))
+      pub sent : OnOk outcome ((history last).pending ≡ [])

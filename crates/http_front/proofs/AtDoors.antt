@@ -1,0 +1,179 @@
+-- What answers a request on a connection of a door answers it at the door.
+use Rattle.std.proofs.Common.{◌≡◌, ◌<◌, ◌⊎◌, ℕ, List, [], length, Option, Some, None, Result, Ok, Err, MatchOption, subst, sym, ◌∙◌, inl, inr}
+use Rattle.std.specs.Arc.{arc_value}
+use Rattle.account_lock.specs.Shown.{IsTaken, Sees}
+use Rattle.arn_ids.specs.Limits.{longest_body}
+use Rattle.arn_ids.specs.declared.config.Config.{Config}
+use Rattle.call_model.specs.History.{call_of}
+use Rattle.call_types.specs.declared.call.Call.{Call}
+use Rattle.call_types.specs.declared.call.Entry.{Entry}
+use Rattle.call_types.specs.declared.stats.Stats.{Stats as Counted}
+use Rattle.decisions.specs.declared.decide.Decide as Decide
+use Rattle.decisions.specs.declared.decide.Decision.{Decision}
+use Rattle.decisions.specs.declared.decide.Decision.TheVariants as decided
+use Rattle.decisions.specs.declared.decide.Shown.TheVariants as show
+use Rattle.futures.specs.Runs.{Runs}
+use Rattle.http.specs.declared.request.Parts.{Parts}
+use Rattle.http.specs.declared.response.Response.{Response}
+use Rattle.http_body.specs.declared.frame.Frame.{Frame}
+use Rattle.http_body_util.specs.declared.either.Either.{Either}
+use Rattle.http_body_util.specs.declared.full.Full.{Full}
+use Rattle.http_front.specs.Answered.{IsReplyOf, IsReplyTo, IsOutcomeOf, IsDecided, IsAnswerAt}
+use Rattle.http_front.specs.Exchanged.{ComesTo, IsAnswer}
+use Rattle.http_front.specs.Ports.{api_of}
+use Rattle.http_front.specs.Responses.{IsAnswerTo, IsRefusal, IsResponseTo}
+use Rattle.http_front.specs.declared.front.Front.{Front}
+use Rattle.http_routes.specs.Decisions.{Served, decision}
+use Rattle.lambda_wire.specs.declared.reply.Reply.{Reply}
+use Rattle.long_poll.specs.Exchanges.{IsOfBody, ComesOf, IsReply, IsRendered}
+use Rattle.long_poll.specs.Moments.{moment_of}
+use Rattle.long_poll.specs.Outcomes.{ShowsFrom}
+use Rattle.long_poll.specs.Reads.{Renders, Counts, Reserves}
+use Rattle.long_poll.specs.declared.bell.OneShotBell.{OneShotBell}
+use Rattle.long_poll.specs.declared.clock.Clock as Clock
+use Rattle.long_poll.specs.declared.connection.Connection.{Connection}
+use Rattle.long_poll.specs.declared.fault.ExchangeFault.{ExchangeFault}
+use Rattle.long_poll.specs.declared.fault.ExchangeFault.TheVariants.{BodyFailed, OutOfMemory, BellLost}
+use Rattle.long_poll.specs.declared.history_body.HistoryBody.{HistoryBody}
+use Rattle.long_poll.specs.declared.outcome.Outcome.{Outcome}
+use Rattle.long_poll.specs.declared.outcome.Outcome.TheVariants as outcome
+use Rattle.long_poll.specs.declared.service.Service as Service
+use Rattle.request_guard.specs.Guarding.{refusal_of}
+use Rattle.request_guard.specs.declared.refusal.Api.{Api}
+use Rattle.request_guard.specs.declared.refusal.Refusal.{Refusal}
+use Rattle.request_guard.specs.declared.refusal.Refusal.TheVariants as refused
+use Rattle.usage_ledger.specs.Tallies.{Held}
+use Rattle.usage_ledger.specs.declared.keep.Keep as Keep
+
+-- it is so of the same bodies
+of_body : {P E : Type 0} (has : P → List ℕ → Type 0) (source : Runs (Result (Frame P) E)) (head : Parts) (held : List ℕ)
+    (is less : List ℕ → Type 0) → ((body : List ℕ) → is body → less body) → IsOfBody has source head held is
+    → IsOfBody has source head held less
+of_body has source head held is less weaken (inl x) = inl (x.0, x.1, weaken x.0 x.2)
+of_body has source head held is less weaken (inr x) = inr (x.0, λ body long. weaken body (x.1 body long))
+
+-- On a connection of an account and a decider whose relations are those of the door.
+module _ {R S D N K L B P E : Type 0} {service : Service.Ghosts S K L} {decider : Decide.Ghosts D}
+    {keep : Keep.Ghosts K} (clock : Clock.Ghosts N) (yields : B → Runs (Result (Frame P) E))
+    (has : P → List ℕ → Type 0) (port : Front R S D N K L service decider keep) (door : Served)
+    (takes : (before : Held) (now : ℕ) (call : Call) (bell : Option OneShotBell) (ticket : ℕ) (seen : List Entry)
+    (after : Held)
+    → service.submits (arc_value (arc_value port.connection).service) before now call bell (Ok (ticket, seen)) after
+    → IsTaken door.config now call ticket seen)
+    (renders : (seen : List Entry) (ticket : ℕ) (reply : Option Reply) (then : List Entry)
+    → service.renders (arc_value (arc_value port.connection).service) seen ticket reply then
+    → Renders door.config door.salt seen ticket reply then)
+    (counts : (stats : Counted) → service.counts (arc_value (arc_value port.connection).service) stats
+    → Counts door.config stats)
+    (reserves : (f : ℕ) (count : Option ℕ)
+    → service.reserves (arc_value (arc_value port.connection).service) f count → Reserves door.config f count)
+    (decides : (head : Parts) (body : List ℕ) (made : Decision)
+    → decider.decides (arc_value (arc_value port.connection).decider) head body made
+    → made ≡ decision door head body)
+    (there : (config : Config) (now : ℕ) (call : Call) (ticket : ℕ) (seen then : List Entry)
+    → IsTaken config now call ticket seen → Sees config seen then → ticket < length then)
+    (stands : (config : Config) (now : ℕ) (call : Call) (ticket : ℕ) (seen then : List Entry)
+    → IsTaken config now call ticket seen → Sees config seen then → call_of then ticket ≡ call) where
+  abbrev connection : Connection R S D N K L service decider keep
+  connection = arc_value port.connection
+
+  abbrev H : Type 0
+  H = HistoryBody R S K L
+
+  rendered : (call : Call) (reply : Reply) → IsRendered connection clock call (Some reply)
+      → IsReplyOf door.config door.salt call reply
+  rendered call reply x =
+      let ticket = x.0 in
+      let seen = x.1 in
+      let submitted = x.2 in
+      let now = moment_of submitted.reading in
+      let taken = takes submitted.before now call (Some submitted.bell) ticket seen submitted.after submitted.came in
+      let then = x.3.0 in
+      let shown = renders seen ticket (Some reply) then x.3.1 in
+      record {
+        most = shown.0.most;
+        history = then;
+        reached = shown.0.reached;
+        ticket = ticket;
+        there = there door.config now call ticket seen then taken shown.0;
+        stands = stands door.config now call ticket seen then taken shown.0;
+        gives = sym shown.1;
+      }
+
+  reply_to : (made : Decision) (reply : Reply) → IsReply connection clock made reply
+      → IsReplyTo door.config door.salt made reply
+  reply_to (decided.Submit call) reply (inl x) = inl (rendered call reply x)
+  reply_to (decided.Submit call) reply (inr x) = inr (x.0.refusal, x.2)
+  reply_to (decided.Reply own) reply x = x
+  reply_to (decided.Show show.Stats) reply x = (x.0, counts x.0 x.1, x.2)
+  reply_to (decided.Show (show.History from)) reply x = x
+  reply_to (decided.Show (show.Reservation f)) reply x = (x.0, reserves f x.0 x.1, x.2)
+
+  outcome_of : (shows : Option ℕ → H → Type 0) (head : Parts) (body : List ℕ) (given : Outcome H)
+      → ComesOf connection clock shows head body (Ok given) → IsOutcomeOf shows door (decision door head body) given
+  outcome_of shows head body (outcome.Reply reply) x =
+      subst (λ made. IsReplyTo door.config door.salt made reply) (decides head body x.0 x.1) (reply_to x.0 reply x.2)
+  outcome_of shows head body (outcome.History shown) x =
+      (x.0, sym (decides head body (decided.Show (show.History x.0)) x.1), x.2)
+
+  module _ (hosts : List ℕ) (head : Parts) (response : Response (Either (Full (List ℕ)) H)) where
+    abbrev shows : Option ℕ → H → Type 0
+    shows = ShowsFrom (arc_value connection.service)
+
+    abbrev Exchanged : Api → Type 0
+    Exchanged api =
+        (made : Result (Outcome H) ExchangeFault) × ComesTo clock yields has port head made × IsAnswerTo api made response
+
+    exchanged : (made : Result (Outcome H) ExchangeFault) → ComesTo clock yields has port head made
+        → IsAnswerTo (api_of door.port) made response
+        → IsRefusal (api_of door.port) refused.BrokenBody response
+        ⊎ (IsRefusal (api_of door.port) refused.OutOfMemory response
+        ⊎ IsDecided shows door yields has hosts head response)
+    exchanged (Ok given) x answer =
+        inr (inr (
+          x.0,
+          given,
+          of_body
+              has
+              (yields x.0)
+              head
+              []
+              (λ body. ComesOf connection clock shows head body (Ok given))
+              (λ body. IsOutcomeOf shows door (decision door head body) given)
+              (λ body. outcome_of shows head body given)
+              x.1,
+          answer,
+        ))
+    exchanged (Err BodyFailed) x answer = inl answer
+    exchanged (Err OutOfMemory) x answer = inr (inl answer)
+    exchanged (Err BellLost) x answer = absurd answer
+
+    guarded : (guard : Option Refusal)
+        → MatchOption guard (IsRefusal (api_of door.port) refused.OutOfMemory response ⊎ Exchanged (api_of door.port))
+        (λ refusal. IsRefusal (api_of door.port) refusal response)
+        → MatchOption guard
+        (IsRefusal (api_of door.port) refused.BrokenBody response
+        ⊎ (IsRefusal (api_of door.port) refused.OutOfMemory response
+        ⊎ IsDecided shows door yields has hosts head response))
+        (λ refusal. IsRefusal (api_of door.port) refusal response)
+    guarded (Some refusal) x = x
+    guarded None (inl x) = inr (inl x)
+    guarded None (inr x) = exchanged x.0 x.1 x.2
+
+    pub at_door : (account : S) → arc_value connection.service ≡ account → port.api ≡ api_of door.port
+        → arc_value port.hosts ≡ hosts → IsAnswer clock yields has port head response
+        → IsAnswerAt (ShowsFrom account) door yields has hosts head response
+    at_door account same api listed x =
+        let of_hosts : MatchOption (refusal_of hosts head) (IsRefusal port.api refused.OutOfMemory response ⊎ Exchanged port.api)
+        (λ refusal. IsRefusal port.api refusal response)
+        = subst (λ h. MatchOption (refusal_of h head)
+        (IsRefusal port.api refused.OutOfMemory response ⊎ Exchanged port.api)
+        (λ refusal. IsRefusal port.api refusal response)) listed x in
+        let of_api : MatchOption (refusal_of hosts head)
+        (IsRefusal (api_of door.port) refused.OutOfMemory response ⊎ Exchanged (api_of door.port))
+        (λ refusal. IsRefusal (api_of door.port) refusal response)
+        = subst (λ a. MatchOption (refusal_of hosts head)
+        (IsRefusal a refused.OutOfMemory response ⊎ Exchanged a) (λ refusal. IsRefusal a refusal response))
+        api of_hosts in
+        subst (λ a. IsAnswerAt (ShowsFrom a) door yields has hosts head response) same
+        (guarded (refusal_of hosts head) of_api)

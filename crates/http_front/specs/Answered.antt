@@ -1,0 +1,80 @@
+-- What answers a request at a door of the service: at a port, in a configuration, with the salt of its identifiers.
+use Rattle.std.specs.Prelude.{◌≡◌, ◌<◌, ◌⊎◌, ℕ, List, [], length, Option, Some, Result, MatchOption}
+use Rattle.account_book.specs.Reached.{IsReached}
+use Rattle.account_book.specs.ReplyText.{reply_text}
+use Rattle.account_book.specs.declared.book.Refusal.{Refusal as Refused}
+use Rattle.arn_ids.specs.declared.config.Config.{Config}
+use Rattle.call_model.specs.History.{call_of}
+use Rattle.call_types.specs.Calls.{is_invoke}
+use Rattle.call_types.specs.declared.call.Call.{Call}
+use Rattle.call_types.specs.declared.call.Entry.{Entry}
+use Rattle.call_types.specs.declared.stats.Stats.{Stats as Counted}
+use Rattle.decisions.specs.declared.decide.Decision.{Decision}
+use Rattle.decisions.specs.declared.decide.Decision.TheVariants as decided
+use Rattle.decisions.specs.declared.decide.Shown.TheVariants as shown
+use Rattle.futures.specs.Runs.{Runs}
+use Rattle.http.specs.declared.request.Parts.{Parts}
+use Rattle.http.specs.declared.response.Response.{Response}
+use Rattle.http_body.specs.declared.frame.Frame.{Frame}
+use Rattle.http_body_util.specs.declared.either.Either.{Either}
+use Rattle.http_body_util.specs.declared.full.Full.{Full}
+use Rattle.http_front.specs.Ports.{api_of}
+use Rattle.http_front.specs.Responses.{IsResponseTo, IsRefusal}
+use Rattle.http_routes.specs.Decisions.{Served, decision}
+use Rattle.lambda_wire.specs.declared.reply.Reply.{Reply}
+use Rattle.long_poll.specs.Exchanges.{IsOfBody}
+use Rattle.long_poll.specs.Reads.{Counts, Reserves}
+use Rattle.long_poll.specs.Refusals.{refusal_reply}
+use Rattle.long_poll.specs.Views.{stats_reply, reservation_reply}
+use Rattle.long_poll.specs.declared.outcome.Outcome.{Outcome}
+use Rattle.long_poll.specs.declared.outcome.Outcome.TheVariants as outcome
+use Rattle.request_guard.specs.Guarding.{refusal_of}
+use Rattle.request_guard.specs.declared.refusal.Refusal.TheVariants.{BrokenBody, OutOfMemory}
+
+module _ (config : Config) (salt : ℕ) where
+  -- The reply to a call that was taken: what the definitions give it in a history of the configuration that calls led to,
+  -- in which this very call stands at its ticket.
+  pub record IsReplyOf (call : Call) (reply : Reply) : Type 0 where
+    pub most : ℕ
+    pub history : List Entry
+    pub reached : IsReached config most history
+    pub ticket : ℕ
+    pub there : ticket < length history
+    pub stands : call_of history ticket ≡ call
+    pub gives : reply_text config salt history ticket ≡ Some reply
+
+  -- The reply where this was decided: that of the call, or of why it was not taken; what was decided; or what is shown.
+  abbrev pub IsReplyTo : Decision → Reply → Type 0
+  IsReplyTo (decided.Submit call) reply =
+      IsReplyOf call reply ⊎ ((refused : Refused) × (reply ≡ refusal_reply (is_invoke call) refused))
+  IsReplyTo (decided.Reply own) reply = reply ≡ own
+  IsReplyTo (decided.Show shown.Stats) reply = (stats : Counted) × Counts config stats × (reply ≡ stats_reply stats)
+  IsReplyTo (decided.Show (shown.History from)) reply = ⊥
+  IsReplyTo (decided.Show (shown.Reservation f)) reply =
+      (count : Option ℕ) × Reserves config f count × (reply ≡ reservation_reply count)
+
+-- These bodies show the account's history, each from where it is asked for.
+module _ {H : Type 0} (shows : Option ℕ → H → Type 0) (door : Served) where
+  -- The outcome where this was decided: a reply, or the history if that is to be shown.
+  abbrev pub IsOutcomeOf : Decision → Outcome H → Type 0
+  IsOutcomeOf made (outcome.Reply reply) = IsReplyTo door.config door.salt made reply
+  IsOutcomeOf made (outcome.History body) =
+      (from : Option ℕ) × (made ≡ decided.Show (shown.History from)) × shows from body
+
+  -- Of the bodies of requests: which frames each yields, and which bytes the data of a frame has.
+  module _ {B P E : Type 0} (yields : B → Runs (Result (Frame P) E)) (has : P → List ℕ → Type 0)
+      (hosts : List ℕ) (head : Parts) where
+    -- It is the response to what was decided at the door of a request with this head and the body that came.
+    abbrev pub IsDecided : Response (Either (Full (List ℕ)) H) → Type 0
+    IsDecided response =
+        (came : B) × (given : Outcome H)
+        × IsOfBody has (yields came) head [] (λ body. IsOutcomeOf (decision door head body) given)
+        × IsResponseTo given response
+
+    -- The response to a request with this head at the door: if its head is refused, of that refusal; else of a body that
+    -- failed, of want of memory, or of what was decided.
+    abbrev pub IsAnswerAt : Response (Either (Full (List ℕ)) H) → Type 0
+    IsAnswerAt response = MatchOption (refusal_of hosts head)
+        (IsRefusal (api_of door.port) BrokenBody response
+        ⊎ (IsRefusal (api_of door.port) OutOfMemory response ⊎ IsDecided response))
+        (λ refusal. IsRefusal (api_of door.port) refusal response)

@@ -1,0 +1,41 @@
+-- What answers a request on the connection of a front.
+use Rattle.std.specs.Prelude.{◌⊎◌, ℕ, List, [], Result, MatchOption}
+use Rattle.std.specs.Arc.{arc_value}
+use Rattle.decisions.specs.declared.decide.Decide as Decide
+use Rattle.futures.specs.Runs.{Runs}
+use Rattle.http.specs.declared.request.Parts.{Parts}
+use Rattle.http.specs.declared.response.Response.{Response}
+use Rattle.http_body.specs.declared.frame.Frame.{Frame}
+use Rattle.http_body_util.specs.declared.either.Either.{Either}
+use Rattle.http_body_util.specs.declared.full.Full.{Full}
+use Rattle.http_front.specs.Responses.{IsAnswerTo, IsRefusal}
+use Rattle.http_front.specs.declared.front.Front.{Front}
+use Rattle.long_poll.specs.Exchanges.{Exchanges}
+use Rattle.long_poll.specs.Outcomes.{ShowsFrom}
+use Rattle.long_poll.specs.declared.clock.Clock as Clock
+use Rattle.long_poll.specs.declared.fault.ExchangeFault.{ExchangeFault}
+use Rattle.long_poll.specs.declared.history_body.HistoryBody.{HistoryBody}
+use Rattle.long_poll.specs.declared.outcome.Outcome.{Outcome}
+use Rattle.long_poll.specs.declared.service.Service as Service
+use Rattle.request_guard.specs.Guarding.{refusal_of}
+use Rattle.request_guard.specs.declared.refusal.Refusal.TheVariants.{OutOfMemory}
+use Rattle.usage_ledger.specs.declared.keep.Keep as Keep
+
+-- Of the bodies of requests: which frames each yields, and which bytes the data of a frame has.
+module _ {R S D N K L B P E : Type 0} {service : Service.Ghosts S K L} {decider : Decide.Ghosts D}
+    {keep : Keep.Ghosts K} (clock : Clock.Ghosts N) (yields : B → Runs (Result (Frame P) E))
+    (has : P → List ℕ → Type 0) (port : Front R S D N K L service decider keep) (head : Parts) where
+  -- An exchange of a request with this head, whose body came as some body comes, may come to this on the port's
+  -- connection.
+  abbrev pub ComesTo : Result (Outcome (HistoryBody R S K L)) ExchangeFault → Type 0
+  ComesTo made =
+      (came : B) × Exchanges (arc_value port.connection) clock
+      (ShowsFrom (arc_value (arc_value port.connection).service)) has (yields came) head [] made
+
+  -- The response to a request with this head: of its refusal if the head is refused; else of what its exchange came to, or
+  -- of want of memory for one.
+  abbrev pub IsAnswer : Response (Either (Full (List ℕ)) (HistoryBody R S K L)) → Type 0
+  IsAnswer response = MatchOption (refusal_of (arc_value port.hosts) head)
+      (IsRefusal port.api OutOfMemory response
+      ⊎ ((made : Result (Outcome (HistoryBody R S K L)) ExchangeFault) × ComesTo made × IsAnswerTo port.api made response))
+      (λ refusal. IsRefusal port.api refusal response)
