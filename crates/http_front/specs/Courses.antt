@@ -5,6 +5,7 @@ use Rattle.decisions.specs.declared.decide.Decide as Decide
 use Rattle.http.specs.declared.request.Parts.{Parts}
 use Rattle.http_front.specs.declared.front.Front.{Front}
 use Rattle.http_front.specs.declared.responding.Responding.{Responding}
+use Rattle.long_poll.specs.Lengths.{declares_too_long}
 use Rattle.long_poll.specs.declared.exchange.Exchange.{Exchange}
 use Rattle.long_poll.specs.declared.exchange.Stage.TheVariants.{Collecting}
 use Rattle.long_poll.specs.declared.service.Service as Service
@@ -22,10 +23,11 @@ module _ {R S D N B K L : Type 0} {service : Service.Ghosts S K L} {decider : De
       (record { alloc = (arc_value port.connection).alloc; body = body; held = [] }))
 
   -- A request whose head is refused has that refusal and no exchange, so it never becomes a call. Any other has an exchange,
-  -- or is refused for want of memory. Either is answered in the form of the port's API.
+  -- or is refused for want of memory. Either is answered in the form of the port's API, and as the last where the head
+  -- declares a body that is too long, and so is left unread.
   abbrev pub Takes : Responding R S D N B K L service decider keep → Type 0
   Takes future =
-      (future.api ≡ port.api)
+      (future.api ≡ port.api) × (future.is_unread ≡ declares_too_long head)
       × MatchOption (refusal_of (arc_value port.hosts) head)
       (MatchOption future.exchange (future.refusal ≡ Some OutOfMemory)
       (λ exchange. (future.refusal ≡ None) × IsExchangeOf exchange))

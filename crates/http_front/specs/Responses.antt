@@ -1,19 +1,19 @@
 -- The response that an outcome is sent as.
-use Rattle.std.specs.Prelude.{◌≡◌, ℕ, List, [], ◌==◌, if◌then◌else◌, length, fold, Option, Some, None, Result, Ok, Err}
+use Rattle.std.specs.Prelude.{◌≡◌, ℕ, Bool, true, false, ◌||◌, List, [], ◌==◌, if◌then◌else◌, length, fold, codes, Option, Some, None, Result, Ok, Err}
 use Rattle.http.specs.Response.{head_of, body_of}
 use Rattle.http.specs.declared.response.Response.{Response}
 use Rattle.http.specs.declared.version.TheConstants.Version.{HTTP_11}
 use Rattle.http_body_util.specs.declared.either.Either.{Either}
 use Rattle.http_body_util.specs.declared.either.Either.TheVariants.{Left, Right}
 use Rattle.http_body_util.specs.declared.full.Full.{Full}
-use Rattle.http_header.specs.FieldValue.{FieldValue}
+use Rattle.http_header.specs.FieldValue.{FieldValue, plain_value}
 use Rattle.http_header.specs.HeaderMap.{Entries, append}
 use Rattle.long_poll.specs.Views.{history_headers}
 use Rattle.long_poll.specs.declared.fault.ExchangeFault.{ExchangeFault}
 use Rattle.long_poll.specs.declared.fault.ExchangeFault.TheVariants as fault
 use Rattle.long_poll.specs.declared.outcome.Outcome.{Outcome}
 use Rattle.long_poll.specs.declared.outcome.Outcome.TheVariants.{Reply, History}
-use Rattle.request_guard.specs.Refusals.{refusal_reply}
+use Rattle.request_guard.specs.Refusals.{closes, refusal_reply}
 use Rattle.request_guard.specs.declared.refusal.Api.{Api}
 use Rattle.request_guard.specs.declared.refusal.Refusal.{Refusal}
 use Rattle.request_guard.specs.declared.refusal.Refusal.TheVariants.{BrokenBody, OutOfMemory}
@@ -22,11 +22,16 @@ use Rattle.request_guard.specs.declared.refusal.Refusal.TheVariants.{BrokenBody,
 abbrev pub fields : List (List ℕ × FieldValue) → Entries FieldValue
 fields headers = fold (λ map header. append map header.0 header.1) [] headers
 
--- A response has this status, these header fields and no other.
-pub record HasHead {B : Type 0} (status : ℕ) (headers : List (List ℕ × FieldValue)) (response : Response B) : Type 0 where
+-- If the connection ends behind a response, the last of its fields says so (RFC 9112, section 9.6).
+abbrev pub said_closing : Bool → Entries FieldValue → Entries FieldValue
+said_closing false map = map
+said_closing true map = append map (codes "connection") (plain_value (codes "close"))
+
+-- A response has this status, these header fields, says whether it is the last, and has no other field.
+pub record HasHead {B : Type 0} (is_last : Bool) (status : ℕ) (headers : List (List ℕ × FieldValue)) (response : Response B) : Type 0 where
   pub status_is : (head_of response).status ≡ status
   pub version_is : (head_of response).version ≡ HTTP_11
-  pub headers_are : (head_of response).headers ≡ fields headers
+  pub headers_are : (head_of response).headers ≡ said_closing is_last (fields headers)
 
 -- a body in one piece, none where there are no bytes
 abbrev pub whole : List ℕ → Option (List ℕ)
@@ -37,21 +42,22 @@ abbrev pub IsWhole : {H : Type 0} → List ℕ → Either (Full (List ℕ)) H �
 IsWhole bytes (Left full) = full.buf ≡ whole bytes
 IsWhole bytes (Right body) = ⊥
 
--- A response is an outcome's: that of a reply has its status, its header fields and no other, and its bytes; that of a
--- history is 200, has the headers of a text, and shows the history as its body.
-abbrev pub IsResponseTo : {H : Type 0} → Outcome H → Response (Either (Full (List ℕ)) H) → Type 0
-IsResponseTo (Reply reply) response = HasHead reply.status reply.headers response × IsWhole reply.body (body_of response)
-IsResponseTo (History body) response = HasHead 200 history_headers response × (body_of response ≡ Right body)
+-- A response is an outcome's, and the connection's last or not: that of a reply has its status, its header fields and no
+-- other, and its bytes; that of a history is 200, has the headers of a text, and shows the history as its body.
+abbrev pub IsResponseTo : {H : Type 0} → Bool → Outcome H → Response (Either (Full (List ℕ)) H) → Type 0
+IsResponseTo is_last (Reply reply) response = HasHead is_last reply.status reply.headers response × IsWhole reply.body (body_of response)
+IsResponseTo is_last (History body) response = HasHead is_last 200 history_headers response × (body_of response ≡ Right body)
 
--- A response is that of a refusal, in the form of its port's API.
-abbrev pub IsRefusal : {H : Type 0} → Api → Refusal → Response (Either (Full (List ℕ)) H) → Type 0
-IsRefusal api refusal response = IsResponseTo (Reply (refusal_reply api refusal)) response
+-- A response is that of a refusal, in the form of its port's API. It is the last behind a body that is left unread, and
+-- where the refusal itself ends the connection.
+abbrev pub IsRefusal : {H : Type 0} → Api → Bool → Refusal → Response (Either (Full (List ℕ)) H) → Type 0
+IsRefusal api is_unread refusal response = IsResponseTo (is_unread || closes refusal) (Reply (refusal_reply api refusal)) response
 
--- A response is that of what an exchange came to: a body that failed is answered 400, memory that was refused 500. Of a
--- lost bell there is none.
-abbrev pub IsAnswerTo : {H : Type 0} → Api → Result (Outcome H) ExchangeFault
+-- A response is that of what an exchange came to, whose body was left unread or not: a body that failed is answered 400,
+-- memory that was refused 500. Of a lost bell there is none.
+abbrev pub IsAnswerTo : {H : Type 0} → Api → Bool → Result (Outcome H) ExchangeFault
     → Response (Either (Full (List ℕ)) H) → Type 0
-IsAnswerTo api (Ok outcome) response = IsResponseTo outcome response
-IsAnswerTo api (Err fault.BodyFailed) response = IsRefusal api BrokenBody response
-IsAnswerTo api (Err fault.OutOfMemory) response = IsRefusal api OutOfMemory response
-IsAnswerTo api (Err fault.BellLost) response = ⊥
+IsAnswerTo api is_unread (Ok outcome) response = IsResponseTo is_unread outcome response
+IsAnswerTo api is_unread (Err fault.BodyFailed) response = IsRefusal api is_unread BrokenBody response
+IsAnswerTo api is_unread (Err fault.OutOfMemory) response = IsRefusal api is_unread OutOfMemory response
+IsAnswerTo api is_unread (Err fault.BellLost) response = ⊥

@@ -16,7 +16,7 @@ use http_body::Body;
 use http_body_util::{Either, Full};
 use hyper::body::Incoming;
 use hyper::service;
-use long_poll::{Clock, Connection, Exchange, HistoryBody, Service};
+use long_poll::{Clock, Connection, Exchange, HistoryBody, Service, declares_too_long};
 use request_guard::{Api, Hosts, Refusal};
 use std::alloc::Global;
 use std::sync::{Arc, Wait};
@@ -74,7 +74,7 @@ impl<
     }
 
     /// The response to a request of this head and body. There is no exchange where the head is refused, so
-    /// it never becomes a call.
+    /// it never becomes a call. If the head declares a body that is too long, that is left unread.
     fn respond<B: Body>(&self, parts: Parts, body: B) -> Responding<R, S, D, N, B, K, L>
     where
         B::Data: Into<Bytes>,
@@ -82,12 +82,13 @@ impl<
         ensures begins { IfSome result.exchange (λ e. e.stage ≡ Collecting parts
             (record { alloc = (arc_value self.now.connection).alloc; body = body; held = [] })) }
     {
+        let is_unread = declares_too_long(&parts);
         if let Some(refusal) = self.hosts.refusal(&parts) {
-            return Responding::refused(self.alloc, self.api, refusal);
+            return Responding::refused(self.alloc, self.api, is_unread, refusal);
         }
         match self.exchange(parts, body) {
-            Some(exchange) => Responding::exchanging(self.alloc, self.api, exchange),
-            None => Responding::refused(self.alloc, self.api, Refusal::OutOfMemory),
+            Some(exchange) => Responding::exchanging(self.alloc, self.api, is_unread, exchange),
+            None => Responding::refused(self.alloc, self.api, is_unread, Refusal::OutOfMemory),
         }
     }
 }

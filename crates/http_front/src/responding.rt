@@ -25,6 +25,8 @@ pub struct Responding<R, S: Service<K, L>, D: Decide, N, B, K: Keep, L: Ledgers>
     alloc: Global,
     // Whose API its port speaks.
     api: Api,
+    // Whether the request's body is left unread, so that the connection ends.
+    is_unread: bool,
     // None where it is refused.
     exchange: Option<Exchange<R, S, D, N, B, K, L>>,
     // Why it never becomes a call.
@@ -36,13 +38,16 @@ impl<R, S: Service<K, L>, D: Decide, N, B, K: Keep, L: Ledgers> Responding<R, S,
     pub(crate) fn refused(
         alloc: Global,
         api: Api,
+        is_unread: bool,
         refusal: Refusal,
     ) -> Responding<R, S, D, N, B, K, L>
-        ensures { (result.api ≡ api) × (result.refusal ≡ Some refusal) × (result.exchange ≡ None) }
+        ensures at { (result.api ≡ api) × (result.is_unread ≡ is_unread) }
+        ensures refused { (result.refusal ≡ Some refusal) × (result.exchange ≡ None) }
     {
         Responding {
             alloc,
             api,
+            is_unread,
             exchange: None,
             refusal: Some(refusal),
         }
@@ -52,13 +57,16 @@ impl<R, S: Service<K, L>, D: Decide, N, B, K: Keep, L: Ledgers> Responding<R, S,
     pub(crate) fn exchanging(
         alloc: Global,
         api: Api,
+        is_unread: bool,
         exchange: Exchange<R, S, D, N, B, K, L>,
     ) -> Responding<R, S, D, N, B, K, L>
-        ensures { (result.api ≡ api) × (result.refusal ≡ None) × (result.exchange ≡ Some exchange) }
+        ensures at { (result.api ≡ api) × (result.is_unread ≡ is_unread) }
+        ensures exchanging { (result.refusal ≡ None) × (result.exchange ≡ Some exchange) }
     {
         Responding {
             alloc,
             api,
+            is_unread,
             exchange: Some(exchange),
             refusal: None,
         }
@@ -86,19 +94,19 @@ where
 
     ghost gives = { λ r answer. IfOk answer (λ response. MatchOption r.refusal
         (IsSomeAnd r.exchange (λ exchange. (made : _)
-        × ⟦<Exchange<R, S, D, N, B, K, L> as Future>⟧.gives exchange made × IsAnswerTo r.api made response))
-        (λ refusal. IsRefusal r.api refusal response)) };
+        × ⟦<Exchange<R, S, D, N, B, K, L> as Future>⟧.gives exchange made × IsAnswerTo r.api r.is_unread made response))
+        (λ refusal. IsRefusal r.api r.is_unread refusal response)) };
 
     fn poll(&mut self, cx: &mut Context<'_>) -> Poll<Self::Output> {
         if let Some(refusal) = self.refusal {
-            return Poll::Ready(refused(self.alloc, self.api, refusal));
+            return Poll::Ready(refused(self.alloc, self.api, self.is_unread, refusal));
         }
         let Some(exchange) = &mut self.exchange else {
             return Poll::Ready(Err(ResponseFault::OutOfMemory));
         };
         match exchange.poll(cx) {
             Poll::Pending => Poll::Pending,
-            Poll::Ready(made) => Poll::Ready(answer_to(self.alloc, self.api, made)),
+            Poll::Ready(made) => Poll::Ready(answer_to(self.alloc, self.api, self.is_unread, made)),
         }
     }
 }
@@ -107,11 +115,17 @@ where
 fn refused<H: Drop>(
     alloc: Global,
     api: Api,
+    is_unread: bool,
     refusal: Refusal,
 ) -> Result<Response<Either<Full<Bytes>, H>>, ResponseFault>
-    ensures { IfOk result (IsRefusal api refusal) }
+    ensures { IfOk result (IsRefusal api is_unread refusal) }
 {
-    response_to(alloc, Outcome::Reply(refusal_reply(alloc, api, refusal)?))
+    let is_last = is_unread || refusal.closes();
+    response_to(
+        alloc,
+        is_last,
+        Outcome::Reply(refusal_reply(alloc, api, refusal)?),
+    )
 }
 
 /// The response to what an exchange came to. Where its body failed or memory was refused there may still be
@@ -119,14 +133,15 @@ fn refused<H: Drop>(
 fn answer_to<H: Drop>(
     alloc: Global,
     api: Api,
+    is_unread: bool,
     made: Result<Outcome<H>, ExchangeFault>,
 ) -> Result<Response<Either<Full<Bytes>, H>>, ResponseFault>
-    ensures { IfOk result (IsAnswerTo api made) }
+    ensures { IfOk result (IsAnswerTo api is_unread made) }
 {
     match made {
-        Ok(outcome) => response_to(alloc, outcome),
-        Err(ExchangeFault::BodyFailed) => refused(alloc, api, Refusal::BrokenBody),
-        Err(ExchangeFault::OutOfMemory) => refused(alloc, api, Refusal::OutOfMemory),
+        Ok(outcome) => response_to(alloc, is_unread, outcome),
+        Err(ExchangeFault::BodyFailed) => refused(alloc, api, is_unread, Refusal::BrokenBody),
+        Err(ExchangeFault::OutOfMemory) => refused(alloc, api, is_unread, Refusal::OutOfMemory),
         Err(ExchangeFault::BellLost) => Err(ResponseFault::Exchange(ExchangeFault::BellLost)),
     }
 }

@@ -1,15 +1,15 @@
 //! What a request is answered as a response of the connection.
 
-ghost use Rattle.std.specs.Prelude.{◌≡◌, IfOk};
+ghost use Rattle.std.specs.Prelude.{◌≡◌, IfOk, OnOk};
 ghost use Rattle.http.specs.Response.{body_of};
-ghost use Rattle.http_front.specs.Responses.{fields, HasHead, IsResponseTo};
+ghost use Rattle.http_front.specs.Responses.{fields, said_closing, HasHead, IsResponseTo};
 
 use crate::ResponseFault;
 use bytes::Bytes;
 use http::response::Parts;
 use http::{Response, StatusCode};
 use http_body_util::{Either, Full};
-use http_header::HeaderMap;
+use http_header::{HeaderMap, HeaderName, HeaderValue};
 use lambda_wire::{Headers, Reply};
 use long_poll::{Outcome, history_headers};
 use std::alloc::{AllocError, Global};
@@ -27,36 +27,54 @@ fn header_map(alloc: Global, headers: Headers) -> Result<HeaderMap, AllocError>
     Ok(map)
 }
 
+/// Says whether the connection ends behind the response (RFC 9112, section 9.6).
+fn say_closing(is_last: bool, map: &mut HeaderMap) -> Result<(), AllocError>
+    ensures { OnOk result (map.new ≡ said_closing is_last map.old) }
+{
+    if !is_last {
+        return Ok(());
+    }
+    let name = HeaderName::from_static("connection");
+    match map.append(name, HeaderValue::from_static("close")) {
+        Ok(_) => Ok(()),
+        Err(_) => Err(AllocError),
+    }
+}
+
 /// The response with this status, these header fields and this body.
 fn with_head<B: Drop>(
     alloc: Global,
+    is_last: bool,
     status: u16,
     headers: Headers,
     body: B,
 ) -> Result<Response<B>, ResponseFault>
-    ensures head { IfOk result (HasHead status headers) }
+    ensures head { IfOk result (HasHead is_last status headers) }
     ensures body { IfOk result (λ response. body_of response ≡ body) }
 {
     let Ok(status) = StatusCode::from_u16(status) else {
         return Err(ResponseFault::BadStatus);
     };
-    let headers = header_map(alloc, headers)?;
+    let mut headers = header_map(alloc, headers)?;
+    say_closing(is_last, &mut headers)?;
     let mut parts = Parts::new(alloc);
     parts.status = status;
     parts.headers = headers;
     Ok(Response::from_parts(parts, body))
 }
 
-/// The response that an outcome is sent as: a reply's has its status, its header fields, and its body
-/// in one piece, which isn't copied; a history's is a text that is streamed.
+/// The response that an outcome is sent as, which is the connection's last or not: a reply's has its
+/// status, its header fields, and its body in one piece, which isn't copied; a history's is a text that is
+/// streamed.
 ///
 /// # Errors
 /// `BadStatus` and `OutOfMemory`; the outcome is then dropped.
 pub(crate) fn response_to<H: Drop>(
     alloc: Global,
+    is_last: bool,
     outcome: Outcome<H>,
 ) -> Result<Response<Either<Full<Bytes>, H>>, ResponseFault>
-    ensures { IfOk result (IsResponseTo outcome) }
+    ensures { IfOk result (IsResponseTo is_last outcome) }
 {
     match outcome {
         Outcome::Reply(reply) => {
@@ -65,10 +83,22 @@ pub(crate) fn response_to<H: Drop>(
                 headers,
                 body,
             } = reply;
-            with_head(alloc, status, headers, Either::Left(Full::new(body)))
+            with_head(
+                alloc,
+                is_last,
+                status,
+                headers,
+                Either::Left(Full::new(body)),
+            )
         }
         Outcome::History(body) => {
-            with_head(alloc, 200, history_headers(alloc)?, Either::Right(body))
+            with_head(
+                alloc,
+                is_last,
+                200,
+                history_headers(alloc)?,
+                Either::Right(body),
+            )
         }
     }
 }

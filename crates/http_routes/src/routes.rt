@@ -7,6 +7,9 @@ use http_header::HeaderValue;
 use matchit::{InsertError, Router};
 use std::alloc::Global;
 
+/// The path of a Next, which every second request of a runtime has.
+const NEXT: &str = "/2018-06-01/runtime/invocation/next";
+
 /// A route of an environment's port (Runtime API 2018-06-01, Extensions API 2020-01-01).
 #[derive(Clone, Copy, Debug, PartialEq, Eq)]
 pub enum EnvironmentRoute {
@@ -119,11 +122,7 @@ fn add<R: Drop>(router: &mut Router<R>, text: &str, route: R) -> Result<(), Inse
 fn add_runtime(router: &mut Router<EnvironmentRoute>) -> Result<(), InsertError>
     ensures { OnOk result (router.new ≡ with_runtime_rows router.old) }
 {
-    add(
-        router,
-        "/2018-06-01/runtime/invocation/next",
-        EnvironmentRoute::Next,
-    )?;
+    add(router, NEXT, EnvironmentRoute::Next)?;
     add(
         router,
         "/2018-06-01/runtime/invocation/{id}/response",
@@ -218,13 +217,17 @@ pub(crate) fn account_routes(alloc: Global) -> Result<Router<AccountRoute>, Inse
     Ok(router)
 }
 
-/// The route of an environment's port that a path matches.
+/// The route of an environment's port that a path matches. That of a Next is found without the router.
 pub(crate) fn environment_route(
     router: &Router<EnvironmentRoute>,
     path: &str,
 ) -> Option<EnvironmentRoute>
-    ensures { result ≡ route_in router.now path.now }
+    requires { router.now ≡ environment_rows }
+    ensures { result ≡ route_in environment_rows path.now }
 {
+    if path == NEXT {
+        return Some(EnvironmentRoute::Next);
+    }
     match router.at(path) {
         Ok(found) => Some(*found.value),
         Err(_) => None,

@@ -25,6 +25,7 @@ pub use connection::Connection;
 pub use exchange::Exchange;
 pub use fault::ExchangeFault;
 pub use history_body::HistoryBody;
+pub use lengths::declares_too_long;
 pub use open_poll::OpenPoll;
 pub use outcome::Outcome;
 pub use poll::{BellLost, Poll};

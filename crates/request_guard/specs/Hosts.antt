@@ -55,3 +55,8 @@ is_served listed (Some text) = is_literal text || is_local listed (relative (nam
 -- The host is one that this service answers for.
 abbrev pub has_served_host : List ℕ → Parts → Bool
 has_served_host listed p = is_served listed (host_text p)
+
+-- a host of this name is one that this service answers for; one without a name is an address in brackets, or there is none
+abbrev pub serves : List ℕ → Option (List ℕ) → Bool
+serves listed None = true
+serves listed (Some name) = is_local listed (relative name)

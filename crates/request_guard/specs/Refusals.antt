@@ -1,6 +1,5 @@
 -- What the requests are answered that never become a call.
-use Rattle.std.specs.Prelude.{[], ◌∷◌, ◌++◌, codes}
-use Rattle.lambda_wire.specs.Headers.{header}
+use Rattle.std.specs.Prelude.{Bool, true, false, codes}
 use Rattle.lambda_wire.specs.Replies.{fault_reply, invoke_fault_reply}
 use Rattle.lambda_wire.specs.declared.body_writer.InvokeFault.TheVariants.{User, Service}
 use Rattle.lambda_wire.specs.declared.reply.Reply.{Reply}
@@ -9,27 +8,32 @@ use Rattle.request_guard.specs.declared.refusal.Api.TheVariants.{Lambda, Runtime
 use Rattle.request_guard.specs.declared.refusal.Refusal.{Refusal}
 use Rattle.request_guard.specs.declared.refusal.Refusal.TheVariants.{MalformedHost, FromPage, ForeignHost, ForeignCoding, BrokenBody, OutOfMemory}
 
--- the connection is closed behind it (RFC 9112, section 9.6)
-abbrev pub closing : Reply → Reply
-closing reply = record reply { headers = reply.headers ++ header (codes "connection") (codes "close") ∷ [] }
+-- The connection ends behind the reply, whatever is left of the request. (Behind a body that is broken it ends by itself.)
+abbrev pub closes : Refusal → Bool
+closes MalformedHost = false
+closes FromPage = false
+closes ForeignHost = false
+closes ForeignCoding = true
+closes BrokenBody = false
+closes OutOfMemory = true
 
--- on a port of the Lambda API (behind a body that is broken the connection ends by itself)
+-- on a port of the Lambda API
 abbrev pub lambda_reply : Refusal → Reply
 lambda_reply MalformedHost = invoke_fault_reply 400 (codes "InvalidParameterValueException") User (codes "Host is malformed")
 lambda_reply FromPage = invoke_fault_reply 403 (codes "AccessDeniedException") User (codes "Web pages may not call this service")
 lambda_reply ForeignHost = invoke_fault_reply 403 (codes "AccessDeniedException") User (codes "Host is neither local nor in LAMBDA_LOCAL_HOSTS")
-lambda_reply ForeignCoding = closing (fault_reply 501 (codes "Transfer coding not supported") (codes "NotImplemented"))
+lambda_reply ForeignCoding = fault_reply 501 (codes "Transfer coding not supported") (codes "NotImplemented")
 lambda_reply BrokenBody = invoke_fault_reply 400 (codes "InvalidRequestContentException") User (codes "Body is malformed")
-lambda_reply OutOfMemory = closing (invoke_fault_reply 500 (codes "ServiceException") Service (codes "Out of memory"))
+lambda_reply OutOfMemory = invoke_fault_reply 500 (codes "ServiceException") Service (codes "Out of memory")
 
 -- on a port of the Runtime API and the Extensions API
 abbrev pub runtime_reply : Refusal → Reply
 runtime_reply MalformedHost = fault_reply 400 (codes "Host is malformed") (codes "InvalidHost")
 runtime_reply FromPage = fault_reply 403 (codes "Web pages may not call this service") (codes "AccessDenied")
 runtime_reply ForeignHost = fault_reply 403 (codes "Host is neither local nor in LAMBDA_LOCAL_HOSTS") (codes "AccessDenied")
-runtime_reply ForeignCoding = closing (fault_reply 501 (codes "Transfer coding not supported") (codes "NotImplemented"))
+runtime_reply ForeignCoding = fault_reply 501 (codes "Transfer coding not supported") (codes "NotImplemented")
 runtime_reply BrokenBody = fault_reply 400 (codes "Body is malformed") (codes "InvalidRequestFormat")
-runtime_reply OutOfMemory = closing (fault_reply 500 (codes "Out of memory") (codes "OutOfMemory"))
+runtime_reply OutOfMemory = fault_reply 500 (codes "Out of memory") (codes "OutOfMemory")
 
 -- What a refused request is answered, in the form of its port's API.
 abbrev pub refusal_reply : Api → Refusal → Reply

@@ -7,3 +7,7 @@ use Rattle.std.specs.List.{slice_split}
 abbrev pub pieces_left : Option (Bor (List ℕ)) → List (List ℕ)
 pieces_left None = []
 pieces_left (Some rest) = slice_split (λ b. b == 44) rest.now
+
+-- what a reference to a text points to
+abbrev pub text_of : Bor (List ℕ) → List ℕ
+text_of text = text.now

@@ -3,6 +3,7 @@
 ghost use Rattle.std.specs.Prelude.{◌≡◌};
 ghost use Rattle.request_guard.specs.Codings as spec;
 
+use http::header;
 use http::request::Parts;
 
 /// Whether the bytes that come of a request's body are its content: `hyper` takes off `chunked`, and
@@ -10,7 +11,7 @@ use http::request::Parts;
 pub(crate) fn is_plainly_coded(parts: &Parts) -> bool
     ensures { result ≡ spec.is_plainly_coded parts.now }
 {
-    let mut codings = parts.headers.get_all("transfer-encoding").iter();
+    let mut codings = parts.headers.get_all(header::TRANSFER_ENCODING).iter();
     match codings.next() {
         None => true,
         Some(coding) => {

@@ -5,7 +5,7 @@ ghost use Rattle.std.specs.Arc.{arc_value};
 ghost use Rattle.request_guard.specs.Guarding as spec;
 
 use crate::codings::is_plainly_coded;
-use crate::hosts::has_malformed_host;
+use crate::hosts::host_name;
 use crate::pages::is_from_page;
 use crate::{Hosts, Refusal};
 use http::request::Parts;
@@ -17,13 +17,14 @@ impl Hosts {
     pub fn refusal(&self, parts: &Parts) -> Option<Refusal>
         ensures { result ≡ spec.refusal_of self.now parts.now }
     {
-        if has_malformed_host(parts) {
-            return Some(Refusal::MalformedHost);
-        }
+        let host = match host_name(parts) {
+            Ok(host) => host,
+            Err(malformed) => return Some(malformed),
+        };
         if is_from_page(parts) {
             return Some(Refusal::FromPage);
         }
-        if !self.serve(parts) {
+        if !self.serve(host) {
             return Some(Refusal::ForeignHost);
         }
         if !is_plainly_coded(parts) {

@@ -1,11 +1,15 @@
 //! The host that a request names, and the hosts that are listed beside the local ones.
 
-ghost use Rattle.std.specs.Prelude.{◌≡◌, ◌==◌, [], option_map, string_bytes, codes};
+ghost use Rattle.std.specs.Prelude.{◌≡◌, ◌==◌, [], Some, option_map, string_bytes, codes};
 ghost use Rattle.std.specs.List.{list_all, slice_split};
-ghost use Rattle.http.specs.HeaderMap.{get_all};
+ghost use Rattle.http.specs.HeaderMap.{get, get_all};
+ghost use Rattle.http.specs.Uri.{uri_authority};
 ghost use Rattle.request_guard.specs.Hosts as spec;
+ghost use Rattle.request_guard.specs.HostNames.{IsNamedBy, IsNameOf};
 
-use crate::names::{cut, is_literal, is_local, is_named, name_of, relative};
+use crate::Refusal;
+use crate::names::{cut, is_literal, is_local, name_in, relative};
+use http::header;
 use http::request::Parts;
 use std::alloc::Global;
 use std::marker::Model;
@@ -74,53 +78,66 @@ impl Hosts {
         None
     }
 
-    /// Whether the host that a request names is one that this service answers for.
-    pub(crate) fn serve(&self, parts: &Parts) -> bool
-        ensures { result ≡ spec.has_served_host self.now parts.now }
+    /// Whether a host of this name is one that this service answers for.
+    pub(crate) fn serve(&self, name: Option<&[u8]>) -> bool
+        ensures { result ≡ spec.serves self.now (option_map (λ t. t.now) name.entry) }
     {
-        match host_text(parts) {
+        match name {
             None => true,
-            Some(text) => {
-                is_literal(text) || is_local(self.listed.as_bytes(), relative(name_of(text)))
-            }
+            Some(name) => is_local(self.listed.as_bytes(), relative(name)),
         }
     }
 }
 
+/// The first field `Host`, and whether there is another one.
+fn host_fields(parts: &Parts) -> (Option<&[u8]>, bool)
+    ensures first { option_map (λ t. t.now) result.0 ≡ option_map (λ v. v.bytes) (get parts.now.headers (codes "host")) }
+    ensures several { result.1 ≡ spec.are_several (get_all parts.now.headers (codes "host")) }
+{
+    let mut hosts = parts.headers.get_all(header::HOST).iter();
+    match hosts.next() {
+        None => (None, false),
+        Some(host) => (Some(host.as_bytes()), hosts.next().is_some()),
+    }
+}
+
 /// What names the host: the authority of the target, else the field `Host` (RFC 9112, section 3.2.2).
-fn host_text(parts: &Parts) -> Option<&[u8]>
-    ensures { option_map (λ t. t.now) result ≡ spec.host_text parts.now }
+fn host_text<'p>(parts: &'p Parts, field: Option<&'p [u8]>) -> Option<&'p [u8]>
+    ensures { option_map (λ t. t.now) result ≡ spec.or_else (uri_authority parts.now.uri) (option_map (λ t. t.now) field.entry) }
 {
-    if let Some(authority) = parts.uri.authority() {
-        return Some(authority.as_str().as_bytes());
-    }
-    match parts.headers.get("host") {
-        Some(value) => Some(value.as_bytes()),
-        None => None,
+    match parts.uri.authority() {
+        Some(authority) => Some(authority.as_str().as_bytes()),
+        None => field,
     }
 }
 
-/// Whether there is more than one field `Host`.
-fn has_several_hosts(parts: &Parts) -> bool
-    ensures { result ≡ spec.are_several (get_all parts.now.headers (codes "host")) }
+/// The name in a host's text; none if an address in brackets stands there.
+fn named_by(text: &[u8]) -> Result<Option<&[u8]>, Refusal>
+    ensures { IsNamedBy (Some text.now) result }
 {
-    let mut hosts = parts.headers.get_all("host").iter();
-    hosts.next().is_some() && hosts.next().is_some()
-}
-
-/// Whether the host is named by a name or an address and perhaps a port, or not at all.
-fn names_a_host(parts: &Parts) -> bool
-    ensures { result ≡ spec.is_host (spec.host_text parts.now) }
-{
-    match host_text(parts) {
-        None => true,
-        Some(text) => is_literal(text) || is_named(text),
+    if is_literal(text) {
+        return Ok(None);
+    }
+    match name_in(text) {
+        Some(name) => Ok(Some(name)),
+        None => Err(Refusal::MalformedHost),
     }
 }
 
-/// Whether the host is named in two fields, or by what is no host (RFC 9112, section 3.2).
-pub(crate) fn has_malformed_host(parts: &Parts) -> bool
-    ensures { result ≡ spec.has_malformed_host parts.now }
+/// The name of the host that a request names, which may be an IPv4 address; none if it names no host, or
+/// an address in brackets.
+///
+/// # Errors
+/// `MalformedHost` if the host is named in two fields, or by what is no host (RFC 9112, section 3.2).
+pub(crate) fn host_name(parts: &Parts) -> Result<Option<&[u8]>, Refusal>
+    ensures { IsNameOf parts.now result }
 {
-    has_several_hosts(parts) || !names_a_host(parts)
+    let (field, has_several) = host_fields(parts);
+    if has_several {
+        return Err(Refusal::MalformedHost);
+    }
+    match host_text(parts, field) {
+        Some(text) => named_by(text),
+        None => Ok(None),
+    }
 }

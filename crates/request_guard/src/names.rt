@@ -1,6 +1,6 @@
 //! The text of a host in a request, and the names that are local.
 
-ghost use Rattle.std.specs.Prelude.{◌≡◌, ◌≤◌, ◌==◌, ◌∷◌, not, length, position};
+ghost use Rattle.std.specs.Prelude.{◌≡◌, ◌≤◌, ◌==◌, ◌∷◌, ◌&&◌, not, nat_lt, is_some, IfSome, length, drop, position};
 ghost use Rattle.std.specs.List.{list_all, slice_split};
 ghost use Rattle.std.specs.Char.{is_ascii_digit};
 ghost use Rattle.request_guard.specs.Names as spec;
@@ -74,18 +74,16 @@ fn is_port_part(text: &[u8]) -> bool
     }
 }
 
-/// Whether it is a name and perhaps a port.
-pub(crate) fn is_named(text: &[u8]) -> bool
-    ensures { result ≡ spec.is_named text.now }
+/// The name in front of a port, if it is a name and perhaps a port.
+pub(crate) fn name_in(text: &[u8]) -> Option<&[u8]>
+    ensures there { is_some result ≡ spec.is_named text.now }
+    ensures value { IfSome result (λ name. name.now ≡ spec.name_of text.now) }
 {
-    is_port_part(&text[name_length(text)..])
-}
-
-/// The name in front of a port.
-pub(crate) fn name_of(text: &[u8]) -> &[u8]
-    ensures { result.now ≡ spec.name_of text.now }
-{
-    &text[..name_length(text)]
+    let length = name_length(text);
+    if is_port_part(&text[length..]) {
+        return Some(&text[..length]);
+    }
+    None
 }
 
 /// Whether it is the bracket that ends an address, and perhaps a port.
@@ -98,16 +96,21 @@ fn closes(text: &[u8]) -> bool
     }
 }
 
+/// Whether it is what stands behind the bracket that begins an address.
+fn is_address(rest: &[u8]) -> bool
+    ensures { result ≡ (nat_lt 0 (spec.passed spec.is_address_byte rest.now) && spec.closes (drop (spec.passed spec.is_address_byte rest.now) rest.now)) }
+{
+    let length = address_length(rest);
+    length > 0 && closes(&rest[length..])
+}
+
 /// Whether it is an address in brackets and perhaps a port.
 pub(crate) fn is_literal(text: &[u8]) -> bool
     ensures { result ≡ spec.is_literal text.now }
 {
     match text.split_first() {
         None => false,
-        Some((first, rest)) => {
-            let length = address_length(rest);
-            *first == b'[' && length > 0 && closes(&rest[length..])
-        }
+        Some((first, rest)) => *first == b'[' && is_address(rest),
     }
 }
 

@@ -5,6 +5,7 @@ ghost use Rattle.std.specs.List.{list_all};
 ghost use Rattle.http.specs.HeaderMap.{get_all};
 ghost use Rattle.request_guard.specs.Pages as spec;
 
+use http::header;
 use http::request::Parts;
 
 /// Whether it was the user's own doing, as an address that is typed, or a page of this very service.
@@ -18,7 +19,12 @@ fn is_own_site(site: &[u8]) -> bool
 fn has_origin(parts: &Parts) -> bool
     ensures { result ≡ spec.are_some (get_all parts.now.headers (codes "origin")) }
 {
-    parts.headers.get_all("origin").iter().next().is_some()
+    parts
+        .headers
+        .get_all(header::ORIGIN)
+        .iter()
+        .next()
+        .is_some()
 }
 
 /// Whether each `Sec-Fetch-Site` says that no other site sent the request (W3C, Fetch Metadata Request

@@ -7,8 +7,6 @@ ghost use Rattle.lambda_wire.specs.Replies as replies;
 ghost use Rattle.request_guard.specs.Refusals as spec;
 ghost use Rattle.request_guard.specs.declared.refusal.Refusal.TheVariants.{ForeignCoding};
 
-use arn_ids::Row;
-use http_header::{HeaderName, HeaderValue};
 use lambda_wire::{InvokeFault, Reply, fault_reply, invoke_fault_reply};
 use std::alloc::{AllocError, Global};
 
@@ -38,6 +36,21 @@ pub enum Refusal {
     OutOfMemory,
 }
 
+impl Refusal {
+    /// Whether the connection ends behind the reply, whatever is left of the request.
+    pub fn closes(self) -> bool
+        ensures { result ≡ spec.closes self }
+    {
+        match self {
+            Refusal::ForeignCoding | Refusal::OutOfMemory => true,
+            Refusal::MalformedHost
+            | Refusal::FromPage
+            | Refusal::ForeignHost
+            | Refusal::BrokenBody => false,
+        }
+    }
+}
+
 fn by_lambda(
     alloc: Global,
     status: u16,
@@ -49,27 +62,6 @@ fn by_lambda(
     ensures { IfOk result (λ reply. reply ≡ replies.invoke_fault_reply status kind.now form message.now) }
 {
     invoke_fault_reply(alloc, status, kind, form, message)
-}
-
-/// The reply with which a connection ends (RFC 9112, section 9.6).
-fn closing(reply: Reply) -> Result<Reply, AllocError>
-    ensures { IfOk result (λ last. last ≡ spec.closing reply) }
-{
-    let Reply {
-        status,
-        headers,
-        body,
-    } = reply;
-    let mut headers = headers.into_vec();
-    headers.push((
-        HeaderName::from_static("connection"),
-        HeaderValue::from_static("close"),
-    ))?;
-    Ok(Reply {
-        status,
-        headers: Row::new(headers),
-        body,
-    })
 }
 
 /// The reply on a port of the Lambda API.
@@ -106,25 +98,25 @@ fn lambda_reply(alloc: Global, refusal: Refusal) -> Result<Reply, AllocError>
             InvokeFault::User,
             "Body is malformed",
         ),
-        Refusal::OutOfMemory => closing(by_lambda(
+        Refusal::OutOfMemory => by_lambda(
             alloc,
             500,
             "ServiceException",
             InvokeFault::Service,
             "Out of memory",
-        )?),
+        ),
     }
 }
 
 fn foreign_coding(alloc: Global) -> Result<Reply, AllocError>
     ensures { IfOk result (λ reply. reply ≡ spec.runtime_reply ForeignCoding) }
 {
-    closing(fault_reply(
+    fault_reply(
         alloc,
         501,
         "Transfer coding not supported",
         "NotImplemented",
-    )?)
+    )
 }
 
 /// The reply on a port of the Runtime API and the Extensions API.
@@ -147,7 +139,7 @@ fn runtime_reply(alloc: Global, refusal: Refusal) -> Result<Reply, AllocError>
         ),
         Refusal::ForeignCoding => foreign_coding(alloc),
         Refusal::BrokenBody => fault_reply(alloc, 400, "Body is malformed", "InvalidRequestFormat"),
-        Refusal::OutOfMemory => closing(fault_reply(alloc, 500, "Out of memory", "OutOfMemory")?),
+        Refusal::OutOfMemory => fault_reply(alloc, 500, "Out of memory", "OutOfMemory"),
     }
 }
 
