@@ -65,9 +65,12 @@ pub fn settle<S: Identity, B: Bell, K: Keep>(
     ensures configured { IfOk result (λ settled. settled.book.config ≡ S.config) }
     ensures headline { IfOk result (λ settled. Headline S.config settled.book.history settled.stats) }
     ensures settled { IfOk result (λ settled. IsSettled K.ALL settled.book.history tallies.items) }
-    ensures tally { IfOk result (λ settled. (settled.tally.held.parts ≡ 2 ^ 32) × (settled.tally.held.counts ≡ counts_of settled.book.history)) }
-    ensures fault { IfErr result (λ fault. Shown S.config (λ h. IsFault K.ALL fault h tallies.items × (fault ≢ TallyMissing → counts_in tallies.items ≡ counts_of h))) }
-    ensures nothing { IfErr result (λ fault. K.ALL ≡ false → list_all keeps_nothing tallies.items ≡ true → fault ≡ TallyMissing) }
+    ensures tally { IfOk result (λ settled. (settled.tally.held.parts ≡ 2 ^ 32)
+        × (settled.tally.held.counts ≡ counts_of settled.book.history)) }
+    ensures fault { IfErr result (λ fault. Shown S.config (λ h. IsFault K.ALL fault h tallies.items
+        × (fault ≢ TallyMissing → counts_in tallies.items ≡ counts_of h))) }
+    ensures nothing { IfErr result (λ fault. K.ALL ≡ false → list_all keeps_nothing tallies.items ≡ true
+        → fault ≡ TallyMissing) }
 {
     let settled = account.settle(tallies)?;
     settled.book.facts();
