@@ -31,19 +31,22 @@ pub record HasOneFate (config : Config) (h : List Entry) (p e : ℕ) : Type 0 wh
   pub invoke : is_invoke_of (function_of config e) (call_of h p) ≡ true
   pub fate : Waits config h p e ⊎ Answered config h p
 
--- When an entry was taken that admitted an Invoke of a function, the function had no more in flight than the reservation
--- then in force; one without a reservation had with all others without one no more than the remainder.
+-- When an entry was taken that admitted an Invoke of a function, the function had no more in flight than the
+-- reservation then in force; one without a reservation had with all others without one no more than the remainder.
 pub record IsWithinLimits (config : Config) (h : List Entry) (entry : Entry) (f : ℕ) : Type 0 where
   pub reserved : (limit : ℕ) → reservation config (entry ∷ h) f ≡ Some limit → in_flight config (entry ∷ h) f ≤ limit
-  pub unreserved : reservation config (entry ∷ h) f ≡ None → unreserved_in_flight config (entry ∷ h) ≤ remainder config (entry ∷ h)
+  pub unreserved : reservation config (entry ∷ h) f ≡ None
+    → unreserved_in_flight config (entry ∷ h) ≤ remainder config (entry ∷ h)
 
--- The headline of a configuration, a history and the counts that are shown of it:
+-- The headline of a configuration, a history and the counts that are shown of it. The first field is what the code
+-- keeps; the others follow from it, and stand here to be read:
 pub record Headline (config : Config) (h : List Entry) (told : Stats) : Type 0 where
   -- it is a history of one thread: each entry has the moment, the answers and the place that those before it determine;
   pub legal : IsLegal config h
   -- every admitted invocation either waits in exactly one environment or was answered exactly once;
   pub fates : (p e : ℕ) → place_of h p ≡ Some e → HasOneFate config h p e
   -- no admission passed a limit, whenever it was;
-  pub limits : (later earlier : List Entry) (entry : Entry) (f : ℕ) → h ≡ later ++ (entry ∷ earlier) → admits f entry ≡ true → IsWithinLimits config earlier entry f
+  pub limits : (later earlier : List Entry) (entry : Entry) (f : ℕ) → h ≡ later ++ (entry ∷ earlier)
+    → admits f entry ≡ true → IsWithinLimits config earlier entry f
   -- and the counts are those of the history.
   pub counts : told ≡ stats config h
