@@ -148,11 +148,13 @@ fn room_for(
     call: &Call,
 ) -> Result<(Vec<Roomy<(Ticket, Answer)>>, Roomy<(Ticket, Answer)>), AllocError>
     requires { length journal.old.history + (expiries + 1) ≤ 2 ^ 32 }
-    ensures same { (journal.new.config ≡ journal.old.config) × (journal.new.history ≡ journal.old.history) × (journal.new.widest ≡ journal.old.widest) }
+    ensures same { (journal.new.config ≡ journal.old.config) × (journal.new.history ≡ journal.old.history)
+        × (journal.new.widest ≡ journal.old.widest) }
     ensures made { IfOk result (λ rooms. journal.new.room ≡ expiries + 1) }
     ensures as_many { IfOk result (λ rooms. length rooms.0.items ≡ expiries) }
     ensures enough { IfOk result (λ rooms. All (λ room. room ≡ ([], journal.old.widest + 4)) rooms.0.items) }
-    ensures own { IfOk result (λ rooms. rooms.1 ≡ ([], most_answers journal.old.widest (length (owners journal.old.config)) call.now)) }
+    ensures own { IfOk result
+        (λ rooms. rooms.1 ≡ ([], most_answers journal.old.widest (length (owners journal.old.config)) call.now)) }
 {
     journal.make_room(expiries + 1)?;
     let widest = journal.widest();
@@ -203,7 +205,8 @@ impl Book {
         salt: u64,
         max_entries: u64,
     ) -> Result<Book, OpenFault>
-        ensures range { (result ≡ Err EntriesOutOfRange) ↔ ((length (owners (arc_value config)) + 1 ≤ max_entries) × (max_entries ≤ 2 ^ 32) → ⊥) }
+        ensures range { (result ≡ Err EntriesOutOfRange) ↔ ((length (owners (arc_value config)) + 1 ≤ max_entries)
+            × (max_entries ≤ 2 ^ 32) → ⊥) }
         ensures opened { IfOk result (λ book. book ≡ record { config = arc_value config; salt = salt; max_entries = max_entries; history = [] }) }
     {
         if max_entries <= u64::from(config.environments()) || max_entries > 1 << 32 {
@@ -225,7 +228,8 @@ impl Book {
         requires moment { now < 2 ^ 53 }
         requires within { IsWithin self.old.config call }
         ensures full { (result ≡ Err JournalFull) ↔ (full self.old.config self.old.max_entries self.old.history call ≡ true) }
-        ensures step { IfOk result (λ ticket. self.new ≡ record self.old { history = next self.old.config self.old.history now call }) }
+        ensures step { IfOk result
+            (λ ticket. self.new ≡ record self.old { history = next self.old.config self.old.history now call }) }
         ensures ticket { IfOk result (λ ticket. ticket + 1 ≡ length self.new.history) }
         ensures refused { IfErr result (λ refusal. self.new ≡ self.old) }
     {
@@ -245,7 +249,8 @@ impl Book {
         requires within { IsWithin self.old.config call }
         requires free { full self.old.config self.old.max_entries self.old.history call ≡ false }
         requires expiries { expiries ≡ length (due self.old.config self.old.history (moment_at self.old.history now)) }
-        ensures step { IfOk result (λ ticket. self.new ≡ record self.old { history = next self.old.config self.old.history now call }) }
+        ensures step { IfOk result
+            (λ ticket. self.new ≡ record self.old { history = next self.old.config self.old.history now call }) }
         ensures ticket { IfOk result (λ ticket. ticket + 1 ≡ length self.new.history) }
         ensures refused { IfErr result (λ refusal. self.new ≡ self.old) }
     {
@@ -275,7 +280,9 @@ impl Book {
     pub fn most_given(&self, expiries: usize, call: &Call) -> usize
         requires within { IsWithin self.now.config call.now }
         requires few_due { expiries ≤ 256 }
-        ensures enough { (now : ℕ) → expiries ≡ length (due self.now.config self.now.history (moment_at self.now.history now)) → answers_in (added self.now.config self.now.history now call.now) ≤ result }
+        ensures enough { (now : ℕ)
+            → expiries ≡ length (due self.now.config self.now.history (moment_at self.now.history now))
+            → answers_in (added self.now.config self.now.history now call.now) ≤ result }
         ensures few { result ≤ 14 * expiries + most_answers 10 (length (owners self.now.config)) call.now }
     {
         self.journal.facts();
@@ -461,7 +468,8 @@ impl Book {
         ensures booked { IsBooked self.now.config self.now.salt self.now.max_entries }
         ensures reached { IsReached self.now.config self.now.max_entries self.now.history }
         ensures legal { IsLegal self.now.config self.now.history }
-        ensures stop { stopped self.now.history ≡ false → full self.now.config self.now.max_entries self.now.history Stop ≡ false }
+        ensures stop { stopped self.now.history ≡ false
+            → full self.now.config self.now.max_entries self.now.history Stop ≡ false }
     {
         self.journal.facts();
         let _salt = self.salt;

@@ -86,7 +86,8 @@ impl Fleet {
     /// The environments of a configuration before any call.
     pub fn open(alloc: Global, config: &Checked) -> Result<Fleet, AllocError>
         requires { first_fault config.now ≡ None }
-        ensures { IfOk result (λ fleet. fleet ≡ record { sites = sites_in config.now []; pool = numbers config.now []; widest = 0 }) }
+        ensures { IfOk result
+            (λ fleet. fleet ≡ record { sites = sites_in config.now []; pool = numbers config.now []; widest = 0 }) }
     {
         Ok(Fleet {
             sites: open_sites(alloc, config)?,
@@ -235,7 +236,8 @@ impl Fleet {
         requires counted { length arrival.requests.now ≡ length self.old.pool.functions }
         requires few { IsFew (site_at self.old.sites env) }
         requires room { length (moves_at arrival.ticket arrival.moment arrival.requests.now arrival.call.now (site_at self.old.sites env)) ≤ answers.old.1 }
-        requires admitted { is_invoke arrival.call.now ≡ true → throttle self.old.pool (site_at self.old.sites env).function ≡ None }
+        requires admitted { is_invoke arrival.call.now ≡ true
+            → throttle self.old.pool (site_at self.old.sites env).function ≡ None }
         ensures sites { self.new.sites ≡ slice_set self.old.sites (env - 1) (moved arrival.entry.ticket arrival.entry.moment arrival.entry.requests.now arrival.entry.call.now (site_at self.old.sites env)) }
         ensures pool { self.new.pool ≡ flown self.new.sites self.old.pool }
         ensures widest { registered_name arrival.entry.call.now ≡ None → self.new.widest ≡ self.old.widest }

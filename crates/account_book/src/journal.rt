@@ -144,7 +144,8 @@ impl Journal {
 
     /// Whether every environment is shut down for good.
     pub fn is_off(&self) -> bool
-        ensures { result ≡ list_all (λ e. is_off (phase self.now.config self.now.history e)) (environments self.now.config) }
+        ensures { result ≡ list_all
+            (λ e. is_off (phase self.now.config self.now.history e)) (environments self.now.config) }
     {
         self.fleet.is_off()
     }
@@ -199,7 +200,8 @@ impl Journal {
     /// Makes room for this many entries; a refusal leaves the history.
     pub fn make_room(&mut self, entries: usize) -> Result<(), AllocError>
         requires { length self.old.history + entries ≤ 2 ^ 32 }
-        ensures same { (self.new.config ≡ self.old.config) × (self.new.history ≡ self.old.history) × (self.new.widest ≡ self.old.widest) }
+        ensures same { (self.new.config ≡ self.old.config) × (self.new.history ≡ self.old.history)
+            × (self.new.widest ≡ self.old.widest) }
         ensures made { OnOk result (self.new.room ≡ entries) }
     {
         self.ledger.make_room(entries)

@@ -1,58 +1,51 @@
 //! Laws of histories and their texts: functions with no work in them, whose contracts are proved.
 
-ghost use Rattle.std.specs.Prelude.{◌≡◌, ◌+◌, ℕ, true, false, List, [], ◌++◌, length, reverse, slice_index_or, codes, None, Some};
+ghost use Rattle.std.specs.Prelude.{◌≡◌, ◌+◌, ℕ, true, false, List, [], ◌++◌, length, reverse, slice_index_or, codes, None};
 ghost use Rattle.std.specs.List.{flat_map};
 ghost use Rattle.std.specs.Str.Lines.{lines};
-ghost use Rattle.arn_ids.specs.Environments.{count_from, function_at};
+ghost use Rattle.arn_ids.specs.Environments.{count_from};
 ghost use Rattle.arn_ids.specs.declared.config.Config.{Config};
 ghost use Rattle.call_types.specs.declared.call.Call.{Call};
 ghost use Rattle.call_types.specs.declared.call.Entry.{Entry};
-ghost use Rattle.call_model.specs.Isolation.{IsUnnamed, IsLegalSave};
 ghost use Rattle.call_model.specs.Next.{IsLegal, next};
-ghost use Rattle.call_model.specs.Own.{own, own_ticket};
 ghost use Rattle.script.specs.AnswerText.{entry_text};
 ghost use Rattle.account_book.specs.HistoryText.{answers_text, history_text, opening_text};
 ghost use Rattle.account_book.specs.Reached.{IsBooked, IsReached, IsTakenAfter};
-ghost use Rattle.account_book.specs.ReplyText.{reply_text};
 ghost use Rattle.account_book.specs.Run.{Taking, before, is_of_form_2, replay_from, run};
 
 /// The history of a new book is reached; each call that a book takes reaches the next one; and
 /// whatever is reached is a legal history.
 pub fn reached()
     ensures first { (config : Config) (max_entries : ℕ) → IsReached config max_entries [] }
-    ensures next { (config : Config) (max_entries : ℕ) (h : List Entry) (now : ℕ) (call : Call) → IsReached config max_entries h → IsTakenAfter config max_entries h now call → IsReached config max_entries (next config h now call) }
-    ensures legal { (config : Config) (max_entries : ℕ) (h : List Entry) → IsReached config max_entries h → IsLegal config h }
-{}
-
-/// Isolation by reservation, for every history that calls led to: a function that is reserved in the
-/// configuration and named by no Reserve gets what it would get in an account where nobody else
-/// calls and the clock ticks at the same moments. (Lambda Developer Guide: reserved concurrency)
-pub fn isolated()
-    // Its own history is a legal one, save that at a Tick something may be due;
-    ensures legal { (config : Config) (max_entries : ℕ) (h : List Entry) (f limit : ℕ) → IsReached config max_entries h → (function_at config f).reserved ≡ Some limit → IsUnnamed f h → IsLegalSave config (own config h f) }
-    // there each of its tickets has the same reply: status, headers and body, with all identifiers.
-    ensures replies { (config : Config) (salt max_entries : ℕ) (h : List Entry) (f t : ℕ) → IsReached config max_entries h → own_ticket config h f t ≡ true → reply_text config salt (own config h f) t ≡ reply_text config salt h t }
+    ensures next { (config : Config) (max_entries : ℕ) (h : List Entry) (now : ℕ) (call : Call)
+        → IsReached config max_entries h → IsTakenAfter config max_entries h now call
+        → IsReached config max_entries (next config h now call) }
+    ensures legal { (config : Config) (max_entries : ℕ) (h : List Entry) → IsReached config max_entries h
+        → IsLegal config h }
 {}
 
 /// The text of a history is what its book gives of it part by part: the opening, and behind it the
 /// text of each entry, the oldest first. `Book::opening` gives the first part, `Book::history` with
 /// the tickets 0, 1 and so on the others.
 pub fn text_in_parts()
-    ensures { (config : Config) (salt max_entries : ℕ) (h : List Entry) (d : Entry) → history_text config salt max_entries h
+    ensures { (config : Config) (salt max_entries : ℕ) (h : List Entry) (d : Entry)
+        → history_text config salt max_entries h
         ≡ opening_text config salt max_entries ++ flat_map (λ t. entry_text config salt h t (slice_index_or (reverse h) t d)) (count_from 0 (length h)) }
 {}
 
 /// A history replays to its own answers: the text of a history that calls led to is a script
 /// without a fault, and what its replay writes is exactly the answer lines of the history.
 pub fn replays()
-    ensures { (config : Config) (salt max_entries : ℕ) (h : List Entry) → IsBooked config salt max_entries → IsReached config max_entries h
+    ensures { (config : Config) (salt max_entries : ℕ) (h : List Entry) → IsBooked config salt max_entries
+        → IsReached config max_entries h
         → run (history_text config salt max_entries h) ≡ record { text = answers_text salt h; fault = None } }
 {}
 
 /// Its replay makes the same history again: behind the text, a script goes on from a book with that
 /// history, and with the same configuration, salt and greatest number of entries.
 pub fn goes_on()
-    ensures { (config : Config) (salt max_entries : ℕ) (h : List Entry) (more : List ℕ) → IsBooked config salt max_entries → IsReached config max_entries h
+    ensures { (config : Config) (salt max_entries : ℕ) (h : List Entry) (more : List ℕ)
+        → IsBooked config salt max_entries → IsReached config max_entries h
         → run (history_text config salt max_entries h ++ more) ≡ before (answers_text salt h) (replay_from (1 + length (lines (history_text config salt max_entries h)))
         (Taking true (record { config = config; salt = salt; max_entries = max_entries; history = h })) (lines more)) }
 {}
@@ -60,6 +53,8 @@ pub fn goes_on()
 /// A script of form 1 that has no fault is replayed to the same text, without a fault, where
 /// `form 2` is put before it. Where it has one, what it writes up to there is written all the same.
 pub fn form_2_goes_as_far()
-    ensures same { (input : List ℕ) → is_of_form_2 input ≡ false → (run input).fault ≡ None → run (codes "form 2\n" ++ input) ≡ run input }
-    ensures front { (input : List ℕ) → is_of_form_2 input ≡ false → (more : List ℕ) × ((run (codes "form 2\n" ++ input)).text ≡ (run input).text ++ more) }
+    ensures same { (input : List ℕ) → is_of_form_2 input ≡ false → (run input).fault ≡ None
+        → run (codes "form 2\n" ++ input) ≡ run input }
+    ensures front { (input : List ℕ) → is_of_form_2 input ≡ false → (more : List ℕ)
+        × ((run (codes "form 2\n" ++ input)).text ≡ (run input).text ++ more) }
 {}

@@ -43,7 +43,8 @@ pub(crate) fn render(
     requires answered { answer_of (reverse past.now.entries.now.0) ticket ≡ Some answer }
     requires legal { IsLegal config.now (reverse past.now.entries.now.0) }
     requires known { AllKnown config.now (reverse past.now.entries.now.0) }
-    ensures { IfOk result (λ reply. Some reply ≡ reply_text config.now past.now.salt (reverse past.now.entries.now.0) ticket) }
+    ensures { IfOk result
+        (λ reply. Some reply ≡ reply_text config.now past.now.salt (reverse past.now.entries.now.0) ticket) }
 {
     let source = source_of(ticket, answer);
     let gist = Gist {

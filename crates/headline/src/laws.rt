@@ -61,6 +61,7 @@ pub fn isolated()
 
 /// A Tick leaves every environment as it is: whatever time changes is an expiry's entry of its own.
 pub fn ticks_change_nothing()
-    ensures { (config : Config) (h : List Entry) (entry : Entry) (e : ℕ) → IsLegal config (entry ∷ h) → entry.call ≡ Tick
+    ensures { (config : Config) (h : List Entry) (entry : Entry) (e : ℕ) → IsLegal config (entry ∷ h)
+        → entry.call ≡ Tick
         → stand config (entry ∷ h) e ≡ stand config h e }
 {}

@@ -123,7 +123,8 @@ pub fn take_line(
 
 /// The fault of a line that is too long.
 pub fn overlong(number: u64, progress: &Progress) -> ReplayFault
-    ensures { (line : List ℕ) → line_limit < length line → HasFault (line_taken number (seen progress.now) line) result }
+    ensures { (line : List ℕ) → line_limit < length line
+        → HasFault (line_taken number (seen progress.now) line) result }
 {
     match progress {
         Progress::Taking { .. } => ReplayFault::Script { line: number },

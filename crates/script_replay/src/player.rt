@@ -37,7 +37,8 @@ fn play_line<W: Write>(
     ensures played { OnOk result (Played (player.old.line + 1) (seen player.old.progress) (seen player.new.progress) (player.old.pending.items ∷ [])
         (W.contents writer.old) (W.contents writer.new)) }
     ensures next { OnOk result ((player.new.line ≡ player.old.line + 1) × (player.new.pending.items ≡ [])) }
-    ensures stopped { IfErr result (λ e. (rest : List (List ℕ)) → StoppedAt (player.old.line + 1) (seen player.old.progress)
+    ensures stopped { IfErr result (λ e. (rest : List (List ℕ))
+        → StoppedAt (player.old.line + 1) (seen player.old.progress)
         (player.old.pending.items ∷ rest) (W.contents writer.old) (W.contents writer.new) e) }
 {
     player.answers.clear();
@@ -60,7 +61,8 @@ fn keep(player: &mut Player, bytes: &[u8]) -> Result<(), ReplayFault>
     requires pending { IsOpen player.old.pending.items }
     requires line { player.old.line + 1 < 2 ^ 64 }
     ensures kept { OnOk result (stand player.new ≡ record (stand player.old) { pending = player.old.pending.items ++ bytes.now }) }
-    ensures stopped { IfErr result (λ e. (old : Option (List ℕ)) (rest : List ℕ) → StoppedAt (player.old.line + 1) (seen player.old.progress)
+    ensures stopped { IfErr result (λ e. (old : Option (List ℕ)) (rest : List ℕ)
+        → StoppedAt (player.old.line + 1) (seen player.old.progress)
         (lines (player.old.pending.items ++ (bytes.now ++ rest))) old old e) }
 {
     // A carriage return that ends the line isn't counted.
@@ -119,7 +121,8 @@ fn play_last<W: Write>(
     requires line { player.old.line + 1 < 2 ^ 64 }
     ensures ok { OnOk result (Played (player.old.line + 1) (seen player.old.progress) (seen player.new.progress) (last_lines player.old.pending.items)
         (W.contents writer.old) (W.contents writer.new)) }
-    ensures stopped { IfErr result (λ e. StoppedAt (player.old.line + 1) (seen player.old.progress) (last_lines player.old.pending.items)
+    ensures stopped { IfErr result
+        (λ e. StoppedAt (player.old.line + 1) (seen player.old.progress) (last_lines player.old.pending.items)
         (W.contents writer.old) (W.contents writer.new) e) }
 {
     if player.pending.is_empty() {
@@ -133,7 +136,8 @@ fn finish<W: Write>(alloc: Global, player: &mut Player, writer: &mut W) -> Resul
     requires line { player.old.line + 1 < 2 ^ 64 }
     ensures ok { OnOk result (Ended (player.old.line + 1) (seen player.old.progress) (last_lines player.old.pending.items) None
         (W.contents writer.old) (W.contents writer.new)) }
-    ensures stopped { IfErr result (λ e. StoppedAt (player.old.line + 1) (seen player.old.progress) (last_lines player.old.pending.items)
+    ensures stopped { IfErr result
+        (λ e. StoppedAt (player.old.line + 1) (seen player.old.progress) (last_lines player.old.pending.items)
         (W.contents writer.old) (W.contents writer.new) e) }
 {
     play_last(alloc, player, writer)?;
