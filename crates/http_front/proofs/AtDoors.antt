@@ -26,6 +26,7 @@ use Rattle.http_front.specs.declared.front.Front.{Front}
 use Rattle.http_routes.specs.Decisions.{Served, decision}
 use Rattle.lambda_wire.specs.declared.reply.Reply.{Reply}
 use Rattle.long_poll.specs.Exchanges.{IsOfBody, ComesOf, IsReply, IsRendered}
+use Rattle.long_poll.specs.Lengths.{declares_too_long}
 use Rattle.long_poll.specs.Moments.{moment_of}
 use Rattle.long_poll.specs.Outcomes.{ShowsFrom}
 use Rattle.long_poll.specs.Reads.{Renders, Counts, Reserves}
@@ -122,12 +123,12 @@ module _ {R S D N K L B P E : Type 0} {service : Service.Ghosts S K L} {decider 
 
     abbrev Exchanged : Api → Type 0
     Exchanged api =
-        (made : Result (Outcome H) ExchangeFault) × ComesTo clock yields has port head made × IsAnswerTo api made response
+        (made : Result (Outcome H) ExchangeFault) × ComesTo clock yields has port head made × IsAnswerTo api (declares_too_long head) made response
 
     exchanged : (made : Result (Outcome H) ExchangeFault) → ComesTo clock yields has port head made
-        → IsAnswerTo (api_of door.port) made response
-        → IsRefusal (api_of door.port) refused.BrokenBody response
-        ⊎ (IsRefusal (api_of door.port) refused.OutOfMemory response
+        → IsAnswerTo (api_of door.port) (declares_too_long head) made response
+        → IsRefusal (api_of door.port) (declares_too_long head) refused.BrokenBody response
+        ⊎ (IsRefusal (api_of door.port) (declares_too_long head) refused.OutOfMemory response
         ⊎ IsDecided shows door yields has hosts head response)
     exchanged (Ok given) x answer =
         inr (inr (
@@ -149,13 +150,13 @@ module _ {R S D N K L B P E : Type 0} {service : Service.Ghosts S K L} {decider 
     exchanged (Err BellLost) x answer = absurd answer
 
     guarded : (guard : Option Refusal)
-        → MatchOption guard (IsRefusal (api_of door.port) refused.OutOfMemory response ⊎ Exchanged (api_of door.port))
-        (λ refusal. IsRefusal (api_of door.port) refusal response)
+        → MatchOption guard (IsRefusal (api_of door.port) (declares_too_long head) refused.OutOfMemory response ⊎ Exchanged (api_of door.port))
+        (λ refusal. IsRefusal (api_of door.port) (declares_too_long head) refusal response)
         → MatchOption guard
-        (IsRefusal (api_of door.port) refused.BrokenBody response
-        ⊎ (IsRefusal (api_of door.port) refused.OutOfMemory response
+        (IsRefusal (api_of door.port) (declares_too_long head) refused.BrokenBody response
+        ⊎ (IsRefusal (api_of door.port) (declares_too_long head) refused.OutOfMemory response
         ⊎ IsDecided shows door yields has hosts head response))
-        (λ refusal. IsRefusal (api_of door.port) refusal response)
+        (λ refusal. IsRefusal (api_of door.port) (declares_too_long head) refusal response)
     guarded (Some refusal) x = x
     guarded None (inl x) = inr (inl x)
     guarded None (inr x) = exchanged x.0 x.1 x.2
@@ -164,16 +165,16 @@ module _ {R S D N K L B P E : Type 0} {service : Service.Ghosts S K L} {decider 
         → arc_value port.hosts ≡ hosts → IsAnswer clock yields has port head response
         → IsAnswerAt (ShowsFrom account) door yields has hosts head response
     at_door account same api listed x =
-        let of_hosts : MatchOption (refusal_of hosts head) (IsRefusal port.api refused.OutOfMemory response ⊎ Exchanged port.api)
-        (λ refusal. IsRefusal port.api refusal response)
+        let of_hosts : MatchOption (refusal_of hosts head) (IsRefusal port.api (declares_too_long head) refused.OutOfMemory response ⊎ Exchanged port.api)
+        (λ refusal. IsRefusal port.api (declares_too_long head) refusal response)
         = subst (λ h. MatchOption (refusal_of h head)
-        (IsRefusal port.api refused.OutOfMemory response ⊎ Exchanged port.api)
-        (λ refusal. IsRefusal port.api refusal response)) listed x in
+        (IsRefusal port.api (declares_too_long head) refused.OutOfMemory response ⊎ Exchanged port.api)
+        (λ refusal. IsRefusal port.api (declares_too_long head) refusal response)) listed x in
         let of_api : MatchOption (refusal_of hosts head)
-        (IsRefusal (api_of door.port) refused.OutOfMemory response ⊎ Exchanged (api_of door.port))
-        (λ refusal. IsRefusal (api_of door.port) refusal response)
+        (IsRefusal (api_of door.port) (declares_too_long head) refused.OutOfMemory response ⊎ Exchanged (api_of door.port))
+        (λ refusal. IsRefusal (api_of door.port) (declares_too_long head) refusal response)
         = subst (λ a. MatchOption (refusal_of hosts head)
-        (IsRefusal a refused.OutOfMemory response ⊎ Exchanged a) (λ refusal. IsRefusal a refusal response))
+        (IsRefusal a (declares_too_long head) refused.OutOfMemory response ⊎ Exchanged a) (λ refusal. IsRefusal a (declares_too_long head) refusal response))
         api of_hosts in
         subst (λ a. IsAnswerAt (ShowsFrom a) door yields has hosts head response) same
         (guarded (refusal_of hosts head) of_api)

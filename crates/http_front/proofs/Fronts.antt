@@ -1,5 +1,5 @@
 -- What a front gives answers the request that it was asked.
-use Rattle.std.proofs.Common.{◌≡◌, ◌⊎◌, ℕ, List, [], Option, Some, None, Result, Ok, Err, IfOk, MatchOption, IsSomeAnd, subst, sym, inl, inr}
+use Rattle.std.proofs.Common.{◌≡◌, ◌⊎◌, ℕ, Bool, List, [], Option, Some, None, Result, Ok, Err, IfOk, MatchOption, IsSomeAnd, subst, sym, inl, inr}
 use Rattle.std.specs.Arc.{arc_value}
 use Rattle.decisions.specs.declared.decide.Decide as Decide
 use Rattle.futures.specs.Runs.{Runs}
@@ -16,6 +16,7 @@ use Rattle.http_front.specs.Exchanged.{ComesTo, IsAnswer}
 use Rattle.http_front.specs.Responses.{IsAnswerTo, IsRefusal}
 use Rattle.http_front.specs.declared.front.Front.{Front}
 use Rattle.http_front.specs.declared.responding.Responding.{Responding}
+use Rattle.long_poll.specs.Lengths.{declares_too_long}
 use Rattle.long_poll.specs.Outcomes.{ShowsFrom}
 use Rattle.long_poll.specs.Stages.{GivesFrom}
 use Rattle.long_poll.specs.Standing.{Gives}
@@ -40,16 +41,16 @@ module _ {R S D N K L B P E : Type 0} {service : Service.Ghosts S K L} {decider 
   abbrev Ex : Type 0
   Ex = Exchange R S D N B K L service decider keep
 
-  abbrev Answers : Api → Type 0
-  Answers api =
+  abbrev Answers : Api × Bool → Type 0
+  Answers how =
       (made : Result (Outcome (HistoryBody R S K L)) ExchangeFault) × ComesTo clock yields has port head made
-      × IsAnswerTo api made response
+      × IsAnswerTo how.0 how.1 made response
 
   -- of an exchange that is the request's
-  of_exchange : (api : Api) (exchange : Ex) (made : Result (Outcome (HistoryBody R S K L)) ExchangeFault)
-      → IsExchangeOf port head body exchange → Gives clock yields has exchange made → IsAnswerTo api made response
-      → Answers api
-  of_exchange api exchange made is gives answer =
+  of_exchange : (how : Api × Bool) (exchange : Ex) (made : Result (Outcome (HistoryBody R S K L)) ExchangeFault)
+      → IsExchangeOf port head body exchange → Gives clock yields has exchange made → IsAnswerTo how.0 how.1 made response
+      → Answers how
+  of_exchange how exchange made is gives answer =
       let there : GivesFrom (arc_value port.connection) clock yields has
       (ShowsFrom (arc_value (arc_value port.connection).service)) exchange.stage made
       = subst (λ (c : Connection R S D N K L service decider keep).
@@ -64,31 +65,31 @@ module _ {R S D N K L B P E : Type 0} {service : Service.Ghosts S K L} {decider 
       )
 
   -- of what the front took up and its future gave
-  pub answer_of : (guard : Option Refusal) (api given_api : Api) (refusal : Option Refusal) (exchange : Option Ex)
-      → given_api ≡ api
+  pub answer_of : (guard : Option Refusal) (how given_how : Api × Bool) (refusal : Option Refusal) (exchange : Option Ex)
+      → given_how ≡ how
       → MatchOption guard
       (MatchOption exchange (refusal ≡ Some OutOfMemory) (λ e. (refusal ≡ None) × IsExchangeOf port head body e))
       (λ r. (refusal ≡ Some r) × (exchange ≡ None))
       → MatchOption refusal
       (IsSomeAnd exchange (λ e. (made : Result (Outcome (HistoryBody R S K L)) ExchangeFault)
-      × Gives clock yields has e made × IsAnswerTo given_api made response))
-      (λ r. IsRefusal given_api r response)
-      → MatchOption guard (IsRefusal api OutOfMemory response ⊎ Answers api) (λ r. IsRefusal api r response)
-  answer_of (Some r) api given_api refusal exchange same took gave =
-      subst (λ a. IsRefusal a r response) same
+      × Gives clock yields has e made × IsAnswerTo given_how.0 given_how.1 made response))
+      (λ r. IsRefusal given_how.0 given_how.1 r response)
+      → MatchOption guard (IsRefusal how.0 how.1 OutOfMemory response ⊎ Answers how) (λ r. IsRefusal how.0 how.1 r response)
+  answer_of (Some r) how given_how refusal exchange same took gave =
+      subst (λ (a : Api × Bool). IsRefusal a.0 a.1 r response) same
       (subst (λ (o : Option Refusal). MatchOption o
       (IsSomeAnd exchange (λ e. (made : Result (Outcome (HistoryBody R S K L)) ExchangeFault)
-      × Gives clock yields has e made × IsAnswerTo given_api made response))
-      (λ r. IsRefusal given_api r response)) took.0 gave)
-  answer_of None api given_api refusal None same took gave =
-      inl (subst (λ a. IsRefusal a OutOfMemory response) same
-      (subst (λ (o : Option Refusal). MatchOption o ⊥ (λ r. IsRefusal given_api r response)) took gave))
-  answer_of None api given_api refusal (Some exchange) same took gave =
+      × Gives clock yields has e made × IsAnswerTo given_how.0 given_how.1 made response))
+      (λ r. IsRefusal given_how.0 given_how.1 r response)) took.0 gave)
+  answer_of None how given_how refusal None same took gave =
+      inl (subst (λ (a : Api × Bool). IsRefusal a.0 a.1 OutOfMemory response) same
+      (subst (λ (o : Option Refusal). MatchOption o ⊥ (λ r. IsRefusal given_how.0 given_how.1 r response)) took gave))
+  answer_of None how given_how refusal (Some exchange) same took gave =
       let given = subst (λ (o : Option Refusal). MatchOption o
       ((made : Result (Outcome (HistoryBody R S K L)) ExchangeFault)
-      × Gives clock yields has exchange made × IsAnswerTo given_api made response)
-      (λ r. IsRefusal given_api r response)) took.0 gave in
-      inr (subst Answers same (of_exchange given_api exchange given.0 took.1 given.1 given.2))
+      × Gives clock yields has exchange made × IsAnswerTo given_how.0 given_how.1 made response)
+      (λ r. IsRefusal given_how.0 given_how.1 r response)) took.0 gave in
+      inr (subst Answers same (of_exchange given_how exchange given.0 took.1 given.1 given.2))
 
 -- The responses that a front's futures give.
 module _ {R S D N K L B P E : Type 0} {service : Service.Ghosts S K L} {decider : Decide.Ghosts D}
@@ -98,8 +99,8 @@ module _ {R S D N K L B P E : Type 0} {service : Service.Ghosts S K L} {decider 
       → Result (Response (Either (Full (List ℕ)) (HistoryBody R S K L))) X → Type 0
   Given future answer = IfOk answer (λ response. MatchOption future.refusal
       (IsSomeAnd future.exchange (λ exchange. (made : Result (Outcome (HistoryBody R S K L)) ExchangeFault)
-      × Gives clock yields has exchange made × IsAnswerTo future.api made response))
-      (λ refusal. IsRefusal future.api refusal response))
+      × Gives clock yields has exchange made × IsAnswerTo future.api future.is_unread made response))
+      (λ refusal. IsRefusal future.api future.is_unread refusal response))
 
   pub answers : (head : Parts) (response : Response (Either (Full (List ℕ)) (HistoryBody R S K L)))
       → Gave (λ (front : Front R S D N K L service decider keep) (request : Request B) (future : Responding R S D N B K L service decider keep).
@@ -108,5 +109,6 @@ module _ {R S D N K L B P E : Type 0} {service : Service.Ghosts S K L} {decider 
   answers head response x =
       subst (λ (h : Parts). IsAnswer clock yields has port h response) x.head_is
           (answer_of clock yields has port (head_of x.request) (body_of x.request) response
-              (refusal_of (arc_value port.hosts) (head_of x.request)) port.api x.future.api x.future.refusal
-              x.future.exchange x.called.0 x.called.1 x.given)
+              (refusal_of (arc_value port.hosts) (head_of x.request))
+              (port.api, declares_too_long (head_of x.request)) (x.future.api, x.future.is_unread) x.future.refusal
+              x.future.exchange (λ i. (x.called.0 i, x.called.1 i)) x.called.2 x.given)

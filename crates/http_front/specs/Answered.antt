@@ -23,6 +23,7 @@ use Rattle.http_front.specs.Responses.{IsResponseTo, IsRefusal}
 use Rattle.http_routes.specs.Decisions.{Served, decision}
 use Rattle.lambda_wire.specs.declared.reply.Reply.{Reply}
 use Rattle.long_poll.specs.Exchanges.{IsOfBody}
+use Rattle.long_poll.specs.Lengths.{declares_too_long}
 use Rattle.long_poll.specs.Reads.{Counts, Reserves}
 use Rattle.long_poll.specs.Refusals.{refusal_reply}
 use Rattle.long_poll.specs.Views.{stats_reply, reservation_reply}
@@ -69,12 +70,12 @@ module _ {H : Type 0} (shows : Option ℕ → H → Type 0) (door : Served) wher
     IsDecided response =
         (came : B) × (given : Outcome H)
         × IsOfBody has (yields came) head [] (λ body. IsOutcomeOf (decision door head body) given)
-        × IsResponseTo given response
+        × IsResponseTo (declares_too_long head) given response
 
     -- The response to a request with this head at the door: if its head is refused, of that refusal; else of a body that
     -- failed, of want of memory, or of what was decided.
     abbrev pub IsAnswerAt : Response (Either (Full (List ℕ)) H) → Type 0
     IsAnswerAt response = MatchOption (refusal_of hosts head)
-        (IsRefusal (api_of door.port) BrokenBody response
-        ⊎ (IsRefusal (api_of door.port) OutOfMemory response ⊎ IsDecided response))
-        (λ refusal. IsRefusal (api_of door.port) refusal response)
+        (IsRefusal (api_of door.port) (declares_too_long head) BrokenBody response
+        ⊎ (IsRefusal (api_of door.port) (declares_too_long head) OutOfMemory response ⊎ IsDecided response))
+        (λ refusal. IsRefusal (api_of door.port) (declares_too_long head) refusal response)

@@ -11,6 +11,7 @@ use Rattle.http_body_util.specs.declared.full.Full.{Full}
 use Rattle.http_front.specs.Responses.{IsAnswerTo, IsRefusal}
 use Rattle.http_front.specs.declared.front.Front.{Front}
 use Rattle.long_poll.specs.Exchanges.{Exchanges}
+use Rattle.long_poll.specs.Lengths.{declares_too_long}
 use Rattle.long_poll.specs.Outcomes.{ShowsFrom}
 use Rattle.long_poll.specs.declared.clock.Clock as Clock
 use Rattle.long_poll.specs.declared.fault.ExchangeFault.{ExchangeFault}
@@ -36,6 +37,6 @@ module _ {R S D N K L B P E : Type 0} {service : Service.Ghosts S K L} {decider 
   -- of want of memory for one.
   abbrev pub IsAnswer : Response (Either (Full (List ℕ)) (HistoryBody R S K L)) → Type 0
   IsAnswer response = MatchOption (refusal_of (arc_value port.hosts) head)
-      (IsRefusal port.api OutOfMemory response
-      ⊎ ((made : Result (Outcome (HistoryBody R S K L)) ExchangeFault) × ComesTo made × IsAnswerTo port.api made response))
-      (λ refusal. IsRefusal port.api refusal response)
+      (IsRefusal port.api (declares_too_long head) OutOfMemory response
+      ⊎ ((made : Result (Outcome (HistoryBody R S K L)) ExchangeFault) × ComesTo made × IsAnswerTo port.api (declares_too_long head) made response))
+      (λ refusal. IsRefusal port.api (declares_too_long head) refusal response)
