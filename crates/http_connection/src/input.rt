@@ -1,6 +1,8 @@
 //! Where the bytes of a connection's input stand: in a head, or in the body that a head declares.
 
-ghost use Rattle.std.specs.Prelude.{◌≤◌, ◌<◌, length};
+ghost use Rattle.std.specs.Prelude.{◌≤◌, ◌<◌, length, IfSome};
+
+use memchr::memchr;
 
 /// The name of the field that declares a body's length, and what stands behind it.
 const NAME: &[u8] = b"content-length:";
@@ -78,20 +80,42 @@ impl Input {
         is_head_end
     }
 
+    /// Takes bytes of a line, without its end. Of a line that is no length the rest is passed over.
+    fn take_bytes(&mut self, bytes: &[u8]) {
+        for byte in bytes {
+            if matches!(self.line, Line::Other) {
+                return;
+            }
+            if *byte != b'\r' {
+                self.take_byte(*byte);
+            }
+        }
+    }
+
+    /// Takes bytes up to the end of the present line. Gives how many these are with that end, and whether it
+    /// ends the head; none where the line goes on behind the bytes.
+    fn take_line(&mut self, bytes: &[u8]) -> Option<(usize, bool)>
+        ensures { IfSome result (λ taken. (0 < taken.0) × (taken.0 ≤ length bytes.now)) }
+    {
+        let Some(place) = memchr(b'\n', bytes) else {
+            self.take_bytes(bytes);
+            return None;
+        };
+        self.take_bytes(&bytes[..place]);
+        Some((place + 1, self.take_end()))
+    }
+
     /// How many of these bytes belong to the head that is to be ended: up to and with its end, or all.
     fn head_part(&mut self, bytes: &[u8]) -> usize
         ensures bound { result ≤ length bytes.now }
         ensures some { 0 < length bytes.now → 0 < result }
     {
-        for place in 0..bytes.len() {
-            match bytes[place] {
-                b'\n' => {
-                    if self.take_end() {
-                        return place + 1;
-                    }
-                }
-                b'\r' => {}
-                other => self.take_byte(other),
+        let mut part = 0;
+        for _ in 0..bytes.len() {
+            match self.take_line(&bytes[part..]) {
+                Some((count, true)) => return part + count,
+                Some((count, false)) => part += count,
+                None => break,
             }
         }
         bytes.len()
