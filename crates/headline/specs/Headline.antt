@@ -36,7 +36,7 @@ pub record HasOneFate (config : Config) (h : List Entry) (p e : ℕ) : Type 0 wh
 pub record IsWithinLimits (config : Config) (h : List Entry) (entry : Entry) (f : ℕ) : Type 0 where
   pub reserved : (limit : ℕ) → reservation config (entry ∷ h) f ≡ Some limit → in_flight config (entry ∷ h) f ≤ limit
   pub unreserved : reservation config (entry ∷ h) f ≡ None
-    → unreserved_in_flight config (entry ∷ h) ≤ remainder config (entry ∷ h)
+      → unreserved_in_flight config (entry ∷ h) ≤ remainder config (entry ∷ h)
 
 -- The headline of a configuration, a history and the counts that are shown of it. The first field is what the code
 -- keeps; the others follow from it, and stand here to be read:
@@ -47,6 +47,6 @@ pub record Headline (config : Config) (h : List Entry) (told : Stats) : Type 0 w
   pub fates : (p e : ℕ) → place_of h p ≡ Some e → HasOneFate config h p e
   -- no admission passed a limit, whenever it was;
   pub limits : (later earlier : List Entry) (entry : Entry) (f : ℕ) → h ≡ later ++ (entry ∷ earlier)
-    → admits f entry ≡ true → IsWithinLimits config earlier entry f
+      → admits f entry ≡ true → IsWithinLimits config earlier entry f
   -- and the counts are those of the history.
   pub counts : told ≡ stats config h

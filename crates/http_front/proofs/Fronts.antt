@@ -104,11 +104,11 @@ module _ {R S D N K L B P E : Type 0} {service : Service.Ghosts S K L} {decider 
 
   pub answers : (head : Parts) (response : Response (Either (Full (List ℕ)) (HistoryBody R S K L)))
       → Gave (λ (front : Front R S D N K L service decider keep) (request : Request B) (future : Responding R S D N B K L service decider keep).
-          Takes front (head_of request) (body_of request) future) Given port head response
+      Takes front (head_of request) (body_of request) future) Given port head response
       → IsAnswer clock yields has port head response
   answers head response x =
       subst (λ (h : Parts). IsAnswer clock yields has port h response) x.head_is
-          (answer_of clock yields has port (head_of x.request) (body_of x.request) response
-              (refusal_of (arc_value port.hosts) (head_of x.request))
-              (port.api, declares_too_long (head_of x.request)) (x.future.api, x.future.is_unread) x.future.refusal
-              x.future.exchange (λ i. (x.called.0 i, x.called.1 i)) x.called.2 x.given)
+      (answer_of clock yields has port (head_of x.request) (body_of x.request) response
+      (refusal_of (arc_value port.hosts) (head_of x.request))
+      (port.api, declares_too_long (head_of x.request)) (x.future.api, x.future.is_unread) x.future.refusal
+      x.future.exchange (λ i. (x.called.0 i, x.called.1 i)) x.called.2 x.given)
