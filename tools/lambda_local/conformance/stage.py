@@ -154,6 +154,7 @@ class Stage:
         for environment in self.environments:
             if not environment.asked():
                 raise Missing(f"no Next within {self.patience:g} s: {self.said()}")
+        self.idle()  # (the service knows of it too)
 
     def __enter__(self):
         return self
