@@ -36,7 +36,8 @@ def main():
         answer, event = ask(connection, "GET", "event/next", headers=me)
         print(answer.status, event, flush=True)
         if json.loads(event).get("eventType") == "SHUTDOWN":
-            # The next event that is asked for says that this extension is done. (The service may end before it answers.)
+            # The next event that is asked for says that this extension is done. (The service may end before it
+            # answers.)
             with contextlib.suppress(OSError, http.client.HTTPException):
                 ask(connection, "GET", "event/next", headers=me)
             return

@@ -70,7 +70,8 @@ class Context:
         self.client_context = None
         if client_context := json.loads(headers.get("Lambda-Runtime-Client-Context", "null")):
             client = SimpleNamespace(**client_context.get("client", {}))
-            self.client_context = SimpleNamespace(client=client, custom=client_context.get("custom"), env=client_context.get("env"))
+            self.client_context = SimpleNamespace(client=client, custom=client_context.get("custom"),
+                                                  env=client_context.get("env"))
         self.deadline = int(headers["Lambda-Runtime-Deadline-Ms"])
 
     def get_remaining_time_in_millis(self):
@@ -88,17 +89,20 @@ def load(name):
     """The handler of that name, or a fault as Lambda names it. (`app:handler` is another notation for app.handler.)"""
     module_name, dot, function_name = name.replace(":", ".").rpartition(".")
     if not dot:
-        raise RuntimeFault("Runtime.MalformedHandlerName", f"Bad handler '{name}': not enough values to unpack (expected 2, got 1)")
+        raise RuntimeFault("Runtime.MalformedHandlerName",
+                           f"Bad handler '{name}': not enough values to unpack (expected 2, got 1)")
     path = module_name.replace("/", ".")
     if path.split(".")[0] in sys.builtin_module_names:
-        raise RuntimeFault("Runtime.BuiltInModuleConflict", f"Cannot use built-in module {module_name} as a handler module")
+        raise RuntimeFault("Runtime.BuiltInModuleConflict",
+                           f"Cannot use built-in module {module_name} as a handler module")
     try:
         __import__(path)  # (importlib's function would leave its own frames in each stack)
     except ImportError as fault:
         raise RuntimeFault("Runtime.ImportModuleError", f"Unable to import module '{module_name}': {fault}") from fault
     except SyntaxError as fault:
         stack = [f'  File "{fault.filename}" Line {fault.lineno}\n    {fault.text}']
-        raise RuntimeFault("Runtime.UserCodeSyntaxError", f"Syntax error in module '{module_name}': {fault}", stack) from fault
+        raise RuntimeFault("Runtime.UserCodeSyntaxError", f"Syntax error in module '{module_name}': {fault}",
+                           stack) from fault
     handler = getattr(sys.modules[path], function_name, None)
     if handler is None:
         raise RuntimeFault("Runtime.HandlerNotFound", f"Handler '{function_name}' missing on module '{module_name}'")
@@ -138,7 +142,8 @@ def report_of(fault, request=""):
         error_type, stack = fault.error_type, fault.stack
     else:
         error_type, stack = type(fault).__name__, traceback.format_list(traceback.extract_tb(user_stack(fault)))
-    return {"errorMessage": str(fault)[:MESSAGE_LIMIT], "errorType": error_type, "requestId": request, "stackTrace": stack}
+    return {"errorMessage": str(fault)[:MESSAGE_LIMIT], "errorType": error_type, "requestId": request,
+            "stackTrace": stack}
 
 
 def type_header(report):
@@ -196,7 +201,8 @@ def serve(environment, handler):
         if status == 500:  # the container error, as for a Next
             return
         if status != 202:  # 413, too large, or 403, too late: the environment goes on with the next invocation
-            print(f"runtime.py: the {kind} to {request} is refused: {status} {refusal.decode()}", file=sys.stderr, flush=True)
+            print(f"runtime.py: the {kind} to {request} is refused: {status} {refusal.decode()}", file=sys.stderr,
+                  flush=True)
 
 
 def init(environment, name):
@@ -229,7 +235,8 @@ def main():
         serve(environment, handler)
     except (OSError, http.client.HTTPException) as fault:
         if not environment.has_answered:
-            print(f"runtime.py: no Runtime API at {address}: {fault}: start the service first, and name its environment's port",
+            print(f"runtime.py: no Runtime API at {address}: {fault}: start the service first, and name its "
+                  f"environment's port",
                   file=sys.stderr)
             return 1
     return 0  # (it answered before: the service has stopped)

@@ -35,6 +35,7 @@ if [ -n "${_HANDLER-}" ]; then
   function=${_HANDLER##*.}
   [ -r "$file" ] || fail_init Runtime.ImportModuleError "there is no $file"
   sh -n "$file" || fail_init Runtime.UserCodeSyntaxError "$file does not compile"
+  # shellcheck disable=SC1090
   . "$file" || fail_init Runtime.InitFailed "$file ended with status $?"
   command -v "$function" >/dev/null || fail_init Runtime.HandlerNotFound "$file has no function $function"
 fi

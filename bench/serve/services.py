@@ -102,7 +102,7 @@ class Kind:
 
     def __init__(self, name, program, is_ours, under=()):
         self.name, self.program, self.is_ours, self.under = name, program, is_ours, list(under)
-        self.listens = LISTENS * 6 if under else LISTENS
+        self.listens = ANSWERS if under else LISTENS
 
     def words(self, folder, port, environments):
         if not self.is_ours:

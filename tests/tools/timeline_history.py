@@ -1,7 +1,6 @@
 #!/usr/bin/env python3
 """Checks what tools/timeline says of histories, also of edited and of cut ones, which part of them it shows, and the faults
 that it names. The program is LAMBDA_LOCAL_PROGRAM, else ./lambda_local. Ends with 'N passed, M failed'."""
-import json
 import os
 import re
 import subprocess

@@ -9,7 +9,7 @@ import tarfile
 
 ROOT = os.path.dirname(os.path.dirname(os.path.dirname(os.path.realpath(__file__))))
 PACKAGED = ("lambda_local", "README.md", "CHANGELOG.md", "LICENSE", "docs", "examples", "tools", "tests/clients")
-MAKERS = ("tools/package", "tools/packages/", "tools/release")  # which stand in a checkout alone
+MAKERS = ("tools/package", "tools/packages/", "tools/release", "tools/proof_costs", "tools/library/crate_list.py")  # which stand in a checkout alone
 PROVED = ("crates.txt", "HANDLES", ":(glob)crates/*/src/**", ":(glob)crates/*/specs/**", ":(glob)crates/*/proofs/**")
 STAMP = ("sources", "kit", "program", "gate")  # the lines of what proved a program
 TRIAL, ANSWER = "examples/first_call.txt", "crates/lambda_local/stdout"

@@ -104,6 +104,13 @@ class Environment:
         before = sum(one.begun < exchange.answered for one in self.proxy.of(kind))
         return self.asked(before + 1, seconds, kind, real_seconds)
 
+    def given_up(self, kind, seconds):
+        """The poll of a kind that it gives up within so many seconds; None if it waits."""
+        def found():
+            return next((poll for poll in self.proxy.exchanges if poll.kind == kind and poll.left), None)
+        self.proxy.wait(found, seconds)
+        return found()
+
     def saw(self, kind, seconds, count=1):
         """Waits for the count-th whole exchange of a kind: that exchange, or None."""
         def found():
@@ -147,6 +154,7 @@ class Stage:
         for environment in self.environments:
             if not environment.asked():
                 raise Missing(f"no Next within {self.patience:g} s: {self.said()}")
+        self.idle()  # (the service knows of it too)
 
     def __enter__(self):
         return self

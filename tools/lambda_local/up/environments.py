@@ -5,7 +5,6 @@ can report the end of a process."""
 import contextlib
 import http.client
 import json
-import os
 import select
 import threading
 import time
@@ -13,7 +12,6 @@ import time
 from ..service import EXTENSION, RUNTIME, ask
 from .members import NAME
 from .processes import Process, reason_of
-from .restarts import Restarts
 
 SHUTDOWN_SECONDS = 2.0  # an environment's, for its extensions
 SPARE = 0.1  # of them, for tools/up itself

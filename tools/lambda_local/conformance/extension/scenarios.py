@@ -257,10 +257,6 @@ def idle_for_long(stage):
     environment, seconds = stage.environment, stage.tools.options.idle_seconds
     stage.begin()
     stage.idle()
-
-    def given_up():
-        return next((poll for poll in environment.proxy.exchanges if poll.kind == "event" and poll.left), None)
-    environment.proxy.wait(given_up, seconds)
-    poll = given_up()
+    poll = environment.given_up("event", seconds)
     after = f"{poll.left - poll.begun:.1f} s" if poll else ""
     stage.check("next_without_timeout", poll is None, f"it gave its Next up after {after}; {stage.said()}")

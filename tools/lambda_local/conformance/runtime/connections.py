@@ -71,11 +71,7 @@ def connection_ends(stage):
 def idle_for_long(stage):
     environment, seconds = stage.environment, stage.tools.options.idle_seconds
     stage.idle()
-
-    def given_up():
-        return next((poll for poll in environment.proxy.exchanges if poll.kind == "next" and poll.left), None)
-    environment.proxy.wait(given_up, seconds)
-    if poll := given_up():
+    if poll := environment.given_up("next", seconds):
         return stage.check("next_without_timeout", False,
                            f"it gave its Next up after {poll.left - poll.begun:.1f} s; {environment.process.how_it_ended()}")
     output = stage.output({"do": "echo", "value": "at last"})

@@ -1,0 +1,20 @@
+"""The files of this checkout."""
+import os
+import shutil
+import subprocess
+
+ROOT = os.path.dirname(os.path.dirname(os.path.dirname(os.path.realpath(__file__))))
+
+
+def files_of(root):
+    """What git knows or would add, by its names."""
+    listed = subprocess.run(["git", "-C", root, "ls-files", "-co", "--exclude-standard", "-z"], stdout=subprocess.PIPE,
+                            check=True).stdout.decode()
+    return [it for it in sorted(set(listed.split("\0"))) if it and os.path.isfile(os.path.join(root, it))]
+
+
+def copy_to(folder):
+    """Puts the files there as they stand."""
+    for name in files_of(ROOT):
+        os.makedirs(os.path.dirname(os.path.join(folder, name)), exist_ok=True)
+        shutil.copy2(os.path.join(ROOT, name), os.path.join(folder, name))

@@ -1,0 +1,131 @@
+"""Whether what was shown once still belongs to these sources: edits fit, the released program is of them, and how many
+commits ago what the gate does not run was last run."""
+import glob
+import gzip
+import hashlib
+import os
+import re
+import subprocess
+
+from page_facts import pages_of, text_of
+
+MEASURED = re.compile(r"^<!-- measured at ([0-9a-f]{7,40}) -->$", re.M)
+SOURCES = ("src", "specs", "proofs")
+
+
+def git(root, *words):
+    """What git says, or nothing where it knows no answer."""
+    ran = subprocess.run(["git", "-C", root, *words], stdout=subprocess.PIPE, stderr=subprocess.DEVNULL, text=True)
+    return ran.stdout.strip() if ran.returncode == 0 else ""
+
+
+def misfit(edit, crate):
+    """Why an edit does not fit its crate: each text that it replaces stands in its file exactly once."""
+    texts, path, old = {}, "", ""
+    for key, value in re.findall(r"^(file|old|new):(?: (.*))?$", text_of(edit), re.M):
+        if key == "file":
+            path = value.strip()
+            texts.setdefault(path, text_of(crate, path))
+        elif key == "old":
+            old = value
+        elif not texts.get(path):
+            return f"there is no {path}"
+        elif texts[path].count(old) != 1 or not old:
+            return f"stands {texts[path].count(old)} times in {path}: {old.strip()}"
+        else:
+            texts[path] = texts[path].replace(old, value)
+    return "" if texts else "names no file"
+
+
+def edits_of(root):
+    """Each edit of the repository with the folder of its crate."""
+    for edit in sorted(glob.glob(f"{root}/crates/*/must-fail/*.edit")):
+        yield edit, os.path.dirname(os.path.dirname(edit))
+    for edit in sorted(glob.glob(f"{root}/tests/edits/*/*.edit")):
+        yield edit, f"{root}/crates/{os.path.basename(os.path.dirname(edit))}"
+    for edit in sorted(glob.glob(f"{root}/tests/definitions/*.edit")):
+        yield edit, f"{root}/crates/call_model"
+
+
+def misfits(root):
+    for edit, crate in edits_of(root):
+        fault = misfit(edit, crate)
+        if fault:
+            yield f"{os.path.relpath(edit, root)}: {fault}"
+
+
+def line_of(text, word):
+    return "".join(re.findall(rf"^{word} (.*)$", text, re.M))
+
+
+def broken_release(root):
+    """What is wrong with the released program, whatever sources it is of."""
+    proved = text_of(root, "release", "PROVED")
+    try:
+        with gzip.open(f"{root}/release/lambda_local.gz") as file:
+            released = hashlib.sha256(file.read()).hexdigest()
+    except OSError as fault:
+        yield f"lambda_local.gz cannot be read: {fault}"
+        return
+    if released != line_of(proved, "program"):
+        yield "lambda_local.gz does not have the sha256 that PROVED names"
+    if not re.fullmatch(r"[1-9]\d* passed, 0 failed", line_of(proved, "gate")):
+        yield f"PROVED names no gate that passed: {line_of(proved, 'gate')!r}"
+
+
+def old_release(root):
+    """By what the released program is not of these sources and this kit."""
+    proved = text_of(root, "release", "PROVED")
+    stamp = subprocess.run([f"{root}/lambda_local", "stamp"], stdout=subprocess.PIPE, text=True).stdout
+    for word in ("sources", "kit"):
+        if line_of(stamp, word) not in ("", line_of(proved, word)):
+            since = git(root, "log", "-1", "--format=%h", "--", "release/PROVED")
+            changes = git(root, "rev-list", "--count", f"{since}..HEAD", "--", "crates", "crates.txt", "HANDLES")
+            yield f"it is of other {word}: {changes or 'unknown'} commits since {since or 'it'} changed crates"
+
+
+def is_known(root, commit):
+    return bool(git(root, "rev-parse", "--verify", "-q", f"{commit}^{{commit}}"))
+
+
+def age(root, commit):
+    """How many commits ago that was, and how many of them changed sources of crates."""
+    if git(root, "rev-parse", "--is-shallow-repository") != "false":
+        return f"{commit}: this checkout has no whole history"
+    count = git(root, "rev-list", "--count", f"{commit}..HEAD")
+    sources = [f":(glob)crates/*/{it}/**" for it in SOURCES]
+    changes = git(root, "rev-list", "--count", f"{commit}..HEAD", "--", *sources)
+    return f"{commit}, {count} commits ago, {changes} of which changed sources of crates"
+
+
+def age_of_edits(root):
+    """When the further edits were last refused, and how many of them have changed since, or their crates have."""
+    commit = text_of(root, "tests", "edits", "LAST_REFUSED").split(" ")[0].removesuffix("-dirty")
+    if not is_known(root, commit):
+        return f"LAST_REFUSED names {commit or 'no commit'}, which git does not know"
+    changed = git(root, "diff", "--name-only", commit).split("\n")
+    of_crates = {it.split("/")[1] for it in changed if re.match(rf"crates/\w+/({'|'.join(SOURCES)})/", it)}
+    edits = [os.path.relpath(it, root) for it in glob.glob(f"{root}/tests/edits/*/*.edit")]
+    stale = [it for it in edits if it in changed or it.split("/")[2] in of_crates]
+    return f"last refused at {age(root, commit)}; {len(stale)} of {len(edits)} are new, or of a crate that changed"
+
+
+def unmeasured(root, page, text):
+    """A part of a page on speed with a table says at which commit its figures were measured, and git knows that."""
+    if page != "docs/speed.md":
+        return
+    for part in re.split(r"^(?=## )", text, flags=re.M)[1:]:
+        title = part.split("\n")[0]
+        if re.search(r"^\|.*\d", part, re.M) and not MEASURED.search(part):
+            yield f"{title!r} has figures, and not the line <!-- measured at COMMIT -->"
+    if git(root, "rev-parse", "--is-shallow-repository") == "false":
+        for commit in MEASURED.findall(text):
+            if not is_known(root, commit):
+                yield f"measured at {commit}, which git does not know"
+
+
+def ages_of_figures(root):
+    for page in pages_of(root):
+        for part in re.split(r"^(?=## )", text_of(root, page), flags=re.M):
+            for commit in MEASURED.findall(part):
+                yield f"{page}, {part.split(chr(10))[0].strip('# ')}: measured at {age(root, commit)}"

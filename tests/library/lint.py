@@ -1,0 +1,84 @@
+"""What linters find in the tools, tests and benches, and lines that are too long. A line with a comment `noqa` is left
+alone, as usual. A linter that is not on this machine finds nothing."""
+import ast
+import os
+import re
+import shutil
+import subprocess
+
+from checkout import files_of
+
+MOST = 120
+LEFT_OUT = re.compile(r"examples/conformance/(broken|failing|conformance)\.")
+SUFFIXES = {".py": "python", ".sh": "sh", **dict.fromkeys((".c", ".go", ".js", ".mjs", ".css"), "other")}
+SHEBANGS = ((re.compile(r"#!.*python"), "python"), (re.compile(r"#!.*\b(ba|da)?sh\b"), "sh"))
+# Left out: imports below a line that says where modules are, the length of lines (`too_long` has it), and rules of taste
+# (where a continued line begins, spaces in slices, empty lines in functions and at the end, names for a lambda).
+RULES = ["--ignore", "E12,E133,E203,E226,E24,E306,E402,E501,E704,E731,W391,W503,W504"]
+LINTERS = (
+    # what it checks, its commands by name, Debian's package
+    ("python", ("pyflakes3", "pyflakes"), [], "pyflakes3"),
+    ("python", ("pycodestyle",), RULES, "pycodestyle"),
+    ("sh", ("shellcheck",), ["-f", "gcc", "-S", "warning"], "shellcheck"),
+)
+
+
+def kind_of(path, name):
+    kind = SUFFIXES.get(os.path.splitext(name)[1])
+    if kind or "." in os.path.basename(name):
+        return kind
+    try:
+        with open(path, encoding="utf-8") as file:
+            first = file.readline(200)
+    except (OSError, UnicodeDecodeError):
+        return None
+    return next((kind for shebang, kind in SHEBANGS if shebang.match(first)), None)
+
+
+def programs_of(root):
+    """The programs of the repository that are no crate's, by their languages."""
+    kinds = {}
+    for name in files_of(root):
+        kind = kind_of(os.path.join(root, name), name)
+        if kind and not name.startswith("crates/") and not LEFT_OUT.match(name):
+            kinds.setdefault(kind, []).append(name)
+    return kinds
+
+
+def too_long(root, kinds):
+    for name in sorted(sum(kinds.values(), [])):
+        with open(os.path.join(root, name), encoding="utf-8") as file:
+            for number, line in enumerate(file, 1):
+                if len(line.rstrip("\n")) > MOST:
+                    yield f"{name}:{number}: {len(line) - 1} columns, and {MOST} are the most"
+
+
+def unreadable(root, kinds):
+    """Python files that version 3.9 would not read."""
+    for name in kinds.get("python", ()):
+        with open(os.path.join(root, name), encoding="utf-8") as file:
+            try:
+                ast.parse(file.read(), name, feature_version=(3, 9))
+            except SyntaxError as fault:
+                yield f"{name}:{fault.lineno}: {fault.msg}"
+
+
+def found_by(linter, root, kinds):
+    """What a linter finds; None if it is not here."""
+    kind, commands, words, _ = linter
+    command = next(filter(None, map(shutil.which, commands)), None)
+    if not command:
+        return None
+    ran = subprocess.run([command, *words, *kinds.get(kind, ())], cwd=root, stdout=subprocess.PIPE,
+                         stderr=subprocess.STDOUT, text=True)
+    return [it for it in ran.stdout.splitlines() if not is_left_alone(root, it)]
+
+
+def is_left_alone(root, finding):
+    """Whether a finding is of a line that has the comment `noqa`."""
+    where = re.match(r"(.+?):(\d+):", finding)
+    if not where:
+        return False
+    with open(os.path.join(root, where[1]), encoding="utf-8") as file:
+        lines = file.read().split("\n")
+    return "# noqa" in lines[int(where[2]) - 1]

@@ -1,0 +1,221 @@
+"""What the pages say, held against the sources: links and anchors, files, options, names, numbers, and what a page
+lists. Each function gives the faults of one page of a tree, in words."""
+import glob
+import os
+import re
+import shutil
+import subprocess
+import sys
+
+sys.path.insert(0, os.path.join(os.path.dirname(os.path.realpath(__file__)), "..", "..", "tools", "library"))
+from crate_list import uses
+
+FOLDERS = ("bench", "crates", "docs", "examples", "tests", "tools")
+FENCED = re.compile(r"(?:^<!-- (\w[\w ]*) -->\n)?^```(\w*)\n(.*?)^```$", re.M | re.S)
+NUMBERS = {word: number for number, word in enumerate(
+    "one two three four five six seven eight nine ten eleven twelve thirteen fourteen fifteen sixteen seventeen "
+    "eighteen nineteen twenty twenty-one twenty-two twenty-three twenty-four twenty-five twenty-six".split(), 1)}
+COMMAND = re.compile(r"(tools/conformance (?:runtime|extension|service)|tools/\w+|tests/(?:tools|definitions)/run"
+                     r"|tests/\w+|bench/serve/\w+|bench/replay|\./lambda_local)\b(.*)")
+
+
+def text_of(*parts):
+    try:
+        with open(os.path.join(*parts), encoding="utf-8") as file:
+            return file.read()
+    except OSError:
+        return ""
+
+
+def pages_of(root):
+    return ["README.md", *sorted(os.path.relpath(it, root) for it in glob.glob(f"{root}/docs/*.md"))]
+
+
+def headings(text):
+    """The anchors of a page's headings."""
+    lines = re.findall(r"^#+ (.*)$", re.sub(FENCED, "", text), re.M)
+    return {re.sub(r"[^\w\- ]", "", line.lower()).replace(" ", "-") for line in lines}
+
+
+def code_of(text):
+    """The code of a page: its blocks, and its spans."""
+    blocks = [block for _, _, block in FENCED.findall(text)]
+    return blocks, re.findall(r"`([^`\n]+)`", re.sub(FENCED, "", text))
+
+
+def links(root, page, text):
+    for target in re.findall(r"\]\(([^)\s]+)\)", re.sub(FENCED, "", text)):
+        if re.match(r"\w+:", target):
+            continue
+        path, _, anchor = target.partition("#")
+        there = os.path.normpath(os.path.join(root, os.path.dirname(page), path)) if path else os.path.join(root, page)
+        if not os.path.exists(there):
+            yield f"{target} is not there"
+        elif anchor and anchor not in headings(text_of(there)):
+            yield f"{target}: no such heading"
+
+
+def files(root, page, text):
+    blocks, spans = code_of(text)
+    for word in re.findall(r"[\w./*\-]+", " ".join([*spans, *blocks])):
+        word = word.strip(".")
+        if word.split("/")[0] in FOLDERS and "/" in word and "NAME" not in word and "/out" not in word:
+            if not glob.glob(os.path.join(root, word)):
+                yield f"{word} is not there"
+
+
+def options(root, page, text):
+    """Each option of a command of this repository is one that its help names."""
+    blocks, spans = code_of(text)
+    told = {}
+    for line in [*spans, *(line for block in blocks for line in block.splitlines())]:
+        found = COMMAND.match(line.split("#")[0])
+        given = found and re.findall(r"(?<=\s)--[a-z][\w-]*", found[2].split(" -- ")[0].split("|")[0])
+        if given and os.access(os.path.join(root, found[1].split()[0]), os.X_OK):
+            if found[1] not in told:
+                script, *subcommand = found[1].split()
+                ran = subprocess.run([os.path.join(root, script), *subcommand, "--help"], stdin=subprocess.DEVNULL,
+                                     stdout=subprocess.PIPE, stderr=subprocess.STDOUT)
+                told[found[1]] = ran.stdout.decode()
+            for option in given:
+                if not re.search(re.escape(option) + r"\b", told[found[1]]):
+                    yield f"{found[1]} --help does not name {option}"
+
+
+def sources_of(root, crate):
+    return "\n".join(map(text_of, glob.glob(f"{root}/crates/{crate}/src/**/*.rt", recursive=True)))
+
+
+def names(root, page, text):
+    """A name such as account_book::Book::apply stands in that crate's sources."""
+    crates = uses(root)
+    for span in code_of(text)[1]:
+        found = re.fullmatch(r"(\w+)((?:::\w+)+)(?:\(.*\))?", span)
+        if not found or found[1] not in crates:
+            continue
+        sources = sources_of(root, found[1])
+        for word in found[2].split("::")[1:]:
+            declared = rf"\b(?:fn|struct|enum|trait|mod|const|type) {word}\b"
+            if not re.search(rf"{declared}|\b{word}\b[^\n]*\}};|^pub use .*\b{word};", sources, re.M):
+                yield f"{span}: {found[1]} has no {word}"
+
+
+def numbers(root, page, text):
+    count = {
+        "crates": len(uses(root)),
+        "must-fail edits": len(glob.glob(f"{root}/crates/*/must-fail/*.edit")),
+        "further edits": len(glob.glob(f"{root}/tests/edits/*/*.edit")),
+        "wrong definitions": len(glob.glob(f"{root}/tests/definitions/*.edit")),
+    }
+    for said, what in re.findall(rf"\b(\d[\d,]*|{'|'.join(NUMBERS)}) ({'|'.join(count)})\b", text):
+        number = NUMBERS.get(said) or int(said.replace(",", ""))
+        if number != count[what]:
+            yield f"says {said} {what}, and there are {count[what]}"
+
+
+def variants(root, path, name):
+    body = re.search(rf"enum {name} \{{(.*?)^\}}", text_of(root, path), re.S | re.M)
+    return re.findall(r"^    ([A-Z]\w+)\b", body[1], re.M) if body else []
+
+
+def kit(root, page, text):
+    for said in re.findall(r"rattle-kit-\S+ logic [0-9a-f]+", text):
+        if shutil.which("rt"):
+            is_now = subprocess.run(["rt", "version"], stdout=subprocess.PIPE).stdout.decode().strip()
+            if said != is_now:
+                yield f"says {said}, and rt version says {is_now}"
+
+
+def unnamed(root, text):
+    """The crates that a text does not name."""
+    return [it for it in uses(root) if f"`{it}`" not in text]
+
+
+def of_readme(root, page, text):
+    for path in sorted(glob.glob(f"{root}/docs/*.md")):
+        if f"](docs/{os.path.basename(path)}" not in text:
+            yield f"does not link to docs/{os.path.basename(path)}"
+    if len(text.split()) > 1200:
+        yield f"has {len(text.split())} words, and 1,200 are the most"
+    if "rattle-kit-" not in text:
+        yield "names no kit"
+    for line in text.splitlines():
+        if "PENDING" in line:
+            yield f"a figure is missing: {line.split('|')[1].strip()}"
+
+
+def of_formats(root, page, text):
+    said = re.search(r"in this order: (.*?)\.\n", text)
+    faults = variants(root, "crates/arn_ids/src/faults.rt", "ConfigFault")
+    there = ["EntriesOutOfRange" if it == "BadEntries" else it for it in faults]
+    if not said or sorted(re.findall(r"`(\w+)`", said[1])) != sorted(there):
+        yield f"the faults of a configuration are {there}"
+    said = re.search(r"`refused KIND`.*", text)
+    there = variants(root, "crates/call_types/src/answer.rt", "Rejection")
+    if not said or sorted(re.findall(r"`([A-Z]\w+)`", said[0].split("|")[1].split(":")[-1])) != sorted(there):
+        yield f"the kinds of refused are {there}"
+
+
+def of_proofs(root, page, text):
+    crates = uses(root)
+    of_kit = {it for used in crates.values() for it in used} - set(crates)
+    listed = re.search(r"the kit's crates (.*?)\.\n", text)
+    said = set(re.findall(r"`(\w+)`", listed[1])) if listed else set()
+    if said != of_kit:
+        yield f"kit's crates: not named {sorted(of_kit - said)}, not used {sorted(said - of_kit)}"
+    table = text.split("## By crate")[-1].split("\n## ")[0]
+    for it in unnamed(root, table):
+        yield f"the table by crate has no {it}"
+    crate = ""
+    for line in table.splitlines():
+        cells = line.split("|")
+        if len(cells) < 4:
+            continue
+        crate = "".join(re.findall(r"`(\w+)`", cells[1])) or crate
+        sources = sources_of(root, crate)
+        for span in re.findall(r"`([^`…]+)`", cells[2]) if sources else ():
+            for word in re.findall(r"[A-Za-z_]\w*", span):
+                if not re.search(rf"\b{word}\b", sources):
+                    yield f"{crate} has no {word}"
+
+
+def of_checks(root, page, text):
+    tables = "\n".join(map(text_of, glob.glob(f"{root}/crates/*/data/**/*.txt", recursive=True)))
+    for block in code_of(text)[0]:
+        if block.startswith("== ") and block not in tables:
+            yield f"no table has the case {block.splitlines()[0]}"
+
+
+def of_architecture(root, page, text):
+    for it in uses(root):
+        if f"**`{it}`**" not in text and not re.search(rf"\*\*.*`{it}`.*\*\*", text):
+            yield f"has no paragraph on {it}"
+    for it in re.findall(r"^- \*\*`(\w+)`\*\*", text, re.M):
+        if it not in uses(root):
+            yield f"tells of the crate {it}, which is not in crates.txt"
+
+
+def of_variables(root, page, text):
+    """The page has each variable of this project's own that something reads, and no other."""
+    folders = [f"{root}/{folder}" for folder in ("crates", "tools", "examples")]
+    found = [path for folder in folders for path in glob.glob(f"{folder}/**/*", recursive=True)]
+    paths = [path for path in found if os.path.isfile(path) and "/out/" not in path]
+    words = ["grep", "-ohIE", "LAMBDA_LOCAL_[A-Z_]+", f"{root}/lambda_local", *paths]
+    named = subprocess.run(words, stdout=subprocess.PIPE, text=True).stdout
+    # (the jobs of examples/ci set LAMBDA_LOCAL_WHEEL themselves)
+    read = {name for name in named.split() if name != "LAMBDA_LOCAL_WHEEL"}
+    listed = set(re.findall(r"^\| `(LAMBDA_LOCAL_[A-Z_]+)`", text, re.M))
+    if read != listed:
+        yield f"not listed {sorted(read - listed)}, not read {sorted(listed - read)}"
+
+
+def figures(root, page, text):
+    if page != "README.md" and "PENDING" in text:
+        yield "a figure is missing"
+    if page != "docs/proofs.md" and re.search(r"^#+ .*\bnot claimed\b", text, re.M | re.I):
+        yield "has a second list of what is not claimed: it stands in docs/proofs.md"
+
+
+OF_EACH = (links, files, options, names, numbers, kit, figures)
+OF_ONE = {"README.md": of_readme, "docs/formats.md": of_formats, "docs/proofs.md": of_proofs,
+          "docs/checks.md": of_checks, "docs/architecture.md": of_architecture, "docs/variables.md": of_variables}
