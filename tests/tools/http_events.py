@@ -11,6 +11,7 @@ import shutil
 import socket
 import subprocess
 import sys
+import tempfile
 import time
 import urllib.parse
 
@@ -156,6 +157,58 @@ def cross_origin():
         check("without a configuration the function answers", event["requestContext"]["http"]["method"], "OPTIONS")
 
 
+OF_API = {"CorsConfiguration": {
+    "AllowOrigins": ["https://shop.example"], "AllowMethods": ["GET", "POST"], "AllowHeaders": ["x-one", "content-type"],
+    "ExposeHeaders": ["x-two"], "AllowCredentials": True, "MaxAge": 60}}
+TEMPLATE = {"Globals": {"HttpApi": OF_API}, "Resources": {
+    "f": {"Type": "AWS::Serverless::Function", "Properties": {
+        "CodeUri": ".", "Handler": "app.run", "Runtime": "python3.12",
+        "Events": {"Get": {"Type": "HttpApi", "Properties": {"Path": "/orders", "Method": "GET"}}}}},
+    "Url": {"Type": "AWS::Lambda::Url", "Properties": {
+        "TargetFunctionArn": {"Fn::GetAtt": ["f", "Arn"]}, "AuthType": "NONE", "Cors": {"AllowOrigins": ["*"], "AllowMethods": ["*"]}}}}}
+
+
+def cors_in(headers):
+    return {name[len("access-control-"):]: value for name, value in headers.items() if name.startswith("access-control-")}
+
+
+def of_a_template():
+    """What a template says of cross-origin requests is what browsers are answered (API Gateway Developer Guide, "Configure
+    CORS for HTTP APIs"; Lambda Developer Guide, "Cross-origin resource sharing")."""
+    with tempfile.TemporaryDirectory() as folder:
+        template, output = (os.path.join(folder, name) for name in ("template.json", "up.json"))
+        with open(template, "w") as file:
+            json.dump(TEMPLATE, file)
+        subprocess.run([os.path.join(ROOT, "tools", "from_template"), template, "-o", output], stderr=subprocess.DEVNULL, check=True)
+        with open(output) as file:
+            made = json.load(file)
+    up = Up(functions=[{**function, "runtime": "python"} for function in made.pop("functions")], app=APP, whole=made)
+    up.until("[up] ready")
+    simple = {"allow-origin": "https://shop.example", "allow-credentials": "true", "expose-headers": "x-two"}
+    with Caller(address(up, r"routes: (\S+)$")) as caller:
+        asked = {"Origin": "https://shop.example", "Access-Control-Request-Method": "POST", "Access-Control-Request-Headers": "x-one"}
+        status, headers, body = caller.ask("OPTIONS", "/orders", None, asked)
+        check("an API's preflight", (status, body, cors_in(headers)), (204, b"", {
+            **simple, "allow-methods": "GET,POST", "allow-headers": "x-one,content-type", "max-age": "60"}))
+        status, headers, _ = caller.ask("OPTIONS", "/nowhere", None, asked)
+        check("one for what no route takes", (status, headers.get("access-control-allow-origin")), (204, "https://shop.example"))
+        status, headers, _ = caller.ask("OPTIONS", "/orders", None, {**asked, "Origin": "https://other.example"})
+        check("one of another site", (status, cors_in(headers)), (204, {}))
+        own = json.dumps({"statusCode": 200, "headers": {"Access-Control-Allow-Origin": "*", "x-two": "2"}, "body": "x"})
+        path = "/orders?" + urllib.parse.urlencode({"gives": own})
+        for origin, wanted in (("https://shop.example", simple), ("https://other.example", {}), (None, {})):
+            _, headers, body = caller.ask("GET", path, None, {"Origin": origin} if origin else {})
+            check(f"an API's answer for {origin}: the function's own headers do not count",
+                  (cors_in(headers), headers["x-two"], body), (wanted, "2", b"x"))
+        check("an OPTIONS that is no preflight has no route", caller.ask("OPTIONS", "/orders", None, {})[0], 404)
+    with Caller(address(up, r"its URL is (\S+)/$")) as caller:
+        asked = {"Origin": "http://any", "Access-Control-Request-Method": "PUT"}
+        status, headers, _ = caller.ask("OPTIONS", "/", None, asked)
+        check("a URL's preflight", (status, cors_in(headers)), (200, {"allow-origin": "*", "allow-methods": "PUT"}))
+        check("a URL's answer", cors_in(caller.ask("GET", "/", None, {"Origin": "http://any"})[1]), {"allow-origin": "*"})
+    check("it ends in order, and leaves nothing", up.end(), (0, []))
+
+
 PAGE = '''def run(event, context):
     url = event.get("queryStringParameters", {}).get("to")
     return {"statusCode": 200, "headers": {"content-type": "text/html"}, "body": """<p id=x>waits</p><script>
@@ -264,5 +317,5 @@ def mistakes():
 
 
 if __name__ == "__main__":
-    parts = {part.__name__: part for part in (events, results, by_curl, cross_origin, in_a_browser, routes, malformed, mistakes)}
+    parts = {part.__name__: part for part in (events, results, by_curl, cross_origin, of_a_template, in_a_browser, routes, malformed, mistakes)}
     sys.exit(counted.run(*(parts[name] for name in sys.argv[1:] or parts)))
