@@ -18,7 +18,7 @@ ROOT = os.path.dirname(os.path.dirname(os.path.dirname(os.path.realpath(__file__
 sys.path[:0] = [os.path.join(ROOT, "tools"), os.path.join(ROOT, "tests", "library")]
 import counted  # noqa: E402
 from counted import check  # noqa: E402
-from events_kit import Caller, behind, invoke_path  # noqa: E402
+from events_kit import READY, READY_SECONDS, Caller, behind, invoke_path  # noqa: E402
 from up_kit import Up, until  # noqa: E402
 
 APP = '''import json, os, time
@@ -47,9 +47,9 @@ def functions(**members):
 
 @contextlib.contextmanager
 def running(asynchronous=True, options=(), **members):
-    up = Up(*options, functions=functions(**members), app=APP, whole={"asynchronous": asynchronous})
+    up = Up(*READY, *options, functions=functions(**members), app=APP, whole={"asynchronous": asynchronous})
     try:
-        up.until("[up] ready")
+        up.until("[up] ready", READY_SECONDS)
         with Caller(up.endpoint) as caller:
             yield up, caller
     finally:
@@ -66,7 +66,7 @@ def records(up):
 
 
 def by_boto3():
-    up = Up(command=["--", sys.executable, "calls.py"], functions=functions(), app=APP, files={"calls.py": BOTO3},
+    up = Up(*READY, command=["--", sys.executable, "calls.py"], functions=functions(), app=APP, files={"calls.py": BOTO3},
             whole={"asynchronous": True})
     check("boto3: the command and all else end in order", up.end(None), (0, []))
     check("boto3: Event and DryRun", up.output.splitlines(), ["202 36 b''", "204 36 b''"])
@@ -225,9 +225,9 @@ def raw_answer(address, request):
 
 def refused_alike():
     """What the service refuses by a request's head, its front refuses alike, byte for byte."""
-    up = Up("--ready", "600", functions=functions(), app=APP, whole={"asynchronous": True},
+    up = Up(*READY, functions=functions(), app=APP, whole={"asynchronous": True},
             environ={**os.environ, "LAMBDA_LOCAL_HOSTS": "listed.example,x.y"})
-    up.until("[up] ready", 600)
+    up.until("[up] ready", READY_SECONDS)
     service, statuses = behind(up), Counter()
     for head in HEADS:
         wanted = raw_answer(service, head)

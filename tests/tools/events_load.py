@@ -18,7 +18,7 @@ ROOT = os.path.dirname(os.path.dirname(os.path.dirname(os.path.realpath(__file__
 sys.path[:0] = [os.path.join(ROOT, "tools"), os.path.join(ROOT, "tests", "library")]
 import counted  # noqa: E402
 from counted import check  # noqa: E402
-from events_kit import Caller, behind, invoke_path  # noqa: E402
+from events_kit import READY, READY_SECONDS, Caller, behind, invoke_path  # noqa: E402
 from up_kit import Up, until  # noqa: E402
 
 SECONDS = float(sys.argv[1]) if len(sys.argv) > 1 else 60
@@ -162,12 +162,12 @@ def text_of(*path):
 
 
 def mixed_load():
-    up = Up("--log", "json", "--ready", "600", app=APP, whole={"asynchronous": {"delays": [0.1, 0.3], "onFailure": "sink"}},
+    up = Up(*READY, "--log", "json", app=APP, whole={"asynchronous": {"delays": [0.1, 0.3], "onFailure": "sink"}},
             functions=[{"name": "f", "runtime": "python", "handler": "app.run", "environments": ENVIRONMENTS, "timeout": 2},
                        {"name": "sink", "runtime": "python", "handler": "app.sink"}])
     for name in ("runs", "records"):
         os.mkdir(os.path.join(up.at, name))
-    check("all is ready", up.until('"kind": "ready"', 600))
+    check("all is ready", up.until('"kind": "ready"', READY_SECONDS))
     load = Load(up)
     load.run()
     check("every event comes to an end", until(lambda: load.open_events() == 0, DRAIN) or load.open_events())
@@ -203,8 +203,8 @@ def medians(callers, count):
 
 
 def added_time():
-    up = Up(functions=[{"name": "f", "runtime": "python", "handler": "app.run"}], app=APP, whole={"asynchronous": True})
-    check("all is ready", up.until("[up] ready"))
+    up = Up(*READY, functions=[{"name": "f", "runtime": "python", "handler": "app.run"}], app=APP, whole={"asynchronous": True})
+    check("all is ready", up.until("[up] ready", READY_SECONDS))
     with Caller(up.endpoint) as front, Caller(behind(up)) as direct:
         medians({"front": front, "direct": direct}, 100)
         rounds = [medians({"front": front, "direct": direct}, 300) for _ in range(5)]

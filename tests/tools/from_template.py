@@ -469,4 +469,5 @@ def places():
 
 
 if __name__ == "__main__":
-    sys.exit(counted.run(sam, cdk, serverless, addresses, url_resources, cors_of_routes, expressions, code, numbers, names, wrong_templates, other_types, places))
+    sys.exit(counted.run(sam, cdk, serverless, addresses, url_resources, cors_of_routes, expressions, code, numbers, names,
+                         wrong_templates, other_types, places))

@@ -19,7 +19,7 @@ ROOT = os.path.dirname(os.path.dirname(os.path.dirname(os.path.realpath(__file__
 sys.path[:0] = [os.path.join(ROOT, "tools"), os.path.join(ROOT, "tests", "library")]
 import counted  # noqa: E402
 from counted import check  # noqa: E402
-from events_kit import Caller  # noqa: E402
+from events_kit import READY, READY_SECONDS, Caller  # noqa: E402
 from up_kit import Up, until  # noqa: E402
 
 # What it gives stands in the query; without one it is the event.
@@ -40,10 +40,10 @@ CORS = {"allowOrigins": ["http://shop.example"], "allowMethods": ["GET", "POST"]
 
 @contextlib.contextmanager
 def running(url=True, **whole):
-    up = Up(functions=[{"name": "f", "runtime": "python", "handler": "app.run", "environments": 2, "url": url, "timeout": 10},
+    up = Up(*READY, functions=[{"name": "f", "runtime": "python", "handler": "app.run", "environments": 2, "url": url, "timeout": 10},
                        {"name": "g", "runtime": "python", "handler": "app.run"}], app=APP, whole=whole)
     try:
-        up.until("[up] ready")
+        up.until("[up] ready", READY_SECONDS)
         with Caller(address(up, r"its URL is (\S+)/$")) as caller:
             yield up, caller
     finally:
@@ -182,8 +182,8 @@ def of_a_template():
         subprocess.run([os.path.join(ROOT, "tools", "from_template"), template, "-o", output], stderr=subprocess.DEVNULL, check=True)
         with open(output) as file:
             made = json.load(file)
-    up = Up(functions=[{**function, "runtime": "python"} for function in made.pop("functions")], app=APP, whole=made)
-    up.until("[up] ready")
+    up = Up(*READY, functions=[{**function, "runtime": "python"} for function in made.pop("functions")], app=APP, whole=made)
+    up.until("[up] ready", READY_SECONDS)
     simple = {"allow-origin": "https://shop.example", "allow-credentials": "true", "expose-headers": "x-two"}
     with Caller(address(up, r"routes: (\S+)$")) as caller:
         asked = {"Origin": "https://shop.example", "Access-Control-Request-Method": "POST", "Access-Control-Request-Headers": "x-one"}
@@ -227,8 +227,8 @@ def in_a_browser():
     for given, wanted in (({"cors": cors}, "got /there"), (True, "TypeError: Failed to fetch")):
         functions = [{"name": "f", "runtime": "python", "handler": "app.run", "url": given},
                      {"name": "page", "runtime": "python", "handler": "page.run", "url": True}]
-        up = Up(functions=functions, app=APP, files={"page.py": PAGE})
-        up.until("[up] ready")
+        up = Up(*READY, functions=functions, app=APP, files={"page.py": PAGE})
+        up.until("[up] ready", READY_SECONDS)
         to, page = (address(up, name + r": its URL is (\S+)/$") for name in (r"\bf", r"\bpage"))
         done = subprocess.run([browser, "--headless", "--no-sandbox", "--disable-gpu", f"--user-data-dir={up.at}/profile",
                                "--virtual-time-budget=5000", "--dump-dom", f"{page}/?to={to}"],
@@ -284,7 +284,10 @@ def malformed():
                 ("another version", b"GET / HTTP/2.0\r\nHost: a\r\n\r\n", b"505"),
                 ("a head that is too long", b"GET / HTTP/1.1\r\nHost: a\r\nX: " + b"x" * 70000, b"431"),
                 ("HTTP/1.0", b"GET / HTTP/1.0\r\n\r\n", b"200")):
+            told = f"a request is answered {wanted.decode()}: "
+            count = up.count(told) + (wanted != b"200")
             check(name, raw(url, data).split(b" ")[1:2], [wanted])
+            check("a line says why", until(lambda: up.count(told) == count, 5))
         two = raw(url, b"GET /one HTTP/1.1\r\nHost: a\r\n\r\nGET /two HTTP/1.1\r\nHost: a\r\nConnection: close\r\n\r\n")
         check("two requests at once are answered in turn", re.findall(rb'"rawPath": "([^"]*)"', two), [b"/one", b"/two"])
         check("the port is still there", caller.ask("GET", "/")[0], 200)

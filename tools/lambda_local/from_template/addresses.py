@@ -28,7 +28,7 @@ def cors_of(given, where, scope, tell):
     found = {}
     for name, value in given.items():
         name = {"allowedOrigins": "allowOrigins", "allowedHeaders": "allowHeaders", "allowedMethods": "allowMethods",
-                "exposedResponseHeaders": "exposeHeaders"}.get(name, name[:1].lower() + name[1:])
+                "exposedResponseHeaders": "exposeHeaders"}.get(name, str(name)[:1].lower() + str(name)[1:])
         if name in settings.OF_CORS and settings.OF_CORS[name].accepts(value):
             found[name] = value
         else:

@@ -96,24 +96,26 @@ class Queue:
         try:
             status, headers, body = await self.client.ask("POST", event.target, event.headers, event.payload)
         except Unreached:
-            status, headers, body = 503, [], b"it cannot be reached"
+            lane.running -= 1
+            return self.postpone(lane, event, "cannot be sent, since the service takes no connection")
         except (Gone, Malformed):
             status, headers, body = None, [], b""
         lane.running -= 1
-        if status == 429 or status is not None and status >= 500:
-            return self.not_taken(lane, event, status, body)
+        if status == 500 and is_stop(body):
+            return  # (what is left is told at the end)
+        if status == 429:
+            return self.postpone(lane, event)
+        if status is not None and status >= 500:  # (which may come after the function has run)
+            return self.postpone(lane, event, f"has no outcome, since the service answers {status} {body[:200].decode(errors='replace')}")
         lane.taken()
         self.ended(event, status, headers, body)
         self.release(lane)
 
-    def not_taken(self, lane, event, status, body):
-        """A throttle, or a fault of the service, which may come after the function has run: so that is told."""
-        if is_stop(body):
-            return  # (what is left is told at the end)
+    def postpone(self, lane, event, why=None):
+        """After a throttle, or a fault of the service, which is told: the attempt does not count."""
         pause = lane.throttled()
-        if status != 429:
-            self.say(event, f"is not invoked, the service answers {status} {body[:200].decode(errors='replace')}: again after {pause:g} s",
-                     "warning", "fault")
+        if why:
+            self.say(event, f"{why}: again after {pause:g} s", "warning", "fault")
         event.throttles += 1
         lane.ready.appendleft(event)
         self.hold(lane, pause)

@@ -85,6 +85,7 @@ class Server:
             is_understood = True
         except Malformed as fault:
             reply = refusal(fault.status, str(fault))
+            self.log("up", f"a request is answered {fault.status}: {fault}", level="error", kind="http")
         keeps = is_understood and request.body.is_read and self.is_kept(request) and "close" not in words_of(reply.headers, "connection")
         wire.patience, wire.touched = IDLE_SECONDS, time.monotonic()
         keeps = await send(wire, request, reply, keeps)
