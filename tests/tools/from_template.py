@@ -19,6 +19,7 @@ from counted import check  # noqa: E402
 from lambda_local.configuration import OF_SERVICE, mistakes  # noqa: E402
 from lambda_local.from_template.command import up_of  # noqa: E402
 from lambda_local.from_template.telling import Fault  # noqa: E402
+from lambda_local.front import settings  # noqa: E402
 from lambda_local.up.members import MEMBERS  # noqa: E402
 
 HAS_YAML = bool(importlib.util.find_spec("yaml"))
@@ -427,7 +428,9 @@ def other_types():
                     with contextlib.redirect_stderr(io.StringIO()):
                         try:
                             whole_up = json.loads(json.dumps(up_of(path)))
-                            refused += [(mistake, changed) for mistake in mistakes(whole_up, OF_SERVICE, MEMBERS, ["functions"], ["name"])]
+                            found = [*mistakes(whole_up, {**OF_SERVICE, **settings.AT_THE_TOP}, MEMBERS, ["functions"], ["name"]),
+                                     *settings.mistakes(whole_up)]
+                            refused += [(mistake, changed) for mistake in found]
                         except Fault as fault:
                             if changed[needed] == template[needed]:
                                 refused.append((str(fault), changed))

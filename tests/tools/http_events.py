@@ -232,7 +232,7 @@ def in_a_browser():
         to, page = (address(up, name + r": its URL is (\S+)/$") for name in (r"\bf", r"\bpage"))
         done = subprocess.run([browser, "--headless", "--no-sandbox", "--disable-gpu", f"--user-data-dir={up.at}/profile",
                                "--virtual-time-budget=5000", "--dump-dom", f"{page}/?to={to}"],
-                              stdout=subprocess.PIPE, stderr=subprocess.DEVNULL, text=True, timeout=60)
+                              stdout=subprocess.PIPE, stderr=subprocess.DEVNULL, text=True, timeout=READY_SECONDS)
         shown = re.search('<p id="x">(.*?)</p>', done.stdout)
         check(f"Chromium reads a URL with {given}", shown and shown[1], wanted)
         check("it ends in order, and leaves nothing", up.end(), (0, []))
