@@ -47,7 +47,7 @@ DEEDS = {
 
 
 class Service(threading.Thread):
-    """Does these deeds with its Invokes, one after the other, and then answers each. It notes each Invoke that it takes."""
+    """Does these deeds with its Invokes, one after the other, and then answers each. It notes each that it takes."""
 
     def __init__(self, *deeds):
         super().__init__(daemon=True)
@@ -116,14 +116,16 @@ def statuses(told, function="f"):
 def attempts():
     """Each deed once, and then the event succeeds: how often it is sent, and what is told."""
     for deed, wanted in (("ok", ["ok"]), ("ok, and closes", ["ok"]), ("fails", ["retry", "ok"]), ("throttles", ["ok"]),
-                         ("has no memory", ["fault", "ok"]), ("closes", ["retry", "ok"]), ("breaks off in the head", ["retry", "ok"]),
-                         ("breaks off in the body", ["retry", "ok"]), ("answers no HTTP", ["retry", "ok"])):
+                         ("has no memory", ["fault", "ok"]), ("closes", ["retry", "ok"]),
+                         ("breaks off in the head", ["retry", "ok"]), ("breaks off in the body", ["retry", "ok"]),
+                         ("answers no HTTP", ["retry", "ok"])):
         service = Service(deed)
         with front_of(service) as (front, caller, told):
             caller.event("f", {"number": 1})
             until(lambda: "ok" in statuses(told), PATIENCE)
             check(f"a service that {deed}: what is told", statuses(told), wanted)
-            check("it is sent once, and again only then", service.runs, [(1, deed)] + [(1, "ok")] * (not deed.startswith("ok")))
+            again = [(1, "ok")] * (not deed.startswith("ok"))
+            check("it is sent once, and again only then", service.runs, [(1, deed), *again])
             check("nothing is left", (front.queue.count, front.queue.size), (0, 0))
 
 
@@ -133,9 +135,12 @@ def exhausted():
     with front_of(service) as (front, caller, told):
         identifier = caller.event("f", {"number": 1})[1]["x-amzn-requestid"]
         until(lambda: front.queue.count == 0, PATIENCE)
-        check("an event without an outcome is given up after three attempts", statuses(told), ["retry", "retry", "RetriesExhausted"])
-        check("each of its lines says why", [line.text.count("the service broke its connection off") for line in told[:3]], [1, 1, 1])
-        check("its record is sent", ([number for number, _ in service.runs[:3]], told[0].request), ([1, 1, 1], identifier))
+        check("an event without an outcome is given up after three attempts", statuses(told),
+              ["retry", "retry", "RetriesExhausted"])
+        check("each of its lines says why",
+              [line.text.count("the service broke its connection off") for line in told[:3]], [1, 1, 1])
+        check("it is sent three times", (service.runs[:3], told[0].request),
+              ([(1, "closes"), (1, "breaks off in the body"), (1, "closes")], identifier))
 
 
 def kept_connections():
@@ -159,7 +164,8 @@ def synchronous():
                 seen = caller.ask("POST", invoke_path("f"), b'{"number":1}')[0]
             except Exception as fault:
                 seen = type(fault).__name__
-            check(f"an invocation that {deed}: its caller sees it", seen, 500 if deed == "has no memory" else "RemoteDisconnected")
+            wanted = 500 if deed == "has no memory" else "RemoteDisconnected"
+            check(f"an invocation that {deed}: its caller sees it", seen, wanted)
             time.sleep(0.1)
             check("it is sent once", service.runs, [(1, deed)])
 
@@ -181,7 +187,8 @@ def ended():
         time.sleep(0.2)
         front.client.close()  # (what was open)
         caller.event("f", {"number": 2})
-        check("an event that cannot be sent is no failed attempt", until(lambda: statuses(told)[1:] == ["fault"] * 3, PATIENCE) or statuses(told))
+        until(lambda: len(told) >= 4, PATIENCE)
+        check("an event that cannot be sent is no failed attempt", statuses(told)[1:4], ["fault"] * 3)
     check("it is told at the end", (statuses(told)[-1], told[-1].attempts, service.runs), ("lost", 0, [(1, "ok")]))
 
 

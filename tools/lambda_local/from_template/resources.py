@@ -1,5 +1,5 @@
-"""Function URLs and HTTP APIs that a template has as resources of their own: AWS::Lambda::Url, which CDK writes, and SAM's
-AWS::Serverless::HttpApi with what Globals says of all of them."""
+"""Function URLs and HTTP APIs that a template has as resources of their own: AWS::Lambda::Url, which CDK writes, and
+SAM's AWS::Serverless::HttpApi with what Globals says of all of them."""
 from ..front.events import NAMED
 from .addresses import Addresses, cors_of
 from .cloudformation import is_wanted
@@ -43,7 +43,8 @@ def url_of(name, key, properties, scope):
     def of_function(line):
         tell(f"{name}: {line}")
 
-    given = Addresses({key: {member: value for member, value in properties.items() if member != "TargetFunctionArn"}}, scope, of_function)
+    own = {member: value for member, value in properties.items() if member != "TargetFunctionArn"}
+    given = Addresses({key: own}, scope, of_function)
     known = given.value(key)
     known = known if isinstance(known, dict) else {}
     if "Qualifier" in known:
@@ -54,13 +55,13 @@ def url_of(name, key, properties, scope):
 
 
 def apis_of(template, scope):
-    """What is said of each of SAM's HTTP APIs, by its logical id; of the one that no resource is, by what Globals says."""
+    """What Globals says of all of SAM's HTTP APIs, and what is said of each that is a resource, by its logical id."""
     shared = members_of(members_of(template, "Globals"), "HttpApi")
     return shared, {key: {**shared, **properties} for key, properties in resources_of(HTTP_API, scope)}
 
 
 def api_of(used, shared, apis, scope):
-    """The member `api` of UP.json for routes of these APIs; empty if it is not needed. All routes have one port here."""
+    """The member `api` of UP.json for routes of these APIs; empty if it is not needed. All have one port here."""
     found = {}
     for key in used:
         properties, where = apis.get(key, shared), f"the HTTP API {key}"
@@ -73,5 +74,6 @@ def api_of(used, shared, apis, scope):
         return {}
     first = next(iter(found))
     if any(cors != found[first] for cors in found.values()):
-        tell(f"all routes have one port here, with the Cors of the HTTP API {first}, and not those of {', '.join(list(found)[1:])}")
+        others = ", ".join(list(found)[1:])
+        tell(f"all routes have one port here, with the Cors of the HTTP API {first}, and not those of {others}")
     return {"cors": found[first]} if found[first] else {}

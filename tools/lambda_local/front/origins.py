@@ -1,6 +1,6 @@
-"""Which requests the invoke port takes: by the service's own rule (docs/formats.md), those of programs on this machine, and
-not of sites that a browser shows. A name of theirs that leads to this machine is in `Host`, and they themselves are in
-`Origin`."""
+"""Which requests the invoke port takes: by the service's own rule (docs/formats.md), those of programs on this machine,
+and not of sites that a browser shows. A name of theirs that leads to this machine is in `Host`, and they themselves are
+in `Origin`."""
 import os
 import re
 
@@ -25,7 +25,8 @@ def is_local(name, further):
 
 
 def has_own_host(request, further):
-    """Whether it names one host, and that is local. What its target names counts before its Host (RFC 9112, section 3.2.2)."""
+    """Whether it names one host, and that is local. What its target names counts before its Host (RFC 9112, section
+    3.2.2)."""
     hosts = every(request.headers, "host")
     if len(hosts) != 1 and (hosts or request.version == "HTTP/1.1"):
         return False

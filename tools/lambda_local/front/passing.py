@@ -2,6 +2,9 @@
 from .http import OF_CONNECTION, Body, Reply, every, passed_on, words_of
 
 
+OF_BODY = ("content-length", "transfer-encoding")
+
+
 async def encoded(pieces):
     """Pieces of a body, in chunks."""
     async for piece in pieces:
@@ -16,15 +19,16 @@ def pass_on(client, request):
 
 def without_body(request):
     """The same request as one that has no body, for a service that refuses it by its head."""
-    headers = [(name, value) for name, value in request.headers if name.lower() not in ("content-length", "transfer-encoding")]
+    headers = [(name, value) for name, value in request.headers if name.lower() not in OF_BODY]
     return request._replace(headers=headers, body=Body(request.body.wire))
 
 
 def answered(headers):
     """The headers of an answer. If the service ends the connection behind it, so does the front."""
     words = words_of(headers, "connection")
-    dropped = OF_CONNECTION.union(words) - {"connection"} if "close" in words else OF_CONNECTION.union(words)
-    return [(name, "close" if name.lower() == "connection" else value) for name, value in headers if name.lower() not in dropped]
+    dropped = OF_CONNECTION.union(words) - ({"connection"} if "close" in words else set())
+    kept = [(name, value) for name, value in headers if name.lower() not in dropped]
+    return [(name, "close" if name.lower() == "connection" else value) for name, value in kept]
 
 
 class Passing:
