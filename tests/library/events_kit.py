@@ -6,6 +6,9 @@ import urllib.parse
 
 from up_kit import children
 
+READY_SECONDS = 300  # a busy machine takes its time
+READY = ("--ready", str(READY_SECONDS))
+
 
 def invoke_path(name):
     return f"/2015-03-31/functions/{name}/invocations"

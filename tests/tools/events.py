@@ -12,12 +12,13 @@ import subprocess
 import sys
 import time
 import urllib.parse
+from collections import Counter
 
 ROOT = os.path.dirname(os.path.dirname(os.path.dirname(os.path.realpath(__file__))))
 sys.path[:0] = [os.path.join(ROOT, "tools"), os.path.join(ROOT, "tests", "library")]
 import counted  # noqa: E402
 from counted import check  # noqa: E402
-from events_kit import Caller, behind, invoke_path  # noqa: E402
+from events_kit import READY, READY_SECONDS, Caller, behind, invoke_path  # noqa: E402
 from up_kit import Up, until  # noqa: E402
 
 APP = '''import json, os, time
@@ -46,9 +47,9 @@ def functions(**members):
 
 @contextlib.contextmanager
 def running(asynchronous=True, options=(), **members):
-    up = Up(*options, functions=functions(**members), app=APP, whole={"asynchronous": asynchronous})
+    up = Up(*READY, *options, functions=functions(**members), app=APP, whole={"asynchronous": asynchronous})
     try:
-        up.until("[up] ready")
+        up.until("[up] ready", READY_SECONDS)
         with Caller(up.endpoint) as caller:
             yield up, caller
     finally:
@@ -65,7 +66,7 @@ def records(up):
 
 
 def by_boto3():
-    up = Up(command=["--", sys.executable, "calls.py"], functions=functions(), app=APP, files={"calls.py": BOTO3},
+    up = Up(*READY, command=["--", sys.executable, "calls.py"], functions=functions(), app=APP, files={"calls.py": BOTO3},
             whole={"asynchronous": True})
     check("boto3: the command and all else end in order", up.end(None), (0, []))
     check("boto3: Event and DryRun", up.output.splitlines(), ["202 36 b''", "204 36 b''"])
@@ -183,11 +184,61 @@ def unchanged():
         history = caller.ask("GET", "/_local/history")[2]
         check("passed on as it comes: the history",
               (len(history) > 3_000_000, direct.ask("GET", "/_local/history")[2][:len(history)] == history), (True, True))
-        for headers, wanted in (
-                ({"Origin": "http://127.0.0.1"}, 403), ({"Sec-Fetch-Site": "cross-site"}, 403), ({"Host": "a.example.com"}, 403),
-                ({"Sec-Fetch-Site": "none"}, 200), ({"Host": "x.localhost:1"}, 200), ({"Host": "[::1]:9000"}, 200),
-                ({"Host": "service"}, 200), ({"Host": "host.docker.internal"}, 200), ({"Host": "a b"}, 400)):
-            check(f"a request with {headers}", caller.ask("GET", "/_local/stats", None, headers)[0], wanted)
+
+
+SEEN = "/2019-09-30/functions/f/concurrency"  # of which the answer stays the same
+INVOKE = f"POST {invoke_path('f')} HTTP/1.1\r\n"
+HEADS = (  # of requests that are refused by their heads alone, and of others
+    *(f"GET {SEEN} HTTP/1.1\r\nHost: {host}\r\n" for host in (
+        "a.example.com", "a.example.com:80", "a b", "user@a", "", ":80", "a:b", "[::1]:9000", "[::1", "[]", "[g]", "localhost",
+        "LOCALHOST.", "a.localhost:1", "host.docker.internal", "service", "x.local", "x.localdomain", "127.0.0.1", "1.2.3",
+        "listed.example", "a..", "a.b.", "x%41~!", "caf\xe9", "a:99999999", "a/b")),
+    *(f"GET {SEEN} HTTP/1.1\r\nHost: a\r\n{header}\r\n" for header in (
+        "Origin: http://127.0.0.1", "Origin: null", "Origin:", "Sec-Fetch-Site: cross-site", "Sec-Fetch-Site: none",
+        "Sec-Fetch-Site: None", "Sec-Fetch-Site: same-origin", "Sec-Fetch-Site: same-site",
+        "Sec-Fetch-Site: none\r\nSec-Fetch-Site: x", "Host: b", "Connection: close\r\nOrigin: x")),
+    *(f"{line}\r\n" for line in (
+        f"GET {SEEN} HTTP/1.1", f"GET {SEEN} HTTP/1.0", f"GET {SEEN} HTTP/1.0\r\nHost: a.b", f"GET {SEEN} HTTP/1.0\r\nOrigin: x",
+        f"HEAD {SEEN} HTTP/1.1\r\nHost: a.b", "GET /nowhere HTTP/1.1\r\nHost: a.b", f"GET {SEEN} HTTP/1.1\r\nHost: a b\r\nOrigin: x",
+        f"GET http://a.example{SEEN} HTTP/1.1\r\nHost: a", f"GET http://localhost{SEEN} HTTP/1.1\r\nHost: a.example",
+        f"GET {SEEN} HTTP/1.1\r\nHost: a.b\r\nOrigin: x")),
+    INVOKE + "Host: a.b\r\nContent-Length: 2\r\n\r\n{}", INVOKE + "Host: a.b\r\nContent-Length: 2\r\nExpect: 100-continue\r\n",
+    INVOKE + "Host: a\r\nOrigin: x\r\nContent-Length: 2\r\n\r\n{}")
+
+
+def raw_answer(address, request):
+    """The bytes of the answer to a request of these, and whether the connection is kept behind it."""
+    parts = urllib.parse.urlsplit(address)
+    data = request.encode("latin-1") if "\r\n\r\n" in request else request.encode("latin-1") + b"\r\n"
+    with socket.create_connection((parts.hostname, parts.port), timeout=30) as peer, peer.makefile("rb") as stream:
+        peer.sendall(data)
+        head = b""
+        while not head.endswith(b"\r\n\r\n") and (line := stream.readline()):
+            head += line
+        length = re.search(rb"(?i)content-length: (\d+)", head)
+        body = stream.read(int(length[1])) if length and not request.startswith("HEAD") else b""
+        if b"connection: close" in head.lower():
+            return head + body, stream.read() != b""
+        peer.sendall(b"GET /nowhere HTTP/1.1\r\nHost: a\r\n\r\n")
+        return head + body, stream.readline().startswith(b"HTTP/1.1 404")
+
+
+def refused_alike():
+    """What the service refuses by a request's head, its front refuses alike, byte for byte."""
+    up = Up(*READY, functions=functions(), app=APP, whole={"asynchronous": True},
+            environ={**os.environ, "LAMBDA_LOCAL_HOSTS": "listed.example,x.y"})
+    up.until("[up] ready", READY_SECONDS)
+    service, statuses = behind(up), Counter()
+    for head in HEADS:
+        wanted = raw_answer(service, head)
+        check(f"the front answers {head!r} as the service", raw_answer(up.endpoint, head), wanted)
+        statuses[wanted[0][9:12]] += 1
+    check("each kind of answer is among them", sorted(statuses), [b"200", b"400", b"403"])
+    event = "X-Amz-Invocation-Type: Event\r\nContent-Length: 2\r\n"
+    for head, wanted in (("Host: a\r\n", b"202"), ("Host: a.b\r\n", b"403"), ("Host: a\r\nOrigin: http://a\r\n", b"403"),
+                         ("Host: a b\r\n", b"400"), ("", b"400"), ("Host: listed.example\r\n", b"202")):
+        check(f"an event with {head!r}", raw_answer(up.endpoint, f"{INVOKE}{head}{event}\r\n{{}}")[0][9:12], wanted)
+    check("it ends in order, and leaves nothing", (up.end(), up.count(r"\[f\] event \S+ ok")), ((0, []), 2))
 
 
 def peers_that_go():
@@ -254,6 +305,6 @@ def mistakes():
 
 
 if __name__ == "__main__":
-    parts = {part.__name__: part for part in (by_boto3, refusals, fan_out, failures, bounds, ends, unchanged, peers_that_go,
+    parts = {part.__name__: part for part in (by_boto3, refusals, fan_out, failures, bounds, ends, unchanged, refused_alike, peers_that_go,
                                               samples, mistakes)}
     sys.exit(counted.run(*(parts[name] for name in sys.argv[1:] or parts)))

@@ -12,28 +12,29 @@ import statistics
 import sys
 import threading
 import time
+from collections import Counter
 
 ROOT = os.path.dirname(os.path.dirname(os.path.dirname(os.path.realpath(__file__))))
 sys.path[:0] = [os.path.join(ROOT, "tools"), os.path.join(ROOT, "tests", "library")]
 import counted  # noqa: E402
 from counted import check  # noqa: E402
-from events_kit import Caller, behind, invoke_path  # noqa: E402
+from events_kit import READY, READY_SECONDS, Caller, behind, invoke_path  # noqa: E402
 from up_kit import Up, until  # noqa: E402
 
 SECONDS = float(sys.argv[1]) if len(sys.argv) > 1 else 60
-ENVIRONMENTS, SENDERS, AHEAD = 4, 3, 300
-# Each event has a file, to which each of its runs adds b at its begin and a letter for its end.
+ENVIRONMENTS, SENDERS, AHEAD, DRAIN = 4, 3, 60, 600
+# Each event has a file, to which each of its runs adds a line at its begin and one for its end, with its invocation.
 APP = '''import os, time
-def note(event, letter):
-    file = os.open(f"runs/{event['number']}", os.O_CREAT | os.O_APPEND | os.O_WRONLY)
-    os.write(file, letter.encode())
-    size = os.fstat(file).st_size
+def note(event, context, word):
+    file = os.open(f"runs/{event['number']}", os.O_CREAT | os.O_APPEND | os.O_RDWR)
+    os.write(file, f"{word} {context.aws_request_id}\\n".encode())
+    lines = os.pread(file, 10_000, 0).split(b"\\n")
     os.close(file)
-    return size
+    return sum(line.startswith(b"begins") for line in lines)
 def run(event, context):
     if "number" not in event: return event
-    do = event["does"][note(event, "b") // 2]
-    note(event, do[0])
+    do = (event["does"] + ["ok"] * 10)[note(event, context, "begins") - 1]
+    note(event, context, do)
     if do == "fails": raise ValueError("asked for")
     if do == "crashes": os._exit(7)
     if do == "hangs": time.sleep(60)
@@ -41,6 +42,8 @@ def run(event, context):
 def sink(event, context):
     open(f"records/{event['requestPayload']['number']}", "a").write("x")
 '''
+MOST_SHOWN = 3
+GOES_ON = ("retry",)
 ENDS = ("ok",) * 12 + ("fails",) * 4 + ("crashes", "hangs")
 
 
@@ -49,8 +52,9 @@ class Load:
 
     def __init__(self, up):
         self.up, self.end, self.lock = up, time.monotonic() + SECONDS, threading.Lock()
-        self.sent, self.invoked, self.wrong, self.spun_down = {}, 0, [], 0
-        self.names, self.told, self.read = {}, {}, 0  # identifiers of events; what their lines told: f a failure, o the success
+        self.sent, self.names, self.invoked, self.wrong, self.spun_down = {}, {}, 0, [], 0
+        self.read, self.ended, self.left = 0, 0, 0  # lines; the events that have come to an end by them, and the others
+        self.told, self.answers = {}, {}  # by event: (status, invocation) of each attempt; by invocation: what the service answered
         self.threads = [threading.Thread(target=target) for target in [self.send] * SENDERS + [self.invoke, self.spin_down]]
 
     def run(self):
@@ -64,11 +68,18 @@ class Load:
         with self.lock:
             lines = self.up.lines[self.read:]
             self.read += len(lines)
-            for line in lines:
-                if found := re.search(r"\[f\] event (\S+) (ok after|failed.*its record|failed|is )", line):
-                    letter = {"ok after": "o.", "failed": "f"}.get(found[2], "f." if found[2][0] == "f" else "x.")
-                    self.told[found[1]] = self.told.get(found[1], "") + letter
-            return len(self.sent) - sum(text.endswith(".") for text in self.told.values())
+            for line in map(json.loads, lines):
+                if line["kind"] == "event" and line.get("function") == "f":
+                    self.told.setdefault(line["request"], []).append((line["status"], line["invocation"]))
+                    self.ended += line["status"] not in GOES_ON
+                elif line["kind"] == "invocation":
+                    self.answers[line["request"]] = line["status"]
+            self.left = len(self.sent) - self.ended
+            return self.left
+
+    def all_answered(self):
+        """Whether what the service answered is known of each attempt that was told."""
+        return all(invocation in self.answers for lines in self.told.values() for _, invocation in lines if invocation)
 
     def send(self):
         chosen = random.Random()
@@ -105,6 +116,43 @@ class Load:
                 time.sleep(0.3)
 
 
+class Story:
+    """One event: its attempts as they were told, its runs as they noted themselves, and its record."""
+
+    def __init__(self, load, number):
+        self.number, self.told = number, load.told.get(load.names[number], [])
+        noted = [line.split() for line in text_of(load.up.at, "runs", str(number)).splitlines()]
+        self.runs = [invocation for word, invocation in noted if word == "begins"]
+        self.ends = {invocation: word for word, invocation in noted if word != "begins"}
+        self.answers = {invocation: load.answers.get(invocation) for invocation in self.runs}
+        self.records = text_of(load.up.at, "records", str(number))
+
+    def __repr__(self):
+        return f"{self.number}: told {self.told}, runs {self.runs}, {self.ends}, answered {self.answers}, records {self.records!r}"
+
+    @property
+    def has_ended(self):
+        return bool(self.told) and self.told[-1][0] not in GOES_ON
+
+    @property
+    def is_whole(self):
+        return re.fullmatch(r"(retry ){0,2}ok|retry retry RetriesExhausted", " ".join(status for status, _ in self.told)) is not None
+
+    def runs_untold(self):
+        """An invocation was run twice, or one that no line names. (One that is late may begin behind its next attempt.)"""
+        return len(set(self.runs)) < len(self.runs) or not set(self.runs) <= {invocation for _, invocation in self.told}
+
+    def differs(self):
+        """The service's own answer to a run is not what was told of it."""
+        told = {invocation: "ok" if status == "ok" else "failed" for status, invocation in self.told}
+        return any(told.get(invocation) != ("ok" if answer == "ok" else "failed") for invocation, answer in self.answers.items())
+
+    def is_lost(self):
+        """It has neither done its work nor come to its destination."""
+        status, invocation = self.told[-1]
+        return self.ends.get(invocation) != "ok" if status == "ok" else not self.records
+
+
 def text_of(*path):
     try:
         with open(os.path.join(*path)) as file:
@@ -114,34 +162,31 @@ def text_of(*path):
 
 
 def mixed_load():
-    up = Up(functions=[{"name": "f", "runtime": "python", "handler": "app.run", "environments": ENVIRONMENTS, "timeout": 1},
-                       {"name": "sink", "runtime": "python", "handler": "app.sink"}],
-            app=APP, whole={"asynchronous": {"delays": [0.1, 0.3], "onFailure": "sink"}})
+    up = Up(*READY, "--log", "json", app=APP, whole={"asynchronous": {"delays": [0.1, 0.3], "onFailure": "sink"}},
+            functions=[{"name": "f", "runtime": "python", "handler": "app.run", "environments": ENVIRONMENTS, "timeout": 2},
+                       {"name": "sink", "runtime": "python", "handler": "app.sink"}])
     for name in ("runs", "records"):
         os.mkdir(os.path.join(up.at, name))
-    up.until("[up] ready")
+    check("all is ready", up.until('"kind": "ready"', READY_SECONDS))
     load = Load(up)
     load.run()
-    check("every event comes to an end", until(lambda: load.open_events() == 0, 120) or load.open_events())
-    until(lambda: len(os.listdir(os.path.join(up.at, "records"))) >= up.count("its record goes to sink"), 10)
-    runs = {number: text_of(up.at, "runs", str(number)) for number in load.sent}
-    records = {number: text_of(up.at, "records", str(number)) for number in load.sent}
-    told = {number: load.told.get(load.names[number], "") for number in load.sent}
-    wrong = {number: text for number, text in told.items() if not re.fullmatch(r"f{0,2}o\.|fff\.", text)}
-    check("each succeeds once, after up to two failures, or fails three times", wrong, {})
-    # (one that was late has done its work and failed all the same, and one can fail before it has begun)
-    again = {number: (text, told[number]) for number, text in runs.items() if text.count("b") > len(told[number]) - 1}
-    check("none runs again unless it failed before", again, {})
-    lost = {number: (runs[number], told[number]) for number in load.sent
-            if ("o" not in runs[number] if told[number].endswith("o.") else not records[number])}
-    check("each has done its work, or its record has come", lost, {})
-    check("no record comes twice", {number: text for number, text in records.items() if len(text) > 1}, {})
+    check("every event comes to an end", until(lambda: load.open_events() == 0, DRAIN) or load.open_events())
+    until(lambda: len(os.listdir(os.path.join(up.at, "records"))) >= up.count("its record goes to sink"), 60)
+    until(lambda: load.open_events() >= 0 and load.all_answered(), 60)
+    # (Only of an event that has ended is it known what was told of each of its runs.)
+    stories = [story for story in (Story(load, number) for number in load.sent) if story.has_ended]
+    for name, fault in (("each succeeds once, after up to two failures, or fails three times", lambda story: not story.is_whole),
+                        ("each run is an attempt that was told, and none runs again unless it failed before", Story.runs_untold),
+                        ("the service answered each as it was told", Story.differs),
+                        ("each has done its work, or its record has come", Story.is_lost),
+                        ("no record comes twice", lambda story: len(story.records) > 1)):
+        wrong = [story for story in stories if fault(story)]
+        check(name, (len(wrong), wrong[:MOST_SHOWN]), (0, []))
     check("no other answer came", load.wrong, [])
-    check("it was a load", (len(load.sent) > SECONDS, load.invoked > SECONDS / 2, load.spun_down > SECONDS / 20), (True, True, True))
-    print(f"     {len(load.sent)} events in {SECONDS:g} s, {sum(map(bool, records.values()))} of them given up; "
-          f"{load.invoked} invocations; "
-          f"{sum(text.count('c') for text in runs.values())} crashes, {sum(text.count('h') for text in runs.values())} timeouts, "
-          f"{load.spun_down} spindowns", flush=True)
+    check("it was a load", (len(load.sent) > SECONDS, load.invoked > SECONDS / 10, load.spun_down > SECONDS / 100), (True, True, True))
+    runs = Counter(f"{story.ends.get(invocation, 'begun')}, {answer}" for story in stories for invocation, answer in story.answers.items())
+    print(f"     {len(stories)} events in {SECONDS:g} s, {sum(bool(story.records) for story in stories)} of them given up; "
+          f"runs with their answers {json.dumps(dict(runs))}; {load.invoked} invocations; {load.spun_down} spindowns", flush=True)
     check("it ends in order, and leaves nothing", up.end(), (0, []))
 
 
@@ -158,8 +203,8 @@ def medians(callers, count):
 
 
 def added_time():
-    up = Up(functions=[{"name": "f", "runtime": "python", "handler": "app.run"}], app=APP, whole={"asynchronous": True})
-    up.until("[up] ready")
+    up = Up(*READY, functions=[{"name": "f", "runtime": "python", "handler": "app.run"}], app=APP, whole={"asynchronous": True})
+    check("all is ready", up.until("[up] ready", READY_SECONDS))
     with Caller(up.endpoint) as front, Caller(behind(up)) as direct:
         medians({"front": front, "direct": direct}, 100)
         rounds = [medians({"front": front, "direct": direct}, 300) for _ in range(5)]

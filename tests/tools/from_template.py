@@ -19,6 +19,7 @@ from counted import check  # noqa: E402
 from lambda_local.configuration import OF_SERVICE, mistakes  # noqa: E402
 from lambda_local.from_template.command import up_of  # noqa: E402
 from lambda_local.from_template.telling import Fault  # noqa: E402
+from lambda_local.front import settings  # noqa: E402
 from lambda_local.up.members import MEMBERS  # noqa: E402
 
 HAS_YAML = bool(importlib.util.find_spec("yaml"))
@@ -151,16 +152,18 @@ def serverless():
     check("Serverless: variables in a circle", (made["s-dev-f"].get("variables"), circle in said), (None, True))
 
 
+def up_and_said(template):
+    """UP.json's object of a template, and what is said."""
+    with tempfile.TemporaryDirectory() as folder:
+        path, output = os.path.join(folder, "template.json"), io.StringIO()
+        with open(path, "w") as file:
+            json.dump(template, file)
+        with contextlib.redirect_stderr(output):
+            return up_of(path), output.getvalue()
+
+
 def addresses():
     """Function URLs and HTTP routes, of SAM and of Serverless, in JSON."""
-    def up_and_said(template):
-        with tempfile.TemporaryDirectory() as folder:
-            path, output = os.path.join(folder, "template.json"), io.StringIO()
-            with open(path, "w") as file:
-                json.dump(template, file)
-            with contextlib.redirect_stderr(output):
-                return up_of(path), output.getvalue()
-
     event = {"HttpApi": lambda **properties: {"Type": "HttpApi", "Properties": properties},
              "Api": lambda **properties: {"Type": "Api", "Properties": properties}}
     cors = {"AllowOrigins": ["https://shop.example"], "AllowCredentials": True, "MaxAge": 60, "AllowMethods": "x"}
@@ -187,6 +190,71 @@ def addresses():
     check("Serverless: routes", made["routes"], dict.fromkeys(("GET /a/{b}", "ANY /c", "$default", "POST /d"), "s-dev-f"))
     check("Serverless: URLs", [function["url"] for function in made["functions"]], [True, {"cors": {"allowOrigins": ["*"]}}])
     check("Serverless: what is left out", "s-dev-f: leaves out events: sqs" in said)
+
+
+def url_resources():
+    """AWS::Lambda::Url, as CDK writes it beside its function."""
+    def url(target, **properties):
+        return {"Type": "AWS::Lambda::Url", "Properties": {"AuthType": "NONE", "TargetFunctionArn": target, **properties}}
+
+    functions = {key: {"Type": "AWS::Lambda::Function", "Properties": {"Runtime": "provided", **properties}}
+                 for key, properties in (("F", {}), ("G", {"FunctionName": "shop-g"}), ("H", {}), ("I", {}))}
+    cors = {"AllowOrigins": ["https://shop.example"], "AllowMethods": ["GET"], "AllowHeaders": ["x-one"], "ExposeHeaders": ["x-two"],
+            "AllowCredentials": True, "MaxAge": 60}
+    made, said = up_and_said({"Conditions": {"Never": {"Fn::Equals": ["a", "b"]}}, "Resources": {
+        **functions, "FUrl": url({"Fn::GetAtt": ["F", "Arn"]}, Cors=cors, InvokeMode="RESPONSE_STREAM", Colour="x"),
+        "GUrl": url({"Ref": "G"}, AuthType="AWS_IAM", Qualifier="live"), "HUrl": url("H", Cors={"AllowOrigins": [{"Ref": "Site"}]}),
+        "Second": url("arn:aws:lambda:us-east-1:123456789012:function:H"), "Far": url({"Fn::ImportValue": "far"}),
+        "None": url({"Ref": "I"}) | {"Condition": "Never"}, "Odd": {"Type": "AWS::Lambda::Url", "Properties": 5}}})
+    check("URLs that are resources", {function["name"]: function.get("url") for function in made["functions"]}, {
+        "F": {"cors": {name[:1].lower() + name[1:]: value for name, value in cors.items()}}, "shop-g": True,
+        "H": {"cors": {"allowOrigins": ["Site"]}}, "I": None})
+    for words in ("F: leaves out Colour of its URL", "F: its URL answers once the whole result is there, without streaming",
+                  "shop-g: its URL takes requests without a signature here", "shop-g: its URL is of live, and here of $LATEST",
+                  "H: HUrl has a placeholder for the resource Site", "leaves out Second, AWS::Lambda::Url: H has a URL already",
+                  "leaves out Far, AWS::Lambda::Url: there is no function far", "leaves out None: its condition Never is not met",
+                  "leaves out Odd, AWS::Lambda::Url: there is no function None"):
+        check(f"URLs that are resources: {words}", words in said or said)
+
+
+def cors_of_routes():
+    """What an HTTP API says of cross-origin requests: for all of SAM's, for one of its own, and in Serverless."""
+    def template(shared=None, **apis):
+        """A function with a route of each API, and one of SAM's own if there is none."""
+        events = {key: {"Type": "HttpApi", "Properties": {"Path": f"/{key}", "Method": "GET", **({"ApiId": {"Ref": key}} if apis else {})}}
+                  for key in apis or ("own",)}
+        function = {"Type": "AWS::Serverless::Function", "Properties": {"Runtime": "provided", "Events": events}}
+        return {"Globals": {"HttpApi": shared or {}}, "Resources": {"F": function, **{
+            key: {"Type": "AWS::Serverless::HttpApi", "Properties": properties} for key, properties in apis.items()}}}
+
+    any_site = {"allowOrigins": ["*"], "allowHeaders": ["*"], "allowMethods": ["*"]}
+    own = {"AllowOrigins": ["http://a"], "AllowMethods": ["GET"], "MaxAge": 5, "AllowCredentials": False}
+    made_own = {"allowOrigins": ["http://a"], "allowMethods": ["GET"], "maxAge": 5, "allowCredentials": False}
+    for title, given, wanted, words in (
+            ("none", template(), None, ""), ("of Globals, any site", template({"CorsConfiguration": True}), any_site, ""),
+            ("of Globals, one site", template({"CorsConfiguration": "http://a"}), {"allowOrigins": ["http://a"]}, ""),
+            ("of Globals, in full", template({"CorsConfiguration": own, "Auth": {}}), made_own,
+             "leaves out Auth of the HTTP API ServerlessHttpApi"),
+            ("of an API", template({"CorsConfiguration": True}, Shop={"CorsConfiguration": own, "StageName": "x"}), made_own,
+             "leaves out StageName of the HTTP API Shop"),
+            ("of an API by Globals", template({"CorsConfiguration": True}, Shop={}), any_site, ""),
+            ("of an API, none", template({"CorsConfiguration": True}, Shop={"CorsConfiguration": False}), None, ""),
+            ("of two APIs", template(None, Shop={"CorsConfiguration": own}, Back={"CorsConfiguration": True}), made_own,
+             "all routes have one port here, with the Cors of the HTTP API Shop, and not those of Back"),
+            ("with what is no Cors", template({"CorsConfiguration": {**own, "AllowOrigins": "x", "Colour": 1}}),
+             {name: value for name, value in made_own.items() if name != "allowOrigins"},
+             "leaves out allowOrigins of the Cors of the HTTP API ServerlessHttpApi: x")):
+        made, said = up_and_said(given)
+        check(f"Cors of routes: {title}", (made.get("api", {}).get("cors"), words in said or said), (wanted, True))
+    unused = {"Resources": {"Shop": {"Type": "AWS::Serverless::HttpApi", "Properties": {"CorsConfiguration": True}},
+                            "F": {"Type": "AWS::Lambda::Function", "Properties": {"Runtime": "provided"}}}}
+    made, said = up_and_said(unused)
+    check("an HTTP API without routes", ("api" in made, "leaves out Shop: none of the routes is of this HTTP API" in said), (False, True))
+    for cors, wanted in ((True, any_site), ({"allowedOrigins": ["http://a"], "maxAge": 5}, {"allowOrigins": ["http://a"], "maxAge": 5})):
+        made, said = up_and_said({"service": "s", "provider": {"runtime": "provided", "httpApi": {"cors": cors, "metrics": True}},
+                                  "functions": {"f": {"handler": "x", "events": [{"httpApi": "GET /a"}]}}})
+        check(f"Serverless: Cors of routes {cors}", (made["api"], "leaves out metrics of the HTTP API provider.httpApi" in said),
+              ({"cors": wanted}, True))
 
 
 def expressions():
@@ -334,11 +402,14 @@ def other_types():
         "Environment": {"Variables": {"A": {"Fn::GetAtt": ["T", "Arn"]}, "B": {"Ref": "T"},
                                       "D": {"Fn::Select": [0, {"Fn::Split": [",", "x,y"]}]}}}}, "Metadata": {"aws:asset:path": "x"},
                                       "Condition": "C"}
+    one["Properties"]["Events"] = {"Get": {"Type": "HttpApi", "Properties": {"Path": "/", "Method": "GET", "ApiId": {"Ref": "Api"}}}}
     whole = {"Parameters": {"Stage": {"Type": "String", "Default": "dev"}}, "Mappings": {"M": {"a": {"b": 3}}},
              "Conditions": {"C": {"Fn::Not": [{"Fn::Equals": ["a", {"Ref": "Stage"}]}]}},
              "Globals": {"Function": {"Environment": {"Variables": {"E": 1}}}},
              "Resources": {"One": one, "T": {"Type": "AWS::DynamoDB::Table", "Properties": {"TableName": "t"}},
-                           "Two": function_of()["Resources"]["F"]}}
+                           "Two": function_of()["Resources"]["F"],
+                           "Api": {"Type": "AWS::Serverless::HttpApi", "Properties": {"CorsConfiguration": {"AllowOrigins": ["a"]}}},
+                           "Url": {"Type": "AWS::Lambda::Url", "Properties": {"TargetFunctionArn": "Two", "Cors": {"MaxAge": 1}}}}}
     less = {"service": {"name": "shop"}, "provider": {"stage": "${opt:stage, 'dev'}", "runtime": "python3.12",
                                                       "environment": {"A": "${self:custom.a}"}},
                                                       "custom": {"a": ["${self:custom.b}"], "b": {"c": 1}},
@@ -357,7 +428,9 @@ def other_types():
                     with contextlib.redirect_stderr(io.StringIO()):
                         try:
                             whole_up = json.loads(json.dumps(up_of(path)))
-                            refused += [(mistake, changed) for mistake in mistakes(whole_up, OF_SERVICE, MEMBERS, ["functions"], ["name"])]
+                            found = [*mistakes(whole_up, {**OF_SERVICE, **settings.AT_THE_TOP}, MEMBERS, ["functions"], ["name"]),
+                                     *settings.mistakes(whole_up)]
+                            refused += [(mistake, changed) for mistake in found]
                         except Fault as fault:
                             if changed[needed] == template[needed]:
                                 refused.append((str(fault), changed))
@@ -399,4 +472,5 @@ def places():
 
 
 if __name__ == "__main__":
-    sys.exit(counted.run(sam, cdk, serverless, addresses, expressions, code, numbers, names, wrong_templates, other_types, places))
+    sys.exit(counted.run(sam, cdk, serverless, addresses, url_resources, cors_of_routes, expressions, code, numbers, names,
+                         wrong_templates, other_types, places))

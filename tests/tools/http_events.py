@@ -11,6 +11,7 @@ import shutil
 import socket
 import subprocess
 import sys
+import tempfile
 import time
 import urllib.parse
 
@@ -18,7 +19,7 @@ ROOT = os.path.dirname(os.path.dirname(os.path.dirname(os.path.realpath(__file__
 sys.path[:0] = [os.path.join(ROOT, "tools"), os.path.join(ROOT, "tests", "library")]
 import counted  # noqa: E402
 from counted import check  # noqa: E402
-from events_kit import Caller  # noqa: E402
+from events_kit import READY, READY_SECONDS, Caller  # noqa: E402
 from up_kit import Up, until  # noqa: E402
 
 # What it gives stands in the query; without one it is the event.
@@ -39,10 +40,10 @@ CORS = {"allowOrigins": ["http://shop.example"], "allowMethods": ["GET", "POST"]
 
 @contextlib.contextmanager
 def running(url=True, **whole):
-    up = Up(functions=[{"name": "f", "runtime": "python", "handler": "app.run", "environments": 2, "url": url, "timeout": 10},
+    up = Up(*READY, functions=[{"name": "f", "runtime": "python", "handler": "app.run", "environments": 2, "url": url, "timeout": 10},
                        {"name": "g", "runtime": "python", "handler": "app.run"}], app=APP, whole=whole)
     try:
-        up.until("[up] ready")
+        up.until("[up] ready", READY_SECONDS)
         with Caller(address(up, r"its URL is (\S+)/$")) as caller:
             yield up, caller
     finally:
@@ -156,6 +157,58 @@ def cross_origin():
         check("without a configuration the function answers", event["requestContext"]["http"]["method"], "OPTIONS")
 
 
+OF_API = {"CorsConfiguration": {
+    "AllowOrigins": ["https://shop.example"], "AllowMethods": ["GET", "POST"], "AllowHeaders": ["x-one", "content-type"],
+    "ExposeHeaders": ["x-two"], "AllowCredentials": True, "MaxAge": 60}}
+TEMPLATE = {"Globals": {"HttpApi": OF_API}, "Resources": {
+    "f": {"Type": "AWS::Serverless::Function", "Properties": {
+        "CodeUri": ".", "Handler": "app.run", "Runtime": "python3.12",
+        "Events": {"Get": {"Type": "HttpApi", "Properties": {"Path": "/orders", "Method": "GET"}}}}},
+    "Url": {"Type": "AWS::Lambda::Url", "Properties": {
+        "TargetFunctionArn": {"Fn::GetAtt": ["f", "Arn"]}, "AuthType": "NONE", "Cors": {"AllowOrigins": ["*"], "AllowMethods": ["*"]}}}}}
+
+
+def cors_in(headers):
+    return {name[len("access-control-"):]: value for name, value in headers.items() if name.startswith("access-control-")}
+
+
+def of_a_template():
+    """What a template says of cross-origin requests is what browsers are answered (API Gateway Developer Guide, "Configure
+    CORS for HTTP APIs"; Lambda Developer Guide, "Cross-origin resource sharing")."""
+    with tempfile.TemporaryDirectory() as folder:
+        template, output = (os.path.join(folder, name) for name in ("template.json", "up.json"))
+        with open(template, "w") as file:
+            json.dump(TEMPLATE, file)
+        subprocess.run([os.path.join(ROOT, "tools", "from_template"), template, "-o", output], stderr=subprocess.DEVNULL, check=True)
+        with open(output) as file:
+            made = json.load(file)
+    up = Up(*READY, functions=[{**function, "runtime": "python"} for function in made.pop("functions")], app=APP, whole=made)
+    up.until("[up] ready", READY_SECONDS)
+    simple = {"allow-origin": "https://shop.example", "allow-credentials": "true", "expose-headers": "x-two"}
+    with Caller(address(up, r"routes: (\S+)$")) as caller:
+        asked = {"Origin": "https://shop.example", "Access-Control-Request-Method": "POST", "Access-Control-Request-Headers": "x-one"}
+        status, headers, body = caller.ask("OPTIONS", "/orders", None, asked)
+        check("an API's preflight", (status, body, cors_in(headers)), (204, b"", {
+            **simple, "allow-methods": "GET,POST", "allow-headers": "x-one,content-type", "max-age": "60"}))
+        status, headers, _ = caller.ask("OPTIONS", "/nowhere", None, asked)
+        check("one for what no route takes", (status, headers.get("access-control-allow-origin")), (204, "https://shop.example"))
+        status, headers, _ = caller.ask("OPTIONS", "/orders", None, {**asked, "Origin": "https://other.example"})
+        check("one of another site", (status, cors_in(headers)), (204, {}))
+        own = json.dumps({"statusCode": 200, "headers": {"Access-Control-Allow-Origin": "*", "x-two": "2"}, "body": "x"})
+        path = "/orders?" + urllib.parse.urlencode({"gives": own})
+        for origin, wanted in (("https://shop.example", simple), ("https://other.example", {}), (None, {})):
+            _, headers, body = caller.ask("GET", path, None, {"Origin": origin} if origin else {})
+            check(f"an API's answer for {origin}: the function's own headers do not count",
+                  (cors_in(headers), headers["x-two"], body), (wanted, "2", b"x"))
+        check("an OPTIONS that is no preflight has no route", caller.ask("OPTIONS", "/orders", None, {})[0], 404)
+    with Caller(address(up, r"its URL is (\S+)/$")) as caller:
+        asked = {"Origin": "http://any", "Access-Control-Request-Method": "PUT"}
+        status, headers, _ = caller.ask("OPTIONS", "/", None, asked)
+        check("a URL's preflight", (status, cors_in(headers)), (200, {"allow-origin": "*", "allow-methods": "PUT"}))
+        check("a URL's answer", cors_in(caller.ask("GET", "/", None, {"Origin": "http://any"})[1]), {"allow-origin": "*"})
+    check("it ends in order, and leaves nothing", up.end(), (0, []))
+
+
 PAGE = '''def run(event, context):
     url = event.get("queryStringParameters", {}).get("to")
     return {"statusCode": 200, "headers": {"content-type": "text/html"}, "body": """<p id=x>waits</p><script>
@@ -174,12 +227,12 @@ def in_a_browser():
     for given, wanted in (({"cors": cors}, "got /there"), (True, "TypeError: Failed to fetch")):
         functions = [{"name": "f", "runtime": "python", "handler": "app.run", "url": given},
                      {"name": "page", "runtime": "python", "handler": "page.run", "url": True}]
-        up = Up(functions=functions, app=APP, files={"page.py": PAGE})
-        up.until("[up] ready")
+        up = Up(*READY, functions=functions, app=APP, files={"page.py": PAGE})
+        up.until("[up] ready", READY_SECONDS)
         to, page = (address(up, name + r": its URL is (\S+)/$") for name in (r"\bf", r"\bpage"))
         done = subprocess.run([browser, "--headless", "--no-sandbox", "--disable-gpu", f"--user-data-dir={up.at}/profile",
                                "--virtual-time-budget=5000", "--dump-dom", f"{page}/?to={to}"],
-                              stdout=subprocess.PIPE, stderr=subprocess.DEVNULL, text=True, timeout=60)
+                              stdout=subprocess.PIPE, stderr=subprocess.DEVNULL, text=True, timeout=READY_SECONDS)
         shown = re.search('<p id="x">(.*?)</p>', done.stdout)
         check(f"Chromium reads a URL with {given}", shown and shown[1], wanted)
         check("it ends in order, and leaves nothing", up.end(), (0, []))
@@ -231,7 +284,10 @@ def malformed():
                 ("another version", b"GET / HTTP/2.0\r\nHost: a\r\n\r\n", b"505"),
                 ("a head that is too long", b"GET / HTTP/1.1\r\nHost: a\r\nX: " + b"x" * 70000, b"431"),
                 ("HTTP/1.0", b"GET / HTTP/1.0\r\n\r\n", b"200")):
+            told = f"a request is answered {wanted.decode()}: "
+            count = up.count(told) + (wanted != b"200")
             check(name, raw(url, data).split(b" ")[1:2], [wanted])
+            check("a line says why", until(lambda: up.count(told) == count, 5))
         two = raw(url, b"GET /one HTTP/1.1\r\nHost: a\r\n\r\nGET /two HTTP/1.1\r\nHost: a\r\nConnection: close\r\n\r\n")
         check("two requests at once are answered in turn", re.findall(rb'"rawPath": "([^"]*)"', two), [b"/one", b"/two"])
         check("the port is still there", caller.ask("GET", "/")[0], 200)
@@ -264,5 +320,5 @@ def mistakes():
 
 
 if __name__ == "__main__":
-    parts = {part.__name__: part for part in (events, results, by_curl, cross_origin, in_a_browser, routes, malformed, mistakes)}
+    parts = {part.__name__: part for part in (events, results, by_curl, cross_origin, of_a_template, in_a_browser, routes, malformed, mistakes)}
     sys.exit(counted.run(*(parts[name] for name in sys.argv[1:] or parts)))

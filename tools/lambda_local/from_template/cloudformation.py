@@ -3,6 +3,7 @@ from .telling import shown, tell
 from .values import Scope, Unknown, members_of
 
 FUNCTION, SAM_FUNCTION = "AWS::Lambda::Function", "AWS::Serverless::Function"
+TAKEN_LATER = ("AWS::Lambda::Url", "AWS::Serverless::HttpApi")  # once the functions are known
 ASSET = "aws:asset:path"  # CDK says here, of what it has staged, in which folder it is
 
 
@@ -54,6 +55,8 @@ def listed(template, stack):
     shared = members_of(members_of(template, "Globals"), "Function")
     for key, resource in template["Resources"].items():
         kind = resource.get("Type") if isinstance(resource, dict) else shown(resource)
+        if kind in TAKEN_LATER:
+            continue
         if kind not in (FUNCTION, SAM_FUNCTION):
             tell(f"leaves out {key}, {kind}")
         elif is_wanted(key, resource, scope):

@@ -24,6 +24,7 @@ from . import cloudformation, serverless
 from .addresses import routes_of
 from .functions import functions_of
 from .reading import read
+from .resources import add_urls, api_of, apis_of
 from .telling import Fault, tell
 from .values import REGION
 
@@ -39,7 +40,8 @@ def stack_of(path):
 def up_of(path):
     """UP.json's object; its folders are as seen from the template's."""
     whole, base = read(path), os.path.dirname(os.path.abspath(path))
-    if isinstance(whole.get("Resources"), dict):
+    is_of_resources = isinstance(whole.get("Resources"), dict)
+    if is_of_resources:
         listed, scope = cloudformation.listed(whole, stack_of(path))
     elif isinstance(whole.get("functions"), (dict, list)):
         listed, scope = serverless.listed(whole, stack_of(path))
@@ -48,10 +50,15 @@ def up_of(path):
     functions = functions_of(listed, scope, base)
     if not functions:
         raise Fault(f"{path} has no function")
+    if is_of_resources:
+        add_urls(functions, scope)
     region = scope.pseudo["AWS::Region"]
     is_other = region != REGION and re.fullmatch(r"[a-z0-9-]{1,32}", region)
-    routes = routes_of(functions, tell)
-    return {**({"region": region} if is_other else {}), **({"routes": routes} if routes else {}), "functions": functions}
+    routes, used = routes_of(functions, tell)
+    shared, apis = apis_of(whole, scope) if is_of_resources else ({}, serverless.http_apis(scope))
+    api = api_of(used, shared, apis, scope)
+    return {**({"region": region} if is_other else {}), **({"routes": routes} if routes else {}), **({"api": api} if api else {}),
+            "functions": functions}
 
 
 def place(functions, template, folder):

@@ -2,6 +2,7 @@
 import os
 import re
 
+from .addresses import OF_SERVERLESS
 from .telling import shown, tell
 from .values import ACCOUNT, REGION, Scope, Unknown, is_scalar, members_of, text_of
 
@@ -119,6 +120,12 @@ def object_of(part, name, where, scope):
     if value is not None and not isinstance(value, dict):
         tell(f"{where}: leaves out {name}: it must be an object, not {shown(part[name])}")
     return value if isinstance(value, dict) else {}
+
+
+def http_apis(scope):
+    """What `provider` says of its HTTP API, by the names of SAM."""
+    given = object_of(scope.provider, "httpApi", "provider", scope)
+    return {OF_SERVERLESS: {"CorsConfiguration" if name == "cors" else name: value for name, value in given.items()}} if given else {}
 
 
 def properties_of(key, member, scope):

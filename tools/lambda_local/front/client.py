@@ -10,6 +10,10 @@ MOST_IDLE = 64  # connections that are kept
 IDLE_SECONDS = 60  # (the service closes one after 300)
 
 
+class Unreached(Gone):
+    """There is no connection to the service, which so has nothing of the request."""
+
+
 class Client:
     def __init__(self, port):
         self.port, self.idle = port, []
@@ -18,13 +22,13 @@ class Client:
         now = time.monotonic()
         while self.idle:
             wire, since = self.idle.pop()
-            if not (wire.ended or wire.buffer) and now - since < IDLE_SECONDS:
+            if wire.is_silent() and now - since < IDLE_SECONDS:
                 return wire
             wire.close()
         try:
             _, wire = await asyncio.get_running_loop().create_connection(Wire, "127.0.0.1", self.port)
         except OSError:
-            raise Gone from None
+            raise Unreached from None
         return wire
 
     def give_back(self, wire):

@@ -8,7 +8,11 @@ def refusal(status, kind, members, identifier=None):
     headers = [("Content-Type", "application/json"), ("x-amzn-ErrorType", kind)]
     if identifier:
         headers.append(("x-amzn-RequestId", identifier))
-    return Reply(status, headers, json.dumps(members, separators=(",", ":")).encode())
+    return Reply(status, headers, of_json(members))
+
+
+def of_json(members):
+    return json.dumps(members, separators=(",", ":")).encode()
 
 
 def of_user(status, kind, message, identifier=None):
@@ -19,5 +23,13 @@ def throttled(reason, identifier):
     return refusal(429, "TooManyRequestsException", {"Reason": reason, "Type": "User", "message": "Rate Exceeded."}, identifier)
 
 
+STOPPED = {"Message": "Service is stopped", "Type": "Service"}
+
+
 def stopped(identifier):
-    return refusal(500, "ServiceException", {"Message": "Service is stopped", "Type": "Service"}, identifier)
+    return refusal(500, "ServiceException", STOPPED, identifier)
+
+
+def is_stop(body):
+    """Whether the service refuses since it is stopped."""
+    return body == of_json(STOPPED)

@@ -78,6 +78,8 @@ class Front(threading.Thread):
         for server in self.servers:
             self.loop.run_until_complete(server.start())
         self.loop.run_forever()
+        if self.queue:
+            self.loop.run_until_complete(self.queue.close())
         for server in self.servers:
             self.loop.run_until_complete(server.stop())
         self.client.close()
@@ -95,7 +97,5 @@ class Front(threading.Thread):
 
     def end(self):
         """Once the service has ended."""
-        if self.queue:
-            self.loop.call_soon_threadsafe(self.queue.close)
         self.loop.call_soon_threadsafe(self.loop.stop)
         self.join()

@@ -3,9 +3,10 @@ import json
 
 from . import cors
 from .events import target_of
-from .http import Reply, TooLong, first
+from .http import Malformed, Reply, TooLong, every, first
 from .payload import Unmappable, event_of, reply_of
 from .routes import Routes
+from .wire import Gone
 
 MOST_BODY = 6 << 20  # bytes, of a request and of the event that is made of it
 MOST_HELD = 256 << 20  # bytes of the bodies of all requests of a port that are being answered
@@ -13,6 +14,12 @@ MOST_HELD = 256 << 20  # bytes of the bodies of all requests of a port that are 
 
 def message(status, text):
     return Reply(status, [("Content-Type", "application/json")], json.dumps({"message": text}).encode())
+
+
+def check_host(request):
+    hosts = every(request.headers, "host")
+    if len(hosts) > 1 or not hosts and request.version == "HTTP/1.1":
+        raise Malformed(400, "a request has one Host")
 
 
 class Gateway:
@@ -24,6 +31,7 @@ class Gateway:
         self.held = 0
 
     async def handle(self, request):
+        check_host(request)
         if self.cors and cors.is_preflight(request):
             return cors.preflight(self.cors, request, self.preflight_status)
         reply = await self.invoke(request)
@@ -52,7 +60,11 @@ class Gateway:
         if len(event) > MOST_BODY:
             return self.too_large(function, request, "the event made of it")
         trace = [(name, value) for name, value in request.headers if name.lower() == "x-amzn-trace-id"]
-        status, headers, result = await self.client.ask("POST", target_of(function), trace, event)
+        try:
+            status, headers, result = await self.client.ask("POST", target_of(function), trace, event)
+        except (Gone, Malformed):
+            self.say(function, request, "502, the service broke its connection off")
+            return self.broken()
         if status != 200:
             return self.not_invoked(function, request, status, result)
         if first(headers, "x-amz-function-error") is not None:

@@ -5,7 +5,7 @@ from .errors import of_user, stopped, throttled
 from .events import Event, Identifiers, function_of
 from .http import Reply, TooLong, first
 from .origins import further_hosts, is_from_here
-from .passing import pass_on
+from .passing import pass_on, without_body
 from .queue import Full, Queue
 
 MOST_PAYLOAD = 1 << 20  # bytes of an event (Developer Guide, "Lambda quotas")
@@ -22,9 +22,8 @@ class InvokePort:
         self.queue = Queue(client, settings, configuration, self.identifiers, log)
 
     async def handle(self, request):
-        if not is_from_here(request.headers, self.hosts):
-            return Reply(403, [("Content-Type", "application/json")],
-                         b'{"errorMessage":"Origin or Host is not of this machine","errorType":"Forbidden"}')
+        if not is_from_here(request, self.hosts):
+            return await pass_on(self.client, without_body(request))  # (it refuses by the same rule, in its own words)
         if request.method == "POST" and request.path == "/_local/stop":
             await self.queue.drained(self.drain_seconds)
         kind, function = first(request.headers, TYPE), function_of(request.target)

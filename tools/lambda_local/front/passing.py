@@ -1,5 +1,8 @@
 """Requests that are passed on to the service as they are, and its answers as they come."""
-from .http import Reply, passed_on
+from .http import OF_CONNECTION, Body, Reply, every, passed_on, words_of
+
+
+OF_BODY = ("content-length", "transfer-encoding")
 
 
 async def encoded(pieces):
@@ -14,6 +17,20 @@ def pass_on(client, request):
     return Passing(client, request).reply()
 
 
+def without_body(request):
+    """The same request as one that has no body, for a service that refuses it by its head."""
+    headers = [(name, value) for name, value in request.headers if name.lower() not in OF_BODY]
+    return request._replace(headers=headers, body=Body(request.body.wire))
+
+
+def answered(headers):
+    """The headers of an answer. If the service ends the connection behind it, so does the front."""
+    words = words_of(headers, "connection")
+    dropped = OF_CONNECTION.union(words) - ({"connection"} if "close" in words else set())
+    kept = [(name, value) for name, value in headers if name.lower() not in dropped]
+    return [(name, "close" if name.lower() == "connection" else value) for name, value in kept]
+
+
 class Passing:
     def __init__(self, client, request):
         self.client, self.request = client, request
@@ -21,6 +38,8 @@ class Passing:
     async def reply(self):
         request, body = self.request, self.request.body
         headers = [(name, value) for name, value in passed_on(request.headers) if name.lower() != "expect"]
+        if request.version == "HTTP/1.0" and not every(headers, "host"):
+            headers.append(("Host", f"127.0.0.1:{self.client.port}"))  # (it is passed on as one of HTTP/1.1)
         whole, pieces = b"", None
         if body.in_chunks:
             headers.append(("Transfer-Encoding", "chunked"))
@@ -35,11 +54,11 @@ class Passing:
             if answer.body.is_read or answer.body.is_here:
                 content = await answer.body.whole(answer.body.length)
                 await asking.__aexit__(None, None, None)
-                return Reply(answer.status, passed_on(answer.headers), content, reason=answer.reason)
+                return Reply(answer.status, answered(answer.headers), content, reason=answer.reason)
         except BaseException:
             await asking.__aexit__(None, None, None)
             raise
-        return Reply(answer.status, passed_on(answer.headers), pieces=self.pieces(asking, answer), reason=answer.reason)
+        return Reply(answer.status, answered(answer.headers), pieces=self.pieces(asking, answer), reason=answer.reason)
 
     @staticmethod
     async def pieces(asking, answer):

@@ -4,12 +4,15 @@ import asyncio
 import contextlib
 from collections import deque
 
+from .client import Unreached
+from .errors import is_stop
 from .events import Event, target_of
-from .http import first
+from .http import Malformed, first
 from .wire import Gone
 
 MOST_EVENTS, MOST_BYTES = 1000, 64 << 20  # that wait or run
 FIRST_PAUSE, LONGEST_PAUSE = 0.05, 5.0  # seconds, after a throttle; each further one in a row doubles it
+LAST_SECONDS = 1  # for the answers of a service that has ended
 GROWS_AFTER = 8  # successes in a row, until one more event of a function is tried at once
 
 
@@ -92,22 +95,38 @@ class Queue:
             return self.go_on(lane)
         try:
             status, headers, body = await self.client.ask("POST", event.target, event.headers, event.payload)
-        except Gone:
+        except Unreached:
             lane.running -= 1
-            return  # (the service has ended: what is left is told at the end)
+            return self.postpone(lane, event, "cannot be sent, since the service takes no connection")
+        except (Gone, Malformed):
+            status, headers, body = None, [], b""
         lane.running -= 1
-        if status == 429 or status >= 500:
-            event.throttles += 1
-            lane.ready.appendleft(event)
-            return self.hold(lane, lane.throttled())
+        if status == 500 and is_stop(body):
+            return  # (what is left is told at the end)
+        if status == 429:
+            return self.postpone(lane, event)
+        if status is not None and status >= 500:  # (which may come after the function has run)
+            return self.postpone(lane, event, f"has no outcome, since the service answers {status} {body[:200].decode(errors='replace')}")
         lane.taken()
         self.ended(event, status, headers, body)
         self.release(lane)
 
+    def postpone(self, lane, event, why=None):
+        """After a throttle, or a fault of the service, which is told: the attempt does not count."""
+        pause = lane.throttled()
+        if why:
+            self.say(event, f"{why}: again after {pause:g} s", "warning", "fault")
+        event.throttles += 1
+        lane.ready.appendleft(event)
+        self.hold(lane, pause)
+
     def ended(self, event, status, headers, body):
         event.attempts += 1
         invocation = first(headers, "x-amzn-requestid")
-        if status != 200:
+        if status is None:
+            event.result = None
+            self.failed(event, "has no outcome, since the service broke its connection off")
+        elif status != 200:
             self.say(event, f"is refused: {status} {body.decode(errors='replace')[:200]}", "error", "refused", invocation)
             self.forget(event)
         elif first(headers, "x-amz-function-error") is None:
@@ -116,13 +135,13 @@ class Queue:
             self.forget(event)
         else:
             event.result = body
-            self.failed(event, invocation)
+            self.failed(event, "failed", invocation)
 
-    def failed(self, event, invocation):
+    def failed(self, event, what, invocation=None):
         if event.attempts > self.settings.retries:
-            return self.given_up(event, "RetriesExhausted", f"failed, attempt {event.attempts} of {event.attempts}", invocation)
+            return self.given_up(event, "RetriesExhausted", f"{what}, attempt {event.attempts} of {event.attempts}", invocation)
         delay = self.settings.delay(event.attempts)
-        self.say(event, f"failed, attempt {event.attempts} of {self.settings.retries + 1}: again after {delay:g} s", "warning", "retry",
+        self.say(event, f"{what}, attempt {event.attempts} of {self.settings.retries + 1}: again after {delay:g} s", "warning", "retry",
                  invocation)
         asyncio.get_running_loop().call_later(delay, self.enqueue, event)
 
@@ -156,8 +175,13 @@ class Queue:
         while self.events:
             await asyncio.sleep(0.01)
 
-    def close(self):
-        """Tells what is lost."""
+    async def close(self):
+        """Once the service has ended: what still comes of attempts is taken, and what is lost is told."""
         self.is_closed = True
+        if self.tasks:
+            await asyncio.wait(self.tasks, timeout=LAST_SECONDS)
+        for task in self.tasks:
+            task.cancel()
+        await asyncio.gather(*self.tasks, return_exceptions=True)
         for event in self.events.values():
             self.say(event, f"is lost by the stop, after {event.attempts} attempts", "error", "lost")

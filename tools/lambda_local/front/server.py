@@ -5,7 +5,7 @@ import http
 import json
 import time
 
-from .http import Malformed, Reply, every, first, rendered, request_of, words_of
+from .http import Malformed, Reply, first, rendered, request_of, words_of
 from .wire import Gone, Wire
 
 MOST_CONNECTIONS = 1024  # of one port; a further one is closed
@@ -79,14 +79,14 @@ class Server:
             request = await self.next_request(wire)
             if request is None:
                 return False
-            check_host(request)
             reply = await self.handler(request)
             if request.body.is_here and not request.body.is_read:
                 await request.body.whole(request.body.length)  # (a refusal that needs no body: the connection can be kept)
             is_understood = True
         except Malformed as fault:
             reply = refusal(fault.status, str(fault))
-        keeps = is_understood and request.body.is_read and self.is_kept(request)
+            self.log("up", f"a request is answered {fault.status}: {fault}", level="error", kind="http")
+        keeps = is_understood and request.body.is_read and self.is_kept(request) and "close" not in words_of(reply.headers, "connection")
         wire.patience, wire.touched = IDLE_SECONDS, time.monotonic()
         keeps = await send(wire, request, reply, keeps)
         if request is not None and request.body.is_read:
@@ -125,33 +125,27 @@ class Server:
                 await wire.more()
 
 
-def check_host(request):
-    hosts = every(request.headers, "host")
-    if len(hosts) > 1 or not hosts and request.version == "HTTP/1.1":
-        raise Malformed(400, "a request has one Host")
-
-
 async def send(wire, request, reply, keeps):
     """Sends a reply; whether the connection can be kept."""
-    method, is_new = (request.method, request.version == "HTTP/1.1") if request else ("GET", True)
-    has_body = method != "HEAD" and reply.status not in (204, 304)
+    method, version = (request.method, request.version) if request else ("GET", "HTTP/1.1")
+    is_new, has_body = version == "HTTP/1.1", method != "HEAD" and reply.status not in (204, 304)
     headers, in_chunks = list(reply.headers), False
     if reply.pieces is None:
         if reply.status not in (204, 304) and first(headers, "content-length") is None:
-            headers.append(("Content-Length", str(len(reply.body))))
+            headers.append(("content-length", str(len(reply.body))))
     elif has_body and first(headers, "content-length") is None:
         in_chunks = is_new
         keeps = keeps and is_new
         if in_chunks:
-            headers.append(("Transfer-Encoding", "chunked"))
-    if not keeps:
-        headers.append(("Connection", "close"))
-    elif not is_new:
-        headers.append(("Connection", "keep-alive"))
+            headers.append(("transfer-encoding", "chunked"))
+    if not keeps and first(headers, "connection") is None:
+        headers.append(("connection", "close"))
+    elif keeps and not is_new:
+        headers.append(("connection", "keep-alive"))
     reason = reply.reason
     if reason is None:
         reason = http.HTTPStatus(reply.status).phrase if reply.status in http.HTTPStatus._value2member_map_ else ""
-    head = rendered(f"HTTP/1.1 {reply.status} {reason}", headers)
+    head = rendered(f"{version} {reply.status} {reason}", headers)
     if reply.pieces is None:
         await wire.write(head + reply.body if has_body else head)
         return keeps

@@ -1,5 +1,6 @@
 """One TCP connection: what has come and was not read yet, and what waits to be sent, both bounded."""
 import asyncio
+import select
 import time
 
 MOST_UNREAD = 256 << 10  # bytes; with more, the peer is not read from until they are taken
@@ -108,6 +109,15 @@ class Wire(asyncio.Protocol):
 
     def abort(self):
         self.transport.abort()
+
+    def is_silent(self):
+        """Whether nothing has come that was not read, not even the end: also nothing that the system has and the loop has
+        not looked at yet."""
+        if self.ended or self.buffer or self.transport.is_closing():
+            return False
+        poll = select.poll()
+        poll.register(self.transport.get_extra_info("socket").fileno(), select.POLLIN)
+        return not poll.poll(0)
 
     def is_overdue(self, now):
         return self.patience is not None and now - self.touched > self.patience
