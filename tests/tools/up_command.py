@@ -202,7 +202,7 @@ def full_history():
     up.until("[up] ready")
     until(lambda: not is_answered(up), 60)
     check("a history that is nearly full is told", up.until("of its 600 entries", 5))
-    check("so is a full one", up.until("the history is full", 5))
+    check("so is a full one", up.until("answered 500 `Journal is full`", 5))
     check("each of them once", (up.count("of its 600 entries"), up.count("answered 500 `Journal is full`")), (1, 1))
     check("and all ends in order", up.end(), (0, []))
 
