@@ -52,6 +52,7 @@ class Caller:
     def invoke(self, name, event, patience=5.0):
         """A synchronous invocation; a throttle is tried again."""
         end = time.monotonic() + patience
-        while (answer := self.ask("POST", invoke_path(name), json.dumps(event).encode()))[0] == 429 and time.monotonic() < end:
+        while (answer := self.ask("POST", invoke_path(name),
+                                  json.dumps(event).encode()))[0] == 429 and time.monotonic() < end:
             time.sleep(0.01)
         return answer

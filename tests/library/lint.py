@@ -12,7 +12,8 @@ MOST = 120
 LEFT_OUT = re.compile(r"examples/conformance/(broken|failing|conformance)\.")
 SUFFIXES = {".py": "python", ".sh": "sh", **dict.fromkeys((".c", ".go", ".js", ".mjs", ".css"), "other")}
 SHEBANGS = ((re.compile(r"#!.*python"), "python"), (re.compile(r"#!.*\b(ba|da)?sh\b"), "sh"))
-# Left out: imports below a line that says where modules are, the length of lines (`too_long` has it), and rules of taste
+# Left out: imports below a line that says where modules are, the length of lines (`too_long` has it), and rules of
+# taste
 # (where a continued line begins, spaces in slices, empty lines in functions and at the end, names for a lambda).
 RULES = ["--ignore", "E12,E133,E203,E226,E24,E306,E402,E501,E704,E731,W391,W503,W504"]
 LINTERS = (

@@ -46,7 +46,8 @@ def told(part):
 
 def run(*arguments, script=None, environment=ENVIRONMENT):
     """The tool's status, output and standard error."""
-    done = subprocess.run([TOOL, *arguments], input=None if script is None else script.encode(), stdin=None if script is not None
+    done = subprocess.run([TOOL, *arguments], input=None if script is None else script.encode(),
+                          stdin=None if script is not None
                           else subprocess.DEVNULL, capture_output=True, env=environment, timeout=300)
     return done.returncode, done.stdout.decode(), done.stderr.decode()
 
@@ -77,9 +78,11 @@ def draw(name, script, *arguments):
     try:
         spans = events(trace, "call")
         full = events(trace, "full")
-        check(f"{name}: a span a call in the trace", len(spans) + len(full) == count, f"{len(spans)} + {len(full)} of {count}")
+        check(f"{name}: a span a call in the trace", len(spans) + len(full) == count,
+              f"{len(spans)} + {len(full)} of {count}")
         check(f"{name}: spans end after they begin", all(span["dur"] >= 0 for span in spans))
-        lanes = {(event["pid"], event["tid"]) for event in json.loads(trace)["traceEvents"] if event["name"] == "thread_name"}
+        lanes = {(event["pid"], event["tid"]) for event in json.loads(trace)["traceEvents"]
+                 if event["name"] == "thread_name"}
         check(f"{name}: each lane has a name", all((span["pid"], span["tid"]) in lanes for span in spans))
         callers = sorted((span["tid"], span["ts"], span["ts"] + span["dur"]) for span in spans if span["pid"] == 1)
         check(f"{name}: no two invocations of a caller at once",
@@ -92,7 +95,8 @@ def draw(name, script, *arguments):
         check(f"{name}: {form}", status == 0 and said == "", said)
         try:
             tree = ElementTree.fromstring(page.replace("<!DOCTYPE html>\n", ""))
-            groups = [group for group in tree.iter("{http://www.w3.org/2000/svg}g") if group.get("class", "").startswith("call ")]
+            groups = [group for group in tree.iter("{http://www.w3.org/2000/svg}g")
+                      if group.get("class", "").startswith("call ")]
             if form == "svg":
                 groups = [g for g in groups if g.find("{http://www.w3.org/2000/svg}title") is not None]
             check(f"{name}: a span a call in the {form}", len(groups) == len(spans), f"{len(groups)} of {len(spans)}")

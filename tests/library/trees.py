@@ -33,8 +33,8 @@ def text_of(*parts):
 def run(words, cwd="/", stdin="", user=None, **variables):
     """What a command ends with: its status, and what it wrote on both streams."""
     who = {"user": user, "group": user, "extra_groups": []} if user is not None else {}
-    ran = subprocess.run(words, cwd=cwd, env=plain(**variables), input=stdin, timeout=600, text=True, stdout=subprocess.PIPE,
-                         stderr=subprocess.PIPE, **who)
+    ran = subprocess.run(words, cwd=cwd, env=plain(**variables), input=stdin, timeout=600, text=True,
+                         stdout=subprocess.PIPE, stderr=subprocess.PIPE, **who)
     return ran.returncode, ran.stdout, ran.stderr
 
 
@@ -63,7 +63,8 @@ def copied():
 def copy_tree(folder, released=None):
     """Puts the files of this checkout there as they stand, but for release/. With the path of a program, that is
     released for these sources."""
-    listed = subprocess.run(["git", "ls-files", "-co", "--exclude-standard", "-z"], cwd=ROOT, stdout=subprocess.PIPE, check=True).stdout
+    listed = subprocess.run(["git", "ls-files", "-co", "--exclude-standard", "-z"], cwd=ROOT, stdout=subprocess.PIPE,
+                            check=True).stdout
     for name in filter(None, listed.decode().split("\0")):
         if os.path.isfile(os.path.join(ROOT, name)) and not name.startswith("release/"):
             os.makedirs(os.path.dirname(os.path.join(folder, name)), exist_ok=True)
@@ -75,7 +76,8 @@ def copy_tree(folder, released=None):
 
 def stamp_of(root):
     """The lines of what the sources of a copy are known by."""
-    return subprocess.run([os.path.join(root, "lambda_local"), "stamp"], env=plain(), stdout=subprocess.PIPE, text=True, check=True).stdout
+    return subprocess.run([os.path.join(root, "lambda_local"), "stamp"], env=plain(), stdout=subprocess.PIPE,
+                          text=True, check=True).stdout
 
 
 def release(root, program, kit="rattle-kit-0 logic 0"):

@@ -63,7 +63,8 @@ def until(condition, seconds):
 
 
 class Up:
-    """`members` are those of a function `f`, or `functions` are all; `whole` has those of UP.json, `files` more files."""
+    """`members` are those of a function `f`, or `functions` are all; `whole` has those of UP.json, `files` more
+    files."""
 
     def __init__(self, *options, command=(), files={}, functions=None, whole={}, environ=None, app=HANDLER, **members):
         self.folder = tempfile.TemporaryDirectory()

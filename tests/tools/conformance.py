@@ -61,12 +61,14 @@ def program(name):
     return os.path.join(PROGRAMS, name)
 
 
-# ---- those that pass ---------------------------------------------------------------------------------------------------
+# ---- those that pass
+# ---------------------------------------------------------------------------------------------------
 
 def passes(name, run, noted=None):
     """A program without a FAIL; `noted` are the checks that may be noted, none for any."""
     seen = (run.status, run.verdicts("FAIL"), run.verdicts("NOTE") - (run.verdicts("NOTE") if noted is None else noted))
-    check(f"{name} passes, with notes on {' '.join(sorted(run.verdicts('NOTE'))) or 'nothing'}", seen, (0, set(), set()))
+    check(f"{name} passes, with notes on {' '.join(sorted(run.verdicts('NOTE'))) or 'nothing'}", seen,
+          (0, set(), set()))
     run.told(seen == (0, set(), set()))
 
 
@@ -79,7 +81,8 @@ def sound_extension():
 
 
 def shipped():
-    """The runtimes of examples/ with the kit's handler, those whose languages are on the machine: names and commands."""
+    """The runtimes of examples/ with the kit's handler, those whose languages are on the machine: names and
+    commands."""
     found = [("runtime.py", [sys.executable, os.path.join(EXAMPLES, "runtime.py")])]
     if shutil.which("node"):
         found.append(("runtime.mjs", ["node", os.path.join(EXAMPLES, "runtime.mjs")]))
@@ -103,17 +106,19 @@ def in_go():
         return Run("runtime", "--", built)
 
 
-# ---- those that are caught ---------------------------------------------------------------------------------------------
+# ---- those that are caught
+# ---------------------------------------------------------------------------------------------
 
 def wrong_runtime(name):
     with tempfile.TemporaryDirectory() as temporary:
-        return Run("runtime", *RUNTIMES.get(name, FEW), "--", *PYTHON, program("wrong_runtimes.py"), name, temporary=temporary)
+        return Run("runtime", *RUNTIMES.get(name, FEW), "--", *PYTHON, program("wrong_runtimes.py"), name,
+                   temporary=temporary)
 
 
 def wrong_extension(name):
     with tempfile.TemporaryDirectory() as temporary:
-        return Run("extension", "--name", "sound", *EXTENSIONS.get(name, QUICK), "--", *PYTHON, program("wrong_extensions.py"), name,
-                   temporary=temporary)
+        return Run("extension", "--name", "sound", *EXTENSIONS.get(name, QUICK), "--", *PYTHON,
+                   program("wrong_extensions.py"), name, temporary=temporary)
 
 
 def caught(kind, mistake, run):
@@ -121,12 +126,14 @@ def caught(kind, mistake, run):
     noted = getattr(mistake, "noted", False)
     seen = (run.status, run.verdicts("FAIL"), not noted or mistake.check in run.verdicts("NOTE"))
     wanted = (0 if noted else 1, set() if noted else {mistake.check}, True)
-    check(f"{kind} {mistake.__name__} is {'noted' if noted else 'caught'} by {mistake.check}, and by no other", seen, wanted)
+    check(f"{kind} {mistake.__name__} is {'noted' if noted else 'caught'} by {mistake.check}, and by no other", seen,
+          wanted)
     run.told(seen == wanted)
 
 
 def each_check_can_fail():
-    for name, part, mistakes in (("runtime", runtime, wrong_runtimes.MISTAKES), ("extension", extension, wrong_extensions.MISTAKES)):
+    for name, part, mistakes in (("runtime", runtime, wrong_runtimes.MISTAKES),
+                                 ("extension", extension, wrong_extensions.MISTAKES)):
         all_checks = {check.name for scenario in part.SCENARIOS for check in scenario.checks}
         failed = {mistake.check for mistake in mistakes.values() if not getattr(mistake, "noted", False)}
         only_notes = {"keep_alive"} if part is runtime else set()
@@ -153,13 +160,14 @@ def programs():
             judge(*before, future.result(), *behind)
 
 
-# ---- what a run says and leaves ----------------------------------------------------------------------------------------
+# ---- what a run says and leaves
+# ----------------------------------------------------------------------------------------
 
 def a_failure_is_explained():
     with tempfile.TemporaryDirectory() as folder:
         file, pictures = os.path.join(folder, "report.xml"), os.path.join(folder, "pictures")
-        run = Run("runtime", "--only", "error_type", "--junit", file, "--pictures", pictures, "--", *PYTHON, program("wrong_runtimes.py"),
-                  "LosesTheErrorType")
+        run = Run("runtime", "--only", "error_type", "--junit", file, "--pictures", pictures, "--", *PYTHON,
+                  program("wrong_runtimes.py"), "LosesTheErrorType")
         parts = ("expected  ", "page      Lambda Developer Guide", "invoke errors", "picture   ")
         words = [part for part in parts if part not in run.output]
         check("a FAIL says what is expected, by which page, and shows the timeline", (run.status, words), (1, []))
@@ -167,7 +175,8 @@ def a_failure_is_explained():
         check("its picture is an SVG", drawn.tag.rpartition("}")[2], "svg")
         suite = xml.parse(file).getroot().find("testsuite")
         case = suite.find("testcase")
-        check("JUnit has the one check", (suite.get("tests"), suite.get("failures"), case.get("name")), ("1", "1", "error_type"))
+        check("JUnit has the one check", (suite.get("tests"), suite.get("failures"), case.get("name")),
+              ("1", "1", "error_type"))
         check("and what came", case.find("failure").get("message").startswith("the caller received "))
         check("and its details", "Invocation error" in case.find("failure").text)
 
@@ -190,7 +199,8 @@ def wrong_usage():
             (["runtime", "--", "sh", "-c", "echo it is broken; exit 3"],
              "it ended with status 3 before it asked for anything; its last line: it is broken"),
             (["extension", "--", "true"], "write --name NAME"),
-            (["extension", "--name", "x", "--events", "INVOKE,START", "--", "true"], "INVOKE,START: write INVOKE, SHUTDOWN or both"),
+            (["extension", "--name", "x", "--events", "INVOKE,START", "--", "true"],
+             "INVOKE,START: write INVOKE, SHUTDOWN or both"),
             (["extension", "--name", "x", "--", "true"], "it ended with status 0 before it asked for anything")):
         run = Run(*words)
         refused(" ".join(words) or "no word", run, told)
@@ -224,8 +234,10 @@ def nothing_is_left():
     for number, wanted in ((signal.SIGINT, 130), (signal.SIGTERM, 143), (signal.SIGKILL, -9)):
         with tempfile.TemporaryDirectory() as temporary:
             variables = {**os.environ, "TMPDIR": temporary}
-            process = subprocess.Popen([TOOL, "runtime", "--", *PYTHON, program("sound_runtime.py")], cwd=HANDLERS, env=variables,
-                                       stdout=subprocess.PIPE, stderr=subprocess.DEVNULL, text=True, start_new_session=True)
+            process = subprocess.Popen([TOOL, "runtime", "--", *PYTHON, program("sound_runtime.py")], cwd=HANDLERS,
+                                       env=variables,
+                                       stdout=subprocess.PIPE, stderr=subprocess.DEVNULL, text=True,
+                                       start_new_session=True)
             process.stdout.readline()
             process.stdout.readline()  # (the first verdict: the scenarios run)
             begun = len(processes_of(temporary)) > 3
@@ -245,7 +257,8 @@ def the_page_has_each_check():
     for name, part in (("runtime", runtime), ("extension", extension)):
         checks = [one for scenario in part.SCENARIOS for one in scenario.checks]
         rows = [f"| `{one.name}` | {one.expected} | [{one.page.part}]({one.page.address}) |" for one in checks]
-        check(f"{name}: docs/conformance.md has each check as --list has it", [row for row in rows if row not in page], [])
+        check(f"{name}: docs/conformance.md has each check as --list has it", [row for row in rows if row not in page],
+              [])
 
 
 if __name__ == "__main__":

@@ -1,7 +1,7 @@
 #!/usr/bin/env python3
 """Checks tools/conformance service: it finds nothing in lambda_local over a thousand random sequences and nothing in a
-sound emulator, and each fault that is planted in the emulator. The program is LAMBDA_LOCAL_PROGRAM, else ./lambda_local.
-Ends with 'N passed, M failed'.
+sound emulator, and each fault that is planted in the emulator. The program is LAMBDA_LOCAL_PROGRAM, else
+./lambda_local. Ends with 'N passed, M failed'.
 
 usage: tests/tools/conformance_service.py [FAULT ..]   (or `sound`, `lambda_local`; default: everything)"""
 import concurrent.futures
@@ -28,8 +28,8 @@ PARTS, IN_PART = 8, 125  # of the random sequences for lambda_local, each part w
 IN_EMULATOR = 60  # random sequences
 SERVICE_TIMEOUT, EMULATOR_TIMEOUT = 4, 2  # of the functions, in seconds
 
-# What each fault shows as: the words of the call, of the definitions' answer, and of the respect in which it differs. By
-# the meaning of the fault there may be two.
+# What each fault shows as: the words of the call, of the definitions' answer, and of the respect in which it differs.
+# By the meaning of the fault there may be two.
 SHOWS_AS = {
     "answers-twice": {"response State status", "failure State status"},
     "loses-error-type": {"invoke error report"},
@@ -78,8 +78,10 @@ class Run:
 def against_emulator(faults, *words):
     """A run against an emulator with these faults."""
     invoke_port, runtime_port = free_ports(2, set())
-    emulator = subprocess.Popen([sys.executable, "-S", os.path.join(EMULATOR, "emulator.py"), str(invoke_port), str(runtime_port),
-                                 str(EMULATOR_TIMEOUT), *faults], stdout=subprocess.PIPE, text=True, start_new_session=True)
+    emulator = subprocess.Popen([sys.executable, "-S", os.path.join(EMULATOR, "emulator.py"), str(invoke_port),
+                                 str(runtime_port),
+                                 str(EMULATOR_TIMEOUT), *faults], stdout=subprocess.PIPE, text=True,
+                                start_new_session=True)
     try:
         emulator.stdout.readline()
         return Run("--invoke", f"http://127.0.0.1:{invoke_port}", "--runtime", f"127.0.0.1:{runtime_port}", *words)
@@ -99,7 +101,8 @@ def against_lambda_local(*words):
         service.kill()
 
 
-# ---- what is found, and what is not ------------------------------------------------------------------------------------
+# ---- what is found, and what is not
+# ------------------------------------------------------------------------------------
 
 def started(name, start, *words):
     """A run that has begun, if this name is chosen."""
@@ -108,10 +111,12 @@ def started(name, start, *words):
 
 def against(name):
     """The run against the emulator with the fault of this name, or without a fault."""
-    return against_emulator(() if name == "sound" else (name,), "--seed", "1", "--sequences", str(IN_EMULATOR), "--most", "1")
+    return against_emulator(() if name == "sound" else (name,), "--seed", "1", "--sequences", str(IN_EMULATOR),
+                            "--most", "1")
 
 
-RUNS = [started("lambda_local", against_lambda_local, "--seed", str(seed), "--sequences", str(IN_PART)) for seed in range(PARTS)]
+RUNS = [started("lambda_local", against_lambda_local, "--seed", str(seed), "--sequences", str(IN_PART))
+        for seed in range(PARTS)]
 SOUND = started("sound", against, "sound")
 FAULTY = {name: started(name, against, name) for name in FAULTS}
 
@@ -129,7 +134,8 @@ def nothing_in_lambda_local():
 def nothing_in_a_sound_emulator():
     if SOUND:
         run = SOUND.result()
-        check(f"nothing differs in an emulator without a fault: {(run.output.splitlines() or [''])[-1]}", (run.status, run.words), (0, []))
+        check(f"nothing differs in an emulator without a fault: {(run.output.splitlines() or [''])[-1]}",
+              (run.status, run.words), (0, []))
         run.told(run.status == 0)
 
 
@@ -153,7 +159,8 @@ def each_worked_sequence_is_played():
         check(f"each of {len(texts)} worked sequences ({start}) is played", {one.name for one in texts} - played, set())
 
 
-# ---- what a run takes and leaves ---------------------------------------------------------------------------------------
+# ---- what a run takes and leaves
+# ---------------------------------------------------------------------------------------
 
 def differences_can_be_known():
     with tempfile.TemporaryDirectory() as folder:
@@ -166,15 +173,18 @@ def differences_can_be_known():
         run.told(run.status == 0)
         check("JUnit has no failure", xml.parse(report).getroot().find("testsuite").get("failures"), "0")
         run = against_emulator(("hides-function-error",), *words)
-        case = next((one for one in xml.parse(report).getroot().iter("testcase") if one.find("failure") is not None), None)
+        case = next((one for one in xml.parse(report).getroot().iter("testcase") if one.find("failure") is not None),
+                    None)
         shown = case is not None and "invoke a" in case.find("failure").text
         check("without the file it is a failure in JUnit, with its calls", (run.status, shown), (1, True))
         check("the report has the page", "API_Invoke.html" in run.output)
         script = run.output.partition("      script\n")[2].splitlines()
         lines = [line.strip() for line in script if line.startswith("        ")]
-        replayed = subprocess.run([os.environ.get("LAMBDA_LOCAL_PROGRAM", os.path.join(ROOT, "lambda_local")), "replay"],
+        replayed = subprocess.run([os.environ.get("LAMBDA_LOCAL_PROGRAM", os.path.join(ROOT, "lambda_local")),
+                                   "replay"],
                                   input="\n".join(lines) + "\n", capture_output=True, text=True)
-        check("its script can be replayed, and has the error", (replayed.returncode, " error =" in replayed.stdout), (0, True))
+        check("its script can be replayed, and has the error", (replayed.returncode, " error =" in replayed.stdout),
+              (0, True))
 
 
 def built_in_points_stand_in_the_page():
@@ -202,20 +212,23 @@ def wrong_usage():
                 ([*here, "--seconds", "soon"], "--seconds"),
                 ([*here, "--known", os.path.join(folder, "nothing")], "No such file"),
                 ([*here, "--known", bad], "known.txt: line 2 has 2 words: write three"),
-                ([*here, "--junit", os.path.join(folder, "no", "report.xml")], "name a file in a folder that can be written"),
+                ([*here, "--junit", os.path.join(folder, "no", "report.xml")],
+                 "name a file in a folder that can be written"),
                 ([*here, "--program", "nowhere"], "nowhere is no program"),
                 (here, f"127.0.0.1:{other}: no service answers there"),
                 ([*here[:2], "--runtime", f"127.0.0.1:{silent_port}"], f"127.0.0.1:{free}: no service answers there"),
-                (["--invoke", f"http://127.0.0.1:{silent_port}", "--runtime", f"127.0.0.1:{silent_port}"], "is not answered within 2 s")):
+                (["--invoke", f"http://127.0.0.1:{silent_port}", "--runtime", f"127.0.0.1:{silent_port}"],
+                 "is not answered within 2 s")):
             run = Run(*words)
-            check(f"{' '.join(words) or 'no word'}: status 2 and one line", (run.status, len(run.errors.splitlines()), told in run.errors),
-                  (2, 1, True))
+            check(f"{' '.join(words) or 'no word'}: status 2 and one line",
+                  (run.status, len(run.errors.splitlines()), told in run.errors), (2, 1, True))
             run.told(told in run.errors)
     silent.close()
     service = Service({"account": "123456789012", "region": "us-east-1", "functions": [{"name": "f", "ports": [0]}]})
     run = Run("--invoke", service.endpoint_url, "--runtime", f"127.0.0.1:{service.port}")
     service.kill()
-    check("a port without a Runtime API: status 2", (run.status, "is answered 404: no Runtime API listens there" in run.errors), (2, True))
+    check("a port without a Runtime API: status 2",
+          (run.status, "is answered 404: no Runtime API listens there" in run.errors), (2, True))
     run.told(run.status == 2)
 
 

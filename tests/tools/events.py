@@ -1,7 +1,7 @@
 #!/usr/bin/env python3
-"""Checks asynchronous invocations: what callers are answered, retries, destinations, the queue's bounds and its end, and that
-all else passes through tools/up unchanged. Needs boto3. The program is LAMBDA_LOCAL_PROGRAM, else ./lambda_local.
-Ends with 'N passed, M failed'."""
+"""Checks asynchronous invocations: what callers are answered, retries, destinations, the queue's bounds and its end,
+and that all else passes through tools/up unchanged. Needs boto3. The program is LAMBDA_LOCAL_PROGRAM, else
+./lambda_local. Ends with 'N passed, M failed'."""
 import contextlib
 import json
 import os
@@ -66,8 +66,8 @@ def records(up):
 
 
 def by_boto3():
-    up = Up(*READY, command=["--", sys.executable, "calls.py"], functions=functions(), app=APP, files={"calls.py": BOTO3},
-            whole={"asynchronous": True})
+    up = Up(*READY, command=["--", sys.executable, "calls.py"], functions=functions(), app=APP,
+            files={"calls.py": BOTO3}, whole={"asynchronous": True})
     check("boto3: the command and all else end in order", up.end(None), (0, []))
     check("boto3: Event and DryRun", up.output.splitlines(), ["202 36 b''", "204 36 b''"])
     check("an event that waits at the stop is still invoked", up.count(r"\[f\] event \S+ ok after"), 1)
@@ -81,11 +81,14 @@ def refusals():
                 ("a version", invoke_path("f") + "?Qualifier=7", {}, b"{}", (404, "ResourceNotFoundException")),
                 ("what is no JSON", invoke_path("f"), {}, b"{", (400, "InvalidRequestContentException")),
                 ("NaN", invoke_path("f"), {}, b"NaN", (400, "InvalidRequestContentException")),
-                ("more than 1 MiB", invoke_path("f"), {}, b'"' + b"x" * (1 << 20) + b'"', (413, "RequestTooLargeException")),
-                ("another type", invoke_path("f"), {"X-Amz-Invocation-Type": "Events"}, b"{}", (400, "InvalidParameterValueException"))):
+                ("more than 1 MiB", invoke_path("f"), {}, b'"' + b"x" * (1 << 20) + b'"',
+                 (413, "RequestTooLargeException")),
+                ("another type", invoke_path("f"), {"X-Amz-Invocation-Type": "Events"}, b"{}",
+                 (400, "InvalidParameterValueException"))):
             status, answered, _ = caller.ask("POST", path, body, {"X-Amz-Invocation-Type": "Event", **headers})
             check(f"an event: {name}", (status, answered.get("x-amzn-errortype")), wanted)
-        check("an unknown function, tried out", caller.ask("POST", invoke_path("g"), b"{}", {"X-Amz-Invocation-Type": "DryRun"})[0], 404)
+        check("an unknown function, tried out",
+              caller.ask("POST", invoke_path("g"), b"{}", {"X-Amz-Invocation-Type": "DryRun"})[0], 404)
         for name in ("f", "123456789012:function:f", "arn:aws:lambda:us-east-1:123456789012:function:f:$LATEST"):
             check(f"an event for {name}", caller.event(name, {})[0], 202)
         check("each is invoked", until(lambda: up.count(r"\[f\] event \S+ ok") == 3, 10))
@@ -112,16 +115,19 @@ def failures():
               ["requestContext", "requestPayload", "responseContext", "responsePayload", "timestamp", "version"])
         context = record["requestContext"]
         check("its context", (record["version"], context), ("1.0", {
-            "requestId": headers["x-amzn-requestid"], "functionArn": "arn:aws:lambda:us-east-1:123456789012:function:f:$LATEST",
+            "requestId": headers["x-amzn-requestid"],
+            "functionArn": "arn:aws:lambda:us-east-1:123456789012:function:f:$LATEST",
             "condition": "RetriesExhausted", "approximateInvokeCount": 3}))
         check("its payload", record["requestPayload"], {"do": "fail", "order": 7})
         check("its response", (record["responseContext"], record["responsePayload"]["errorType"]),
               ({"statusCode": 200, "executedVersion": "$LATEST", "functionError": "Unhandled"}, "KeyError"))
         check("its time", re.fullmatch(r"\d{4}-\d\d-\d\dT\d\d:\d\d:\d\d\.\d{3}Z", record["timestamp"]) is not None)
-        check("both retries are told", [up.count(text) for text in ("again after 0.2 s", "again after 0.4 s", "its record goes to sink")],
+        check("both retries are told",
+              [up.count(text) for text in ("again after 0.2 s", "again after 0.4 s", "its record goes to sink")],
               [1, 1, 1])
         caller.event("f", {"do": "fail", "sink": "fails"})
-        check("a destination that fails is retried, and ends there", until(lambda: up.has("attempt 3 of 3: it is dropped"), 10))
+        check("a destination that fails is retried, and ends there",
+              until(lambda: up.has("attempt 3 of 3: it is dropped"), 10))
         check("and gets no record of its own", len(records(up)), 4)
         caller.event("f", {"do": "crash"})
         check("a crash is retried as well", until(lambda: len(records(up)) == 5, 30))
@@ -130,7 +136,8 @@ def failures():
         caller.event("f", {"number": 2})
         check("an event that is too old gets its record", until(lambda: records(up), 10))
         record, = records(up)
-        check("which says why", (record["requestContext"]["condition"], record["requestContext"]["approximateInvokeCount"],
+        check("which says why",
+              (record["requestContext"]["condition"], record["requestContext"]["approximateInvokeCount"],
                                  "responsePayload" in record), ("EventAgeExceeded", 0, False))
 
 
@@ -139,7 +146,8 @@ def bounds():
         seen = [caller.event("f", {"do": "sleep", "seconds": 60})[0] for _ in range(1000)]
         status, headers, body = caller.event("f", {})
         check("1,000 events are held", set(seen), {202})
-        check("one more gets 429", (status, headers.get("x-amzn-errortype"), json.loads(body)), (429, "TooManyRequestsException", {
+        check("one more gets 429", (status, headers.get("x-amzn-errortype"), json.loads(body)),
+              (429, "TooManyRequestsException", {
             "Reason": "CallerRateLimitExceeded", "Type": "User", "message": "Rate Exceeded."}))
         up.end()
         check("what is lost by a stop is told", up.count("is lost by the stop"), 1000)
@@ -153,7 +161,8 @@ def ends():
     with running(timeout=10) as (up, caller):
         for number in range(4):
             caller.event("f", {"do": "sleep", "seconds": 0.4, "number": number})
-        check("a stop waits for the events", (up.end(), up.count(r"\[f\] event \S+ ok"), up.has("events are left")), ((0, []), 4, True))
+        check("a stop waits for the events", (up.end(), up.count(r"\[f\] event \S+ ok"), up.has("events are left")),
+              ((0, []), 4, True))
     with running(timeout=10) as (up, caller):
         for number in range(3):
             caller.event("f", {"do": "sleep", "seconds": 0.4, "number": number})
@@ -165,16 +174,20 @@ def ends():
         caller.event("f", {"do": "sleep", "seconds": 20})
         begun = time.monotonic()
         up.end()
-        check("it waits no longer than --drain says", (time.monotonic() - begun < 8, up.count("is lost by the stop")), (True, 1))
+        check("it waits no longer than --drain says", (time.monotonic() - begun < 8, up.count("is lost by the stop")),
+              (True, 1))
 
 
 def unchanged():
     with running(timeout=2) as (up, caller), Caller(behind(up)) as direct:
         large = json.dumps({"x": "y" * 3_000_000}).encode()
         for name, method, path, body in (
-                ("an output", "POST", invoke_path("f"), b'{"a":"\xc3\xa9"}'), ("an error", "POST", invoke_path("f"), b'{"do":"fail"}'),
-                ("a large payload", "POST", invoke_path("f"), large), ("one that is too large", "POST", invoke_path("f"), b"1" * 7_000_000),
-                ("what is no JSON", "POST", invoke_path("f"), b"{"), ("an unknown function", "POST", invoke_path("g"), b"{}"),
+                ("an output", "POST", invoke_path("f"), b'{"a":"\xc3\xa9"}'),
+                ("an error", "POST", invoke_path("f"), b'{"do":"fail"}'),
+                ("a large payload", "POST", invoke_path("f"), large),
+                ("one that is too large", "POST", invoke_path("f"), b"1" * 7_000_000),
+                ("what is no JSON", "POST", invoke_path("f"), b"{"),
+                ("an unknown function", "POST", invoke_path("g"), b"{}"),
                 ("an unknown path", "GET", "/x", None), ("another method", "DELETE", invoke_path("f"), None),
                 ("a reservation", "PUT", "/2017-10-31/functions/f/concurrency", b'{"ReservedConcurrentExecutions":1}'),
                 ("its removal", "DELETE", "/2017-10-31/functions/f/concurrency", None)):
@@ -183,26 +196,31 @@ def unchanged():
         check("passed on in chunks", caller.ask("POST", invoke_path("f"), iter([b'{"a', b'":1}']))[2], b'{"a": 1}')
         history = caller.ask("GET", "/_local/history")[2]
         check("passed on as it comes: the history",
-              (len(history) > 3_000_000, direct.ask("GET", "/_local/history")[2][:len(history)] == history), (True, True))
+              (len(history) > 3_000_000, direct.ask("GET", "/_local/history")[2][:len(history)] == history),
+              (True, True))
 
 
 SEEN = "/2019-09-30/functions/f/concurrency"  # of which the answer stays the same
 INVOKE = f"POST {invoke_path('f')} HTTP/1.1\r\n"
 HEADS = (  # of requests that are refused by their heads alone, and of others
     *(f"GET {SEEN} HTTP/1.1\r\nHost: {host}\r\n" for host in (
-        "a.example.com", "a.example.com:80", "a b", "user@a", "", ":80", "a:b", "[::1]:9000", "[::1", "[]", "[g]", "localhost",
-        "LOCALHOST.", "a.localhost:1", "host.docker.internal", "service", "x.local", "x.localdomain", "127.0.0.1", "1.2.3",
-        "listed.example", "a..", "a.b.", "x%41~!", "caf\xe9", "a:99999999", "a/b")),
+        "a.example.com", "a.example.com:80", "a b", "user@a", "", ":80", "a:b", "[::1]:9000", "[::1", "[]", "[g]",
+        "localhost",
+        "LOCALHOST.", "a.localhost:1", "host.docker.internal", "service", "x.local", "x.localdomain", "127.0.0.1",
+        "1.2.3", "listed.example", "a..", "a.b.", "x%41~!", "caf\xe9", "a:99999999", "a/b")),
     *(f"GET {SEEN} HTTP/1.1\r\nHost: a\r\n{header}\r\n" for header in (
         "Origin: http://127.0.0.1", "Origin: null", "Origin:", "Sec-Fetch-Site: cross-site", "Sec-Fetch-Site: none",
         "Sec-Fetch-Site: None", "Sec-Fetch-Site: same-origin", "Sec-Fetch-Site: same-site",
         "Sec-Fetch-Site: none\r\nSec-Fetch-Site: x", "Host: b", "Connection: close\r\nOrigin: x")),
     *(f"{line}\r\n" for line in (
-        f"GET {SEEN} HTTP/1.1", f"GET {SEEN} HTTP/1.0", f"GET {SEEN} HTTP/1.0\r\nHost: a.b", f"GET {SEEN} HTTP/1.0\r\nOrigin: x",
-        f"HEAD {SEEN} HTTP/1.1\r\nHost: a.b", "GET /nowhere HTTP/1.1\r\nHost: a.b", f"GET {SEEN} HTTP/1.1\r\nHost: a b\r\nOrigin: x",
+        f"GET {SEEN} HTTP/1.1", f"GET {SEEN} HTTP/1.0", f"GET {SEEN} HTTP/1.0\r\nHost: a.b",
+        f"GET {SEEN} HTTP/1.0\r\nOrigin: x",
+        f"HEAD {SEEN} HTTP/1.1\r\nHost: a.b", "GET /nowhere HTTP/1.1\r\nHost: a.b",
+        f"GET {SEEN} HTTP/1.1\r\nHost: a b\r\nOrigin: x",
         f"GET http://a.example{SEEN} HTTP/1.1\r\nHost: a", f"GET http://localhost{SEEN} HTTP/1.1\r\nHost: a.example",
         f"GET {SEEN} HTTP/1.1\r\nHost: a.b\r\nOrigin: x")),
-    INVOKE + "Host: a.b\r\nContent-Length: 2\r\n\r\n{}", INVOKE + "Host: a.b\r\nContent-Length: 2\r\nExpect: 100-continue\r\n",
+    INVOKE + "Host: a.b\r\nContent-Length: 2\r\n\r\n{}",
+    INVOKE + "Host: a.b\r\nContent-Length: 2\r\nExpect: 100-continue\r\n",
     INVOKE + "Host: a\r\nOrigin: x\r\nContent-Length: 2\r\n\r\n{}")
 
 
@@ -235,14 +253,16 @@ def refused_alike():
         statuses[wanted[0][9:12]] += 1
     check("each kind of answer is among them", sorted(statuses), [b"200", b"400", b"403"])
     event = "X-Amz-Invocation-Type: Event\r\nContent-Length: 2\r\n"
-    for head, wanted in (("Host: a\r\n", b"202"), ("Host: a.b\r\n", b"403"), ("Host: a\r\nOrigin: http://a\r\n", b"403"),
+    for head, wanted in (("Host: a\r\n", b"202"), ("Host: a.b\r\n", b"403"),
+                         ("Host: a\r\nOrigin: http://a\r\n", b"403"),
                          ("Host: a b\r\n", b"400"), ("", b"400"), ("Host: listed.example\r\n", b"202")):
         check(f"an event with {head!r}", raw_answer(up.endpoint, f"{INVOKE}{head}{event}\r\n{{}}")[0][9:12], wanted)
     check("it ends in order, and leaves nothing", (up.end(), up.count(r"\[f\] event \S+ ok")), ((0, []), 2))
 
 
 def peers_that_go():
-    """A connection whose caller has gone is closed on both sides; one whose caller has ended its own side is answered."""
+    """A connection whose caller has gone is closed on both sides; one whose caller has ended its own side is
+    answered."""
     def sockets():
         folder = f"/proc/{up.process.pid}/fd"
         return sum(os.readlink(os.path.join(folder, name)).startswith("socket:") for name in os.listdir(folder))
@@ -276,14 +296,16 @@ def alike(answer):
 
 def samples():
     """Each sample is JSON with the member by which its kind is known, and examples/invoke.sh takes it by name."""
-    known = {"s3": ("Records", 0, "s3", "bucket", "name"), "sqs": ("Records", 0, "body"), "sns": ("Records", 0, "Sns", "Message"),
+    known = {"s3": ("Records", 0, "s3", "bucket", "name"), "sqs": ("Records", 0, "body"),
+             "sns": ("Records", 0, "Sns", "Message"),
              "schedule": ("detail-type",), "eventbridge": ("detail",), "apigateway_1.0": ("requestContext", "identity"),
              "apigateway_2.0": ("requestContext", "http")}
     folder = os.path.join(ROOT, "examples", "events")
     check("the samples", sorted(os.listdir(folder)), sorted(f"{name}.json" for name in known))
     with running() as (up, _):
         for name, path in known.items():
-            done = subprocess.run([os.path.join(ROOT, "examples", "invoke.sh"), "f", name, up.endpoint.partition("//")[2]],
+            done = subprocess.run([os.path.join(ROOT, "examples", "invoke.sh"), "f", name,
+                                   up.endpoint.partition("//")[2]],
                                   stdout=subprocess.PIPE, timeout=30)
             value = json.loads(done.stdout.partition(b"\r\n\r\n")[2])
             with open(os.path.join(folder, f"{name}.json")) as file:
@@ -305,6 +327,7 @@ def mistakes():
 
 
 if __name__ == "__main__":
-    parts = {part.__name__: part for part in (by_boto3, refusals, fan_out, failures, bounds, ends, unchanged, refused_alike, peers_that_go,
+    parts = {part.__name__: part
+             for part in (by_boto3, refusals, fan_out, failures, bounds, ends, unchanged, refused_alike, peers_that_go,
                                               samples, mistakes)}
     sys.exit(counted.run(*(parts[name] for name in sys.argv[1:] or parts)))

@@ -1,7 +1,7 @@
 #!/usr/bin/env python3
-"""Asynchronous invocations under a mixed load, with runtimes that crash, hang and are restarted: no event is lost, and none
-runs again unless its run before failed. Then what the front adds to a synchronous call. The program is LAMBDA_LOCAL_PROGRAM,
-else ./lambda_local. Ends with 'N passed, M failed'.
+"""Asynchronous invocations under a mixed load, with runtimes that crash, hang and are restarted: no event is lost, and
+none runs again unless its run before failed. Then what the front adds to a synchronous call. The program is
+LAMBDA_LOCAL_PROGRAM, else ./lambda_local. Ends with 'N passed, M failed'.
 
 usage: tests/tools/events_load.py [SECONDS]   (default: 60)"""
 import json
@@ -54,8 +54,10 @@ class Load:
         self.up, self.end, self.lock = up, time.monotonic() + SECONDS, threading.Lock()
         self.sent, self.names, self.invoked, self.wrong, self.spun_down = {}, {}, 0, [], 0
         self.read, self.ended, self.left = 0, 0, 0  # lines; the events that have come to an end by them, and the others
-        self.told, self.answers = {}, {}  # by event: (status, invocation) of each attempt; by invocation: what the service answered
-        self.threads = [threading.Thread(target=target) for target in [self.send] * SENDERS + [self.invoke, self.spin_down]]
+        # by event: (status, invocation) of each attempt; by invocation: what the service answered
+        self.told, self.answers = {}, {}
+        self.threads = [threading.Thread(target=target)
+                        for target in [self.send] * SENDERS + [self.invoke, self.spin_down]]
 
     def run(self):
         for thread in self.threads:
@@ -136,16 +138,19 @@ class Story:
 
     @property
     def is_whole(self):
-        return re.fullmatch(r"(retry ){0,2}ok|retry retry RetriesExhausted", " ".join(status for status, _ in self.told)) is not None
+        return re.fullmatch(r"(retry ){0,2}ok|retry retry RetriesExhausted",
+                            " ".join(status for status, _ in self.told)) is not None
 
     def runs_untold(self):
-        """An invocation was run twice, or one that no line names. (One that is late may begin behind its next attempt.)"""
+        """An invocation was run twice, or one that no line names. (One that is late may begin behind its next
+        attempt.)"""
         return len(set(self.runs)) < len(self.runs) or not set(self.runs) <= {invocation for _, invocation in self.told}
 
     def differs(self):
         """The service's own answer to a run is not what was told of it."""
         told = {invocation: "ok" if status == "ok" else "failed" for status, invocation in self.told}
-        return any(told.get(invocation) != ("ok" if answer == "ok" else "failed") for invocation, answer in self.answers.items())
+        return any(told.get(invocation) != ("ok" if answer == "ok" else "failed") for invocation,
+                   answer in self.answers.items())
 
     def is_lost(self):
         """It has neither done its work nor come to its destination."""
@@ -163,7 +168,8 @@ def text_of(*path):
 
 def mixed_load():
     up = Up(*READY, "--log", "json", app=APP, whole={"asynchronous": {"delays": [0.1, 0.3], "onFailure": "sink"}},
-            functions=[{"name": "f", "runtime": "python", "handler": "app.run", "environments": ENVIRONMENTS, "timeout": 2},
+            functions=[{"name": "f", "runtime": "python", "handler": "app.run", "environments": ENVIRONMENTS,
+                        "timeout": 2},
                        {"name": "sink", "runtime": "python", "handler": "app.sink"}])
     for name in ("runs", "records"):
         os.mkdir(os.path.join(up.at, name))
@@ -175,18 +181,24 @@ def mixed_load():
     until(lambda: load.open_events() >= 0 and load.all_answered(), 60)
     # (Only of an event that has ended is it known what was told of each of its runs.)
     stories = [story for story in (Story(load, number) for number in load.sent) if story.has_ended]
-    for name, fault in (("each succeeds once, after up to two failures, or fails three times", lambda story: not story.is_whole),
-                        ("each run is an attempt that was told, and none runs again unless it failed before", Story.runs_untold),
+    for name, fault in (("each succeeds once, after up to two failures, or fails three times",
+                         lambda story: not story.is_whole),
+                        ("each run is an attempt that was told, and none runs again unless it failed before",
+                         Story.runs_untold),
                         ("the service answered each as it was told", Story.differs),
                         ("each has done its work, or its record has come", Story.is_lost),
                         ("no record comes twice", lambda story: len(story.records) > 1)):
         wrong = [story for story in stories if fault(story)]
         check(name, (len(wrong), wrong[:MOST_SHOWN]), (0, []))
     check("no other answer came", load.wrong, [])
-    check("it was a load", (len(load.sent) > SECONDS, load.invoked > SECONDS / 10, load.spun_down > SECONDS / 100), (True, True, True))
-    runs = Counter(f"{story.ends.get(invocation, 'begun')}, {answer}" for story in stories for invocation, answer in story.answers.items())
-    print(f"     {len(stories)} events in {SECONDS:g} s, {sum(bool(story.records) for story in stories)} of them given up; "
-          f"runs with their answers {json.dumps(dict(runs))}; {load.invoked} invocations; {load.spun_down} spindowns", flush=True)
+    check("it was a load", (len(load.sent) > SECONDS, load.invoked > SECONDS / 10, load.spun_down > SECONDS / 100),
+          (True, True, True))
+    runs = Counter(f"{story.ends.get(invocation, 'begun')}, {answer}" for story in stories for invocation,
+                   answer in story.answers.items())
+    print(f"     {len(stories)} events in {SECONDS:g} s, {sum(bool(story.records) for story in stories)} of them given "
+          f"up; "
+          f"runs with their answers {json.dumps(dict(runs))}; {load.invoked} invocations; {load.spun_down} spindowns",
+          flush=True)
     check("it ends in order, and leaves nothing", up.end(), (0, []))
 
 
@@ -203,13 +215,15 @@ def medians(callers, count):
 
 
 def added_time():
-    up = Up(*READY, functions=[{"name": "f", "runtime": "python", "handler": "app.run"}], app=APP, whole={"asynchronous": True})
+    up = Up(*READY, functions=[{"name": "f", "runtime": "python", "handler": "app.run"}], app=APP,
+            whole={"asynchronous": True})
     check("all is ready", up.until("[up] ready", READY_SECONDS))
     with Caller(up.endpoint) as front, Caller(behind(up)) as direct:
         medians({"front": front, "direct": direct}, 100)
         rounds = [medians({"front": front, "direct": direct}, 300) for _ in range(5)]
     added = sorted(one["front"] - one["direct"] for one in rounds)
-    print("     p50 in ms: " + json.dumps([{name: round(time_, 3) for name, time_ in one.items()} for one in rounds]), flush=True)
+    print("     p50 in ms: " + json.dumps([{name: round(time_, 3) for name, time_ in one.items()} for one in rounds]),
+          flush=True)
     check("the front adds less than 1 ms at p50", added[len(added) // 2] < 1.0 or added)
     check("it ends in order, and leaves nothing", up.end(), (0, []))
 

@@ -1,6 +1,6 @@
 #!/usr/bin/env python3
-"""Checks tools/from_template: what it makes of SAM, CloudFormation, CDK and Serverless templates, what it says, and that
-what it makes runs. The program is LAMBDA_LOCAL_PROGRAM, else ./lambda_local. Ends with 'N passed, M failed'."""
+"""Checks tools/from_template: what it makes of SAM, CloudFormation, CDK and Serverless templates, what it says, and
+that what it makes runs. The program is LAMBDA_LOCAL_PROGRAM, else ./lambda_local. Ends with 'N passed, M failed'."""
 import contextlib
 import importlib.util
 import io
@@ -31,7 +31,8 @@ def python(handler):
 
 
 def made_of(template, name="template.yaml", folders=("src",)):
-    """The functions that are made of a template, by name, and what is said. The status instead of them if it is refused."""
+    """The functions that are made of a template, by name, and what is said. The status instead of them if it is
+    refused."""
     with tempfile.TemporaryDirectory() as folder:
         for part in folders:
             os.makedirs(os.path.join(folder, part), exist_ok=True)
@@ -39,7 +40,8 @@ def made_of(template, name="template.yaml", folders=("src",)):
         with open(path, "w") as file:
             file.write(template if isinstance(template, str) else json.dumps(template))
         output = os.path.join(folder, "up.json")
-        done = subprocess.run([FROM_TEMPLATE, path, "-o", output], stdout=subprocess.PIPE, stderr=subprocess.PIPE, text=True, timeout=60)
+        done = subprocess.run([FROM_TEMPLATE, path, "-o", output], stdout=subprocess.PIPE, stderr=subprocess.PIPE,
+                              text=True, timeout=60)
         if done.returncode:
             return done.returncode, done.stderr
         with open(output) as file:
@@ -56,7 +58,8 @@ def case(title, template, wanted, *words, **named):
 
 def function_of(**properties):
     """A CloudFormation template with one function."""
-    return {"Resources": {"F": {"Type": "AWS::Lambda::Function", "Properties": {"Runtime": "provided.al2023", **properties}}}}
+    return {"Resources": {"F": {"Type": "AWS::Lambda::Function",
+                                "Properties": {"Runtime": "provided.al2023", **properties}}}}
 
 
 def made_function(**members):
@@ -84,18 +87,21 @@ def sam():
         return print("skip PyYAML is not here")
     common = {"environments": 1, "variables": {"A": "1", "LIVE": "true"}}
     case("SAM", SAM, {
-        "One": {"name": "One", "handler": "app.run", "timeout": 5, **common, "variables": {"A": "1", "LIVE": "true", "B": "Table"},
-                "directory": "src", **python("app.run")},
+        "One": {"name": "One", "handler": "app.run", "timeout": 5, **common,
+                "variables": {"A": "1", "LIVE": "true", "B": "Table"}, "directory": "src", **python("app.run")},
         "given": {"name": "given", "handler": "i.h", "reserved": 3, "environments": 3, "command": ["./bootstrap"]},
-        "orders-dev-us-east-1": {"name": "orders-dev-us-east-1", "handler": "a.b", "timeout": 7, **common, **python("a.b")},
+        "orders-dev-us-east-1": {"name": "orders-dev-us-east-1", "handler": "a.b", "timeout": 7, **common,
+                                 **python("a.b")},
         "Four": {"name": "Four", "handler": "a.b", "timeout": 5, "environments": 1, **python("a.b"), "variables": {
             "A": "1", "LIVE": "true", "OTHER": "orders-dev-us-east-1",
             "ARN": "arn:aws:lambda:us-east-1:123456789012:function:orders-dev-us-east-1",
             "QUEUE": "Queue.Arn", "MODE": "Open", "WHO": "123456789012/${Raw}"}},
     }, "leaves out Table, AWS::DynamoDB::Table", "One: leaves out Layers",
     "One: the variable B is Table, a placeholder for the resource Table",
-        "Four: it is called Four, since its FunctionName is not known here: it needs the parameter Open, which has no Default",
-        "Four: the variable MODE is Open, a placeholder for the parameter Open", "Four: the variable QUEUE is Queue.Arn")
+        "Four: it is called Four, since its FunctionName is not known here: it needs the parameter Open, which has no "
+        "Default",
+        "Four: the variable MODE is Open, a placeholder for the parameter Open",
+        "Four: the variable QUEUE is Queue.Arn")
 
 
 def cdk():
@@ -105,7 +111,8 @@ def cdk():
         "F1": asset, "F2": {**asset, "Metadata": {}, "Properties": {**asset["Properties"],
                 "FunctionName": {"Fn::Join": ["", ["orders-", {"Ref": "AWS::StackName"}]]}}}}}
     case("CDK", template, {
-        "F1": {"name": "F1", "handler": "bootstrap", "environments": 1, "command": ["./bootstrap"], "directory": "asset.1"},
+        "F1": {"name": "F1", "handler": "bootstrap", "environments": 1, "command": ["./bootstrap"],
+               "directory": "asset.1"},
         "orders-Shop": {"name": "orders-Shop", "handler": "bootstrap", "environments": 1, "command": ["./bootstrap"]},
     }, "F1: there is no ", "asset.1/bootstrap yet: build it", "orders-Shop: leaves out Code, which is no folder here",
     name="Shop.template.json", folders=["asset.1"])
@@ -140,13 +147,16 @@ def serverless():
             "STAGE": "dev", "TABLE": "orders-dev", "SECRET": "/shop/key", "SIZE": "3", "EMPTY": "", "QUEUE": "Queue",
             "WHERE": "eu-west-1/123456789012",
             "OTHER": "shop-dev-back", "BOTH": "a b, c d"}},
-        "shop-dev-back": {"name": "shop-dev-back", "handler": "app.refund", **common, "timeout": 9, "variables": {"STAGE": "dev"}},
-        "ship": {"name": "ship", "handler": "app.ship", "timeout": 6, "memory": 1024, "environments": 1, "variables": {"STAGE": "dev"}},
+        "shop-dev-back": {"name": "shop-dev-back", "handler": "app.refund", **common, "timeout": 9,
+                          "variables": {"STAGE": "dev"}},
+        "ship": {"name": "ship", "handler": "app.ship", "timeout": 6, "memory": 1024, "environments": 1,
+                 "variables": {"STAGE": "dev"}},
     }, "leaves out plugins", "leaves out events", "SECRET is /shop/key, a placeholder for ${ssm:/shop/key}",
     "leaves out the variable NOTHING, which has no value",
         "ship: it is called ship, since its FunctionName is not known here: it needs ${cf:other.Name}",
         "ship: has no command, since its code is an image", name="serverless.yml")
-    made, said = made_of({"service": "s", "provider": {"runtime": "provided"}, "custom": {"a": "${self:custom.b}", "b": "${self:custom.a}"},
+    made, said = made_of({"service": "s", "provider": {"runtime": "provided"},
+                          "custom": {"a": "${self:custom.b}", "b": "${self:custom.a}"},
                           "functions": {"f": {"handler": "x", "environment": {"A": "${self:custom.a}"}}}})
     circle = "leaves out the variable A: its expressions are nested too deep, or go round in a circle"
     check("Serverless: variables in a circle", (made["s-dev-f"].get("variables"), circle in said), (None, True))
@@ -170,15 +180,16 @@ def addresses():
     made, said = up_and_said({"Resources": {
         "F": {"Type": "AWS::Serverless::Function", "Properties": {
             "Runtime": "provided", "FunctionUrlConfig": {"AuthType": "AWS_IAM", "Cors": cors},
-            "Events": {"A": event["HttpApi"](Path="/orders/{id}", Method="get"), "B": event["Api"](Path="/all/{proxy+}", Method="ANY"),
-                       "C": {"Type": "S3", "Properties": {}}}}},
+            "Events": {"A": event["HttpApi"](Path="/orders/{id}", Method="get"),
+                       "B": event["Api"](Path="/all/{proxy+}", Method="ANY"), "C": {"Type": "S3", "Properties": {}}}}},
         "G": {"Type": "AWS::Serverless::Function", "Properties": {
             "Runtime": "provided", "FunctionUrlConfig": {"AuthType": "NONE"},
             "Events": {"A": {"Type": "HttpApi"}, "B": event["HttpApi"](Path="/orders/{other}", Method="GET")}}}}})
     check("SAM: routes", made["routes"], {"GET /orders/{id}": "F", "ANY /all/{proxy+}": "F", "$default": "G"})
     check("SAM: URLs", [function["url"] for function in made["functions"]],
           [{"cors": {"allowOrigins": ["https://shop.example"], "allowCredentials": True, "maxAge": 60}}, True])
-    for words in ("F: its URL takes requests without a signature here", "F: leaves out allowMethods of the Cors of its URL: x",
+    for words in ("F: its URL takes requests without a signature here",
+                  "F: leaves out allowMethods of the Cors of its URL: x",
                   "F: the event B is of a REST API", "F: leaves out its event C, S3",
                   "G: leaves out the route GET /orders/{other}, since F has GET /orders/{id}"):
         check(f"SAM: {words}", words in said)
@@ -187,32 +198,40 @@ def addresses():
             {"httpApi": "GET /a/{b}"}, {"httpApi": {"method": "*", "path": "/c"}}, {"httpApi": "*"},
             {"http": {"path": "d", "method": "post"}}, {"sqs": "arn"}]},
         "g": {"handler": "x", "url": {"cors": {"allowedOrigins": ["*"]}}}}})
-    check("Serverless: routes", made["routes"], dict.fromkeys(("GET /a/{b}", "ANY /c", "$default", "POST /d"), "s-dev-f"))
-    check("Serverless: URLs", [function["url"] for function in made["functions"]], [True, {"cors": {"allowOrigins": ["*"]}}])
+    check("Serverless: routes", made["routes"],
+          dict.fromkeys(("GET /a/{b}", "ANY /c", "$default", "POST /d"), "s-dev-f"))
+    check("Serverless: URLs", [function["url"] for function in made["functions"]],
+          [True, {"cors": {"allowOrigins": ["*"]}}])
     check("Serverless: what is left out", "s-dev-f: leaves out events: sqs" in said)
 
 
 def url_resources():
     """AWS::Lambda::Url, as CDK writes it beside its function."""
     def url(target, **properties):
-        return {"Type": "AWS::Lambda::Url", "Properties": {"AuthType": "NONE", "TargetFunctionArn": target, **properties}}
+        return {"Type": "AWS::Lambda::Url",
+                "Properties": {"AuthType": "NONE", "TargetFunctionArn": target, **properties}}
 
     functions = {key: {"Type": "AWS::Lambda::Function", "Properties": {"Runtime": "provided", **properties}}
                  for key, properties in (("F", {}), ("G", {"FunctionName": "shop-g"}), ("H", {}), ("I", {}))}
-    cors = {"AllowOrigins": ["https://shop.example"], "AllowMethods": ["GET"], "AllowHeaders": ["x-one"], "ExposeHeaders": ["x-two"],
-            "AllowCredentials": True, "MaxAge": 60}
+    cors = {"AllowOrigins": ["https://shop.example"], "AllowMethods": ["GET"], "AllowHeaders": ["x-one"],
+            "ExposeHeaders": ["x-two"], "AllowCredentials": True, "MaxAge": 60}
     made, said = up_and_said({"Conditions": {"Never": {"Fn::Equals": ["a", "b"]}}, "Resources": {
         **functions, "FUrl": url({"Fn::GetAtt": ["F", "Arn"]}, Cors=cors, InvokeMode="RESPONSE_STREAM", Colour="x"),
-        "GUrl": url({"Ref": "G"}, AuthType="AWS_IAM", Qualifier="live"), "HUrl": url("H", Cors={"AllowOrigins": [{"Ref": "Site"}]}),
+        "GUrl": url({"Ref": "G"}, AuthType="AWS_IAM", Qualifier="live"),
+        "HUrl": url("H", Cors={"AllowOrigins": [{"Ref": "Site"}]}),
         "Second": url("arn:aws:lambda:us-east-1:123456789012:function:H"), "Far": url({"Fn::ImportValue": "far"}),
         "None": url({"Ref": "I"}) | {"Condition": "Never"}, "Odd": {"Type": "AWS::Lambda::Url", "Properties": 5}}})
     check("URLs that are resources", {function["name"]: function.get("url") for function in made["functions"]}, {
         "F": {"cors": {name[:1].lower() + name[1:]: value for name, value in cors.items()}}, "shop-g": True,
         "H": {"cors": {"allowOrigins": ["Site"]}}, "I": None})
-    for words in ("F: leaves out Colour of its URL", "F: its URL answers once the whole result is there, without streaming",
-                  "shop-g: its URL takes requests without a signature here", "shop-g: its URL is of live, and here of $LATEST",
-                  "H: HUrl has a placeholder for the resource Site", "leaves out Second, AWS::Lambda::Url: H has a URL already",
-                  "leaves out Far, AWS::Lambda::Url: there is no function far", "leaves out None: its condition Never is not met",
+    for words in ("F: leaves out Colour of its URL",
+                  "F: its URL answers once the whole result is there, without streaming",
+                  "shop-g: its URL takes requests without a signature here",
+                  "shop-g: its URL is of live, and here of $LATEST",
+                  "H: HUrl has a placeholder for the resource Site",
+                  "leaves out Second, AWS::Lambda::Url: H has a URL already",
+                  "leaves out Far, AWS::Lambda::Url: there is no function far",
+                  "leaves out None: its condition Never is not met",
                   "leaves out Odd, AWS::Lambda::Url: there is no function None"):
         check(f"URLs that are resources: {words}", words in said or said)
 
@@ -221,7 +240,8 @@ def cors_of_routes():
     """What an HTTP API says of cross-origin requests: for all of SAM's, for one of its own, and in Serverless."""
     def template(shared=None, **apis):
         """A function with a route of each API, and one of SAM's own if there is none."""
-        events = {key: {"Type": "HttpApi", "Properties": {"Path": f"/{key}", "Method": "GET", **({"ApiId": {"Ref": key}} if apis else {})}}
+        events = {key: {"Type": "HttpApi",
+                        "Properties": {"Path": f"/{key}", "Method": "GET", **({"ApiId": {"Ref": key}} if apis else {})}}
                   for key in apis or ("own",)}
         function = {"Type": "AWS::Serverless::Function", "Properties": {"Runtime": "provided", "Events": events}}
         return {"Globals": {"HttpApi": shared or {}}, "Resources": {"F": function, **{
@@ -231,12 +251,13 @@ def cors_of_routes():
     own = {"AllowOrigins": ["http://a"], "AllowMethods": ["GET"], "MaxAge": 5, "AllowCredentials": False}
     made_own = {"allowOrigins": ["http://a"], "allowMethods": ["GET"], "maxAge": 5, "allowCredentials": False}
     for title, given, wanted, words in (
-            ("none", template(), None, ""), ("of Globals, any site", template({"CorsConfiguration": True}), any_site, ""),
+            ("none", template(), None, ""),
+            ("of Globals, any site", template({"CorsConfiguration": True}), any_site, ""),
             ("of Globals, one site", template({"CorsConfiguration": "http://a"}), {"allowOrigins": ["http://a"]}, ""),
             ("of Globals, in full", template({"CorsConfiguration": own, "Auth": {}}), made_own,
              "leaves out Auth of the HTTP API ServerlessHttpApi"),
-            ("of an API", template({"CorsConfiguration": True}, Shop={"CorsConfiguration": own, "StageName": "x"}), made_own,
-             "leaves out StageName of the HTTP API Shop"),
+            ("of an API", template({"CorsConfiguration": True}, Shop={"CorsConfiguration": own, "StageName": "x"}),
+             made_own, "leaves out StageName of the HTTP API Shop"),
             ("of an API by Globals", template({"CorsConfiguration": True}, Shop={}), any_site, ""),
             ("of an API, none", template({"CorsConfiguration": True}, Shop={"CorsConfiguration": False}), None, ""),
             ("of two APIs", template(None, Shop={"CorsConfiguration": own}, Back={"CorsConfiguration": True}), made_own,
@@ -249,40 +270,48 @@ def cors_of_routes():
     unused = {"Resources": {"Shop": {"Type": "AWS::Serverless::HttpApi", "Properties": {"CorsConfiguration": True}},
                             "F": {"Type": "AWS::Lambda::Function", "Properties": {"Runtime": "provided"}}}}
     made, said = up_and_said(unused)
-    check("an HTTP API without routes", ("api" in made, "leaves out Shop: none of the routes is of this HTTP API" in said), (False, True))
-    for cors, wanted in ((True, any_site), ({"allowedOrigins": ["http://a"], "maxAge": 5}, {"allowOrigins": ["http://a"], "maxAge": 5})):
-        made, said = up_and_said({"service": "s", "provider": {"runtime": "provided", "httpApi": {"cors": cors, "metrics": True}},
+    check("an HTTP API without routes",
+          ("api" in made, "leaves out Shop: none of the routes is of this HTTP API" in said), (False, True))
+    for cors, wanted in ((True, any_site),
+                         ({"allowedOrigins": ["http://a"], "maxAge": 5}, {"allowOrigins": ["http://a"], "maxAge": 5})):
+        made, said = up_and_said({"service": "s",
+                                  "provider": {"runtime": "provided", "httpApi": {"cors": cors, "metrics": True}},
                                   "functions": {"f": {"handler": "x", "events": [{"httpApi": "GET /a"}]}}})
-        check(f"Serverless: Cors of routes {cors}", (made["api"], "leaves out metrics of the HTTP API provider.httpApi" in said),
-              ({"cors": wanted}, True))
+        check(f"Serverless: Cors of routes {cors}",
+              (made["api"], "leaves out metrics of the HTTP API provider.httpApi" in said), ({"cors": wanted}, True))
 
 
 def expressions():
-    parameters = {"Stage": {"Type": "String", "Default": "dev"}, "Key": {"Type": "AWS::SSM::Parameter::Value<String>", "Default": "/key"},
+    parameters = {"Stage": {"Type": "String", "Default": "dev"},
+                  "Key": {"Type": "AWS::SSM::Parameter::Value<String>", "Default": "/key"},
                   "Many": {"Type": "CommaDelimitedList", "Default": "a, b"}}
     more = {"Parameters": parameters, "Mappings": {"Sizes": {"dev": {"memory": 256}}},
-            "Conditions": {"IsProd": {"Fn::Equals": [{"Ref": "Stage"}, "prod"]}, "IsDev": {"Fn::Not": [{"Condition": "IsProd"}]},
+            "Conditions": {"IsProd": {"Fn::Equals": [{"Ref": "Stage"}, "prod"]},
+                           "IsDev": {"Fn::Not": [{"Condition": "IsProd"}]},
                            "Both": {"Fn::And": [{"Condition": "IsProd"}, {"Condition": "IsDev"}]},
                            "Either": {"Fn::Or": [{"Condition": "IsProd"}, {"Condition": "IsDev"}]}}}
     variables = {
-        "JOIN": {"Fn::Join": ["-", ["a", {"Ref": "Stage"}, 1]]}, "SUB": {"Fn::Sub": ["${x}-${Stage}", {"x": {"Ref": "AWS::Partition"}}]},
+        "JOIN": {"Fn::Join": ["-", ["a", {"Ref": "Stage"}, 1]]},
+        "SUB": {"Fn::Sub": ["${x}-${Stage}", {"x": {"Ref": "AWS::Partition"}}]},
         "MAP": {"Fn::FindInMap": ["Sizes", {"Ref": "Stage"}, "memory"]}, "IF": {"Fn::If": ["IsProd", "yes", "no"]},
         "OR": {"Fn::If": ["Either", "yes", "no"]},
         "AND": {"Fn::If": ["Both", "yes", "no"]}, "GONE": {"Fn::If": ["IsProd", "x", {"Ref": "AWS::NoValue"}]},
         "SELECT": {"Fn::Select": [1, {"Ref": "Many"}]},
-        "SPLIT": {"Fn::Select": [0, {"Fn::Split": ["/", "x/y"]}]}, "STACK": {"Ref": "AWS::StackId"}, "TABLE": {"Ref": "Named"},
-        "KEY": {"Ref": "Key"},
+        "SPLIT": {"Fn::Select": [0, {"Fn::Split": ["/", "x/y"]}]}, "STACK": {"Ref": "AWS::StackId"},
+        "TABLE": {"Ref": "Named"}, "KEY": {"Ref": "Key"},
         "IMPORT": {"Fn::ImportValue": "net"}, "SECRET": "{{resolve:secretsmanager:x}}", "NULL": None, "LIST": [1],
         "CIDR": {"Fn::Cidr": ["a", 1, 2]}, "BAD": {"Fn::Join": 5}}
-    template = function_of(Environment={"Variables": variables}, MemorySize={"Fn::FindInMap": ["Sizes", {"Ref": "Stage"}, "memory"]})
+    template = function_of(Environment={"Variables": variables},
+                           MemorySize={"Fn::FindInMap": ["Sizes", {"Ref": "Stage"}, "memory"]})
     template.update(more)
-    template["Resources"]["Named"] = {"Type": "AWS::DynamoDB::Table", "Properties": {"TableName": {"Fn::Sub": "orders-${Stage}"}}}
+    template["Resources"]["Named"] = {"Type": "AWS::DynamoDB::Table",
+                                      "Properties": {"TableName": {"Fn::Sub": "orders-${Stage}"}}}
     template["Resources"]["Off"] = {**template["Resources"]["F"], "Condition": "IsProd"}
     case("expressions", template, made_function(memory=256, variables={
-        "JOIN": "a-dev-1", "SUB": "aws-dev", "MAP": "256", "IF": "no", "OR": "yes", "AND": "no", "SELECT": "b", "SPLIT": "x",
-        "TABLE": "orders-dev", "KEY": "/key",
-        "STACK": "arn:aws:cloudformation:us-east-1:123456789012:stack/Shop/00000000-0000-0000-0000-000000000000", "IMPORT": "net",
-        "SECRET": "{{resolve:secretsmanager:x}}"}),
+        "JOIN": "a-dev-1", "SUB": "aws-dev", "MAP": "256", "IF": "no", "OR": "yes", "AND": "no", "SELECT": "b",
+        "SPLIT": "x", "TABLE": "orders-dev", "KEY": "/key",
+        "STACK": "arn:aws:cloudformation:us-east-1:123456789012:stack/Shop/00000000-0000-0000-0000-000000000000",
+        "IMPORT": "net", "SECRET": "{{resolve:secretsmanager:x}}"}),
         "leaves out Off: its condition IsProd is not met",
         "the variable KEY is /key, a placeholder for the parameter Key, whose value is in the Parameter Store",
         "IMPORT is net, a placeholder for the export net", "SECRET is {{resolve:secretsmanager:x}}, a placeholder",
@@ -295,11 +324,15 @@ def expressions():
 def code():
     case("an image", function_of(PackageType="Image", Runtime=None), {"F": {"name": "F", "environments": 1}},
          "F: has no command, since its code is an image: write one, such as docker run")
-    case("an image by its URI", function_of(Code={"ImageUri": "x"}), {"F": {"name": "F", "environments": 1}}, "its code is an image")
-    case("an image, and a runtime for all", {"Globals": {"Function": {"Runtime": "python3.12", "Handler": "x.y"}}, "Resources": {
-        "F": {"Type": "AWS::Serverless::Function", "Properties": {"PackageType": "Image"}}}}, {"F": {"name": "F", "environments": 1}},
-        "its code is an image")
-    case("code in the template", function_of(Code={"ZipFile": "exports.x = 1"}, Handler="index.x", Runtime="nodejs20.x"),
+    case("an image by its URI", function_of(Code={"ImageUri": "x"}), {"F": {"name": "F", "environments": 1}},
+         "its code is an image")
+    case("an image, and a runtime for all",
+         {"Globals": {"Function": {"Runtime": "python3.12", "Handler": "x.y"}},
+          "Resources": {"F": {"Type": "AWS::Serverless::Function", "Properties": {"PackageType": "Image"}}}},
+         {"F": {"name": "F", "environments": 1}},
+         "its code is an image")
+    case("code in the template",
+         function_of(Code={"ZipFile": "exports.x = 1"}, Handler="index.x", Runtime="nodejs20.x"),
          {"F": {"name": "F", "handler": "index.x", "environments": 1}},
          "F: has no command, since its code stands in the template")
     sam_inline = {"Resources": {"F": {"Type": "AWS::Serverless::Function",
@@ -325,30 +358,36 @@ def code():
         with contextlib.redirect_stderr(io.StringIO()) as said:
             made = up_of(path)["functions"]
         check("Node with its client", made[0]["command"], ["npx", "aws-lambda-ric", "a.b"])
-        check("an archive", (made[1].get("directory"), "G: CodeUri is the file code.zip: unpack it" in said.getvalue()), (".", True))
+        check("an archive", (made[1].get("directory"),
+                             "G: CodeUri is the file code.zip: unpack it" in said.getvalue()), (".", True))
 
 
 def numbers():
-    case("a huge reservation", function_of(ReservedConcurrentExecutions=300), made_function(reserved=10, environments=10),
-         "its reservation is 300")
+    case("a huge reservation", function_of(ReservedConcurrentExecutions=300),
+         made_function(reserved=10, environments=10), "its reservation is 300")
     case("a reservation of none", function_of(ReservedConcurrentExecutions=0), made_function(reserved=0))
     case("numbers as texts", function_of(Timeout="30", MemorySize="512"), made_function(timeout=30, memory=512))
-    for name, value in (("Timeout", 901), ("Timeout", 0), ("Timeout", "soon"), ("Timeout", 2.5), ("Timeout", True), ("Timeout", {}),
-                        ("MemorySize", [1]), ("ReservedConcurrentExecutions", -1)):
-        case(f"{name} {value!r}", function_of(**{name: value}), made_function(), f"F: leaves out {name}: it must be a whole number from ")
-    many = {"Resources": {f"F{number}": function_of(ReservedConcurrentExecutions=20)["Resources"]["F"] for number in range(70)}}
+    for name, value in (("Timeout", 901), ("Timeout", 0), ("Timeout", "soon"), ("Timeout", 2.5), ("Timeout", True),
+                        ("Timeout", {}), ("MemorySize", [1]), ("ReservedConcurrentExecutions", -1)):
+        case(f"{name} {value!r}", function_of(**{name: value}), made_function(),
+             f"F: leaves out {name}: it must be a whole number from ")
+    many = {"Resources": {f"F{number}": function_of(ReservedConcurrentExecutions=20)["Resources"]["F"]
+                          for number in range(70)}}
     made, said = made_of(many)
     check("seventy functions of twenty", (len(made), sum(function["environments"] for function in made.values()),
                                           all(function["reserved"] <= function["environments"] for function in made.values())),
                                           (64, 256, True))
-    check("and what is said", ("leaves out the function F69: 64 are the most" in said, "256 are the most in all" in said), (True, True))
+    check("and what is said",
+          ("leaves out the function F69: 64 are the most" in said, "256 are the most in all" in said), (True, True))
 
 
 def names():
     case("a name that is none", function_of(FunctionName="a b"), made_function(),
-         "F: it is called F, since its FunctionName is not known here: a b is no name of 1 to 64 letters, digits, - and _")
+         "F: it is called F, since its FunctionName is not known here: a b is no name of 1 to 64 letters, digits, - "
+         "and _")
     case("a name that is too long", function_of(FunctionName="x" * 65), made_function(), "it is called F")
-    case("a name that is a number", function_of(FunctionName=5), {"5": {"name": "5", "environments": 1, "command": ["./bootstrap"]}})
+    case("a name that is a number", function_of(FunctionName=5),
+         {"5": {"name": "5", "environments": 1, "command": ["./bootstrap"]}})
     twice = {"Resources": {key: function_of(FunctionName="same")["Resources"]["F"] for key in ("A", "B", "same")}}
     made, said = made_of(twice)
     check("a name that stands twice", sorted(made), ["B", "same", "same-2"])
@@ -361,7 +400,8 @@ def names():
 
 def wrong_templates():
     for name, text, status, words in (
-            ("no template", "[1]", 2, "no template: it must have Resources, or functions"), ("an empty one", "{}", 2, "no template"),
+            ("no template", "[1]", 2, "no template: it must have Resources, or functions"),
+            ("an empty one", "{}", 2, "no template"),
             ("no function", '{"Resources": {"T": {"Type": "AWS::S3::Bucket"}}}', 2, "has no function"),
             ("no folder of functions", '{"functions": 5}', 2, "no template")):
         made, said = made_of(text, name="x.json")
@@ -370,13 +410,16 @@ def wrong_templates():
         made, said = made_of("Resources:\n  A: [\n")
         check("no YAML", (made, "template.yaml: line 3, column 1: " in said or said), (2, True))
     done = subprocess.run([FROM_TEMPLATE, "/no/such/file"], stderr=subprocess.PIPE, text=True)
-    check("no file", (done.returncode, done.stderr), (2, "from_template: /no/such/file: No such file or directory: name a template\n"))
+    check("no file", (done.returncode, done.stderr),
+          (2, "from_template: /no/such/file: No such file or directory: name a template\n"))
     with tempfile.TemporaryDirectory() as folder:
         path = os.path.join(folder, "t.json")
         with open(path, "w") as file:
             json.dump(function_of(), file)
-        done = subprocess.run([FROM_TEMPLATE, path, "-o", os.path.join(folder, "no", "up.json")], stderr=subprocess.PIPE, text=True)
-        check("no folder to write to", (done.returncode, "No such file or directory" in done.stderr and "Traceback" not in done.stderr),
+        done = subprocess.run([FROM_TEMPLATE, path, "-o", os.path.join(folder, "no", "up.json")],
+                              stderr=subprocess.PIPE, text=True)
+        check("no folder to write to",
+              (done.returncode, "No such file or directory" in done.stderr and "Traceback" not in done.stderr),
               (4, True))
 
 
@@ -394,13 +437,15 @@ def replaced(node, value):
 
 
 def other_types():
-    """Of each part of a template a value of another type: no traceback, and never is it all refused for one function."""
+    """Of each part of a template a value of another type: no traceback, and never is it all refused for one
+    function."""
     one = {"Type": "AWS::Serverless::Function", "Properties": {
         "FunctionName": {"Fn::Join": ["-", ["a", {"Ref": "Stage"}]]}, "Handler": {"Fn::Sub": ["${x}.h", {"x": "a"}]},
         "Timeout": {"Fn::FindInMap": ["M", "a", "b"]},
         "CodeUri": "src", "Runtime": {"Fn::If": ["C", "python3.12", "nodejs20.x"]}, "ReservedConcurrentExecutions": 2,
         "Environment": {"Variables": {"A": {"Fn::GetAtt": ["T", "Arn"]}, "B": {"Ref": "T"},
-                                      "D": {"Fn::Select": [0, {"Fn::Split": [",", "x,y"]}]}}}}, "Metadata": {"aws:asset:path": "x"},
+                                      "D": {"Fn::Select": [0, {"Fn::Split": [",", "x,y"]}]}}}},
+           "Metadata": {"aws:asset:path": "x"},
                                       "Condition": "C"}
     one["Properties"]["Events"] = {"Get": {"Type": "HttpApi", "Properties": {"Path": "/", "Method": "GET", "ApiId": {"Ref": "Api"}}}}
     whole = {"Parameters": {"Stage": {"Type": "String", "Default": "dev"}}, "Mappings": {"M": {"a": {"b": 3}}},
@@ -408,8 +453,10 @@ def other_types():
              "Globals": {"Function": {"Environment": {"Variables": {"E": 1}}}},
              "Resources": {"One": one, "T": {"Type": "AWS::DynamoDB::Table", "Properties": {"TableName": "t"}},
                            "Two": function_of()["Resources"]["F"],
-                           "Api": {"Type": "AWS::Serverless::HttpApi", "Properties": {"CorsConfiguration": {"AllowOrigins": ["a"]}}},
-                           "Url": {"Type": "AWS::Lambda::Url", "Properties": {"TargetFunctionArn": "Two", "Cors": {"MaxAge": 1}}}}}
+                           "Api": {"Type": "AWS::Serverless::HttpApi",
+                                   "Properties": {"CorsConfiguration": {"AllowOrigins": ["a"]}}},
+                           "Url": {"Type": "AWS::Lambda::Url",
+                                   "Properties": {"TargetFunctionArn": "Two", "Cors": {"MaxAge": 1}}}}}
     less = {"service": {"name": "shop"}, "provider": {"stage": "${opt:stage, 'dev'}", "runtime": "python3.12",
                                                       "environment": {"A": "${self:custom.a}"}},
                                                       "custom": {"a": ["${self:custom.b}"], "b": {"c": 1}},
@@ -457,20 +504,23 @@ def places():
                 ("through a pipe", "else where", "../app/template.json", "| cat > ../made/up.json",
                  [os.path.join(root, "app", "src"), os.path.join(root, "app")]),
                 ("by a redirection", "made", "../app/template.json", "> up.json", ["../app/src", "../app"])):
-            subprocess.run(["sh", "-c", shell + words, "sh", os.path.join(root, where), FROM_TEMPLATE, template], stderr=subprocess.DEVNULL)
+            subprocess.run(["sh", "-c", shell + words, "sh", os.path.join(root, where), FROM_TEMPLATE, template],
+                           stderr=subprocess.DEVNULL)
             made = os.path.join(root, "app" if name == "beside it" else "made", "up.json")
             with open(made) as file:
                 whole = json.load(file)
-            check(f"folders of an UP.json {name}", [function.get("directory") for function in whole["functions"]], wanted)
+            check(f"folders of an UP.json {name}", [function.get("directory") for function in whole["functions"]],
+                  wanted)
         with open(made, "w") as file:
             json.dump({"functions": whole["functions"][:1]}, file)
         command = 'curl -s -d "{}" "$AWS_ENDPOINT_URL_LAMBDA/2015-03-31/functions/F/invocations"'
         done = subprocess.run([os.path.join(TOOLS, "up"), "../made/up.json", "--", "sh", "-c", command],
                               cwd=os.path.join(root, "else where"),
                               stdout=subprocess.PIPE, stderr=subprocess.PIPE, text=True, timeout=120)
-        check("tools/up runs it from a third folder", (done.returncode, done.stdout), (0, json.dumps(os.path.join(root, "app", "src"))))
+        check("tools/up runs it from a third folder", (done.returncode, done.stdout),
+              (0, json.dumps(os.path.join(root, "app", "src"))))
 
 
 if __name__ == "__main__":
-    sys.exit(counted.run(sam, cdk, serverless, addresses, url_resources, cors_of_routes, expressions, code, numbers, names,
-                         wrong_templates, other_types, places))
+    sys.exit(counted.run(sam, cdk, serverless, addresses, url_resources, cors_of_routes, expressions, code, numbers,
+                         names, wrong_templates, other_types, places))

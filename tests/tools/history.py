@@ -14,16 +14,19 @@ from lambda_local.history import Answer, Entry, Follower, count_in, entries_of, 
 from lambda_local.service import Service, ask  # noqa: E402
 
 REQUEST = "00000000-0000-8000-8001-000000000001"
-# One function, one environment: a poll, an invocation, its response, and the end of a Busy whose runtime does not ask again.
-LINES = ['1 next 1', '5 invoke f - =Root=1%20 ={"a":%201}', f'# 1 0 deliver {REQUEST} 4000 ={{"a":%201}}', '9 response 1 1 ="ok"',
-         '# 2 1 output ="ok"', '# 2 2 accepted', '## 4000 expire 1']
+# One function, one environment: a poll, an invocation, its response, and the end of a Busy whose runtime does not ask
+# again.
+LINES = ['1 next 1', '5 invoke f - =Root=1%20 ={"a":%201}', f'# 1 0 deliver {REQUEST} 4000 ={{"a":%201}}',
+         '9 response 1 1 ="ok"', '# 2 1 output ="ok"', '# 2 2 accepted', '## 4000 expire 1']
 
 
 def texts():
     first, second, third, fourth = entries_of(LINES)
     check("a poll that waits", (first, first.own, first.environment), (Entry(0, 1, "next", ("1",), ()), None, 1))
-    check("an invocation's name and payload", (second.function, second.body, second.environment), ("f", b'{"a": 1}', None))
-    check("its delivery", (second.answers, second.answers[0].body), ((Answer(0, "deliver", (REQUEST, "4000", '={"a":%201}')),), b'{"a": 1}'))
+    check("an invocation's name and payload", (second.function, second.body, second.environment),
+          ("f", b'{"a": 1}', None))
+    check("its delivery", (second.answers, second.answers[0].body),
+          ((Answer(0, "deliver", (REQUEST, "4000", '={"a":%201}')),), b'{"a": 1}'))
     check("a response", (third.environment, third.count, third.body, third.own.kind), (1, 1, b'"ok"', "accepted"))
     check("an expiry", (fourth.number, fourth.kind, fourth.environment, fourth.answers), (3, "expire", 1, ()))
     check("the entries from a number on", [entry.number for entry in entries_of(LINES[3:], 2)], [2, 3])
@@ -31,7 +34,8 @@ def texts():
     check("a whole history", (configuration, len(list(entries))), ({"functions": []}, 4))
     check("the count of an identifier", count_in(REQUEST), 1)
     check("an identifier of a count", request_identifier(0, 1, 1), REQUEST)
-    check("the version takes the place of the salt's bits 12 to 15", request_identifier(0x0123456789ABCDEF, 2, 255), "01234567-89ab-8def-8002-0000000000ff")
+    check("the version takes the place of the salt's bits 12 to 15", request_identifier(0x0123456789ABCDEF, 2, 255),
+          "01234567-89ab-8def-8002-0000000000ff")
 
 
 class Fake(http.server.BaseHTTPRequestHandler):
@@ -72,7 +76,8 @@ def follows():
             check(f"{word}: what is new", follower.read(), list(entries_of(LINES))[1:])
             check(f"{word}: nothing new again", (follower.read(), follower.next), ([], 4))
             histories = [path for path in server.asked if path != "/_local/stats"]
-            check(f"{word}: what it is asked", histories, [f"/_local/history?from={n}" for n in ((0, 1, 1, 4) if knows_from else (0, 1))])
+            check(f"{word}: what it is asked", histories,
+                  [f"/_local/history?from={n}" for n in ((0, 1, 1, 4) if knows_from else (0, 1))])
             follower.close()
         finally:
             server.shutdown()
@@ -86,13 +91,16 @@ def real():
         check("a new service has no entry", follower.read(), [])
         answer = ask(service.port, "PUT", "/2017-10-31/functions/f/concurrency", '{"ReservedConcurrentExecutions":0}')
         check("a reservation", answer[0], 200)
-        check("is an entry", [(entry.number, entry.kind, entry.fields, entry.own.kind) for entry in follower.read()], [(0, "reserve", ("f", "0"), "reserved")])
+        check("is an entry", [(entry.number, entry.kind, entry.fields, entry.own.kind) for entry in follower.read()],
+              [(0, "reserve", ("f", "0"), "reserved")])
         for _ in range(3):
             ask(service.port, "POST", "/2015-03-31/functions/f/invocations", "{}")
-        check("throttled invocations", [(entry.number, entry.function, entry.own.kind) for entry in follower.read()], [(n, "f", "throttled") for n in (1, 2, 3)])
+        check("throttled invocations", [(entry.number, entry.function, entry.own.kind) for entry in follower.read()],
+              [(n, "f", "throttled") for n in (1, 2, 3)])
         check("nothing else", follower.read(), [])
         configuration, entries = opened(service.history())
-        check("all of it at once", (configuration["functions"][0]["name"], [entry.number for entry in entries]), ("f", [0, 1, 2, 3]))
+        check("all of it at once", (configuration["functions"][0]["name"], [entry.number for entry in entries]),
+              ("f", [0, 1, 2, 3]))
     finally:
         service.stop()
     follower.close()

@@ -1,7 +1,7 @@
 #!/usr/bin/env python3
 """Checks Function URLs and HTTP routes: the events that requests become, the answers that results become, cross-origin
-requests, limits and malformed requests. Needs curl, and Chromium for one of them. The program is LAMBDA_LOCAL_PROGRAM, else ./lambda_local.
-Ends with 'N passed, M failed'."""
+requests, limits and malformed requests. Needs curl, and Chromium for one of them. The program is LAMBDA_LOCAL_PROGRAM,
+else ./lambda_local. Ends with 'N passed, M failed'."""
 import base64
 import contextlib
 import json
@@ -34,13 +34,14 @@ def run(event, context):
     return event
 '''
 BINARY = bytes(range(256)) * 40
-CORS = {"allowOrigins": ["http://shop.example"], "allowMethods": ["GET", "POST"], "allowHeaders": ["x-one"], "exposeHeaders": ["x-two"],
-        "allowCredentials": True, "maxAge": 60}
+CORS = {"allowOrigins": ["http://shop.example"], "allowMethods": ["GET", "POST"], "allowHeaders": ["x-one"],
+        "exposeHeaders": ["x-two"], "allowCredentials": True, "maxAge": 60}
 
 
 @contextlib.contextmanager
 def running(url=True, **whole):
-    up = Up(*READY, functions=[{"name": "f", "runtime": "python", "handler": "app.run", "environments": 2, "url": url, "timeout": 10},
+    up = Up(*READY, functions=[{"name": "f", "runtime": "python", "handler": "app.run", "environments": 2, "url": url,
+                                "timeout": 10},
                        {"name": "g", "runtime": "python", "handler": "app.run"}], app=APP, whole=whole)
     try:
         up.until("[up] ready", READY_SECONDS)
@@ -73,20 +74,23 @@ def events():
         check("its headers", (event["headers"]["x-thing"], event["headers"]["content-type"]), ("t", "application/json"))
         check("its body", (event["body"], event["isBase64Encoded"]), ('{"a":"é"}', False))
         context = event["requestContext"]
-        check("its request", context["http"], {"method": "POST", "path": "/a%20b/c", "protocol": "HTTP/1.1", "sourceIp": "127.0.0.1",
+        check("its request", context["http"],
+              {"method": "POST", "path": "/a%20b/c", "protocol": "HTTP/1.1", "sourceIp": "127.0.0.1",
                                                "userAgent": "check"})
-        check("its context", sorted(context), ["accountId", "apiId", "domainName", "domainPrefix", "http", "requestId", "routeKey", "stage",
+        check("its context", sorted(context),
+              ["accountId", "apiId", "domainName", "domainPrefix", "http", "requestId", "routeKey", "stage",
                                                "time", "timeEpoch"])
         check("its times", (re.fullmatch(r"\d\d/[A-Z][a-z]{2}/\d{4}:\d\d:\d\d:\d\d \+0000", context["time"]) is not None,
                             isinstance(context["timeEpoch"], int)), (True, True))
         event = json.loads(caller.ask("GET", "/")[2])
-        check("a request with nothing", [name in event for name in ("body", "cookies", "queryStringParameters", "pathParameters")],
-              [False] * 4)
+        check("a request with nothing",
+              [name in event for name in ("body", "cookies", "queryStringParameters", "pathParameters")], [False] * 4)
         check("and an empty query", event["rawQueryString"], "")
-        for kind, is_text in (("text/plain; charset=utf-8", True), ("application/problem+json", True), ("image/png", False),
-                              ("application/x-www-form-urlencoded", False)):
+        for kind, is_text in (("text/plain; charset=utf-8", True), ("application/problem+json", True),
+                              ("image/png", False), ("application/x-www-form-urlencoded", False)):
             event = json.loads(caller.ask("POST", "/", b"a=b", {"Content-Type": kind})[2])
-            check(f"a body of {kind}", (event["isBase64Encoded"], event["body"]), (not is_text, "a=b" if is_text else "YT1i"))
+            check(f"a body of {kind}", (event["isBase64Encoded"], event["body"]),
+                  (not is_text, "a=b" if is_text else "YT1i"))
 
 
 def results():
@@ -100,7 +104,8 @@ def results():
         check("status, headers and body", (status, headers["x-a"], headers["x-n"], headers["content-type"], body),
               (201, "b", "1", "text/html", b"<p>"))
         in_base64 = base64.b64encode(BINARY[:300]).decode()
-        check("a body in base64", giving(caller, {"statusCode": 200, "body": in_base64, "isBase64Encoded": True})[2], BINARY[:300])
+        check("a body in base64", giving(caller, {"statusCode": 200, "body": in_base64, "isBase64Encoded": True})[2],
+              BINARY[:300])
         check("no body", giving(caller, {"statusCode": 204})[::2], (204, b""))
         check("a redirect", giving(caller, {"statusCode": 302, "headers": {"location": "/x"}})[1]["location"], "/x")
         given = json.dumps({"statusCode": 200, "cookies": ["a=1; Path=/", "b=2"]})
@@ -110,7 +115,8 @@ def results():
         check("cookies", answer.headers.get_all("set-cookie"), ["a=1; Path=/", "b=2"])
         check("a HEAD has no body", giving(caller, {"statusCode": 200, "body": "x"}, "HEAD")[::2], (200, b""))
         for number, wrong in enumerate((
-                {"statusCode": "x"}, {"statusCode": 99}, {"statusCode": 200, "body": {"a": 1}}, {"statusCode": 200, "headers": 1},
+                {"statusCode": "x"}, {"statusCode": 99}, {"statusCode": 200, "body": {"a": 1}},
+                {"statusCode": 200, "headers": 1},
                 {"statusCode": 200, "headers": {"a b": "c"}}, {"statusCode": 200, "headers": {"a": "b\r\nc: d"}},
                 {"statusCode": 200, "cookies": "a"}, {"statusCode": 200, "body": "!", "isBase64Encoded": True}), 1):
             check(f"what is no answer: {wrong}", giving(caller, wrong)[::2], (502, b"Internal Server Error"))
@@ -124,15 +130,18 @@ def by_curl():
         path = os.path.join(up.at, "binary")
         with open(path, "wb") as file:
             file.write(BINARY)
-        done = subprocess.run(["curl", "-sS", "--data-binary", f"@{path}", "-H", "Content-Type: image/png", url + "/echo"],
+        done = subprocess.run(["curl", "-sS", "--data-binary", f"@{path}", "-H", "Content-Type: image/png",
+                               url + "/echo"],
                               capture_output=True)
         check("curl: binary in both directions", done.stdout, BINARY)
         with open(path, "wb") as file:
             file.write(BINARY * 300)
-        done = subprocess.run(["curl", "-sS", "-T", path, "-H", "Expect: 100-continue", "-H", "Transfer-Encoding: chunked", url + "/echo"],
+        done = subprocess.run(["curl", "-sS", "-T", path, "-H", "Expect: 100-continue", "-H",
+                               "Transfer-Encoding: chunked", url + "/echo"],
                               capture_output=True)
         check("curl: 3 MB in chunks, of which it asks first", done.stdout == BINARY * 300)
-        check("6 MiB of text", caller.ask("POST", "/echo", b"x" * ((6 << 20) - 2000), {"Content-Type": "text/plain"})[0] in (200, 502))
+        check("6 MiB of text",
+              caller.ask("POST", "/echo", b"x" * ((6 << 20) - 2000), {"Content-Type": "text/plain"})[0] in (200, 502))
         check("one byte more than a body may have", caller.ask("POST", "/", b"x" * ((6 << 20) + 1))[0], 413)
         check("a line says so", until(lambda: up.has("413, its body has more than 6291456 bytes"), 5))
         check("an event that becomes too large", caller.ask("POST", "/", b"\0" * (5 << 20))[0], 413)
@@ -141,31 +150,35 @@ def by_curl():
 
 def cross_origin():
     with running(url={"cors": CORS}) as (_, caller):
-        asked = {"Origin": "http://shop.example", "Access-Control-Request-Method": "POST", "Access-Control-Request-Headers": "x-one"}
+        asked = {"Origin": "http://shop.example", "Access-Control-Request-Method": "POST",
+                 "Access-Control-Request-Headers": "x-one"}
         status, headers, body = caller.ask("OPTIONS", "/", None, asked)
         check("a preflight", (status, body, {name: value for name, value in headers.items() if name.startswith("access")}), (200, b"", {
             "access-control-allow-origin": "http://shop.example", "access-control-allow-methods": "GET,POST",
-            "access-control-allow-headers": "x-one", "access-control-allow-credentials": "true", "access-control-max-age": "60",
-            "access-control-expose-headers": "x-two"}))
+            "access-control-allow-headers": "x-one", "access-control-allow-credentials": "true",
+            "access-control-max-age": "60", "access-control-expose-headers": "x-two"}))
         _, headers, _ = caller.ask("OPTIONS", "/", None, {**asked, "Origin": "http://other.example"})
         check("one of another site", [name for name in headers if name.startswith("access")], [])
         for origin, wanted in (("http://shop.example", "http://shop.example"), ("http://other.example", None)):
             headers = caller.ask("GET", "/", None, {"Origin": origin})[1]
-            check(f"an answer for {origin}", (headers.get("access-control-allow-origin"), headers["vary"]), (wanted, "Origin"))
+            check(f"an answer for {origin}", (headers.get("access-control-allow-origin"), headers["vary"]),
+                  (wanted, "Origin"))
     with running() as (_, caller):
-        event = json.loads(caller.ask("OPTIONS", "/", None, {"Origin": "http://a", "Access-Control-Request-Method": "GET"})[2])
+        event = json.loads(
+            caller.ask("OPTIONS", "/", None, {"Origin": "http://a", "Access-Control-Request-Method": "GET"})[2])
         check("without a configuration the function answers", event["requestContext"]["http"]["method"], "OPTIONS")
 
 
 OF_API = {"CorsConfiguration": {
-    "AllowOrigins": ["https://shop.example"], "AllowMethods": ["GET", "POST"], "AllowHeaders": ["x-one", "content-type"],
-    "ExposeHeaders": ["x-two"], "AllowCredentials": True, "MaxAge": 60}}
+    "AllowOrigins": ["https://shop.example"], "AllowMethods": ["GET", "POST"],
+    "AllowHeaders": ["x-one", "content-type"], "ExposeHeaders": ["x-two"], "AllowCredentials": True, "MaxAge": 60}}
 TEMPLATE = {"Globals": {"HttpApi": OF_API}, "Resources": {
     "f": {"Type": "AWS::Serverless::Function", "Properties": {
         "CodeUri": ".", "Handler": "app.run", "Runtime": "python3.12",
         "Events": {"Get": {"Type": "HttpApi", "Properties": {"Path": "/orders", "Method": "GET"}}}}},
     "Url": {"Type": "AWS::Lambda::Url", "Properties": {
-        "TargetFunctionArn": {"Fn::GetAtt": ["f", "Arn"]}, "AuthType": "NONE", "Cors": {"AllowOrigins": ["*"], "AllowMethods": ["*"]}}}}}
+        "TargetFunctionArn": {"Fn::GetAtt": ["f", "Arn"]}, "AuthType": "NONE",
+        "Cors": {"AllowOrigins": ["*"], "AllowMethods": ["*"]}}}}}
 
 
 def cors_in(headers):
@@ -173,28 +186,33 @@ def cors_in(headers):
 
 
 def of_a_template():
-    """What a template says of cross-origin requests is what browsers are answered (API Gateway Developer Guide, "Configure
-    CORS for HTTP APIs"; Lambda Developer Guide, "Cross-origin resource sharing")."""
+    """What a template says of cross-origin requests is what browsers are answered (API Gateway Developer Guide,
+    "Configure CORS for HTTP APIs"; Lambda Developer Guide, "Cross-origin resource sharing")."""
     with tempfile.TemporaryDirectory() as folder:
         template, output = (os.path.join(folder, name) for name in ("template.json", "up.json"))
         with open(template, "w") as file:
             json.dump(TEMPLATE, file)
-        subprocess.run([os.path.join(ROOT, "tools", "from_template"), template, "-o", output], stderr=subprocess.DEVNULL, check=True)
+        subprocess.run([os.path.join(ROOT, "tools", "from_template"), template, "-o", output],
+                       stderr=subprocess.DEVNULL, check=True)
         with open(output) as file:
             made = json.load(file)
-    up = Up(*READY, functions=[{**function, "runtime": "python"} for function in made.pop("functions")], app=APP, whole=made)
+    up = Up(*READY, functions=[{**function, "runtime": "python"} for function in made.pop("functions")], app=APP,
+            whole=made)
     up.until("[up] ready", READY_SECONDS)
     simple = {"allow-origin": "https://shop.example", "allow-credentials": "true", "expose-headers": "x-two"}
     with Caller(address(up, r"routes: (\S+)$")) as caller:
-        asked = {"Origin": "https://shop.example", "Access-Control-Request-Method": "POST", "Access-Control-Request-Headers": "x-one"}
+        asked = {"Origin": "https://shop.example", "Access-Control-Request-Method": "POST",
+                 "Access-Control-Request-Headers": "x-one"}
         status, headers, body = caller.ask("OPTIONS", "/orders", None, asked)
         check("an API's preflight", (status, body, cors_in(headers)), (204, b"", {
             **simple, "allow-methods": "GET,POST", "allow-headers": "x-one,content-type", "max-age": "60"}))
         status, headers, _ = caller.ask("OPTIONS", "/nowhere", None, asked)
-        check("one for what no route takes", (status, headers.get("access-control-allow-origin")), (204, "https://shop.example"))
+        check("one for what no route takes", (status, headers.get("access-control-allow-origin")),
+              (204, "https://shop.example"))
         status, headers, _ = caller.ask("OPTIONS", "/orders", None, {**asked, "Origin": "https://other.example"})
         check("one of another site", (status, cors_in(headers)), (204, {}))
-        own = json.dumps({"statusCode": 200, "headers": {"Access-Control-Allow-Origin": "*", "x-two": "2"}, "body": "x"})
+        own = json.dumps(
+            {"statusCode": 200, "headers": {"Access-Control-Allow-Origin": "*", "x-two": "2"}, "body": "x"})
         path = "/orders?" + urllib.parse.urlencode({"gives": own})
         for origin, wanted in (("https://shop.example", simple), ("https://other.example", {}), (None, {})):
             _, headers, body = caller.ask("GET", path, None, {"Origin": origin} if origin else {})
@@ -205,7 +223,8 @@ def of_a_template():
         asked = {"Origin": "http://any", "Access-Control-Request-Method": "PUT"}
         status, headers, _ = caller.ask("OPTIONS", "/", None, asked)
         check("a URL's preflight", (status, cors_in(headers)), (200, {"allow-origin": "*", "allow-methods": "PUT"}))
-        check("a URL's answer", cors_in(caller.ask("GET", "/", None, {"Origin": "http://any"})[1]), {"allow-origin": "*"})
+        check("a URL's answer", cors_in(caller.ask("GET", "/", None, {"Origin": "http://any"})[1]),
+              {"allow-origin": "*"})
     check("it ends in order, and leaves nothing", up.end(), (0, []))
 
 
@@ -230,7 +249,8 @@ def in_a_browser():
         up = Up(*READY, functions=functions, app=APP, files={"page.py": PAGE})
         up.until("[up] ready", READY_SECONDS)
         to, page = (address(up, name + r": its URL is (\S+)/$") for name in (r"\bf", r"\bpage"))
-        done = subprocess.run([browser, "--headless", "--no-sandbox", "--disable-gpu", f"--user-data-dir={up.at}/profile",
+        done = subprocess.run([browser, "--headless", "--no-sandbox", "--disable-gpu",
+                               f"--user-data-dir={up.at}/profile",
                                "--virtual-time-budget=5000", "--dump-dom", f"{page}/?to={to}"],
                               stdout=subprocess.PIPE, stderr=subprocess.DEVNULL, text=True, timeout=READY_SECONDS)
         shown = re.search('<p id="x">(.*?)</p>', done.stdout)
@@ -239,15 +259,20 @@ def in_a_browser():
 
 
 def routes():
-    table = {"GET /orders/{id}": "f", "GET /orders/new": "g", "ANY /files/{path+}": "g", "POST /orders": "f", "ANY /orders/{id}": "g"}
-    with running(routes=table, api={"cors": {"allowOrigins": ["*"]}}) as (up, _), Caller(address(up, r"routes: (\S+)$")) as caller:
+    table = {"GET /orders/{id}": "f", "GET /orders/new": "g", "ANY /files/{path+}": "g", "POST /orders": "f",
+             "ANY /orders/{id}": "g"}
+    with running(routes=table,
+                 api={"cors": {"allowOrigins": ["*"]}}) as (up, _), Caller(address(up, r"routes: (\S+)$")) as caller:
         for method, path, key, parameters in (
-                ("GET", "/orders/7", "GET /orders/{id}", {"id": "7"}), ("GET", "/orders/a%2Fb", "GET /orders/{id}", {"id": "a/b"}),
+                ("GET", "/orders/7", "GET /orders/{id}", {"id": "7"}),
+                ("GET", "/orders/a%2Fb", "GET /orders/{id}", {"id": "a/b"}),
                 ("GET", "/orders/new", "GET /orders/new", None), ("PUT", "/orders/7", "ANY /orders/{id}", {"id": "7"}),
-                ("DELETE", "/files/a/b.txt", "ANY /files/{path+}", {"path": "a/b.txt"}), ("POST", "/orders", "POST /orders", None)):
+                ("DELETE", "/files/a/b.txt", "ANY /files/{path+}", {"path": "a/b.txt"}),
+                ("POST", "/orders", "POST /orders", None)):
             status, headers, body = caller.ask(method, path, None, {"Origin": "http://a"})
             event = json.loads(body)
-            check(f"{method} {path}", (status, event["routeKey"], event["requestContext"]["routeKey"], event.get("pathParameters")),
+            check(f"{method} {path}",
+                  (status, event["routeKey"], event["requestContext"]["routeKey"], event.get("pathParameters")),
                   (200, key, key, parameters))
             check("any site may read it", headers["access-control-allow-origin"], "*")
         check("no route", caller.ask("GET", "/orders")[::2], (404, b'{"message": "Not Found"}'))
@@ -273,12 +298,15 @@ def malformed():
         url = address(up, r"its URL is (\S+)/$")
         for name, data, wanted in (
                 ("no request line", b"x\r\n\r\n", b"400"), ("a bare line feed", b"GET / HTTP/1.1\nHost: a\n\n", b"400"),
-                ("no Host", b"GET / HTTP/1.1\r\n\r\n", b"400"), ("two Hosts", b"GET / HTTP/1.1\r\nHost: a\r\nHost: b\r\n\r\n", b"400"),
+                ("no Host", b"GET / HTTP/1.1\r\n\r\n", b"400"),
+                ("two Hosts", b"GET / HTTP/1.1\r\nHost: a\r\nHost: b\r\n\r\n", b"400"),
                 ("a space before the colon", b"GET / HTTP/1.1\r\nHost : a\r\n\r\n", b"400"),
                 ("a folded line", b"GET / HTTP/1.1\r\nHost: a\r\nX: a\r\n b\r\n\r\n", b"400"),
                 ("a length that is no number", b"POST / HTTP/1.1\r\nHost: a\r\nContent-Length: +1\r\n\r\n", b"400"),
-                ("two lengths", b"POST / HTTP/1.1\r\nHost: a\r\nContent-Length: 1\r\nContent-Length: 2\r\n\r\n", b"400"),
-                ("a length and chunks", b"POST / HTTP/1.1\r\nHost: a\r\nContent-Length: 1\r\nTransfer-Encoding: chunked\r\n\r\n", b"400"),
+                ("two lengths", b"POST / HTTP/1.1\r\nHost: a\r\nContent-Length: 1\r\nContent-Length: 2\r\n\r\n",
+                 b"400"),
+                ("a length and chunks",
+                 b"POST / HTTP/1.1\r\nHost: a\r\nContent-Length: 1\r\nTransfer-Encoding: chunked\r\n\r\n", b"400"),
                 ("another coding", b"POST / HTTP/1.1\r\nHost: a\r\nTransfer-Encoding: gzip, chunked\r\n\r\n", b"501"),
                 ("a wrong chunk", b"POST / HTTP/1.1\r\nHost: a\r\nTransfer-Encoding: chunked\r\n\r\nxy\r\n", b"400"),
                 ("another version", b"GET / HTTP/2.0\r\nHost: a\r\n\r\n", b"505"),
@@ -289,7 +317,8 @@ def malformed():
             check(name, raw(url, data).split(b" ")[1:2], [wanted])
             check("a line says why", until(lambda: up.count(told) == count, 5))
         two = raw(url, b"GET /one HTTP/1.1\r\nHost: a\r\n\r\nGET /two HTTP/1.1\r\nHost: a\r\nConnection: close\r\n\r\n")
-        check("two requests at once are answered in turn", re.findall(rb'"rawPath": "([^"]*)"', two), [b"/one", b"/two"])
+        check("two requests at once are answered in turn", re.findall(rb'"rawPath": "([^"]*)"', two),
+              [b"/one", b"/two"])
         check("the port is still there", caller.ask("GET", "/")[0], 200)
         begun = time.monotonic()
         check("half a head is closed", raw(url, b"GET / HTTP/1.1\r\nHost: a"), b"")
@@ -307,7 +336,8 @@ def mistakes():
             ({"api": {}}, {}, 'api: there are no routes: write "routes", or leave it out'),
             ({}, {"url": "yes"}, 'function f: url must be true, or an object, not "yes"'),
             ({}, {"url": {"prt": 1}}, "function f: url: unknown member prt, did you mean port?"),
-            ({}, {"url": {"cors": {"allowOrigin": []}}}, "function f: url: cors: unknown member allowOrigin, did you mean allowOrigins?")):
+            ({}, {"url": {"cors": {"allowOrigin": []}}},
+             "function f: url: cors: unknown member allowOrigin, did you mean allowOrigins?")):
         up = Up(functions=[{**functions[0], **members}], app=APP, whole=whole)
         check(f"a mistake: {whole or members}", (up.end(None), up.lines), ((2, []), [f"up: up.json: {wanted}"]))
     with socket.socket() as listener:
@@ -316,7 +346,8 @@ def mistakes():
         port = listener.getsockname()[1]
         up = Up(functions=[{**functions[0], "url": {"port": port}}], app=APP)
         check("a taken port", (up.end(None), up.lines), ((4, []), [
-            f"up: up.json: port {port} (url of function f): another program listens there: leave the port out, and a free one is used"]))
+            f"up: up.json: port {port} (url of function f): another program listens there: leave the port out, and a "
+            f"free one is used"]))
 
 
 if __name__ == "__main__":

@@ -52,11 +52,13 @@ def starts():
         check("replay by its name", run(root, "replay", stdin=text_of(ROOT, "examples", "first_call.txt"))[0], 0)
         link = os.path.join(root, "linked")
         os.symlink(os.path.join(root, "lambda_local"), link)
-        check("through a link, from another folder", run(root, "path", launcher="linked", cwd="/"), (0, where + "\n", ""))
+        check("through a link, from another folder", run(root, "path", launcher="linked", cwd="/"),
+              (0, where + "\n", ""))
         there = {"LAMBDA_LOCAL_PROGRAM": os.path.join(root, "lambda_local")}
         check("the launcher as LAMBDA_LOCAL_PROGRAM is the launcher", first_call(root, **there), (0, True, ""))
         other = {"LAMBDA_LOCAL_PROGRAM": "/bin/echo"}
-        check("LAMBDA_LOCAL_PROGRAM is used as it is", run(root, "serve", "a b.json", **other), (0, "serve a b.json\n", ""))
+        check("LAMBDA_LOCAL_PROGRAM is used as it is", run(root, "serve", "a b.json", **other),
+              (0, "serve a b.json\n", ""))
         check("and is the path", run(root, "path", **other), (0, "/bin/echo\n", ""))
 
 
@@ -72,7 +74,8 @@ def costs():
             after = resource.getrusage(resource.RUSAGE_CHILDREN)
             whole.append(time.monotonic() - began)
             seconds.append(after.ru_utime + after.ru_stime - before.ru_utime - before.ru_stime)
-        print(f"     ({1000 * statistics.median(seconds):.0f} ms of CPU time, {1000 * statistics.median(whole):.0f} ms)")
+        print(
+            f"     ({1000 * statistics.median(seconds):.0f} ms of CPU time, {1000 * statistics.median(whole):.0f} ms)")
         check("a start costs less than 50 ms of CPU time", statistics.median(seconds) < 0.05)
 
 
@@ -156,14 +159,16 @@ def kits():
 def builds():
     """A build that is asked to end: here the kit's rt would prove for long."""
     with copied() as root, tempfile.TemporaryDirectory() as kit:
-        write(f"{kit}/bin/rt", b'#!/bin/sh\n[ "$1" != version ] || exec echo rattle-kit-1\necho $$ >"$KIT_PROVES"\nexec sleep 300\n', 0o755)
+        write(f"{kit}/bin/rt", b'#!/bin/sh\n[ "$1" != version ] || exec echo rattle-kit-1\necho $$ '
+                               b'>"$KIT_PROVES"\nexec sleep 300\n', 0o755)
         proves, room = os.path.join(kit, "proves"), os.path.join(kit, "room")
         os.mkdir(room)
         variables = plain(PATH=f"{kit}/bin:/usr/bin:/bin", KIT_PROVES=proves, TMPDIR=room)
         words = [os.path.join(root, "lambda_local"), "serve", "examples/service.json"]
         child = subprocess.Popen(words, cwd=root, env=variables, stderr=subprocess.PIPE, text=True)
         try:
-            check("without a program of this kit one is proved first", "proving the program and the" in child.stderr.readline())
+            check("without a program of this kit one is proved first",
+                  "proving the program and the" in child.stderr.readline())
             end = time.monotonic() + 60
             while not (os.path.exists(proves) and text_of(proves).endswith("\n")) and time.monotonic() < end:
                 time.sleep(0.05)
@@ -190,14 +195,16 @@ def other_users():
         try:
             status, right, said = first_call(root, **mine)
             check("a clone that cannot be written answers", (status, right, UNPACKED in said), (0, True, True))
-            check("from the user's cache", run(root, "path", **mine), (0, f"{home}/.cache/lambda_local{root}/lambda_local\n", ""))
+            check("from the user's cache", run(root, "path", **mine),
+                  (0, f"{home}/.cache/lambda_local{root}/lambda_local\n", ""))
             check("a further start says nothing", first_call(root, **mine), (0, True, ""))
             check("the clone has nothing of it", os.path.exists(os.path.join(root, os.path.dirname(RELEASED))), False)
             check("the cache is the user's alone", oct(os.stat(f"{home}/.cache").st_mode & 0o777), "0o700")
             named = run(root, "path", XDG_CACHE_HOME=moved, **mine)[:2]
             check("XDG_CACHE_HOME names the cache", named, (0, f"{moved}/lambda_local{root}/lambda_local\n"))
             status, output, said = run(root, "path", user=user, HOME="/nonexistent")
-            check("no folder to write is told", (status, output, "XDG_CACHE_HOME" in said and said.count("\n")), (4, "", 1))
+            check("no folder to write is told", (status, output, "XDG_CACHE_HOME" in said and said.count("\n")),
+                  (4, "", 1))
         finally:
             subprocess.run(["chmod", "-R", "u+w", root], check=True)
         if user is not None:
@@ -213,7 +220,8 @@ def serves():
         sys.path.insert(0, os.path.join(root, "tools"))
         from lambda_local.service import free_ports
         invoke, port = free_ports(2, set())
-        own = {"account": "123456789012", "region": "us-east-2", "invokePort": invoke, "functions": [{"name": "f", "ports": [port]}]}
+        own = {"account": "123456789012", "region": "us-east-2", "invokePort": invoke,
+               "functions": [{"name": "f", "ports": [port]}]}
         write(os.path.join(root, "own.json"), json.dumps(own).encode())
         words = [os.path.join(root, "lambda_local"), "serve", "own.json"]
         child = subprocess.Popen(words, cwd=root, env=plain(), stderr=subprocess.PIPE, text=True)
@@ -242,18 +250,23 @@ def checks():
         check("a changed answer is named with its line", (status, output, said),
               (1, "", f"check: -: line {at}: the history has `3 3 refused State`, and the replay answers `3 3 done`\n"))
         status, output, said = run(root, "check", "-", stdin=changed.replace("# 3 3 refused State\n", ""))
-        check("a missing answer too", (status, f"line {at + 2}:" in said, "the replay answers `3 3 done`" in said), (1, True, True))
+        check("a missing answer too", (status, f"line {at + 2}:" in said, "the replay answers `3 3 done`" in said),
+              (1, True, True))
         status, output, said = run(root, "check", "-", stdin=history + "# 99 99 done\n")
         check("and one too many", (status, "has `99 99 done`, and the replay has no more answers" in said), (1, True))
-        for name, text, word in (("a script without answers", text_of(ROOT, "examples", "first_call.txt"), "no answers to compare with"),
-                                 ("another text", "hello\n", "line 1 must be `form 2`"), ("nothing", "", "line 1 must be `form 2`"),
-                                 ("a call that is none", history + "5000 nothing\n", f"script: line {len(history.splitlines()) + 1}")):
+        for name, text, word in (("a script without answers", text_of(ROOT, "examples", "first_call.txt"),
+                                  "no answers to compare with"),
+                                 ("another text", "hello\n", "line 1 must be `form 2`"),
+                                 ("nothing", "", "line 1 must be `form 2`"),
+                                 ("a call that is none", history + "5000 nothing\n",
+                                  f"script: line {len(history.splitlines()) + 1}")):
             status, output, said = run(root, "check", "-", stdin=text)
             check(f"{name} is refused with a line", (status, output, said.count("\n"), word in said), (2, "", 1, True))
         status, output, said = run(root, "check", "no such file")
         check("a file that is not there", (status, output, said.count("\n"), "no such file" in said), (2, "", 1, True))
         status, output, said = run(root, "check", "examples/timeout.txt", LAMBDA_LOCAL_PROGRAM="/nonexistent/program")
-        check("a program that is not there", (status, output, said.count("\n"), "/nonexistent/program" in said), (4, "", 1, True))
+        check("a program that is not there", (status, output, said.count("\n"), "/nonexistent/program" in said),
+              (4, "", 1, True))
 
 
 if __name__ == "__main__":

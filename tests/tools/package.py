@@ -68,9 +68,11 @@ def made():
         packages["folder"] = folder
         status, output, said = package(root, "--archive", "--wheel", "--deb", folder)
         paths = output.split()
-        check("the packages are made without the kit", (status, [os.path.isfile(path) for path in paths]), (0, [True] * 3))
+        check("the packages are made without the kit", (status, [os.path.isfile(path) for path in paths]),
+              (0, [True] * 3))
         proved = text_of(root, "release", "PROVED").splitlines()
-        check("what proved the program is said", ([line.split(" ")[0] for line in proved], [f"package: {line}" for line in proved]),
+        check("what proved the program is said",
+              ([line.split(" ")[0] for line in proved], [f"package: {line}" for line in proved]),
               (STAMP, said.splitlines()))
         packages.update(zip(("archive", "wheel", "deb"), paths))
         again = os.path.join(root, "again")
@@ -111,7 +113,8 @@ def refusals():
 
 
 def commit_all(root):
-    for words in (["add", "-A"], ["-c", "user.name=someone", "-c", "user.email=someone@example.com", "commit", "-qm", "more"]):
+    for words in (["add", "-A"],
+                  ["-c", "user.name=someone", "-c", "user.email=someone@example.com", "commit", "-qm", "more"]):
         subprocess.run(["git", "-C", root, *words], check=True)
 
 
@@ -139,7 +142,8 @@ def used(command, folder, **more):
     write(os.path.join(folder, "up.json"), json.dumps(UP).encode())
     write(os.path.join(folder, "app.py"), APP.encode())
     status, output, said = run([command, "up", "up.json", "--", sys.executable, "-c", INVOKE], cwd=folder, **more)
-    check("up serves a function by the bundled runtime", (status, output.strip()), (0, '{"hello": "Ada"}') if status == 0 else said)
+    check("up serves a function by the bundled runtime", (status, output.strip()),
+          (0, '{"hello": "Ada"}') if status == 0 else said)
     check("and leaves nothing beside it", sorted(set(os.listdir(folder)) - {"__pycache__"}), ["app.py", "up.json"])
 
 
@@ -160,7 +164,8 @@ def archive():
         subprocess.run(["tar", "-C", there, "-xzf", packages["archive"]], check=True)
         root = glob.glob(f"{there}/*")[0]
         launcher = os.path.join(root, "lambda_local")
-        check("a maker's tools are not in it", {"package", "packages", "release"} & set(os.listdir(os.path.join(root, "tools"))), set())
+        check("a maker's tools are not in it",
+              {"package", "packages", "release"} & set(os.listdir(os.path.join(root, "tools"))), set())
         used(launcher, work)
         print(f"     (a start and a replay take {took([launcher])})")
         check("build has nothing to do", run([launcher, "build"])[0], 0)
@@ -173,14 +178,15 @@ def archive():
         with open(os.path.join(root, "bin", "lambda_local"), "ab") as file:
             file.write(b"changed")
         status, output, said = run([launcher, "path"])
-        check("a changed program is refused", (status, output, said.count("\n"), "unpack the package again" in said), (4, "", 1, True))
+        check("a changed program is refused", (status, output, said.count("\n"), "unpack the package again" in said),
+              (4, "", 1, True))
 
 
 def environment(python, folder, *options):
     """A virtual environment with the wheel, installed without a network: its folder of commands."""
     subprocess.run([python, "-m", "venv", *options, folder], check=True, env=plain(), stdout=subprocess.PIPE)
-    subprocess.run([f"{folder}/bin/python", "-m", "pip", "install", "-q", "--no-index", "--no-deps", "--disable-pip-version-check",
-                    packages["wheel"]], check=True, env=plain())
+    subprocess.run([f"{folder}/bin/python", "-m", "pip", "install", "-q", "--no-index", "--no-deps",
+                    "--disable-pip-version-check", packages["wheel"]], check=True, env=plain())
     return os.path.join(folder, "bin")
 
 
@@ -191,9 +197,11 @@ def wheel():
         used(command, work)
         print(f"     (a start and a replay take {took([command])})")
         check("as a module", answers([f"{commands}/python", "-m", "lambda_local"]))
-        check("LAMBDA_LOCAL_PROGRAM names another program", run([command, "path"], LAMBDA_LOCAL_PROGRAM="/bin/echo")[1], "/bin/echo\n")
+        check("LAMBDA_LOCAL_PROGRAM names another program",
+              run([command, "path"], LAMBDA_LOCAL_PROGRAM="/bin/echo")[1], "/bin/echo\n")
         status, output, said = run([command], stdin="", LAMBDA_LOCAL_PROGRAM="/nonexistent/program")
-        check("one that is not there is told", (status, output, said.count("\n"), "/nonexistent/program" in said), (4, "", 1, True))
+        check("one that is not there is told", (status, output, said.count("\n"), "/nonexistent/program" in said),
+              (4, "", 1, True))
         pip = [f"{commands}/python", "-m", "pip", "--disable-pip-version-check"]
         check("pip finds no fault", run([*pip, "check"])[0], 0)
         check("pip takes it away", run([*pip, "uninstall", "-qy", "lambda_local"])[0], 0)
@@ -210,7 +218,8 @@ def plugin():
         commands = environment(python, os.path.join(folder, "fresh"), "--system-site-packages")
         write(os.path.join(work, "test_greet.py"), TEST.encode())
         status, output, said = run([f"{commands}/python", "-m", "pytest", "-q", "-p", "no:cacheprovider"], cwd=work)
-        check("pytest finds the plugin, with no option", (status, "1 passed" in output), (0, True) if status == 0 else output)
+        check("pytest finds the plugin, with no option", (status, "1 passed" in output),
+              (0, True) if status == 0 else output)
         write(os.path.join(work, "test_greet.py"), TEST.replace('== {"hello"', '== {"bye"').encode())
         status, output, said = run([f"{commands}/python", "-m", "pytest", "-q", "-p", "no:cacheprovider"], cwd=work)
         seen = (status, "lambda_local history:" in output, "caller 1: invoke greet" in output)
@@ -239,7 +248,8 @@ def deb():
         check("its pages, licence and changes", [it for it in wanted if not os.path.isfile(os.path.join(doc, it))], [])
         page = run(["gzip", "-dc", os.path.join(folder, "usr/share/man/man1/lambda_local.1.gz")])[1]
         listed = re.findall(r"^ +lambda_local (?:\[?(\w+)\]?)", run([command, "--help"])[1], re.M)
-        check("the man page has each command of --help", [it for it in listed if not re.search(rf'^\.BI? "?{it}\b', page, re.M)], [])
+        check("the man page has each command of --help",
+              [it for it in listed if not re.search(rf'^\.BI? "?{it}\b', page, re.M)], [])
         control = run(["dpkg-deb", "-f", packages["deb"], "Version", "Architecture", "Depends"])[1]
         seen = (bool(VERSION.search(control)), "Architecture: amd64" in control, "libc6 (>= 2.34)" in control)
         check("its control file", seen, (True, True, True))
@@ -257,7 +267,8 @@ def jobs():
         return print("skip no Python here has pytest")
     for name, steps in (("github.yml", github_steps), ("gitlab.yml", gitlab_steps)):
         text = text_of(ROOT, "examples", "ci", name)
-        check(f"{name} names the wheel by a variable", re.search(r"^ *LAMBDA_LOCAL_WHEEL: https://\S+\.whl$", text, re.M) is not None)
+        check(f"{name} names the wheel by a variable",
+              re.search(r"^ *LAMBDA_LOCAL_WHEEL: https://\S+\.whl$", text, re.M) is not None)
         with tempfile.TemporaryDirectory() as folder, tempfile.TemporaryDirectory() as work:
             run([python, "-m", "venv", "--system-site-packages", f"{folder}/fresh"])
             write(f"{work}/up.json", json.dumps(UP).encode())
@@ -266,8 +277,8 @@ def jobs():
             found = steps(text)
             check(f"{name} has steps", len(found) > 1)
             for step in found:
-                ran = run(["bash", "-e", "-c", step], cwd=work, PATH=f"{folder}/fresh/bin:/usr/bin:/bin", PIP_NO_INDEX="1",
-                          LAMBDA_LOCAL_WHEEL="file://" + packages["wheel"])
+                ran = run(["bash", "-e", "-c", step], cwd=work, PATH=f"{folder}/fresh/bin:/usr/bin:/bin",
+                          PIP_NO_INDEX="1", LAMBDA_LOCAL_WHEEL="file://" + packages["wheel"])
                 check(f"{name}: {step}", ran[0] == 0 or ran)
 
 

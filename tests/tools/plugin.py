@@ -91,7 +91,8 @@ def test_whose_service_dies(lambda_local):
 
 def by_itself():
     with LambdaLocal(double=lambda event: event * 2) as service:
-        check("handlers in the test's process", [service.invoke("double", number) for number in range(5)], [0, 2, 4, 6, 8])
+        check("handlers in the test's process", [service.invoke("double", number) for number in range(5)],
+              [0, 2, 4, 6, 8])
         check("it settles", (service.settled(), service.stats()["admitted"]), (True, 5))
         check("the history is there", service.history().startswith("form 2\n"))
         if folder_of("boto3", sys.executable):
@@ -121,26 +122,32 @@ def reports():
             check("a handler's fault is raised", False)
         except FunctionError as fault:
             told = dict(fault.report)
-            check("a handler's fault is raised", (told.pop("errorMessage"), told.pop("errorType"), len(told.pop("requestId"))),
+            check("a handler's fault is raised",
+                  (told.pop("errorMessage"), told.pop("errorType"), len(told.pop("requestId"))),
                   ("'missing'", "KeyError", 36))
-            stack = [re.sub(r"\n\s+[\^~]+\n", "\n", line) for line in told.pop("stackTrace")]  # (newer Pythons mark the place)
+            # (newer Pythons mark the place)
+            stack = [re.sub(r"\n\s+[\^~]+\n", "\n", line) for line in told.pop("stackTrace")]
             line = fails.__code__.co_firstlineno + 3
             check("its stack, as traceback.format_list gives it", stack,
-                  [f'  File "{__file__}", line {line}, in fails\n    return {{1, 2}} if event == "set" else event["missing"]\n'])
+                  [f'  File "{__file__}", line {line}, in fails\n    return {{1, 2}} if event == "set" else '
+                   f'event["missing"]\n'])
             check("no other member", told, {})
             check("from what the handler raised", repr(fault.__cause__), "KeyError('missing')")
-        check("the trace is printed", ("Traceback (most recent call last):" in printed.getvalue(), "in_process.py" in printed.getvalue(),
+        check("the trace is printed",
+              ("Traceback (most recent call last):" in printed.getvalue(), "in_process.py" in printed.getvalue(),
                                        printed.getvalue().endswith("KeyError: 'missing'\n")), (True, False, True))
         try:
             service.invoke("fails", "set")
         except FunctionError as fault:
             check("an output that is no JSON", (str(fault), type(fault.__cause__)),
-                  ("Runtime.MarshalError: Unable to marshal response: Object of type set is not JSON serializable", TypeError))
+                  ("Runtime.MarshalError: Unable to marshal response: Object of type set is not JSON serializable",
+                   TypeError))
         try:
             service.invoke("fails", "exit")
         except FunctionError as fault:
             check("a handler that exits", repr(fault.__cause__), "SystemExit(3)")
-        check("a function that is not there", fault_of(service.invoke, "other")[:40], "FunctionError: ResourceNotFoundException")
+        check("a function that is not there", fault_of(service.invoke, "other")[:40],
+              "FunctionError: ResourceNotFoundException")
 
 
 def contexts():
@@ -148,21 +155,27 @@ def contexts():
     with LambdaLocal({"f": {"memory": 256, "timeout": 60}}, f=lambda event, context: seen.append(context)) as service:
         service.invoke("f")
         context = vars(seen[0])
-        left, request, _ = context.pop("get_remaining_time_in_millis")(), context.pop("aws_request_id"), context.pop("log")
+        left, request, _ = context.pop("get_remaining_time_in_millis")(), context.pop("aws_request_id"), context.pop(
+            "log")
         check("the time that is left, the request and the trace", (0 < left <= 60000, len(request),
                 "Lambda-Runtime-Trace-Id" in context.pop("headers")), (True, 36, True))
-        check("the identity", vars(context.pop("identity")), {"cognito_identity_id": None, "cognito_identity_pool_id": None})
+        check("the identity", vars(context.pop("identity")),
+              {"cognito_identity_id": None, "cognito_identity_pool_id": None})
         check("the rest of the context", context, {
-            "invoked_function_arn": "arn:aws:lambda:us-east-1:123456789012:function:f", "function_name": "f", "function_version": "$LATEST",
-            "memory_limit_in_mb": "256", "log_group_name": "/aws/lambda/f", "log_stream_name": "local/[$LATEST]1", "client_context": None})
+            "invoked_function_arn": "arn:aws:lambda:us-east-1:123456789012:function:f", "function_name": "f",
+            "function_version": "$LATEST",
+            "memory_limit_in_mb": "256", "log_group_name": "/aws/lambda/f", "log_stream_name": "local/[$LATEST]1",
+            "client_context": None})
     with LambdaLocal(one=lambda *given: len(given), two=lambda event, context=None: context is not None) as service:
-        check("a handler of any arguments gets both, as does one with a default", (service.invoke("one"), service.invoke("two")), (2, True))
+        check("a handler of any arguments gets both, as does one with a default",
+              (service.invoke("one"), service.invoke("two")), (2, True))
 
 
 def environments():
     """Three environments are three threads, which run at once."""
     meet = threading.Barrier(3)
-    with LambdaLocal({"f": {"environments": 3}}, f=lambda event: (meet.wait(10), threading.current_thread().name)[1]) as service:
+    with LambdaLocal({"f": {"environments": 3}},
+                     f=lambda event: (meet.wait(10), threading.current_thread().name)[1]) as service:
         names = []
         callers = [threading.Thread(target=lambda: names.append(service.invoke("f"))) for _ in range(3)]
         for caller in callers:
@@ -182,20 +195,25 @@ def fault_of(call, *words, **named):
 
 def wrong_uses():
     unstarted = LambdaLocal()
-    for name, call in (("invoke", lambda: unstarted.invoke("f")), ("stats", unstarted.stats), ("client", unstarted.client),
-                       ("settled", unstarted.settled)):
-        check(f"{name} before start", fault_of(call), "RuntimeError: no function is started yet: call start(NAME=handler) first")
+    for name, call in (("invoke", lambda: unstarted.invoke("f")), ("stats", unstarted.stats),
+                       ("client", unstarted.client), ("settled", unstarted.settled)):
+        check(f"{name} before start", fault_of(call),
+              "RuntimeError: no function is started yet: call start(NAME=handler) first")
     check("a history before start is empty", unstarted.history(), "")
-    check("a start without a function", fault_of(unstarted.start), "ValueError: start() needs a function: start(NAME=handler)")
+    check("a start without a function", fault_of(unstarted.start),
+          "ValueError: start() needs a function: start(NAME=handler)")
     for members, handler, wanted in (
             ({"timeuot": 5}, fails, "function f: unknown member timeuot, did you mean timeout?"),
             ({"zzz": 5}, fails,
-             "function f: unknown member zzz; there are environments, extensions, handler, memory, ports, reserved, timeout"),
+             "function f: unknown member zzz; there are environments, extensions, handler, memory, ports, reserved, "
+             "timeout"),
             ({"environments": "2"}, fails, "function f: environments must be a whole number from 1 to 256, not \"2\""),
             ({"environments": 0}, fails, "function f: environments must be a whole number from 1 to 256, not 0"),
-            ({"environments": 2, "ports": [0, 0]}, fails, "function f: it has ports and environments: leave one of the two out"),
+            ({"environments": 2, "ports": [0, 0]}, fails,
+             "function f: it has ports and environments: leave one of the two out"),
             (5, fails, "function f: its members are 5: give a dict, such as {\"timeout\": 5}"),
-            ({}, "app.handler", "function f: its handler is 'app.handler': give a function of an event, or of an event and its context")):
+            ({}, "app.handler", "function f: its handler is 'app.handler': give a function of an event, or of an event "
+                                "and its context")):
         check(f"wrong: {wanted}", fault_of(LambdaLocal, {"f": members}, f=handler), f"ValueError: {wanted}")
     with LambdaLocal(f=fails) as service:
         check("a second start", fault_of(service.start, g=fails),
@@ -213,7 +231,8 @@ def launcher():
         program = os.environ.get("LAMBDA_LOCAL_PROGRAM") or subprocess.run([own, "path"], stdout=subprocess.PIPE, text=True).stdout.strip()
         fake = os.path.join(folder, "lambda_local")
         with open(fake, "w") as file:
-            file.write(f'#!/bin/sh\necho "$1" >> "$0.started"\n[ "$1" = path ] && echo {program} && exit\nexec {program} "$@"\n')
+            file.write(f'#!/bin/sh\necho "$1" >> "$0.started"\n[ "$1" = path ] && echo {program} && exit\nexec '
+                       f'{program} "$@"\n')
         os.chmod(fake, 0o755)
         before, in_process.ROOT = in_process.ROOT, folder
         given = os.environ.pop("LAMBDA_LOCAL_PROGRAM", None)
@@ -239,7 +258,8 @@ def launcher():
 def folder_of(module, python):
     """Where a Python has a module; nothing where it doesn't."""
     try:
-        done = subprocess.run([python, "-c", f"import os, {module}; print(os.path.dirname(os.path.dirname({module}.__file__)))"],
+        done = subprocess.run([python, "-c",
+                               f"import os, {module}; print(os.path.dirname(os.path.dirname({module}.__file__)))"],
                               stdout=subprocess.PIPE, stderr=subprocess.DEVNULL, text=True)
         return done.stdout.strip()
     except OSError:
@@ -253,11 +273,13 @@ def pytest_over(python, folder):
     lent = [lent] if lent and not folder_of("boto3", python) else []
     with open(os.path.join(folder, "test_user.py"), "w") as file:
         file.write(TESTS)
-    done = subprocess.run([python, "-m", "pytest", "-p", "lambda_local.pytest_plugin", "-p", "pytest_lambda_local", "-p",
-                           "no:cacheprovider", "-rs", "--basetemp", os.path.join(folder, "kept"), folder],
-                          cwd=folder, env={**os.environ, "PYTHONPATH": os.pathsep.join([TOOLS, *lent])}, stdin=subprocess.DEVNULL,
+    done = subprocess.run([python, "-m", "pytest", "-p", "lambda_local.pytest_plugin", "-p", "pytest_lambda_local",
+                           "-p", "no:cacheprovider", "-rs", "--basetemp", os.path.join(folder, "kept"), folder],
+                          cwd=folder, env={**os.environ, "PYTHONPATH": os.pathsep.join([TOOLS, *lent])},
+                          stdin=subprocess.DEVNULL,
                           stdout=subprocess.PIPE, stderr=subprocess.STDOUT, text=True, timeout=300)
-    counts = {word: int(number) for number, word in re.findall(r"(\d+) (passed|failed|error|skipped)", done.stdout.splitlines()[-1])}
+    counts = {word: int(number) for number,
+              word in re.findall(r"(\d+) (passed|failed|error|skipped)", done.stdout.splitlines()[-1])}
     return done.returncode, done.stdout, counts
 
 
@@ -268,20 +290,22 @@ def under_pytest():
     with tempfile.TemporaryDirectory() as folder:
         status, output, counts = pytest_over(python, folder)
         has_boto3 = bool(folder_of("boto3", sys.executable) or folder_of("boto3", python))
-        check("which tests pass and fail", (status, counts), (1, {"failed": 5, "error": 1, "passed": 7} if has_boto3 else
+        check("which tests pass and fail", (status, counts),
+              (1, {"failed": 5, "error": 1, "passed": 7} if has_boto3 else
                                                               {"failed": 5, "error": 1, "passed": 6, "skipped": 1}))
         if counted.failed:
             print(output)
         parts = re.split(r"^_{3,} ((?:ERROR at teardown of )?test_\w+) _{3,}$", output, flags=re.M)
         reports = dict(zip(parts[1::2], parts[2::2]))
         first = reports.get("test_that_fails", "")
-        found = re.search(r"-+ lambda_local history: (\S+) -+\nform 2\n.*?\n# \d+ \d+ deliver .*?\n-+ lambda_local timeline: (\S+) -+\n"
+        found = re.search(r"-+ lambda_local history: (\S+) -+\nform 2\n.*?\n# \d+ \d+ deliver .*?\n-+ lambda_local "
+                          r"timeline: (\S+) -+\n"
                           r"(?=.*caller 1: invoke double)(?=.*: output 4)", first, re.S)
         check("the report has the history and its timeline", bool(found) or first)
         if found:
             with open(found[1]) as history, open(found[2]) as page:
-                check("both stand whole in files", (history.read().startswith("form 2\n"), page.read().startswith("<!DOCTYPE html>")),
-                      (True, True))
+                check("both stand whole in files",
+                      (history.read().startswith("form 2\n"), page.read().startswith("<!DOCTYPE html>")), (True, True))
         many = reports.get("test_that_fails_after_many", "")
         check("of a long history the end is shown", bool(re.search(r"\.\. \d+ lines before these: \S+history.txt\n",
                 many)) and ".. " in many.split("timeline:")[-1] or many)
@@ -291,9 +315,12 @@ def under_pytest():
             "FunctionError: KeyError: 'missing'")) or handler)
         check("and what it printed", "said by the handler" in handler and "Captured stderr call" in handler)
         check("pytest.fail in a handler", "not like this" in reports.get("test_that_fails_in_its_handler", ""))
-        check("the session's service is in the report", "lambda_local history" in reports.get("test_session_that_fails", ""))
-        check("each report has its history once", [name for name, text in reports.items() if text.count(" lambda_local history: ") > 1], [])
-        check("a service that died fails its test", "the service has ended" in reports.get("ERROR at teardown of test_whose_service_dies",
+        check("the session's service is in the report",
+              "lambda_local history" in reports.get("test_session_that_fails", ""))
+        check("each report has its history once",
+              [name for name, text in reports.items() if text.count(" lambda_local history: ") > 1], [])
+        check("a service that died fails its test",
+              "the service has ended" in reports.get("ERROR at teardown of test_whose_service_dies",
                 ""))
         check("a test that passes has no history in the output", "test_in_this_process" not in reports)
 

@@ -1,6 +1,7 @@
 #!/usr/bin/env python3
-"""Checks tools/rerun: which invocations are sent and when, how outputs are compared and reported, the marker of the pytest
-plugin, and bad input. The program is LAMBDA_LOCAL_PROGRAM, else ./lambda_local. Ends with 'N passed, M failed'."""
+"""Checks tools/rerun: which invocations are sent and when, how outputs are compared and reported, the marker of the
+pytest plugin, and bad input. The program is LAMBDA_LOCAL_PROGRAM, else ./lambda_local. Ends with 'N passed, M
+failed'."""
 import contextlib
 import glob
 import http.server
@@ -26,10 +27,13 @@ WHOLE = ('form 2\n{"account":"123456789012","accountLimit":1000,"functions":[{"e
          '"ports":[9001,9002],"timeout":3}],"invokePort":9000,"leastRemainder":100,"maxEntries":1000000,"region":"us-east-2","salt":7}\n')
 REQUEST = "00000000-0000-8007-8001-00000000000"
 # Two at once, a throttle between them, one that fails, one that has no answer: worked by docs/formats.md.
-HISTORY = (WHOLE + "0 next 1\n0 next 2\n10 invoke f q =Root=1 ={\"n\":1}\n" + f"# 2 0 deliver {REQUEST}1 3010 ={{\"n\":1}}\n"
+HISTORY = (WHOLE + "0 next 1\n0 next 2\n10 invoke f q =Root=1 ={\"n\":1}\n"
+           + f"# 2 0 deliver {REQUEST}1 3010 ={{\"n\":1}}\n"
            + "20 invoke f - - =2\n" + f"# 3 1 deliver {REQUEST}2 3020 =2\n" + "25 invoke f - - =3\n"
-           + "# 4 4 throttled LocalEnvironmentLimitExceeded\n30 response 1 1 =%22one%22\n# 5 2 output =%22one%22\n# 5 5 accepted\n"
-           + "40 next 1\n50 failure 2 2 ={\"errorType\":\"E\"}\n# 7 3 error ={\"errorType\":\"E\"}\n# 7 7 accepted\n60 invoke f - - =4\n"
+           + "# 4 4 throttled LocalEnvironmentLimitExceeded\n30 response 1 1 =%22one%22\n# 5 2 output =%22one%22\n# 5 "
+           "5 accepted\n"
+           + "40 next 1\n50 failure 2 2 ={\"errorType\":\"E\"}\n# 7 3 error ={\"errorType\":\"E\"}\n# 7 7 accepted\n60 "
+           "invoke f - - =4\n"
            + f"# 8 6 deliver {REQUEST}4 3060 =4\n")
 RUNTIME = '''import http.client, json, os, urllib.request
 path, mode = "/2018-06-01/runtime/invocation/", os.environ["MODE"]
@@ -61,13 +65,16 @@ def fault_of(call, *arguments):
 
 def records():
     recording = record.parsed(HISTORY.encode(), "h")
-    seen = [(each.ticket, each.function, each.place, each.qualifier, each.trace, each.payload, each.kind, each.body, each.end)
+    seen = [(each.ticket, each.function, each.place, each.qualifier, each.trace, each.payload, each.kind, each.body,
+             each.end)
             for each in recording.invocations]
     check("the invocations of a history", seen, [
-        (2, "f", 1, True, "Root=1", b'{"n":1}', "output", b'"one"', 5), (3, "f", 2, False, None, b"2", "error", b'{"errorType":"E"}', 7),
+        (2, "f", 1, True, "Root=1", b'{"n":1}', "output", b'"one"', 5),
+        (3, "f", 2, False, None, b"2", "error", b'{"errorType":"E"}', 7),
         (4, "f", 3, False, None, b"3", "throttled", None, 4), (8, "f", 4, False, None, b"4", "open", None, None)])
     check("its salt and timeouts", (recording.salt, recording.timeouts), (7, {"f": 3}))
-    check("those that reached a function", [each.was_served for each in recording.invocations], [True, True, False, False])
+    check("those that reached a function", [each.was_served for each in recording.invocations],
+          [True, True, False, False])
     check("the others in words", report.left_out(recording.invocations), "1 throttled, 1 without an answer")
     check("by a request identifier", record.find(recording.invocations, "f", REQUEST + "2").ticket, 3)
     for name, text, words in (
@@ -76,11 +83,13 @@ def records():
          "2: h: this is a script or another file, and no history"),
         ("a line that is none", HISTORY + "70 jump\n", "2: h: script: line 20: this is no call of a script: '70 jump'"),
         ("one that is cut", HISTORY[:-1], "2: h: line 19 has no end: the history is cut off"),
-        ("one with a gap", HISTORY.replace("# 5 2 output", "# 6 2 output"), "2: h: line 12: an answer of entry 6 stands behind entry 5"),
+        ("one with a gap", HISTORY.replace("# 5 2 output", "# 6 2 output"),
+         "2: h: line 12: an answer of entry 6 stands behind entry 5"),
     ):
         said = fault_of(record.parsed, text.encode(), "h")
         check(f"no history: {name}", said if words not in said else words, words)
-    check("no file", fault_of(record.read, "/nowhere/h"), "2: /nowhere/h: No such file or directory: name a file with a history")
+    check("no file", fault_of(record.read, "/nowhere/h"),
+          "2: /nowhere/h: No such file or directory: name a file with a history")
 
 
 def compares():
@@ -111,14 +120,14 @@ def reports():
     good, bad = recording.invocations[:2]
     results = [report.judged(good, "output", b'"one"', 0.1, []), report.judged(good, "output", b'"two"', 0.1, []),
                report.judged(good, "timeout", None, 0.1, []), report.judged(bad, "output", b"5", 0.1, []),
-               report.judged(bad, "error", b'{"errorType":"E"}', 0.1, []), report.judged(bad, "error", b'{"errorType":"F"}', 0.1, []),
-               report.judged(bad, "timeout", None, 0.1, [])]
+               report.judged(bad, "error", b'{"errorType":"E"}', 0.1, []),
+               report.judged(bad, "error", b'{"errorType":"F"}', 0.1, []), report.judged(bad, "timeout", None, 0.1, [])]
     check("the verdicts", [result.verdict for result in results],
           ["equal", "changed", "failed now", "failed then", "equal", "changed", "changed"])
     check("the report", report.text_of(results, recording), [
         'changed: call 2, f: the whole: "one" -> "two"', "failed now: call 2, f: timeout",
-        'failed then: call 3, f: then error {"errorType":"E"}, now output 5', 'changed: call 3, f: /errorType: "E" -> "F"',
-        'changed: call 3, f: error {"errorType":"E"} -> timeout',
+        'failed then: call 3, f: then error {"errorType":"E"}, now output 5',
+        'changed: call 3, f: /errorType: "E" -> "F"', 'changed: call 3, f: error {"errorType":"E"} -> timeout',
         "7 invocations: 2 equal, 3 changed, 1 failed now, 1 failed then; not sent: 1 throttled, 1 without an answer"])
 
 
@@ -162,7 +171,8 @@ def fake():
 
 
 def made(ticket, payload, end, **more):
-    return record.Invocation(ticket, "f", ticket, more.get("qualifier", False), more.get("trace"), payload, "output", b"", end)
+    return record.Invocation(ticket, "f", ticket, more.get("qualifier", False), more.get("trace"), payload, "output",
+                             b"", end)
 
 
 def plays():
@@ -185,7 +195,8 @@ def plays():
 
 def recorded_history():
     """What a service of one function answers whose runtime is this process."""
-    service = Service({"account": "123456789012", "region": "us-east-1", "functions": [{"name": "f", "ports": [0], "timeout": 900}]})
+    service = Service(
+        {"account": "123456789012", "region": "us-east-1", "functions": [{"name": "f", "ports": [0], "timeout": 900}]})
     port = service.configuration["functions"][0]["ports"][0]
     path = "/2018-06-01/runtime/invocation/"
 
@@ -200,7 +211,8 @@ def recorded_history():
         thread = threading.Thread(target=serve)
         thread.start()
         for place, fails in enumerate(("never", "new", "old")):
-            ask(service.port, "POST", "/2015-03-31/functions/f/invocations", json.dumps({"n": place, "fails": fails}), timeout=600)
+            ask(service.port, "POST", "/2015-03-31/functions/f/invocations", json.dumps({"n": place, "fails": fails}),
+                timeout=600)
         thread.join()
         return service.history()
     finally:
@@ -239,7 +251,8 @@ def reruns():
         history, report_file = os.path.join(folder, "history.txt"), os.path.join(folder, "report.xml")
         with open(history, "w") as file:
             file.write(recorded_history())
-        check("the same functions", run("--ignore", "/parts/*/id", history, up_json(folder, "old")), (0, ["3 invocations: 3 equal"], ""))
+        check("the same functions", run("--ignore", "/parts/*/id", history, up_json(folder, "old")),
+              (0, ["3 invocations: 3 equal"], ""))
         seen = run("--ignore", "/parts/*/id", "--junit", report_file, "--update", history, up_json(folder, "new"))
         check("changed functions", (seen[0], [line.partition(":")[0] for line in seen[1]], seen[2]),
               (1, ["changed", "failed now", "failed then", "3 invocations"], ""))
@@ -247,7 +260,8 @@ def reruns():
         check("what fails", seen[1][1].partition(", f: ")[2], 'error {"errorType": "E", "errorMessage": "new"}')
         check("the counts", seen[1][3], "3 invocations: 1 changed, 1 failed now, 1 failed then")
         cases = list(ElementTree.parse(report_file).iter("testcase"))
-        check("the report for CI", [(each.get("classname"), each.find("failure") is not None) for each in cases], [("f", True)] * 3)
+        check("the report for CI", [(each.get("classname"), each.find("failure") is not None) for each in cases],
+              [("f", True)] * 3)
         seen = run("--one-by-one", "--ignore", "/parts", history, up_json(folder, "new"))
         check("the new history", seen, (0, ["3 invocations: 3 equal"], ""))
         check("nothing is left running", left_running(folder), [])
@@ -271,11 +285,13 @@ def faults():
             ("a file that is no history", (script, old), f"{script}: this is a script or another file, and no history"),
             ("no file", ("/nowhere/h", old), "/nowhere/h: No such file or directory"),
             ("no UP.json", (history, "/nowhere/up"), "/nowhere/up: No such file or directory"),
-            ("a function that is not there", (history, other), f"{other}: there is no function f, which the history invokes"),
+            ("a function that is not there", (history, other),
+             f"{other}: there is no function f, which the history invokes"),
             ("a pointer that is none", ("--ignore", "x", history, old), "--ignore x: a JSON pointer begins with /"),
             ("a command that exits", (history, up_json(folder, "exit")), "exit.json: not ready: f/1, whose Init fails"),
             ("a service that ends", (history, up_json(folder, "stop")), "the service has ended "),
-            ("a port in use", (history, up_json(folder, "old", invokePort=taken.getsockname()[1])), str(taken.getsockname()[1])),
+            ("a port in use", (history, up_json(folder, "old", invokePort=taken.getsockname()[1])),
+             str(taken.getsockname()[1])),
         ):
             status, output, said = run(*arguments)
             lines = said.splitlines()
@@ -335,10 +351,12 @@ def marker():
         with open(os.path.join(folder, "test_again.py"), "w") as file:
             file.write(TESTS)
         done = subprocess.run([sys.executable, "-m", "pytest", "-q", "--strict-markers", "-p", "no:cacheprovider",
-                               "-p", "pytest_lambda_local", "test_again.py"], cwd=folder, env=dict(os.environ, PYTHONPATH=os.path.join(ROOT, "tools")),
+                               "-p", "pytest_lambda_local", "test_again.py"], cwd=folder,
+                              env=dict(os.environ, PYTHONPATH=os.path.join(ROOT, "tools")),
                               capture_output=True, text=True, timeout=900)
         said = done.stdout
-        for name, words in (("what differs", "failed now: call "), ("a test that has started nothing", "start the functions in the test"),
+        for name, words in (("what differs", "failed now: call "),
+                            ("a test that has started nothing", "start the functions in the test"),
                             ("a file that is not there", "nowhere.txt: No such file or directory"),
                             ("what was mended", "failed then: call "), ("a test that fails itself", "assert False"),
                             ("the counts", "4 failed, 1 passed")):

@@ -1,7 +1,7 @@
 #!/usr/bin/env python3
-"""Checks the runtimes of examples/ against a service: runtime.py, and runtime.mjs, runtime.go and runtime.sh where Node,
-Go and curl are on the machine. What is expected is what the Developer Guide and the sources of AWS's own runtimes say.
-The program is LAMBDA_LOCAL_PROGRAM, else ./lambda_local. Ends with 'N passed, M failed'."""
+"""Checks the runtimes of examples/ against a service: runtime.py, and runtime.mjs, runtime.go and runtime.sh where
+Node, Go and curl are on the machine. What is expected is what the Developer Guide and the sources of AWS's own runtimes
+say. The program is LAMBDA_LOCAL_PROGRAM, else ./lambda_local. Ends with 'N passed, M failed'."""
 import contextlib
 import json
 import os
@@ -65,8 +65,8 @@ class Running:
         shutil.rmtree(self.folder)
 
     def invoke(self, event=None, **headers):
-        """Whether the function failed, and its parsed output or report. A runtime that has answered and not asked again is
-        busy: a throttle is tried again."""
+        """Whether the function failed, and its parsed output or report. A runtime that has answered and not asked again
+        is busy: a throttle is tried again."""
         end = time.monotonic() + 10
         while True:
             status, replied, body = ask(self.service.port, "POST", "/2015-03-31/functions/f/invocations", json.dumps(event), headers)
@@ -150,7 +150,8 @@ NOT_CALLABLE = None
 def python_errors():
     with Running([*PYTHON, "app.handler"], {"app.py": PYTHON_APP}) as running:
         failed, told = running.invoke({"do": "key"})
-        check("Python: an error's members", (failed, sorted(told)), (True, ["errorMessage", "errorType", "requestId", "stackTrace"]))
+        check("Python: an error's members", (failed, sorted(told)),
+              (True, ["errorMessage", "errorType", "requestId", "stackTrace"]))
         check("Python: its message and type", report(told, "errorMessage", "errorType"), ("'missing'", "KeyError"))
         stack = [f'  File "{running.folder}/app.py", line 12, in handler\n    return inner(event)\n',
                  f'  File "{running.folder}/app.py", line 7, in inner\n    return event["missing"]\n']
@@ -159,11 +160,13 @@ def python_errors():
                 line) for line in told["stackTrace"]], stack)
         check("Python: its request", bool(re.fullmatch(r"[0-9a-f-]{36}", told["requestId"])))
         printed = running.output()
-        check("Python: the trace is printed", "Traceback (most recent call last):" in printed and "\nKeyError: 'missing'\n" in printed)
+        check("Python: the trace is printed",
+              "Traceback (most recent call last):" in printed and "\nKeyError: 'missing'\n" in printed)
         check("Python: without the runtime's own frames", "runtime.py" not in running.output())
         running.invoke({"do": "cause"})
         printed = running.output()
-        check("Python: a cause is printed too", "The above exception was the direct cause" in printed and "app.Odd: no such order" in printed)
+        check("Python: a cause is printed too",
+              "The above exception was the direct cause" in printed and "app.Odd: no such order" in printed)
         failed, told = running.invoke({"do": "set"})
         check("Python: an output that is no JSON", (failed, *report(told, "errorType", "errorMessage")),
               (True, "Runtime.MarshalError", "Unable to marshal response: Object of type set is not JSON serializable"))
@@ -174,7 +177,8 @@ def python_errors():
         check("Python: a report that would be too long is cut", (failed, told["errorType"]), (True, "Odd"))
         first = running.invoke({})[1]
         for _ in range(5):
-            check("Python: a response too large", running.invoke({"do": "large"})[1]["errorType"], "Function.ResponseSizeTooLarge")
+            check("Python: a response too large", running.invoke({"do": "large"})[1]["errorType"],
+                  "Function.ResponseSizeTooLarge")
             check("Python: and the next one is served", running.invoke({}), (False, first))
         check("Python: the refusals are printed", running.until(lambda: running.output().count(": 413 ") == 5))
 
@@ -183,13 +187,15 @@ def python_context():
     with Running([*PYTHON, "app.handler"], {"app.py": PYTHON_APP}) as running:
         failed, told = running.invoke({"do": "context"})
         check("Python: the context", {**told, "aws_request_id": len(told["aws_request_id"])} if not failed else told, {
-            "aws_request_id": 36, "invoked_function_arn": "arn:aws:lambda:us-east-2:123456789012:function:f", "function_name": "f",
+            "aws_request_id": 36, "invoked_function_arn": "arn:aws:lambda:us-east-2:123456789012:function:f",
+            "function_name": "f",
             "function_version": "$LATEST", "memory_limit_in_mb": "128", "log_group_name": "/aws/lambda/f",
             "log_stream_name": "local/[$LATEST]1",
             "client_context": None, "left": True, "identity": None})
         first = running.invoke({"do": "variables"}, **{"X-Amzn-Trace-Id": TRACE})[1]
         second = running.invoke({"do": "variables"}, **{"X-Amzn-Trace-Id": TRACE.replace("Root=1-5", "Root=1-6")})[1]
-        check("Python: each invocation's own trace", (first[0], second[0]), (TRACE, TRACE.replace("Root=1-5", "Root=1-6")))
+        check("Python: each invocation's own trace", (first[0], second[0]),
+              (TRACE, TRACE.replace("Root=1-5", "Root=1-6")))
         check("Python: AWS_EXECUTION_ENV", bool(re.fullmatch(r"AWS_Lambda_python3\.\d+", first[1])))
 
 
@@ -209,7 +215,8 @@ def python_handlers():
     with Running([*PYTHON, "app.wrapped"], files) as running:
         check("Python: a handler of any arguments gets both", running.invoke({})[1], 2)
     with Running([*PYTHON]) as running:
-        check("Python: without a handler it greets", running.invoke({"name": "Ada"}), (False, {"greeting": "Hello, Ada!"}))
+        check("Python: without a handler it greets", running.invoke({"name": "Ada"}),
+              (False, {"greeting": "Hello, Ada!"}))
         check("Python: again and again", running.invoke({}), (False, {"greeting": "Hello, world!"}))
 
 
@@ -222,7 +229,8 @@ PYTHON_INITS = [
     ("app.handler", {"app.py": "def handler(event, context):\n    return (\n"}, "Runtime.UserCodeSyntaxError",
      "Syntax error in module 'app': "),
     ("app.other", {"app.py": PYTHON_APP}, "Runtime.HandlerNotFound", "Handler 'other' missing on module 'app'"),
-    ("app", {"app.py": PYTHON_APP}, "Runtime.MalformedHandlerName", "Bad handler 'app': not enough values to unpack (expected 2, got 1)"),
+    ("app", {"app.py": PYTHON_APP}, "Runtime.MalformedHandlerName",
+     "Bad handler 'app': not enough values to unpack (expected 2, got 1)"),
     ("sys.handler", {}, "Runtime.BuiltInModuleConflict", "Cannot use built-in module sys as a handler module"),
     ("app.handler", {"app.py": "import os\nTABLE = os.environ['TABLE_OF_NO_ONE']\n"}, "KeyError", "'TABLE_OF_NO_ONE'"),
 ]
@@ -233,10 +241,12 @@ def python_inits():
         with Running([*PYTHON, name], files) as running:
             told, status, printed = running.init_report()
             what = f"Python: Init of {name}, {kind}"
-            check(what, (status, told and told["errorType"], told and told["errorMessage"].startswith(message)), (1, kind, True))
+            check(what, (status, told and told["errorType"], told and told["errorMessage"].startswith(message)),
+                  (1, kind, True))
             check(what + ": printed", kind in printed and message in printed and "runtime.py" not in printed or printed)
             if kind == "Runtime.UserCodeSyntaxError":
-                check(what + ": its place", bool(re.match(r'  File "\S+/app.py" Line 2\n\s+return \(', told["stackTrace"][0])))
+                check(what + ": its place",
+                      bool(re.match(r'  File "\S+/app.py" Line 2\n\s+return \(', told["stackTrace"][0])))
             if kind == "KeyError":
                 check(what + ": its stack", [line.split(", ", 1) for line in told["stackTrace"][0].split("\n")[:1]],
                       [[f'  File "{running.folder}/app.py"', "line 2, in <module>"]])
@@ -247,8 +257,10 @@ def late(name, command, files):
     """A response that comes after the timeout is refused with 403; the same process serves on."""
     with Running(command, files, timeout=1) as running:
         pid = running.invoke({})[1]
-        check(f"{name}: a handler that takes too long", running.invoke({"do": "late"})[1]["errorType"], "Function.Timeout")
-        check(f"{name}: its response is refused", bool(running.until(lambda: "is refused: 403 " in running.output(), 5)))
+        check(f"{name}: a handler that takes too long", running.invoke({"do": "late"})[1]["errorType"],
+              "Function.Timeout")
+        check(f"{name}: its response is refused",
+              bool(running.until(lambda: "is refused: 403 " in running.output(), 5)))
         check(f"{name}: and the next one is served", running.invoke({}), (False, pid))
 
 
@@ -268,9 +280,11 @@ def ends(name, command, files):
         running.service.process.kill()
         check(f"{name}: ends when the service is gone", running.runtime.wait(10), 0)
     unused = running.port
-    done = subprocess.run([*command, f"127.0.0.1:{unused}"], env=BARE, cwd=EXAMPLES, capture_output=True, text=True, timeout=20)
+    done = subprocess.run([*command, f"127.0.0.1:{unused}"], env=BARE, cwd=EXAMPLES, capture_output=True, text=True,
+                          timeout=20)
     # (examples/ has no such handler; nothing listens either)
-    check(f"{name}: without a service", (done.returncode, f"no Runtime API at 127.0.0.1:{unused}" in done.stderr), (1, True))
+    check(f"{name}: without a service", (done.returncode, f"no Runtime API at 127.0.0.1:{unused}" in done.stderr),
+          (1, True))
     done = subprocess.run([*command, "one.two", "three.four"], env=BARE, capture_output=True, text=True, timeout=20)
     check(f"{name}: too many words", (done.returncode, "usage:" in done.stdout), (2, True))
 
@@ -303,7 +317,8 @@ class ClosesIdle(threading.Thread):
                 self.send_header("Content-Length", str(len(body)))
                 self.send_header("Lambda-Runtime-Aws-Request-Id", "x")
                 self.send_header("Lambda-Runtime-Deadline-Ms", "1")
-                self.send_header("Lambda-Runtime-Invoked-Function-Arn", "arn:aws:lambda:us-east-2:123456789012:function:f")
+                self.send_header("Lambda-Runtime-Invoked-Function-Arn",
+                                 "arn:aws:lambda:us-east-2:123456789012:function:f")
                 self.end_headers()
                 self.wfile.write(body)
 
@@ -393,13 +408,15 @@ def node_errors():
         check("Node: an error's members", (failed, sorted(told)), (True, ["errorMessage", "errorType", "trace"]))
         check("Node: its type and message", report(told, "errorType", "errorMessage"),
               ("TypeError", "Cannot read properties of undefined (reading 'id')"))
-        check("Node: its trace", (told["trace"][0], bool(re.search(r"at inner \(.*/app\.mjs:4:\d+\)", told["trace"][1]))),
+        check("Node: its trace",
+              (told["trace"][0], bool(re.search(r"at inner \(.*/app\.mjs:4:\d+\)", told["trace"][1]))),
               ("TypeError: Cannot read properties of undefined (reading 'id')", True))
-        check("Node: the trace ends before the runtime's own frames", "runtime.mjs" not in "".join(told["trace"]) + running.output())
+        check("Node: the trace ends before the runtime's own frames",
+              "runtime.mjs" not in "".join(told["trace"]) + running.output())
         check("Node: the trace is printed", bool(re.search(r"TypeError: .*\n    at inner \(.*app\.mjs:4:\d+\)",
                                                            running.output())) or running.output())
-        check("Node: an error of the user's own", report(running.invoke({"do": "order"})[1], "errorType", "errorMessage"),
-              ("OrderError", "no such order"))
+        check("Node: an error of the user's own",
+              report(running.invoke({"do": "order"})[1], "errorType", "errorMessage"), ("OrderError", "no such order"))
         check("Node: what is thrown is no error", running.invoke({"do": "text"}),
               (True, {"errorType": "string", "errorMessage": "just a text", "trace": []}))
         check("Node: a rejection with nothing", running.invoke({"do": "nothing"}),
@@ -411,14 +428,16 @@ def node_errors():
         check("Node: a report that would be too long is cut", running.invoke({"do": "long"})[1]["errorType"], "Error")
         first = running.invoke({})[1]
         for _ in range(5):
-            check("Node: a response too large", running.invoke({"do": "large"})[1]["errorType"], "Function.ResponseSizeTooLarge")
+            check("Node: a response too large", running.invoke({"do": "large"})[1]["errorType"],
+                  "Function.ResponseSizeTooLarge")
             check("Node: and the next one is served", running.invoke({}), (False, first))
         check("Node: the refusals are printed", running.until(lambda: running.output().count(": 413 ") == 5))
     for do, kind, message, status in (("uncaught", "OrderError", "later", 129),
                                       ("rejected", "Runtime.UnhandledPromiseRejection", "OrderError: alone", 128)):
         with Running([*NODE, "app.handler"], {"app.mjs": NODE_MODULE}) as running:
             told = running.invoke({"do": do})[1]
-            check(f"Node: {do}", (*report(told, "errorType", "errorMessage"), running.runtime.wait(10)), (kind, message, status))
+            check(f"Node: {do}", (*report(told, "errorType", "errorMessage"), running.runtime.wait(10)),
+                  (kind, message, status))
             check(f"Node: {do}, its trace", any("app.mjs:" in line for line in told["trace"]) or told["trace"])
 
 
@@ -427,9 +446,10 @@ def node_context():
         failed, told = running.invoke({"do": "context"})
         check("Node: the context", {**told, "awsRequestId": len(told["awsRequestId"]),
                                     "left": 0 < told["left"] <= 60000} if not failed else told, {
-            "awsRequestId": 36, "invokedFunctionArn": "arn:aws:lambda:us-east-2:123456789012:function:f", "functionName": "f",
-            "functionVersion": "$LATEST", "memoryLimitInMB": "128", "logGroupName": "/aws/lambda/f", "logStreamName": "local/[$LATEST]1",
-            "callbackWaitsForEmptyEventLoop": True, "left": True})
+            "awsRequestId": 36, "invokedFunctionArn": "arn:aws:lambda:us-east-2:123456789012:function:f",
+            "functionName": "f",
+            "functionVersion": "$LATEST", "memoryLimitInMB": "128", "logGroupName": "/aws/lambda/f",
+            "logStreamName": "local/[$LATEST]1", "callbackWaitsForEmptyEventLoop": True, "left": True})
         check("Node: an invocation's trace, and AWS_EXECUTION_ENV", [re.sub(r"\d+\.x$", "N.x",
                 word) for word in running.invoke({"do": "variables"}, **{"X-Amzn-Trace-Id": TRACE})[1]],
               [TRACE, "AWS_Lambda_nodejsN.x"])
@@ -441,9 +461,12 @@ def node_handlers():
                         ("app.handler", {"app.js": NODE_COMMON}),
                         ("app.handler", {"app.js": NODE_MODULE, "package.json": module}),
                         ("app.handler", {"app.js": NODE_COMMON, "package.json": common}),
-                        ("dir/app.handler", {"dir/app.mjs": NODE_MODULE}), ("dir/sub/app.handler", {"dir/sub/app.js": NODE_COMMON}),
-                        ("dir/app.handler", {"dir/app.js": NODE_MODULE, "package.json": module}), ("a/a.handler", {"a/a.js": NODE_COMMON}),
-                        ("app.handler", {"app/index.js": NODE_COMMON}), ("app.handler", {"app/other.js": "", "app.mjs": NODE_MODULE})):
+                        ("dir/app.handler", {"dir/app.mjs": NODE_MODULE}),
+                        ("dir/sub/app.handler", {"dir/sub/app.js": NODE_COMMON}),
+                        ("dir/app.handler", {"dir/app.js": NODE_MODULE, "package.json": module}),
+                        ("a/a.handler", {"a/a.js": NODE_COMMON}),
+                        ("app.handler", {"app/index.js": NODE_COMMON}),
+                        ("app.handler", {"app/other.js": "", "app.mjs": NODE_MODULE})):
         with Running([*NODE, name], files) as running:
             check(f"Node: {name} of {', '.join(files)}", running.invoke({})[1], running.runtime.pid)
     with Running(NODE, {"dir/app.cjs": NODE_COMMON}, _HANDLER="dir/app.handler") as running:
@@ -453,16 +476,18 @@ def node_handlers():
             with Running([*NODE, "app.handler"], run_from=elsewhere, LAMBDA_TASK_ROOT=task.folder) as running:
                 check("Node: LAMBDA_TASK_ROOT", running.invoke({})[1], running.runtime.pid)
     with Running(NODE) as running:
-        check("Node: without a handler it greets", running.invoke({"name": "Ada"}), (False, {"greeting": "Hello, Ada!"}))
+        check("Node: without a handler it greets", running.invoke({"name": "Ada"}),
+              (False, {"greeting": "Hello, Ada!"}))
 
 
 def node_callbacks():
     with Running([*NODE, "app.handler"], {"app.js": NODE_CALLBACKS}) as running:
         check("Node: a callback", running.invoke({})[1], running.runtime.pid)
-        for do, wanted in (("error", ("RangeError", "too far")), ("text", ("string", "a text")), ("throws", ("RangeError", "thrown")),
-                           ("fail", ("RangeError", "failed"))):
+        for do, wanted in (("error", ("RangeError", "too far")), ("text", ("string", "a text")),
+                           ("throws", ("RangeError", "thrown")), ("fail", ("RangeError", "failed"))):
             check(f"Node: callback, {do}", report(running.invoke({"do": do})[1], "errorType", "errorMessage"), wanted)
-        for do, wanted in (("done", "done"), ("succeed", "succeeded"), ("silent", None), ("waits", "waits"), ("ran", True)):
+        for do, wanted in (("done", "done"), ("succeed", "succeeded"), ("silent", None), ("waits", "waits"),
+                           ("ran", True)):
             check(f"Node: callback, {do}", running.invoke({"do": do}), (False, wanted))
         check("Node: callbackWaitsForEmptyEventLoop = false", [running.invoke({"do": do}) for do in ("hurries", "ran")],
               [(False, "hurries"), (False, True)])
@@ -475,17 +500,20 @@ NODE_INITS = [
     ("app.handler", {}, "Runtime.ImportModuleError", "Error: Cannot find module 'app'\nRequire stack:\n- "),
     ("app.handler", {"app.js": "require('nothing-here');"}, "Runtime.ImportModuleError",
      "Error: Cannot find module 'nothing-here'\nRequire stack:\n- "),
-    ("app.handler", {"app.mjs": "import 'nothing-here';"}, "Error", "Cannot find package 'nothing-here' imported from "),
+    ("app.handler", {"app.mjs": "import 'nothing-here';"}, "Error",
+     "Cannot find package 'nothing-here' imported from "),
     ("app.handler", {"app.js": "exports.handler = async () => {\n  return { a: ;\n};"}, "Runtime.UserCodeSyntaxError",
      "SyntaxError: Unexpected token ';'"),
-    ("app.handler", {"app.mjs": "export const handler = async () => {\n  return { a: ;\n};"}, "Runtime.UserCodeSyntaxError",
-     "SyntaxError: Unexpected token ';'"),
+    ("app.handler", {"app.mjs": "export const handler = async () => {\n  return { a: ;\n};"},
+     "Runtime.UserCodeSyntaxError", "SyntaxError: Unexpected token ';'"),
     ("app.other", {"app.mjs": NODE_MODULE}, "Runtime.HandlerNotFound", "app.other is undefined or not exported"),
     ("app.number", {"app.js": NODE_CALLBACKS}, "Runtime.HandlerNotFound", "app.number is not a function"),
     ("app", {"app.js": NODE_COMMON}, "Runtime.MalformedHandlerName", "Bad handler"),
-    ("../app.handler", {}, "Runtime.MalformedHandlerName", "'../app.handler' is not a valid handler name. Use absolute paths"),
+    ("../app.handler", {}, "Runtime.MalformedHandlerName",
+     "'../app.handler' is not a valid handler name. Use absolute paths"),
     ("app.handler", {"app.mjs": "null.x;"}, "TypeError", "Cannot read properties of null (reading 'x')"),
-    ("app.handler", {"app.js": "setTimeout(() => { null.x }); exports.handler = 1; const end = Date.now() + 50; while (Date.now() < end);"},
+    ("app.handler", {"app.js": "setTimeout(() => { null.x }); exports.handler = 1; const end = Date.now() + 50; while "
+                     "(Date.now() < end);"},
      "Runtime.HandlerNotFound", "app.handler is not a function"),
 ]
 
@@ -495,7 +523,8 @@ def node_inits():
         with Running([*NODE, name], files) as running:
             told, status, printed = running.init_report()
             what = f"Node: Init of {name} of {', '.join(files) or 'no file'}, {kind}"
-            check(what, (status, told and told["errorType"], told and told["errorMessage"].startswith(message) or told), (1, kind, True))
+            check(what, (status, told and told["errorType"],
+                         told and told["errorMessage"].startswith(message) or told), (1, kind, True))
             check(what + ": printed", message.split("\n")[0] in printed or printed)
             if kind == "Runtime.UserCodeSyntaxError":
                 check(what + ": its place", bool(re.search(r"/app\.m?js:2\n  return { a: ;\n +\^", printed)) or printed)
@@ -520,17 +549,20 @@ def go():
     with tempfile.TemporaryDirectory() as folder:
         program = os.path.join(folder, "bootstrap")
         subprocess.run(["go", "build", "-o", program, os.path.join(EXAMPLES, "runtime.go")], check=True, timeout=600,
-                       env={**os.environ, "GOCACHE": os.path.join(folder, "cache"), "GOFLAGS": "-mod=mod", "GO111MODULE": "off"})
+                       env={**os.environ, "GOCACHE": os.path.join(folder, "cache"), "GOFLAGS": "-mod=mod",
+                            "GO111MODULE": "off"})
         with Running([program]) as running:
             check("Go: greets", running.invoke({"name": "Ada"}), (False, {"greeting": "Hello, Ada!"}))
-            check("Go: an error", running.invoke({}), (True, {"errorMessage": "whom shall I greet?", "errorType": "errorString"}))
+            check("Go: an error", running.invoke({}),
+                  (True, {"errorMessage": "whom shall I greet?", "errorType": "errorString"}))
             check("Go: and goes on", running.invoke({"name": "Bob"}), (False, {"greeting": "Hello, Bob!"}))
             check("Go: a payload of another type", running.invoke(7)[1]["errorType"], "UnmarshalTypeError")
             running.service.stop()
             check("Go: ends at a stop", running.runtime.wait(10), 0)
         panicking = os.path.join(folder, "panicking.go")
         with open(os.path.join(EXAMPLES, "runtime.go")) as source, open(panicking, "w") as file:
-            file.write(source.read().replace('return nil, errors.New("whom shall I greet?")', 'panic(errors.New("no name"))'))
+            file.write(
+                source.read().replace('return nil, errors.New("whom shall I greet?")', 'panic(errors.New("no name"))'))
         subprocess.run(["go", "build", "-o", program, panicking], check=True, timeout=600,
                        env={**os.environ, "GOCACHE": os.path.join(folder, "cache"), "GO111MODULE": "off"})
         with Running([program]) as running:
@@ -558,7 +590,8 @@ def shell():
     with Running(SHELL, {"function.sh": SHELL_FUNCTIONS}, _HANDLER="function.handler") as running:
         check("shell: the event", running.invoke({"a": "b  c\\n*"}), (False, {"was": {"a": "b  c\\n*"}}))
         check("shell: a long one", running.invoke("x" * 300000), (False, {"was": "x" * 300000}))
-        check("shell: an error", running.invoke("fail"), (True, {"errorType": "ExitStatus", "errorMessage": "handler ended with status 3"}))
+        check("shell: an error", running.invoke("fail"),
+              (True, {"errorType": "ExitStatus", "errorMessage": "handler ended with status 3"}))
         check("shell: the trace", running.invoke("trace", **{"X-Amzn-Trace-Id": TRACE}), (False, TRACE))
         running.service.stop()
         check("shell: ends at a stop", running.runtime.wait(10), 0)

@@ -12,7 +12,8 @@ import tempfile
 
 ROOT = os.path.dirname(os.path.dirname(os.path.dirname(os.path.realpath(__file__))))
 sys.path.insert(0, os.path.join(ROOT, "tests", "library"))
-from timelines import ENVIRONMENT, NOWHERE, ONE, TOOL, WHOLE, calls_of, check, draw, events, phases, run, run_parts  # noqa: E402
+# noqa: E402
+from timelines import ENVIRONMENT, NOWHERE, ONE, TOOL, WHOLE, calls_of, check, draw, events, phases, run, run_parts
 
 
 def examples():
@@ -23,27 +24,35 @@ def examples():
         told = {event["args"]["call"]: event["args"]["answer"] for event in events(trace, "call")}
         # an example's comments say what is answered
         for ticket, word in re.findall(r"^# \d+ (\d+) ([a-z-]+)", script, re.MULTILINE):
-            check(f"{name}: call {ticket} is answered {word}", told.get(int(ticket), "").split(" ")[0] == word, told.get(int(ticket), ""))
+            check(f"{name}: call {ticket} is answered {word}", told.get(int(ticket), "").split(" ")[0] == word,
+                  told.get(int(ticket), ""))
 
 
 # Worked scripts: a name, the configuration, the calls, and what environment 1 goes through.
 ROWS = (
-    ("an invocation", ONE, "500 next 1\n1000 invoke f - - =1\n1200 response 1 1 =2\n1300 next 1", "Starting Starting Idle Busy Idle"),
+    ("an invocation", ONE, "500 next 1\n1000 invoke f - - =1\n1200 response 1 1 =2\n1300 next 1",
+     "Starting Starting Idle Busy Idle"),
     ("it waits for the runtime", ONE, "0 invoke f - - =1\n1500 next 1", "Starting Starting Busy"),
     ("a timeout and a late response", ONE, "500 next 1\n1000 invoke f - - =1\n4000 response 1 1 =2\n4000 next 1",
      "Starting Starting Idle Busy Closing:TIMEOUT Starting Idle"),
-    ("an Init that expires", ONE, "0 invoke f - - =1\n0 invoke f - - =2\n10000 tick", "Starting Closing:TIMEOUT Starting"),
-    ("an Init that fails", ONE, "0 register 1 =x is -\n10 ext-next 1 1\n20 invoke f - - =1\n30 init-failure 1 =no\n40 invoke f - - =2\n"
+    ("an Init that expires", ONE, "0 invoke f - - =1\n0 invoke f - - =2\n10000 tick",
+     "Starting Closing:TIMEOUT Starting"),
+    ("an Init that fails", ONE,
+     "0 register 1 =x is -\n10 ext-next 1 1\n20 invoke f - - =1\n30 init-failure 1 =no\n40 invoke f - - =2\n"
      "50 ext-next 1 1\n60 ext-next 1 1\n70 next 1\n80 response 1 2 =3", "Starting Closing:FAILURE Starting Busy"),
-    ("an extension that exits", ONE, "0 register 1 =x i -\n0 ext-next 1 1\n0 next 1\n10 invoke f - - =1\n20 ext-exit-failure 1 1 =E\n"
+    ("an extension that exits", ONE,
+     "0 register 1 =x i -\n0 ext-next 1 1\n0 next 1\n10 invoke f - - =1\n20 ext-exit-failure 1 1 =E\n"
      "30 response 1 1 =2\n40 ext-next 1 1", "Starting Idle Busy Closing:FAILURE Starting"),
-    ("a Closing whose time is over", ONE, "0 register 1 =x s -\n0 ext-next 1 1\n0 next 1\n5 spindown 1\n2004 next 1\n2005 next 1",
+    ("a Closing whose time is over", ONE,
+     "0 register 1 =x s -\n0 ext-next 1 1\n0 next 1\n5 spindown 1\n2004 next 1\n2005 next 1",
      "Starting Idle Closing:SPINDOWN Starting Idle"),
     ("a stop", ONE, "0 next 1\n10 invoke f - - =1\n20 stop\n30 next 1\n40 invoke f - - =2\n50 stop",
      "Starting Starting Idle Busy Closing:SPINDOWN Off"),
-    ("a poll that is taken back", ONE, "0 next 1\n5 withdraw 0\n10 invoke f - - =1\n20 next 1\n30 withdraw 2\n40 response 1 1 =2",
+    ("a poll that is taken back", ONE,
+     "0 next 1\n5 withdraw 0\n10 invoke f - - =1\n20 next 1\n30 withdraw 2\n40 response 1 1 =2",
      "Starting Starting Idle Starting Busy"),
-    ("a spindown, and a response that is too large", ONE, "0 spindown 1\n1 next 1\n2 spindown 1\n3 next 1\n4 invoke f - - =1\n"
+    ("a spindown, and a response that is too large", ONE,
+     "0 spindown 1\n1 next 1\n2 spindown 1\n3 next 1\n4 invoke f - - =1\n"
      "5 response-too-large 1 1", "Starting Idle Closing:SPINDOWN Starting Idle Busy"),
     ("an expected extension", ONE.replace('"ports":[9001]', '"ports":[9001],"extensions":["x"]'),
      "0 next 1\n1 register 1 =x i -\n2 invoke f - - =1\n3 ext-next 1 1", "Starting Busy"),
@@ -54,7 +63,8 @@ ROWS = (
     ("reservations", "form 2\n" + ONE,
      "0 reserve f 1\n0 reserve f 0\n0 invoke f - - =1\n0 reserve f 2\n0 reserve f -\n0 stop\n0 reserve f 1",
      "Starting Closing:SPINDOWN Off"),
-    ("odd texts", ONE, "0 register 1 =%3c/title%3e<script>\"'&]]> i -\n1 next 1\n2 invoke f q =trace =%00%1b[31m%e2%82%ac%80<b>&amp;\n"
+    ("odd texts", ONE, "0 register 1 =%3c/title%3e<script>\"'&]]> i -\n1 next 1\n2 invoke f q =trace "
+                       "=%00%1b[31m%e2%82%ac%80<b>&amp;\n"
      "3 ext-next 1 1\n4 response 1 1 =\xe9<", "Starting Busy"),
     ("the greatest moments", ONE, "253402300799999 next 1\n253402300800000 invoke f - - =1\n9007199254740991 tick",
      "Starting Idle Busy Closing:TIMEOUT Starting"),
@@ -69,8 +79,10 @@ def rows():
         went = [re.sub(r" \((\w+)\)", r":\1", phase) for phase in phases(trace, 1)]
         wanted = wanted.replace("Starting Starting", "Starting").split()
         check(f"{name}: the phases", went == wanted, " ".join(went))
-        resets = [event["name"].replace("reset: ", "Closing:") for event in events(trace, "reset") if event["pid"] == 11]
-        check(f"{name}: a reset for each Closing", resets == [phase for phase in wanted if phase.startswith("Closing")], str(resets))
+        resets = [event["name"].replace("reset: ", "Closing:") for event in events(trace, "reset")
+                  if event["pid"] == 11]
+        check(f"{name}: a reset for each Closing",
+              resets == [phase for phase in wanted if phase.startswith("Closing")], str(resets))
 
 
 def written(parts):
@@ -134,11 +146,14 @@ def random_script(seed, count=250):
         moment += pick.choice((0, 0, 0, 1, 5, 50, 400, 1200, pick.choice((0, 0, 3000, 11000))))
         e, f = pick.randint(1, len(owners)), pick.choice(owners)
         request = max(0, invokes[owners[e - 1]] - pick.choice((0, 0, 0, 1)))
-        kind = pick.choices(("next", "invoke", "response", "failure", "response-too-large", "register", "ext-next", "ext-exit-failure",
+        kind = pick.choices(("next", "invoke", "response", "failure", "response-too-large", "register", "ext-next",
+                             "ext-exit-failure",
                              "ext-init-failure", "init-failure", "spindown", "withdraw", "reserve", "tick", "stop"),
                             (25, 17, 10, 5, 3, 9, 20, 2, 1, 1, 2, 2, 2, 1, 0.3))[0]
-        fields = {"next": f"{e}", "invoke": f"{f} - - =1", "response": f"{e} {request} =ok", "failure": f"{e} {request} =no",
-                  "response-too-large": f"{e} {request}", "register": f"{e} ={pick.choice('xyz')} {pick.choice(('i', 's', 'is', '-'))} -",
+        fields = {"next": f"{e}", "invoke": f"{f} - - =1", "response": f"{e} {request} =ok",
+                  "failure": f"{e} {request} =no",
+                  "response-too-large": f"{e} {request}",
+                  "register": f"{e} ={pick.choice('xyz')} {pick.choice(('i', 's', 'is', '-'))} -",
                   "ext-next": f"{e} {pick.randint(1, 5)}", "ext-exit-failure": f"{e} {pick.randint(1, 5)} =E",
                   "ext-init-failure": f"{e} {pick.randint(1, 5)} =E", "init-failure": f"{e} =E", "spindown": f"{e}",
                   "withdraw": f"{pick.randint(0, i)}", "reserve": f"{f} {pick.choice('-012')}"}
@@ -173,7 +188,8 @@ def pictures():
     for path in sorted(glob.glob(os.path.join(ROOT, "docs", "pictures", "*.svg"))):
         name = os.path.splitext(os.path.basename(path))[0]
         status, picture, said = run("--svg", os.path.join(ROOT, "examples", name + ".txt"))
-        check(f"docs/pictures/{name}.svg", status == 0 and picture == open(path).read(), said or "tools/timeline --svg draws another one")
+        check(f"docs/pictures/{name}.svg", status == 0 and picture == open(path).read(),
+              said or "tools/timeline --svg draws another one")
 
 
 def history_lines(count):
@@ -201,7 +217,8 @@ def history_lines(count):
 
 
 def measured(arguments, pieces, environment=ENVIRONMENT):
-    """Runs the tool over what is piped into it: its status, its greatest memory in MB, and the seconds of the processor."""
+    """Runs the tool over what is piped into it: its status, its greatest memory in MB, and the seconds of the
+    processor."""
     process = subprocess.Popen([TOOL, *arguments], stdin=subprocess.PIPE, env=environment, stderr=subprocess.DEVNULL)
     for piece in pieces:
         process.stdin.write(piece.encode())
@@ -215,13 +232,16 @@ def long_ones():
     for form in ("text", "trace", "html"):
         small = measured((f"--{form}", "-o", "/dev/null"), history_lines(50_000), NOWHERE)
         large = measured((f"--{form}", "-o", "/dev/null"), history_lines(1_000_000), NOWHERE)
-        print(f"{form}: 50,000 lines {small[1]:.0f} MB, 1,000,000 lines {large[1]:.0f} MB in {large[2]:.0f} s of the processor")
+        print(f"{form}: 50,000 lines {small[1]:.0f} MB, 1,000,000 lines {large[1]:.0f} MB in {large[2]:.0f} s of the "
+              f"processor")
         check(f"a million lines as {form}", small[0] == large[0] == 0 and large[1] < 64 and large[1] < small[1] + 4,
               f"{small[1]:.0f} and {large[1]:.0f} MB")
     calls = [ONE.replace('"region"', '"maxEntries":4000000000,"region"') + "\n"]
-    calls += [f"{9 * i} next 1\n{9 * i + 1} invoke f - - ={i}\n{9 * i + 2} response 1 {i} =ok\n" for i in range(1, 5001)]
+    calls += [f"{9 * i} next 1\n{9 * i + 1} invoke f - - ={i}\n{9 * i + 2} response 1 {i} =ok\n"
+              for i in range(1, 5001)]
     status, memory, _ = measured(("--text", "-o", "/dev/null"), calls)
-    check("a script of 15,000 calls through the program", status == 0 and memory < 64, f"status {status}, {memory:.0f} MB")
+    check("a script of 15,000 calls through the program", status == 0 and memory < 64,
+          f"status {status}, {memory:.0f} MB")
 
 
 if __name__ == "__main__":

@@ -1,6 +1,6 @@
 #!/usr/bin/env python3
-"""Checks what tools/timeline says of histories, also of edited and of cut ones, which part of them it shows, and the faults
-that it names. The program is LAMBDA_LOCAL_PROGRAM, else ./lambda_local. Ends with 'N passed, M failed'."""
+"""Checks what tools/timeline says of histories, also of edited and of cut ones, which part of them it shows, and the
+faults that it names. The program is LAMBDA_LOCAL_PROGRAM, else ./lambda_local. Ends with 'N passed, M failed'."""
 import os
 import re
 import subprocess
@@ -15,9 +15,11 @@ from timelines import NOWHERE, ONE, PROGRAM, WHOLE, calls_of, check, events, run
 from lambda_local.service import Service, ask  # noqa: E402
 
 
-HISTORY = ("form 2\n" + WHOLE % 1000000 + "\n0 next 1\n10 invoke f - - =1\n# 1 0 deliver 00000000-0000-8000-8001-000000000001 3010 =1\n"
+HISTORY = ("form 2\n" + WHOLE % 1000000
+           + "\n0 next 1\n10 invoke f - - =1\n# 1 0 deliver 00000000-0000-8000-8001-000000000001 3010 =1\n"
            "## 5000 expire 1\n# 2 1 timeout\n5000 tick\n# 3 3 done\n5000 next 1\n5001 invoke f - - =2\n"
-           "# 5 4 deliver 00000000-0000-8000-8001-000000000002 8001 =2\n5002 response 1 2 =3\n# 6 5 output =3\n# 6 6 accepted\n")
+           "# 5 4 deliver 00000000-0000-8000-8001-000000000002 8001 =2\n5002 response 1 2 =3\n# 6 5 output =3\n# 6 6 "
+           "accepted\n")
 
 
 def history():
@@ -38,7 +40,8 @@ def history():
     with tempfile.TemporaryDirectory() as folder:
         path = os.path.join(folder, "answers")
         open(path, "wb").write(answers)
-        check("answers from a file", run("--answers", path, script=replayed, environment=NOWHERE) == run(script=replayed))
+        check("answers from a file",
+              run("--answers", path, script=replayed, environment=NOWHERE) == run(script=replayed))
         open(path, "wb").write(answers.replace(b"2 1 timeout\n", b"2 9 timeout\n"))
         status, _, said = run("--answers", path, script=replayed)
         check("answers of another script", status == 3 and "answers call 9, which is not open" in said, said)
@@ -79,12 +82,14 @@ def service():
     check("a service's history", status == 0, said)
     check("a service's history: a span a call", len(events(trace, "call")) == calls_of(text))
     names = [event["name"] for event in events(trace, "call") if event["name"].startswith("invoke")]
-    check("a service's history: the outcomes", names == ["invoke quick: output", "invoke slow: timeout", "invoke quick: error"], str(names))
+    check("a service's history: the outcomes",
+          names == ["invoke quick: output", "invoke slow: timeout", "invoke quick: error"], str(names))
     check("a service's history: the reset", [event["name"] for event in events(trace, "reset")] == ["reset: TIMEOUT"])
     for form in ("text", "trace", "html"):
         status, shown, said = run(f"--{form}", script=text)
         shown = shown.replace(" Its replay gives the same answers.", " ")
-        check(f"a service's history as its replay: {form}", (status, shown, said) == run(f"--{form}", "--script", script=text))
+        check(f"a service's history as its replay: {form}",
+              (status, shown, said) == run(f"--{form}", "--script", script=text))
     relative_axis(text)
 
 
@@ -107,7 +112,8 @@ def tree_of(page):
 
 def edited():
     """If a history's replay answers otherwise, the page and the text say so, and where."""
-    without_expiry = HISTORY.replace("## 5000 expire 1\n# 2 1 timeout\n5000 tick\n# 3 3 done\n", "5000 tick\n# 2 2 done\n")
+    without_expiry = HISTORY.replace("## 5000 expire 1\n# 2 1 timeout\n5000 tick\n# 3 3 done\n",
+                                     "5000 tick\n# 2 2 done\n")
     without_expiry = without_expiry.replace("# 5 4", "# 4 3").replace("# 6 5", "# 5 4").replace("# 6 6", "# 5 5")
     with tempfile.TemporaryDirectory() as folder:
         path = os.path.join(folder, "history.txt")
@@ -116,9 +122,11 @@ def edited():
              "line 14: the history has '6 5 output =4', and the replay answers '6 5 output =3'"),
             ("a call", HISTORY.replace("5002 response 1 2 =3", "5002 response 1 2 =4"),
              "line 14: the history has '6 5 output =3', and the replay answers '6 5 output =4'"),
-            ("an expiry that is left out", without_expiry, "line 7: the history has '2 2 done', and the replay answers '2 1 timeout'"),
+            ("an expiry that is left out", without_expiry,
+             "line 7: the history has '2 2 done', and the replay answers '2 1 timeout'"),
             ("a configuration", HISTORY.replace('"timeout":3', '"timeout":4'), "and the replay answers '1 0 deliver"),
-            ("one that the program refuses", HISTORY.replace("us-east-2", "US"), "ended with status 2: configuration: BadRegion"),
+            ("one that the program refuses", HISTORY.replace("us-east-2", "US"),
+             "ended with status 2: configuration: BadRegion"),
         ):
             open(path, "w").write(text)
             for given in ((path,), ()):
@@ -129,23 +137,28 @@ def edited():
                 check(f"edited: {told}: text", status == 0 and not said and words in last
                       and last.startswith("This history differs from its replay: "), last + said)
                 status, page, said = run("--html", *given, script=script)
-                notes = [note for note in tree_of(page).iter("{http://www.w3.org/1999/xhtml}p") if note.get("class") == "differs"]
-                check(f"edited: {told}: page", status == 0 and len(notes) == 1 and words in notes[0].text and words in said, said)
+                notes = [note for note in tree_of(page).iter("{http://www.w3.org/1999/xhtml}p")
+                         if note.get("class") == "differs"]
+                check(f"edited: {told}: page",
+                      status == 0 and len(notes) == 1 and words in notes[0].text and words in said, said)
                 status, _, said = run("--trace", *given, script=script)
                 check(f"edited: {told}: trace", status == 0 and words in said, said)
     page, text = run("--html", script=HISTORY), run("--text", script=HISTORY)
-    check("a history as it is", "Its replay gives the same answers." in page[1] and "differs" not in text[1] and page[2] == text[2] == "")
+    check("a history as it is",
+          "Its replay gives the same answers." in page[1] and "differs" not in text[1] and page[2] == text[2] == "")
     page = run("--html", script=HISTORY, environment=NOWHERE)[1]
     check("no program to replay with", "Not compared with its replay, since no program is here." in page)
     page, said = run("--html", script=HISTORY[:-1])[1:]
     check("a history that is cut is not compared",
-          "since its last line is cut off" in page and "line 15 has no end" in said and "differs from" not in page, said)
+          "since its last line is cut off" in page and "line 15 has no end" in said and "differs from" not in page,
+          said)
 
 
 def hidden():
     """What tools/up does itself is shown on request alone."""
     up = ONE.replace('"ports":[9001]', '"ports":[9001],"extensions":["lambda_local.up"]')
-    script = (up + "\n0 register 1 =lambda_local.up s -\n1 register 1 =other s -\n2 ext-next 1 1\n3 ext-next 1 2\n4 next 1\n"
+    script = (up + "\n0 register 1 =lambda_local.up s -\n1 register 1 =other s -\n2 ext-next 1 1\n3 ext-next 1 2\n4 "
+              "next 1\n"
               "5 invoke f - - =1\n6 response 1 1 =2\n7 next 1\n8 spindown 1\n9 ext-next 1 2\n9 ext-next 1 1\n")
     for form in ("text", "html", "svg", "trace"):
         status, shown, said = run(f"--{form}", script=script)
@@ -159,16 +172,19 @@ def hidden():
 def failed():
     """Failed calls are listed on the page, each with a link to its place."""
     script = (ONE.replace('"region"', '"maxEntries":13,"region"') + "\n0 next 1\n1 invoke f - - =1\n2 invoke f - - =2\n"
-              "3 failure 1 1 =<no>\n4 next 1\n5 invoke f - - =3\n6 response 1 9 =4\n4000 tick\n4001 invoke f - - =5\n4002 tick\n")
+              "3 failure 1 1 =<no>\n4 next 1\n5 invoke f - - =3\n6 response 1 9 =4\n4000 tick\n4001 invoke f - - "
+              "=5\n4002 tick\n")
     page = run("--html", script=script)[1]
     tree = tree_of(page)
     links = [link for link in tree.iter("{http://www.w3.org/1999/xhtml}a")]
     words = ["".join(link.itertext()) for link in links]
     check("failed: what is listed", words == [
         "2 ms: invoke f: throttled LocalEnvironmentLimitExceeded", "3 ms: invoke f: error <no>",
-        "6 ms: response to request 9: refused BadId", "4,000 ms: invoke f: timeout", "4,002 ms: tick: the journal is full"], str(words))
+        "6 ms: response to request 9: refused BadId", "4,000 ms: invoke f: timeout",
+        "4,002 ms: tick: the journal is full"], str(words))
     places = {element.get("id"): element for element in tree.iter("{http://www.w3.org/2000/svg}g") if element.get("id")}
-    check("failed: each link leads to its call", sorted(link.get("href")[1:] for link in links) == sorted(places), str(sorted(places)))
+    check("failed: each link leads to its call", sorted(link.get("href")[1:] for link in links) == sorted(places),
+          str(sorted(places)))
     titles = [places[link.get("href")[1:]].find("{http://www.w3.org/2000/svg}title").text for link in links[:4]]
     answers = [title.split("\n")[-2].split(" ")[0] for title in titles]
     check("failed: its place is that of the call", answers == ["throttled", "error", "refused", "timeout"], str(titles))
@@ -195,11 +211,15 @@ FAULTS = (
     ("an escape that is none", (), ONE + "\n0 invoke f - - =%zz\n", 2, "script: line 2"),
     ("a count that is too large", (), ONE + "\n0 response 1 281474976710656 =x\n", 2, "script: line 2"),
     ("a reservation in form 1", (), ONE + "\n0 reserve f 1\n", 2, "'reserve' stands in form 2 alone"),
-    ("a configuration that the program refuses", (), ONE.replace("us-east-2", "US") + "\n0 tick\n", 2, "configuration: BadRegion"),
+    ("a configuration that the program refuses", (), ONE.replace("us-east-2", "US") + "\n0 tick\n", 2,
+     "configuration: BadRegion"),
     ("no file", ("/nowhere/script.txt",), None, 2, "/nowhere/script.txt: No such file or directory"),
-    ("no program", ("--program", "/nowhere/program"), ONE + "\n0 tick\n", 4, "name one by --program or LAMBDA_LOCAL_PROGRAM"),
-    ("a program that says nothing", ("--program", "/bin/true"), ONE + "\n0 tick\n", 3, "the call of line 2 (entry 0) has no answer"),
-    ("a program that fails", ("--program", "/bin/false"), ONE + "\n0 tick\n", 4, "the program /bin/false ended with status 1"),
+    ("no program", ("--program", "/nowhere/program"), ONE + "\n0 tick\n", 4,
+     "name one by --program or LAMBDA_LOCAL_PROGRAM"),
+    ("a program that says nothing", ("--program", "/bin/true"), ONE + "\n0 tick\n", 3,
+     "the call of line 2 (entry 0) has no answer"),
+    ("a program that fails", ("--program", "/bin/false"), ONE + "\n0 tick\n", 4,
+     "the program /bin/false ended with status 1"),
     ("no place to write to", ("-o", "/nowhere/page.html"), ONE + "\n0 tick\n", 4, "/nowhere/page.html"),
     ("a device that is full", ("-o", "/dev/full"), ONE + "\n0 tick\n", 4, "No space left on device"),
     ("no answers", ("--answers", "/nowhere/answers"), ONE + "\n0 tick\n", 2, "/nowhere/answers"),
@@ -207,35 +227,44 @@ FAULTS = (
     ("no room", ("--limit", "0"), ONE + "\n", 2, "--limit is at least 1"),
     ("a window that ends before it begins", ("--from", "5", "--to", "4"), ONE + "\n", 2, "--to is before --from"),
     ("the same in seconds", ("--from", "+1.5", "--to", "+1.25"), ONE + "\n", 2, "--to is before --from"),
-    ("a moment that is none", ("--from", "1.5"), ONE + "\n", 2, "'1.5' is no moment: write milliseconds as in the history, such as"),
+    ("a moment that is none", ("--from", "1.5"), ONE + "\n", 2,
+     "'1.5' is no moment: write milliseconds as in the history, such as"),
     ("a moment in words", ("--to", "yesterday"), ONE + "\n", 2, "'yesterday' is no moment"),
     ("a folder", ("/",), None, 2, "/: Is a directory"),
     ("a script that looks like a history", (), f"form 2\n{WHOLE % 100}\n0 tick\n0 tick\n", 2, "add --script"),
-    ("a history with a gap", (), f"form 2\n{WHOLE % 100}\n0 next 1\n0 tick\n# 5 5 done\n", 3, "an answer of entry 5 stands behind entry 1"),
-    ("a history of another configuration", (), f"form 2\n{WHOLE % 100}\n## 5 expire 3\n", 2, "there is no environment 3"),
-    ("a history whose clock goes back", (), f"form 2\n{WHOLE % 100}\n5 next 1\n4 next 1\n# 1 0 refused Replaced\n", 3, "is before"),
-    ("an answer that is none", (), f"form 2\n{WHOLE % 100}\n0 tick\n# 0 0 dined\n", 3, "an answer that docs/formats.md doesn't have"),
-    ("an answer without its words", (), f"form 2\n{WHOLE % 100}\n0 next 1\n# 0 0 deliver\n", 3, "doesn't have: 'deliver'"),
+    ("a history with a gap", (), f"form 2\n{WHOLE % 100}\n0 next 1\n0 tick\n# 5 5 done\n", 3,
+     "an answer of entry 5 stands behind entry 1"),
+    ("a history of another configuration", (), f"form 2\n{WHOLE % 100}\n## 5 expire 3\n", 2,
+     "there is no environment 3"),
+    ("a history whose clock goes back", (), f"form 2\n{WHOLE % 100}\n5 next 1\n4 next 1\n# 1 0 refused Replaced\n", 3,
+     "is before"),
+    ("an answer that is none", (), f"form 2\n{WHOLE % 100}\n0 tick\n# 0 0 dined\n", 3,
+     "an answer that docs/formats.md doesn't have"),
+    ("an answer without its words", (), f"form 2\n{WHOLE % 100}\n0 next 1\n# 0 0 deliver\n", 3,
+     "doesn't have: 'deliver'"),
 )
 
 
 def faults():
     for name, arguments, script, wanted, words in FAULTS:
         status, _, said = run(*arguments, script=script)
-        check(f"fault: {name}", status == wanted and words in said and "Traceback" not in said, f"status {status}: {said}")
+        check(f"fault: {name}", status == wanted and words in said and "Traceback" not in said,
+              f"status {status}: {said}")
     with tempfile.TemporaryDirectory() as folder:
         path = os.path.join(folder, "page.html")
-        check("a page", run("-o", path, script=ONE + "\n0 tick\n")[0] == 0 and open(path).read().startswith("<!DOCTYPE html>"))
+        check("a page", run("-o", path, script=ONE + "\n0 tick\n")[0] == 0
+              and open(path).read().startswith("<!DOCTYPE html>"))
         before = open(path).read()
         check("a fault leaves the page as it was", run("-o", path, script=ONE + "\n0 tock\n")[0] == 2
               and open(path).read() == before and os.listdir(folder) == ["page.html"])
         for ending, beginning in ((".json", '{"displayTimeUnit"'), (".svg", "<svg "), (".txt", "      0 ms")):
             path = os.path.join(folder, "other" + ending)
-            check(f"the form of {ending}", run("-o", path, script=ONE + "\n0 tick\n")[0] == 0 and open(path).read().startswith(beginning))
+            check(f"the form of {ending}",
+                  run("-o", path, script=ONE + "\n0 tick\n")[0] == 0 and open(path).read().startswith(beginning))
     status, said, _ = run("--help")
     check("--help", status == 0 and all(word in said for word in (
-        "--text", "--trace", "--html", "--svg", "--program", "--answers", "--script", "--limit", "--from", "--to", "--all",
-        "--live", "--scale", "-o FILE")))
+        "--text", "--trace", "--html", "--svg", "--program", "--answers", "--script", "--limit", "--from", "--to",
+        "--all", "--live", "--scale", "-o FILE")))
 
 
 def windows():
@@ -249,7 +278,8 @@ def windows():
         (("--from", "+0.1"), 40, "Left out: 10 calls before 100 ms"),
         (("--to", "100"), 11, "Left out: 39 calls from 110 ms on"),
         (("--to", "+0.1"), 11, "Left out: 39 calls from 110 ms on"),
-        (("--from", "100", "--to", "200", "--limit", "5"), 5, "Left out: 10 calls before 100 ms and 35 calls from 150 ms on"),
+        (("--from", "100", "--to", "200", "--limit", "5"), 5,
+         "Left out: 10 calls before 100 ms and 35 calls from 150 ms on"),
         (("--scale", "time"), 50, ""),
         (("--from", "9000"), 0, "Left out: 50 calls before 9,000 ms"),
     ):
@@ -257,7 +287,8 @@ def windows():
             status, page, said = run(f"--{form}", *arguments, script=script)
             name = f"{' '.join(arguments)}, {form}"
             check(f"{name}: {drawn} calls", status == 0 and count(page) == drawn, f"{count(page)} {said}")
-            check(f"{name}: what is left out", words in said and ("Left out" in page) == (bool(words) and form == "html"), said)
+            check(f"{name}: what is left out",
+                  words in said and ("Left out" in page) == (bool(words) and form == "html"), said)
             if form in ("html", "svg"):
                 try:
                     ElementTree.fromstring(page.replace("<!DOCTYPE html>\n", ""))
@@ -276,9 +307,11 @@ def waits():
     check("a call that waits all through a window is drawn", page.count('<g class="call ') == 7)
     trace = run("--trace", "--from", "40", "--to", "45", script=script)[1]
     check("and is in the trace", [event["name"] for event in events(trace, "call")].count("next: deliver") == 1)
-    check("as is the phase", [event["name"] for event in events(trace, "phase")] == ["Idle"], str(events(trace, "phase")))
+    check("as is the phase", [event["name"] for event in events(trace, "phase")] == ["Idle"],
+          str(events(trace, "phase")))
     text = run("--from", "60", script=script)[1]
-    check("the text has what happens in the window", "is answered after 60 ms: deliver" in text and "tick" not in text, text)
+    check("the text has what happens in the window", "is answered after 60 ms: deliver" in text and "tick" not in text,
+          text)
 
 
 if __name__ == "__main__":

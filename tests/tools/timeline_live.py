@@ -1,6 +1,7 @@
 #!/usr/bin/env python3
-"""Checks tools/timeline --live: the page of a running service, who may ask for it, what it shows after many calls and when
-the service goes, and how it ends. The program is LAMBDA_LOCAL_PROGRAM, else ./lambda_local. Ends with 'N passed, M failed'."""
+"""Checks tools/timeline --live: the page of a running service, who may ask for it, what it shows after many calls and
+when the service goes, and how it ends. The program is LAMBDA_LOCAL_PROGRAM, else ./lambda_local. Ends with 'N passed, M
+failed'."""
 import contextlib
 import json
 import os
@@ -19,7 +20,8 @@ from timelines import ENVIRONMENT, TOOL, check, run, run_parts  # noqa: E402
 from lambda_local.service import Service, ask, free_ports  # noqa: E402
 
 SVG = "{http://www.w3.org/2000/svg}"
-CONFIGURATION = {"account": "123456789012", "region": "us-east-2", "functions": [{"name": "f", "ports": [0], "timeout": 600}]}
+CONFIGURATION = {"account": "123456789012", "region": "us-east-2",
+                 "functions": [{"name": "f", "ports": [0], "timeout": 600}]}
 PATIENCE = 120  # seconds until something has to be shown: most of them on a machine that does much else
 
 
@@ -39,12 +41,14 @@ class Live:
         return ask(self.service.port, "POST", "/2015-03-31/functions/f/invocations", payload)
 
     def reserve(self, count):
-        ask(self.service.port, "PUT", "/2017-10-31/functions/f/concurrency", json.dumps({"ReservedConcurrentExecutions": count}))
+        ask(self.service.port, "PUT", "/2017-10-31/functions/f/concurrency",
+            json.dumps({"ReservedConcurrentExecutions": count}))
 
     def serve(self, response=b'"ok"'):
         """Does what a runtime does, once."""
         _, headers, _ = ask(self.runtime, "GET", "/2018-06-01/runtime/invocation/next")
-        ask(self.runtime, "POST", f"/2018-06-01/runtime/invocation/{headers['lambda-runtime-aws-request-id']}/response", response)
+        ask(self.runtime, "POST",
+            f"/2018-06-01/runtime/invocation/{headers['lambda-runtime-aws-request-id']}/response", response)
 
     def call(self, payload=b"{}", response=b'"ok"'):
         thread = threading.Thread(target=self.serve, args=(response,))
@@ -109,7 +113,8 @@ def shown():
         check("the address is printed", page.line == wanted, page.line)
         status, headers, body = page.get("/")
         text = body.decode()
-        check("the page", status == 200 and headers["content-type"].startswith("text/html") and "No call yet." in text, text[-500:])
+        check("the page", status == 200 and headers["content-type"].startswith("text/html") and "No call yet." in text,
+              text[-500:])
         ElementTree.fromstring(text.replace("<!DOCTYPE html>\n", ""))
         policy = headers["content-security-policy"]
         check("the page runs its own script alone", "default-src 'none'; script-src 'self';" in policy, policy)
@@ -141,16 +146,20 @@ def guarded():
     with live() as page:
         own = f"http://127.0.0.1:{page.port}"
         for name, headers, status in (
-            ("no browser", {}, 200), ("its own origin", {"Origin": own}, 200), ("a person who opens it", {"Sec-Fetch-Site": "none"}, 200),
-            ("its own script", {"Sec-Fetch-Site": "same-origin", "Origin": own}, 200), ("localhost", {"Host": "localhost"}, 200),
-            ("localhost with a port", {"Host": f"LOCALHOST:{page.port}"}, 200), ("an address", {"Host": "10.0.0.1:80"}, 200),
-            ("an address of version 6", {"Host": "[::1]:80"}, 200),
-            ("another site", {"Origin": "http://example.com"}, 403), ("another port", {"Origin": "http://127.0.0.1:1"}, 403),
+            ("no browser", {}, 200), ("its own origin", {"Origin": own}, 200),
+            ("a person who opens it", {"Sec-Fetch-Site": "none"}, 200),
+            ("its own script", {"Sec-Fetch-Site": "same-origin", "Origin": own}, 200),
+            ("localhost", {"Host": "localhost"}, 200),
+            ("localhost with a port", {"Host": f"LOCALHOST:{page.port}"}, 200),
+            ("an address", {"Host": "10.0.0.1:80"}, 200), ("an address of version 6", {"Host": "[::1]:80"}, 200),
+            ("another site", {"Origin": "http://example.com"}, 403),
+            ("another port", {"Origin": "http://127.0.0.1:1"}, 403),
             ("an origin without a name", {"Origin": "null"}, 403), ("an empty origin", {"Origin": ""}, 403),
             ("the same by https", {"Origin": own.replace("http", "https")}, 403),
-            ("a request across sites", {"Sec-Fetch-Site": "cross-site"}, 403), ("of the same site", {"Sec-Fetch-Site": "same-site"}, 403),
-            ("a name that leads here", {"Host": "example.com"}, 403), ("a name like an address", {"Host": "127.0.0.1.example.com"}, 403),
-            ("no host", {"Host": ""}, 403),
+            ("a request across sites", {"Sec-Fetch-Site": "cross-site"}, 403),
+            ("of the same site", {"Sec-Fetch-Site": "same-site"}, 403),
+            ("a name that leads here", {"Host": "example.com"}, 403),
+            ("a name like an address", {"Host": "127.0.0.1.example.com"}, 403), ("no host", {"Host": ""}, 403),
         ):
             for path in ("/", "/drawing?after=0", "/live.js"):
                 seen = page.get(path, headers)[0]
@@ -171,9 +180,11 @@ def bounded():
         page.call(b'"the last one"')
         drawn = page.until(lambda drawn: "the last one" in drawn and "output" in drawn)
         shown = [group for group in calls_of(drawn) if "no answer yet" not in group.find(SVG + "title").text]
-        check("the last 20 calls are shown", len(shown) == 20 and "the last one" in drawn, f"{len(shown)} of {len(calls_of(drawn))}")
+        check("the last 20 calls are shown", len(shown) == 20 and "the last one" in drawn,
+              f"{len(shown)} of {len(calls_of(drawn))}")
         check("a page of bounded size", len(drawn) < 40_000, str(len(drawn)))
-        check("all are counted", "1,602 of them invocations" in drawn and "invoke: throttled <b>1,600</b>" in drawn, drawn[:300])
+        check("all are counted", "1,602 of them invocations" in drawn and "invoke: throttled <b>1,600</b>" in drawn,
+              drawn[:300])
         check("a reservation", "f: 1 reserved from" in drawn)
         with open(f"/proc/{page.tool.pid}/status") as file:
             resident = int(next(line for line in file if line.startswith("VmRSS")).split()[1])
@@ -184,7 +195,8 @@ def bounded():
 def hidden():
     with live() as page, live("--all") as other:
         for each in (page, other):
-            ask(each.runtime, "POST", "/2020-01-01/extension/register", '{"events":[]}', {"Lambda-Extension-Name": "lambda_local.up"})
+            ask(each.runtime, "POST", "/2020-01-01/extension/register", '{"events":[]}',
+                {"Lambda-Extension-Name": "lambda_local.up"})
         drawn = other.until(lambda drawn: "lambda_local.up" in drawn)
         check("--all shows what tools/up does", "lambda_local.up" in drawn)
         drawn = page.until(lambda drawn: "1 calls" in drawn)
@@ -199,7 +211,8 @@ def gone():
         page.until(lambda drawn: "\noutput" in drawn)
         page.service.stop()
         drawn = page.until(lambda drawn: "has gone" in drawn)
-        check("the page says that the service has gone", "The service has gone at" in drawn and "Connection refused" in drawn, drawn[:300])
+        check("the page says that the service has gone",
+              "The service has gone at" in drawn and "Connection refused" in drawn, drawn[:300])
         check("its last calls stay", "\noutput" in drawn)
         page.service.kill()
         page.service = Service(dict(CONFIGURATION, invokePort=port))
@@ -207,7 +220,8 @@ def gone():
         check("another one is shown", "No call yet." in drawn and "has gone" not in drawn, drawn[:300])
         status, said = page.end()
         lines = said.splitlines()
-        check("both are said", status == 0 and len(lines) == 2 and "has gone at" in lines[0] and "answers again" in lines[1], said)
+        check("both are said",
+              status == 0 and len(lines) == 2 and "has gone at" in lines[0] and "answers again" in lines[1], said)
 
 
 def faults():
@@ -215,7 +229,8 @@ def faults():
     for name, arguments, words in (
         ("no service", ("--live", f"http://127.0.0.1:{port}"),
          f"--live http://127.0.0.1:{port}: no service answers there: Connection refused"),
-        ("no address", ("--live", "9000"), "--live 9000: write the service's address on this machine, such as http://127.0.0.1:9000"),
+        ("no address", ("--live", "9000"),
+         "--live 9000: write the service's address on this machine, such as http://127.0.0.1:9000"),
         ("another machine", ("--live", "http://example.com:9000"), "write the service's address on this machine"),
         ("no port", ("--live", "http://127.0.0.1"), "write the service's address on this machine"),
         ("a port that is none", ("--live", "http://127.0.0.1:99999"), "write the service's address on this machine"),
@@ -225,10 +240,12 @@ def faults():
         ("an output", ("--live", "http://127.0.0.1:9000", "-o", "x.html"), "--live shows what goes on: leave out -o"),
     ):
         status, output, said = run(*arguments)
-        check(f"fault: {name}", status == 2 and output == "" and words in said and "Traceback" not in said, f"{status} {said}")
+        check(f"fault: {name}", status == 2 and output == "" and words in said and "Traceback" not in said,
+              f"{status} {said}")
     with live() as page:
         status, _, said = run("--live", f"http://127.0.0.1:{page.port}")
-        check("fault: another server", status == 2 and "gives no history there (status 404): this is no lambda_local" in said, said)
+        check("fault: another server",
+              status == 2 and "gives no history there (status 404): this is no lambda_local" in said, said)
         status, _, said = run("--live", f"http://127.0.0.1:{page.runtime}")
         check("fault: the port of an environment", status == 2 and "this is no lambda_local" in said, said)
 
@@ -244,8 +261,8 @@ def browser():
         timer = threading.Timer(1, thread.start)
         timer.start()
         done = subprocess.run([chromium, "--headless", "--no-sandbox", "--disable-gpu", f"--user-data-dir={folder}",
-                               "--virtual-time-budget=5000", "--dump-dom", f"http://127.0.0.1:{page.port}/"], capture_output=True,
-                              text=True, timeout=300)
+                               "--virtual-time-budget=5000", "--dump-dom", f"http://127.0.0.1:{page.port}/"],
+                              capture_output=True, text=True, timeout=300)
         timer.join()
         thread.join()
         check("Chromium shows the page", "Live timeline of" in done.stdout, done.stderr[-300:])

@@ -28,7 +28,8 @@ def runtimes():
     check("a new process serves", isinstance(second, int) and second != first)
     check("a handler that hangs is a timeout", up.invoke(do="hang")[0], "Function.Timeout")
     third = up.invoke()[0]
-    check("its process is ended, and a new one serves", isinstance(third, int) and third != second and not os.path.exists(f"/proc/{second}"))
+    check("its process is ended, and a new one serves",
+          isinstance(third, int) and third != second and not os.path.exists(f"/proc/{second}"))
     up.invoke(do="later")
     check("an exit while idle is seen", up.until("exit status 9", 5))
     check("and a new one serves after it", isinstance(up.invoke()[0], int))
@@ -44,7 +45,8 @@ def runtimes():
 def commands():
     up = Up(command=["--", "sh", "-c", "test -n \"$AWS_ENDPOINT_URL_LAMBDA\" && exit 7"])
     check("the command's status", up.process.wait(40), 7)
-    check("the history of a command that fails is saved", os.path.exists(os.path.join(up.at, "lambda_local.history.txt")))
+    check("the history of a command that fails is saved",
+          os.path.exists(os.path.join(up.at, "lambda_local.history.txt")))
     check("nothing is left after a command", up.end(None), (7, []))
     up = Up(command=["--", "true"])
     check("a command that succeeds", up.process.wait(40), 0)
@@ -72,7 +74,8 @@ def commands():
 
 def extension_that(seconds):
     """The command of an extension that crashes after so many seconds."""
-    return [sys.executable, "-c", "import http.client,os,time\nc=http.client.HTTPConnection(os.environ['AWS_LAMBDA_RUNTIME_API'])\n"
+    return [sys.executable, "-c",
+            "import http.client,os,time\nc=http.client.HTTPConnection(os.environ['AWS_LAMBDA_RUNTIME_API'])\n"
             "c.request('POST','/2020-01-01/extension/register','{\"events\":[]}',{'Lambda-Extension-Name':'x'})\n"
             "a=c.getresponse();a.read();i=a.headers['Lambda-Extension-Identifier']\n"
             f"import threading;threading.Timer({seconds},os._exit,[5]).start()\n"
@@ -105,14 +108,16 @@ def own_log():
         with open(os.path.join(folder, "up.json"), "w") as file:
             json.dump({"functions": [{"name": "f", "command": ["sleep", "100"]}]}, file)
         with open(os.path.join(folder, "log"), "w") as log:
-            child = subprocess.Popen([os.path.join(TOOLS, "up"), "--reload", "up.json"], cwd=folder, stderr=log, stdout=log)
+            child = subprocess.Popen([os.path.join(TOOLS, "up"), "--reload", "up.json"], cwd=folder, stderr=log,
+                                     stdout=log)
             try:
                 child.wait(6)
             except subprocess.TimeoutExpired:
                 child.send_signal(signal.SIGTERM)
             status = child.wait(40)
         with open(os.path.join(folder, "log")) as log:
-            check("its own log in a watched folder begins nothing anew", (status, "begins anew" in log.read()), (0, False))
+            check("its own log in a watched folder begins nothing anew", (status, "begins anew" in log.read()),
+                  (0, False))
 
 
 def debug():
@@ -122,11 +127,13 @@ def debug():
     check("nothing is left of it", up.end(), (0, []))
     # As at a breakpoint, for longer than an Init has (10 s) and than others are waited for.
     held = "import time; time.sleep(12)\n"
-    up = Up("--debug", "f", "--ready", "5", command=["--", "sh", "-c", 'curl -s -d "{}" "$AWS_ENDPOINT_URL_LAMBDA/2015-03-31/functions/f/invocations"'],
+    up = Up("--debug", "f", "--ready", "5",
+            command=["--", "sh", "-c", 'curl -s -d "{}" "$AWS_ENDPOINT_URL_LAMBDA/2015-03-31/functions/f/invocations"'],
             extensions={"x": extension_that(1000)}, app=held + HANDLER)
     check("a command waits for a function that is debugged", up.until("waits for f/1, which is being debugged", 20))
     status, left = up.end(None)
-    check("it runs once that has left its Init, and an extension came after it", (status, left, up.output.isdigit()), (0, [], True))
+    check("it runs once that has left its Init, and an extension came after it", (status, left, up.output.isdigit()),
+          (0, [], True))
     check("no Init timed out", any("shuts down" in line for line in up.lines), False)
 
 

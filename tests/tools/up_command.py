@@ -1,6 +1,6 @@
 #!/usr/bin/env python3
-"""Checks how tools/up begins and ends: its command and Ctrl-C, credentials, identifiers, ports, a full history, and that
-nothing outlives it. The program is LAMBDA_LOCAL_PROGRAM, else ./lambda_local. Ends with 'N passed, M failed'."""
+"""Checks how tools/up begins and ends: its command and Ctrl-C, credentials, identifiers, ports, a full history, and
+that nothing outlives it. The program is LAMBDA_LOCAL_PROGRAM, else ./lambda_local. Ends with 'N passed, M failed'."""
 import json
 import os
 import pty
@@ -74,7 +74,8 @@ def in_a_terminal():
         pass  # (the end of a terminal)
     _, status = os.waitpid(child, 0)
     os.close(terminal)
-    check("in a terminal Ctrl-C leaves time for the command's end", (os.WEXITSTATUS(status), is_there(up, "torn_down")), (2, True))
+    check("in a terminal Ctrl-C leaves time for the command's end",
+          (os.WEXITSTATUS(status), is_there(up, "torn_down")), (2, True))
     check("nothing is left of it", up.end(None), (0, []))
 
 
@@ -87,7 +88,8 @@ def killed():
         until(lambda: len(children(up.process.pid)) >= 9, 30)
         below = children(up.process.pid)
         folder = next(word for pid in below for word in command_of(pid) if word.endswith("configuration.json"))
-        check(f"kill -9 {name}: there are processes and a file to leave", (len(below) >= 9, os.path.exists(folder)), (True, True))
+        check(f"kill -9 {name}: there are processes and a file to leave", (len(below) >= 9, os.path.exists(folder)),
+              (True, True))
         up.process.kill()
         gone = until(lambda: not any(map(lives, below)), 5)
         check(f"kill -9 {name} leaves no process", gone or [command_of(pid) for pid in below if lives(pid)])
@@ -105,21 +107,26 @@ def command_of(pid):
 
 def credentials():
     real = {
-        "AWS_ACCESS_KEY_ID": "real", "AWS_SECRET_ACCESS_KEY": "real", "AWS_SESSION_TOKEN": "real", "AWS_PROFILE": "production",
+        "AWS_ACCESS_KEY_ID": "real", "AWS_SECRET_ACCESS_KEY": "real", "AWS_SESSION_TOKEN": "real",
+        "AWS_PROFILE": "production",
         "AWS_REGION": "eu-west-1", "AWS_DEFAULT_REGION": "eu-west-1", "AWS_IGNORE_CONFIGURED_ENDPOINT_URLS": "true"
     }
     seen = variables_of([], real)
     for who, values in zip(("the command", "the function"), seen):
         check(f"{who} has dummy credentials",
-              (values.get("AWS_ACCESS_KEY_ID"), values.get("AWS_SECRET_ACCESS_KEY"), values.get("AWS_PROFILE")), ("local", "local", None))
+              (values.get("AWS_ACCESS_KEY_ID"), values.get("AWS_SECRET_ACCESS_KEY"), values.get("AWS_PROFILE")),
+              ("local", "local", None))
         check(f"{who} has no real token", values.get("AWS_SESSION_TOKEN") != "real")
         check(f"{who} has the configuration's region", (values.get("AWS_REGION"), values.get("AWS_DEFAULT_REGION")),
               ("us-west-2", "us-west-2"))
-        check(f"{who} is led here", ("127.0.0.1" in values["AWS_ENDPOINT_URL_LAMBDA"], values.get("AWS_IGNORE_CONFIGURED_ENDPOINT_URLS")),
+        check(f"{who} is led here",
+              ("127.0.0.1" in values["AWS_ENDPOINT_URL_LAMBDA"], values.get("AWS_IGNORE_CONFIGURED_ENDPOINT_URLS")),
               (True, None))
-    check("true, numbers and texts are variables as in JSON", [seen[1].get(name) for name in "TNX"], ["true", "1.5", "x"])
+    check("true, numbers and texts are variables as in JSON", [seen[1].get(name) for name in "TNX"],
+          ["true", "1.5", "x"])
     for who, values in zip(("the command", "the function"), variables_of(["--keep-credentials"], real)):
-        check(f"{who} keeps credentials if asked", [values.get(name) for name in ("AWS_ACCESS_KEY_ID", "AWS_SESSION_TOKEN", "AWS_PROFILE")],
+        check(f"{who} keeps credentials if asked",
+              [values.get(name) for name in ("AWS_ACCESS_KEY_ID", "AWS_SESSION_TOKEN", "AWS_PROFILE")],
               ["real", "real", "production"])
         check(f"{who} has the region all the same", values.get("AWS_REGION"), "us-west-2")
 
@@ -153,8 +160,8 @@ def old_clients():
             for words in wanted:
                 up.until(words, 10)
             time.sleep(0 if wanted else 2)
-            check(f"aws {versions[0]} and boto3 {versions[1]}", sorted(re.findall(r"\b(?:aws|boto3) [0-9.]+ ignores", "\n".join(up.lines))),
-                  wanted)
+            check(f"aws {versions[0]} and boto3 {versions[1]}",
+                  sorted(re.findall(r"\b(?:aws|boto3) [0-9.]+ ignores", "\n".join(up.lines))), wanted)
             up.end()
 
 
@@ -163,7 +170,8 @@ def identifiers():
     for options, whole in (((), {}), ((), {}), (("--salt", str(0x0123456789ABCDEF)), {"salt": 7}), ((), {"salt": 7})):
         up = Up(*options,
                 whole=whole,
-                command=["--", "sh", "-c", 'curl -s -d "{}" $AWS_ENDPOINT_URL_LAMBDA/2015-03-31/functions/f/invocations'])
+                command=["--", "sh", "-c",
+                         'curl -s -d "{}" $AWS_ENDPOINT_URL_LAMBDA/2015-03-31/functions/f/invocations'])
         up.end(None)
         seen.append(next(re.findall(r"\[f/1\] (\S+) ok", line)[0] for line in up.lines if " ok " in line))
     check("two runs have other identifiers", seen[0] != seen[1])
@@ -211,23 +219,28 @@ def other_ends():
     up = Up()
     up.until("[up] ready")
     up.get("/_local/stop", b"", "POST")
-    check("a stop from outside is no fault", (up.end(None), up.has("the service was stopped by POST /_local/stop")), ((0, []), True))
+    check("a stop from outside is no fault", (up.end(None), up.has("the service was stopped by POST /_local/stop")),
+          ((0, []), True))
     up = Up(command=["pytest", "-x"])
     check("a command without -- is told", (up.end(None), up.lines),
           ((2, []), ["up: write -- before the command: tools/up up.json -- pytest -x"]))
     up = Up("--ready", "1", command=["--", "true"], extensions={"late": ["sleep", "100"]})
     check("what is not ready is told with who is waited for",
-          (up.end(None)[0], up.has("not ready after 1 s: f/1, which waited for its extension late, which must register by this name")),
+          (up.end(None)[0], up.has("not ready after 1 s: f/1, which waited for its extension late, which must register "
+                                   "by this name")),
           (5, True))
-    up = Up("--ready", "10", command=["--", "true"], functions=[{"name": "f", "command": [*RUNTIME[:2], "nothing.run"]}])
+    up = Up("--ready", "10", command=["--", "true"],
+            functions=[{"name": "f", "command": [*RUNTIME[:2], "nothing.run"]}])
     check("and with why its Init fails",
-          (up.end(None)[0], up.has("not ready after 10 s: f/1, whose Init fails: Runtime.ImportModuleError")), (5, True))
+          (up.end(None)[0], up.has("not ready after 10 s: f/1, whose Init fails: Runtime.ImportModuleError")),
+          (5, True))
 
 
 def runtimes():
     node = "export const run = async (event, context) => ({ name: context.functionName, hello: event.name });\n"
     python = "def run(event, context):\n    return {'name': context.function_name, 'hello': event['name']}\n"
-    functions = [{"name": "snake", "runtime": "python", "handler": "app.run"}, {"name": "node", "runtime": "node", "handler": "index.run"}]
+    functions = [{"name": "snake", "runtime": "python", "handler": "app.run"},
+                 {"name": "node", "runtime": "node", "handler": "index.run"}]
     up = Up(functions=functions, app=python, files={"index.mjs": node})
     up.until("[up] ready")
     for name in ("snake", "node"):
@@ -247,5 +260,5 @@ def runtimes():
 
 
 if __name__ == "__main__":
-    sys.exit(counted.run(interrupts, in_a_terminal, killed, credentials, old_clients, identifiers, taken_ports, full_history,
-                         other_ends, runtimes))
+    sys.exit(counted.run(interrupts, in_a_terminal, killed, credentials, old_clients, identifiers, taken_ports,
+                         full_history, other_ends, runtimes))

@@ -60,7 +60,8 @@ def init_failures():
     late = Up(extensions={"late": ["sleep", "100"]})  # (its Init takes 10 s to fail)
     four, two = failing(environments=4), failing("--reload", environments=2, watch=["mended"])
     check("a failed Init is told with type, message and place",
-          until(lambda: four.count(r"\[f/[1-4]\] Init failed Runtime\.ImportModuleError: Unable to import module x \(app\.py:3\)$"), 10))
+          until(lambda: four.count(r"\[f/[1-4]\] Init failed Runtime\.ImportModuleError: Unable to import module x "
+                                   r"\(app\.py:3\)$"), 10))
     check("and with its trace", four.until("import x", 5))
     check("it is started again after a pause", four.until("started again in 1 s", 10))
     answer, took = four.invoke()
@@ -72,12 +73,14 @@ def init_failures():
     check("four environments start at most 20 times in 10 s", 8 <= seen <= 20 or seen)
     check("nothing is left of failing Inits", four.end(), (0, []))
     check("an Init that takes too long names who was waited for",
-          late.until("Init failed: timed out after 10 s, which waited for its extension late, which must register by this name", 20))
+          late.until("Init failed: timed out after 10 s, which waited for its extension late, which must register by "
+                     "this name", 20))
     check("nothing is left of late ones", late.end(), (0, []))
 
 
 def reload_until_mended(up):
-    check("with --reload the third failed Init waits for a file", until(lambda: up.count("started again when a file changes") == 2, 20))
+    check("with --reload the third failed Init waits for a file",
+          until(lambda: up.count("started again when a file changes") == 2, 20))
     seen = len(starts(up))
     answer, took = up.invoke()
     check("its callers hear the report at once", (answer, took < 5), ("Runtime.ImportModuleError", True))
@@ -102,13 +105,14 @@ def pauses():
 def crashing_extension():
     up = Up("--ready", "5", command=["--", "true"], extensions={"bad": ["sh", "-c", "exit 4"]})
     check("an extension that exits in Init", up.end(None)[0], 5)
-    check("is told in one line each time", up.count(r"\[f/1\].* bad: Extension exited") == up.count(r"\[f/1\].*Extension exited") > 1)
+    check("is told in one line each time",
+          up.count(r"\[f/1\].* bad: Extension exited") == up.count(r"\[f/1\].*Extension exited") > 1)
     check("as a failed Init", up.count(r"-- Init failed: f/1 bad: Extension exited with error: exit status 4$") > 1)
 
 
 def reset_and_stop(**members):
-    """The entries of two timeouts of a function with these members, how many milliseconds each reset takes, and how many
-    seconds the stop."""
+    """The entries of two timeouts of a function with these members, how many milliseconds each reset takes, and how
+    many seconds the stop."""
     up = Up(functions=[{"name": "f", "command": RUNTIME, "timeout": 1, **members}], files={"exiting": EXITING})
     up.until("[up] ready")
     seen = [up.invoke(do=do)[0] for do in ("hang", "", "hang", "")]
@@ -116,7 +120,8 @@ def reset_and_stop(**members):
           (2 * ["Function.Timeout"], 2 * [int]))
     entries = list(opened(up.history())[1])
     ends = [number for number, entry in enumerate(entries) if any(answer.kind == "timeout" for answer in entry.answers)]
-    resets = [entries[end:next(entry.number for entry in entries[end:] if entry.kind == "register") + 1] for end in ends]
+    resets = [entries[end:next(entry.number for entry in entries[end:] if entry.kind == "register") + 1]
+              for end in ends]
     begun = time.monotonic()
     up.process.terminate()
     up.process.wait(40)
@@ -128,9 +133,12 @@ def reset_and_stop(**members):
 def extensions():
     _, _, plain, plain_stop = reset_and_stop()
     entries, resets, took, stop = reset_and_stop(extensions={"exiting": ["./exiting"]})
-    check("the extension is told each end", [answer.kind for reset in resets for answer in reset[0].answers].count("shutdown"), 2 * 2)
-    check("no registration is refused", [entry.own.kind for entry in entries if entry.kind == "register"].count("refused"), 0)
-    check("no reset lasts until its deadline", [entry.kind for reset in resets for entry in reset[1:]].count("expire"), 0)
+    check("the extension is told each end",
+          [answer.kind for reset in resets for answer in reset[0].answers].count("shutdown"), 2 * 2)
+    check("no registration is refused",
+          [entry.own.kind for entry in entries if entry.kind == "register"].count("refused"), 0)
+    check("no reset lasts until its deadline", [entry.kind for reset in resets for entry in reset[1:]].count("expire"),
+          0)
     # (A machine that does much else is slow without an extension as well.)
     check("resets with an extension that exits take under 0.4 s", max(took) < max(400, 8 * max(plain)) or (took, plain))
     stops = [(stop, plain_stop)]
@@ -146,14 +154,17 @@ def lines():
         up.invoke(**event)
     for _ in range(5):
         up.invoke("none", patience=0)
-    wanted = {"an invocation": r"ok \d+ ms", "an error": r"error KeyError: 'missing' \(app\.py:7\)", "a timeout": "timeout after 1 s",
+    wanted = {"an invocation": r"ok \d+ ms", "an error": r"error KeyError: 'missing' \(app\.py:7\)",
+              "a timeout": "timeout after 1 s",
               "a crash": "error Runtime.ExitError: Runtime exited with error: exit status 7"}
     for name, pattern in wanted.items():
         check(f"a line for {name}",
-              until(lambda: up.count(rf"^\d\d:\d\d:\d\d\.\d{{3}} \[f/1\] {REQUEST} {pattern}$"), 5) and up.count(f"{REQUEST} {pattern}"), 1)
+              until(lambda: up.count(rf"^\d\d:\d\d:\d\d\.\d{{3}} \[f/1\] {REQUEST} {pattern}$"), 5)
+              and up.count(f"{REQUEST} {pattern}"), 1)
     check("one line for a burst of throttles", up.until("[none] throttled 5 times: reserved concurrency", 5))
     check("and no other", up.count("throttled"), 1 + up.count("admitted"))
-    check("a line names the request as the history does", re.findall(f"({REQUEST}) ok", "\n".join(up.lines))[0] in up.history())
+    check("a line names the request as the history does",
+          re.findall(f"({REQUEST}) ok", "\n".join(up.lines))[0] in up.history())
     check("nothing is left of lines", up.end(), (0, []))
 
 
@@ -172,13 +183,13 @@ def as_json():
           all({"time", "level", "kind", "source", "text"} <= set(line) for line in seen))
     invocation = next(line for line in seen if line["kind"] == "invocation")
     wanted = {
-        "source": "f/1", "level": "error", "function": "f", "environment": 1, "status": "error", "errorType": "KeyError",
-        "errorMessage": "'x'", "place": "app.py:4"
+        "source": "f/1", "level": "error", "function": "f", "environment": 1, "status": "error",
+        "errorType": "KeyError", "errorMessage": "'x'", "place": "app.py:4"
     }
     check("an invocation has members of its own", {name: invocation.get(name) for name in wanted}, wanted)
     check("a time is in UTC", bool(re.fullmatch(r"\d{4}-\d\d-\d\dT\d\d:\d\d:\d\d\.\d{3}Z", invocation["time"])))
-    check("what the function prints", [line["source"] for line in seen if line["kind"] == "output" and line["text"] == "from here"],
-          ["f/1"])
+    check("what the function prints",
+          [line["source"] for line in seen if line["kind"] == "output" and line["text"] == "from here"], ["f/1"])
 
 
 def quietly():
@@ -190,7 +201,8 @@ def quietly():
     up.invoke()
     up.until("error KeyError")
     check("nothing is left of the quiet one", up.end(), (0, []))
-    check("what is printed and what fails is told", (up.has("from here"), up.has("error KeyError: 'x' (app.py:3)")), (True, True))
+    check("what is printed and what fails is told", (up.has("from here"), up.has("error KeyError: 'x' (app.py:3)")),
+          (True, True))
     check("all else is not", [line for line in up.lines if " ok " in line or "ready" in line or "admitted" in line], [])
 
 
@@ -200,9 +212,10 @@ def on_a_terminal(**variables):
     up = Up(functions=[{"name": "f", "command": RUNTIME}])  # (for its folder)
     up.until("[up] ready")
     invoke = 'curl -s -d "{}" $AWS_ENDPOINT_URL_LAMBDA/2015-03-31/functions/f/invocations >/dev/null'
-    environ = {**{name: value for name, value in os.environ.items() if name != "NO_COLOR"}, "TERM": "xterm", **variables}
-    process = subprocess.Popen([os.path.join(TOOLS, "up"), "up.json", "--", "sh", "-c", invoke], cwd=up.at, stderr=slave,
-                               stdin=subprocess.DEVNULL, env=environ)
+    environ = {**{name: value for name, value in os.environ.items() if name != "NO_COLOR"}, "TERM": "xterm",
+               **variables}
+    process = subprocess.Popen([os.path.join(TOOLS, "up"), "up.json", "--", "sh", "-c", invoke], cwd=up.at,
+                               stderr=slave, stdin=subprocess.DEVNULL, env=environ)
     os.close(slave)
     written = []
 
@@ -231,14 +244,19 @@ def trace(*frames):
     return {"errorType": "E", "errorMessage": "m", "stackTrace": list(frames)}
 
 
-# Reports as the runtime clients of these languages make them, of functions in the folder /at, and what a line says of them.
+# Reports as the runtime clients of these languages make them, of functions in the folder /at, and what a line says of
+# them.
 REPORTS = {
-    "of Python": (trace('  File "/at/app.py", line 2, in run\n    f()\n', '  File "/at/b/c.py", line 9, in f\n'), "E: m (b/c.py:9)"),
-    "of a library": (trace('  File "/at/app.py", line 2, in run\n', '  File "/usr/lib/x.py", line 9, in f\n'), "E: m (app.py:2)"),
+    "of Python": (trace('  File "/at/app.py", line 2, in run\n    f()\n', '  File "/at/b/c.py", line 9, in f\n'),
+                  "E: m (b/c.py:9)"),
+    "of a library": (trace('  File "/at/app.py", line 2, in run\n', '  File "/usr/lib/x.py", line 9, in f\n'),
+                     "E: m (app.py:2)"),
     "of Node": ({"errorType": "TypeError", "errorMessage": "no",
-                 "trace": ["TypeError: no", "    at g (node:fs:1:2)", "    at run (file:///at/app.mjs:3:9)", "    at h (/at/i.js:1:1)"]},
+                 "trace": ["TypeError: no", "    at g (node:fs:1:2)", "    at run (file:///at/app.mjs:3:9)",
+                           "    at h (/at/i.js:1:1)"]},
                 "TypeError: no (app.mjs:3)"),
-    "of Node's modules": (trace("    at f (/at/node_modules/x/i.js:1:1)", "    at run (/at/app.js:3:9)"), "E: m (app.js:3)"),
+    "of Node's modules": (trace("    at f (/at/node_modules/x/i.js:1:1)", "    at run (/at/app.js:3:9)"),
+                          "E: m (app.js:3)"),
     "of Go": (trace({"path": "/at/main.go", "line": 12, "label": "main"}), "E: m (main.go:12)"),
     "of Java": (trace("example.Handler.run(Handler.java:7)"), "E: m (Handler.java:7)"),
     "of two lines": ({"errorType": "E", "errorMessage": "a\n  b"}, "E: a b"),
@@ -253,4 +271,5 @@ def reports():
 
 
 if __name__ == "__main__":
-    sys.exit(counted.run(pauses, reports, lines, as_json, quietly, colours, crashing_extension, extensions, init_failures))
+    sys.exit(
+        counted.run(pauses, reports, lines, as_json, quietly, colours, crashing_extension, extensions, init_failures))

@@ -20,8 +20,8 @@ def told(text, folder, *options):
     """Status and lines of tools/up over an UP.json with this text."""
     with open(os.path.join(folder, "up.json"), "w") as file:
         file.write(text if isinstance(text, str) else json.dumps(text))
-    done = subprocess.run([os.path.join(TOOLS, "up"), *options, "up.json", "--", "true"], cwd=folder, capture_output=True, text=True,
-                          timeout=60, env={**os.environ, "TMPDIR": folder})
+    done = subprocess.run([os.path.join(TOOLS, "up"), *options, "up.json", "--", "true"], cwd=folder,
+                          capture_output=True, text=True, timeout=60, env={**os.environ, "TMPDIR": folder})
     return done.returncode, done.stderr.splitlines()
 
 
@@ -35,8 +35,10 @@ OF_FUNCTION = {
     "true for a number": ({"reserved": True}, "reserved must be a whole number, not true"),
     "a text for environments": ({"environments": "2"}, 'environments must be a whole number from 1 to 256, not "2"'),
     "no environment": ({"environments": 0}, "environments must be a whole number from 1 to 256, not 0"),
-    "a billion environments": ({"environments": 10**9}, "environments must be a whole number from 1 to 256, not 1000000000"),
-    "a list for an object": ({"variables": ["A=1"]}, 'variables must be an object of texts, numbers, true or false, not ["A=1"]'),
+    "a billion environments": ({"environments": 10**9},
+                               "environments must be a whole number from 1 to 256, not 1000000000"),
+    "a list for an object": ({"variables": ["A=1"]},
+                             'variables must be an object of texts, numbers, true or false, not ["A=1"]'),
     "a variable that is null": ({"variables": {"A": None}},
                                 'variables must be an object of texts, numbers, true or false, not {"A": null}'),
     "a command of numbers": ({"command": [1]}, "command must be a text, or a list of texts, not [1]"),
@@ -44,22 +46,29 @@ OF_FUNCTION = {
     "an open quote": ({"command": "a 'b"}, 'command: "a \'b": No closing quotation'),
     "another runtime": ({"runtime": "ruby"}, 'runtime must be "python" or "node", not "ruby"'),
     "a runtime and a command": ({"runtime": "python"}, "it has a runtime and a command: leave one of the two out"),
-    "an extension without a command": ({"extensions": {"x": 5}}, "extensions must be an object: the name by which each registers, and its "
+    "an extension without a command": ({"extensions": {"x": 5}},
+                                       "extensions must be an object: the name by which each registers, and its "
                                                                  'command, or null if you start it, not {"x": 5}'),
     "ten extensions": ({"extensions": [f"x{n}" for n in range(10)]},
                        "extensions: at most nine, none of them lambda_local.up: the tenth is tools/up"),
-    "ports that are texts": ({"ports": ["9001"]}, 'ports must be a list of ports, one for each environment, not ["9001"]'),
-    "ports and environments": ({"ports": [0, 0], "environments": 3}, "2 ports for 3 environments: leave one of the two out"),
+    "ports that are texts": ({"ports": ["9001"]},
+                             'ports must be a list of ports, one for each environment, not ["9001"]'),
+    "ports and environments": ({"ports": [0, 0], "environments": 3},
+                               "2 ports for 3 environments: leave one of the two out"),
     # These the service refuses, and its word for it is explained.
-    "a long timeout": ({"timeout": 1000}, "timeout must be from 1 to 900 seconds, not 1000 (the service says BadTimeout)"),
-    "a reservation": ({"reserved": 5, "environments": 4}, "it reserves 5 and has 4 environments: reserve at most as many, or give it more "
+    "a long timeout": ({"timeout": 1000},
+                       "timeout must be from 1 to 900 seconds, not 1000 (the service says BadTimeout)"),
+    "a reservation": ({"reserved": 5, "environments": 4},
+                      "it reserves 5 and has 4 environments: reserve at most as many, or give it more "
                                                           "(the service says ReservationAboveEnvironments)"),
-    "a handler": ({"handler": ""}, 'handler must have 1 to 128 printable ASCII characters, not "" (the service says BadHandler)'),
+    "a handler": ({"handler": ""},
+                  'handler must have 1 to 128 printable ASCII characters, not "" (the service says BadHandler)'),
 }
 # What UP.json says instead of one function `a`, and what is said behind "up: up.json: ".
 OF_SERVICE = {
     "a member that is nearly one": ({"acount": "123456789012"}, "unknown member acount, did you mean account?"),
-    "a function without a name": ({"functions": [{"command": ["true"]}]}, "function number 1: there is no name, which must be a text"),
+    "a function without a name": ({"functions": [{"command": ["true"]}]},
+                                  "function number 1: there is no name, which must be a text"),
     "a function that is a text": ({"functions": ["greet"]}, 'function number 1 must be an object, not "greet"'),
     "functions by name": ({"functions": {"greet": {}}}, 'functions must be a list of objects, not {"greet": {}}'),
     "a name with a space": ({"functions": [{"name": "a b"}]},
@@ -68,9 +77,11 @@ OF_SERVICE = {
                      "two functions have the name a: each must have its own (the service says DuplicateName)"),
     "an account": ({"account": "12"}, 'account must be 12 digits, not "12" (the service says BadAccount)'),
     "a region": ({"region": "EU"}, 'region must have 1 to 32 of a-z, 0-9 and -, not "EU" (the service says BadRegion)'),
-    "a small account": ({"accountLimit": 50}, "leastRemainder must be at most accountLimit, which is 50, not 100, the default "
+    "a small account": ({"accountLimit": 50},
+                        "leastRemainder must be at most accountLimit, which is 50, not 100, the default "
                                               "(the service says BadLeastRemainder)"),
-    "a small history": ({"maxEntries": 1}, "maxEntries must be from 2, one more than there are environments, to 4294967296, not 1 "
+    "a small history": ({"maxEntries": 1},
+                        "maxEntries must be from 2, one more than there are environments, to 4294967296, not 1 "
                                            "(the service says EntriesOutOfRange)"),
 }
 
@@ -82,8 +93,10 @@ def mistakes():
             check(name, seen, (2, [f"up: up.json: function greet: {line}"]))
         for name, (members, line) in OF_SERVICE.items():
             check(name, told({"functions": [{"name": "a"}], **members}, folder), (2, [f"up: up.json: {line}"]))
-        check("no functions", told({}, folder), (2, ["up: up.json: there is no functions, which must be a list of objects"]))
-        check("a list", told([1], folder), (2, ['up: up.json: it must be an object with a list of "functions", not [1]']))
+        check("no functions", told({}, folder),
+              (2, ["up: up.json: there is no functions, which must be a list of objects"]))
+        check("a list", told([1], folder),
+              (2, ['up: up.json: it must be an object with a list of "functions", not [1]']))
         check("no JSON is told with line and column", told('{"functions": [}', folder),
               (2, ["up: up.json: this is no JSON: Expecting value: line 1 column 16 (char 15)"]))
         check("nothing is left of them", sorted(os.listdir(folder)), ["up.json"])
@@ -92,11 +105,14 @@ def mistakes():
 def absent():
     one = {"functions": [{"name": "greet", "command": ["./none"]}]}
     with tempfile.TemporaryDirectory() as folder:
-        check("an absent program", told(one, folder), (4, [f"up: up.json: function greet: ./none is no program (looked for in {folder}/)"]))
+        check("an absent program", told(one, folder),
+              (4, [f"up: up.json: function greet: ./none is no program (looked for in {folder}/)"]))
         one["functions"][0].update(command=["true"], directory="none")
-        check("an absent folder", told(one, folder), (2, [f"up: up.json: function greet: directory: there is no folder {folder}/none"]))
+        check("an absent folder", told(one, folder),
+              (2, [f"up: up.json: function greet: directory: there is no folder {folder}/none"]))
         del one["functions"][0]["directory"]
-        check("--debug of none", told(one, folder, "--debug", "x"), (2, ["up: --debug x: up.json has no such function with a command"]))
+        check("--debug of none", told(one, folder, "--debug", "x"),
+              (2, ["up: --debug x: up.json has no such function with a command"]))
         status, lines = told(one, folder, "--salt", "x")
         check("a salt that is none", (status, lines[-1]),
               (2, "tools/up: error: argument --salt: invalid whole number below 2^64 value: 'x'"))
@@ -121,23 +137,29 @@ FAULTS = {
     "TooManyFunctions": ({"functions": [{"name": f"f{n}", "ports": [1 + n]} for n in range(65)]}, "65 functions: 64"),
     "BadName": ({"functions": [{"name": "a.b", "ports": [1]}]}, '"a.b"'),
     "DuplicateName": ({"functions": [{"name": "a", "ports": [1]}, {"name": "a", "ports": [2]}]}, "name a"),
-    "BadHandler": ({"functions": [{"name": "a", "ports": [1]}, {"name": "b", "ports": [2], "handler": "\t"}]}, "function b: handler"),
-    "BadTimeout": ({"functions": [{"name": "a", "ports": [1]}, {"name": "b", "ports": [2], "timeout": 901}]}, "function b: timeout"),
+    "BadHandler": ({"functions": [{"name": "a", "ports": [1]}, {"name": "b", "ports": [2], "handler": "\t"}]},
+                   "function b: handler"),
+    "BadTimeout": ({"functions": [{"name": "a", "ports": [1]}, {"name": "b", "ports": [2], "timeout": 901}]},
+                   "function b: timeout"),
     "NoEnvironment": ({"functions": [{"name": "a", "ports": []}]}, "function a: it has no environment"),
     "TooManyEnvironments": ({"functions": [{"name": "a", "ports": list(range(1, 256))}, {"name": "b", "ports": [300, 301]}]},
                             "257 environments in all, 255 of them of function a"),
     "BadPort": ({"functions": [{"name": "a", "ports": [0]}]}, "function a: 0 is no port"),
-    "DuplicatePort": ({"functions": [{"name": "a", "ports": [7]}], "invokePort": 7}, "port 7 stands twice: invokePort and function a"),
+    "DuplicatePort": ({"functions": [{"name": "a", "ports": [7]}], "invokePort": 7},
+                      "port 7 stands twice: invokePort and function a"),
     "TooManyExtensions": ({"functions": [{"name": "a", "ports": [1], "extensions": list("abcdefghijk")}]},
                           "function a: 11 extensions: ten"),
     "BadExtension": ({"functions": [{"name": "a", "ports": [1], "extensions": ["é"]}]}, 'not "é"'),
     "DuplicateExtension": ({"functions": [{"name": "a", "ports": [1], "extensions": ["x", "x"]}]},
                            'function a: the extension "x" stands twice'),
-    "ReservationAboveEnvironments": ({"functions": [{"name": "a", "ports": [1], "reserved": 2}]}, "function a: it reserves 2 and has 1"),
-    "RemainderTooSmall": ({"accountLimit": 2, "leastRemainder": 2, "functions": [{"name": "a", "ports": [1], "reserved": 1}]},
+    "ReservationAboveEnvironments": ({"functions": [{"name": "a", "ports": [1], "reserved": 2}]},
+                                     "function a: it reserves 2 and has 1"),
+    "RemainderTooSmall": ({"accountLimit": 2, "leastRemainder": 2,
+                           "functions": [{"name": "a", "ports": [1], "reserved": 1}]},
                           "reserve 1 of accountLimit 2: leastRemainder 2"),
     "EntriesOutOfRange": ({"maxEntries": 0}, "maxEntries must be from 2"),
-    "BadShape": ({"functions": [{"name": "a", "ports": [1], "timeout": "5"}]}, "function a: timeout must be a whole number"),
+    "BadShape": ({"functions": [{"name": "a", "ports": [1], "timeout": "5"}]},
+                 "function a: timeout must be a whole number"),
 }
 
 
@@ -146,7 +168,8 @@ def faults():
     program = os.environ.get("LAMBDA_LOCAL_PROGRAM") or os.path.join(ROOT, "lambda_local")
     with tempfile.TemporaryDirectory() as folder:
         for name, (members, words) in FAULTS.items():
-            whole = {"account": "123456789012", "region": "us-east-1", "functions": [{"name": "a", "ports": [1]}], **members}
+            whole = {"account": "123456789012", "region": "us-east-1", "functions": [{"name": "a", "ports": [1]}],
+                     **members}
             path = os.path.join(folder, "service.json")
             with open(path, "w") as file:
                 json.dump(whole, file)
@@ -160,7 +183,8 @@ def faults():
 def examples():
     for path in glob.glob(os.path.join(ROOT, "examples", "**", "up*.json"), recursive=True):
         with tempfile.TemporaryDirectory() as folder:
-            done = subprocess.run([os.path.join(TOOLS, "up"), path, "--", "true"], cwd=folder, capture_output=True, text=True, timeout=60)
+            done = subprocess.run([os.path.join(TOOLS, "up"), path, "--", "true"], cwd=folder, capture_output=True,
+                                  text=True, timeout=60)
             check(f"{os.path.relpath(path, ROOT)} runs", done.returncode, 0)
 
 

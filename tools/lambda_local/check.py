@@ -3,7 +3,8 @@
   lambda_local check HISTORY     HISTORY as GET /_local/history gives it, or `-` for standard input
 
 A history is a script whose answers stand in it, in lines `# ENTRY TICKET WORDS`; other lines that begin with `#` are
-comments. Its calls are answered again, by the program that is given, and each answer is held against the one of its place.
+comments. Its calls are answered again, by the program that is given, and each answer is held against the one of its
+place.
 
 Exit statuses: 0, the answers are the same; 1, they differ, and the first difference is named with its line; 2, this is
 not a history; 4, the program could not be started or ended otherwise."""
@@ -27,7 +28,8 @@ def read(path):
         raise Fault(2, f"{path}: {fault.strerror}: name a file with a history") from None
     lines = text.split(b"\n")
     if lines[0] != b"form 2" and not lines[0].startswith(b"{"):
-        raise Fault(2, f"{path}: line 1 must be `form 2` or a configuration: a history is what GET /_local/history answers")
+        raise Fault(
+            2, f"{path}: line 1 must be `form 2` or a configuration: a history is what GET /_local/history answers")
     return lines
 
 
@@ -72,13 +74,15 @@ def main():
     """Compares the history that the command line names."""
     parser = parser_of("check", __doc__)
     parser.add_argument("history", metavar="HISTORY")
-    parser.add_argument("--program", metavar="P", help="the program (default: LAMBDA_LOCAL_PROGRAM, else the repository's ./lambda_local)")
+    parser.add_argument("--program", metavar="P",
+                        help="the program (default: LAMBDA_LOCAL_PROGRAM, else the repository's ./lambda_local)")
     options = parser.parse_args()
     try:
         lines = read(options.history)
         answers = replay(program_path(options.program), lines, options.history)
         if answers and not answers_of(lines):
-            raise Fault(2, f"{options.history}: no line is `# ENTRY TICKET WORDS`: this script has no answers to compare with")
+            raise Fault(
+                2, f"{options.history}: no line is `# ENTRY TICKET WORDS`: this script has no answers to compare with")
     except Fault as fault:
         print(f"check: {fault}", file=sys.stderr)
         return fault.status

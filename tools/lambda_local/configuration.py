@@ -32,9 +32,10 @@ PORT = Kind(lambda value: is_whole(value, 1 << 16), "a port: a whole number from
 NUMBER = Kind(lambda value: is_whole(value, 1 << 32), "a whole number")
 LONG_NUMBER = Kind(lambda value: is_whole(value, 1 << 64), "a whole number below 2^64")
 OF_SERVICE = {"account": TEXT, "region": TEXT, "functions": Kind(is_list_of(lambda value: True), "a list of objects"),
-              "accountLimit": NUMBER, "leastRemainder": NUMBER, "invokePort": PORT, "salt": LONG_NUMBER, "maxEntries": LONG_NUMBER}
-OF_FUNCTION = {"name": TEXT, "ports": Kind(is_list_of(PORT.accepts), "a list of ports, one for each environment"), "handler": TEXT,
-               "timeout": Kind(NUMBER.accepts, "a whole number of seconds, from 1 to 900"),
+              "accountLimit": NUMBER, "leastRemainder": NUMBER, "invokePort": PORT, "salt": LONG_NUMBER,
+              "maxEntries": LONG_NUMBER}
+OF_FUNCTION = {"name": TEXT, "ports": Kind(is_list_of(PORT.accepts), "a list of ports, one for each environment"),
+               "handler": TEXT, "timeout": Kind(NUMBER.accepts, "a whole number of seconds, from 1 to 900"),
                "reserved": NUMBER, "extensions": Kind(is_list_of(is_text), "a list of names")}
 REQUIRED = ("account", "region", "functions")
 REQUIRED_OF_FUNCTION = ("name", "ports")
@@ -65,7 +66,8 @@ def place_of(member, number):
     return f"function {name}: " if isinstance(name, str) else f"function number {number}: "
 
 
-def mistakes(configuration, of_service=OF_SERVICE, of_function=OF_FUNCTION, required=REQUIRED, required_of_function=REQUIRED_OF_FUNCTION):
+def mistakes(configuration, of_service=OF_SERVICE, of_function=OF_FUNCTION, required=REQUIRED,
+             required_of_function=REQUIRED_OF_FUNCTION):
     """What is wrong with the members of a configuration by name and type, in the order in which they stand."""
     if not isinstance(configuration, dict):
         yield f"it must be an object with a list of \"functions\", not {shown(configuration)}"
@@ -173,7 +175,8 @@ def reservation_above_environments(whole, functions):
 def remainder_too_small(whole, functions):
     reserved = sum(member.get("reserved", 0) for member in functions)
     limit, least = whole.get("accountLimit", 1000), whole.get("leastRemainder", 100)
-    return (f"the functions reserve {reserved} of accountLimit {limit}: leastRemainder {least} must stay unreserved; reserve less, "
+    return (f"the functions reserve {reserved} of accountLimit {limit}: leastRemainder {least} must stay unreserved; "
+            f"reserve less, "
             "or write another accountLimit or leastRemainder")
 
 

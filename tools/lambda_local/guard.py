@@ -2,7 +2,8 @@
 
 `hold` and `release` name what is to be ended: a process group (its number), a single process (`Single`), a folder (a
 path). They go down a pipe of which only this process has the end for writing. When that closes, however this process
-ended, the guard kills what is still held. What is released before its status is asked for cannot be another's by then."""
+ended, the guard kills what is still held. What is released before its status is asked for cannot be another's by
+then."""
 import atexit
 import contextlib
 import os

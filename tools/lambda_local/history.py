@@ -5,7 +5,8 @@
         for entry in follower.read():           # those that have come since the last time, the oldest first
             print(entry.number, entry.moment, entry.kind, entry.environment, entry.own)
 
-An entry never changes once it is there: the answers that a call gave, also to calls before it, stand in its own entry."""
+An entry never changes once it is there: the answers that a call gave, also to calls before it, stand in its own
+entry."""
 import http.client
 import io
 import json
@@ -16,8 +17,8 @@ from urllib.parse import unquote_to_bytes
 OPENING = b"form 2\n"
 EXPIRE = "expire"
 OF_FUNCTIONS = ("invoke", "reserve")
-OF_ENVIRONMENTS = ("next", "response", "failure", "response-too-large", "init-failure", "register", "ext-next", "ext-init-failure",
-                   "ext-exit-failure", "spindown", EXPIRE)
+OF_ENVIRONMENTS = ("next", "response", "failure", "response-too-large", "init-failure", "register", "ext-next",
+                   "ext-init-failure", "ext-exit-failure", "spindown", EXPIRE)
 
 
 class Answer(NamedTuple):
@@ -134,7 +135,8 @@ def parked(history):
 
 
 def sized_entries(lines, number):
-    """The entries of the lines (bytes, each with its end), the first of which has this number, with the bytes of each."""
+    """The entries of the lines (bytes, each with its end), the first of which has this number, with the bytes of
+    each."""
     held, size = [], 0
     for line in lines:
         if held and not line.startswith(b"# "):
@@ -163,8 +165,8 @@ class Follower:
         return list(self.stream())
 
     def stream(self):
-        """The same one by one, as they come: of a long history only one at a time is in memory. If the service ceases to
-        answer in the middle, those that were given are not given again."""
+        """The same one by one, as they come: of a long history only one at a time is in memory. If the service ceases
+        to answer in the middle, those that were given are not given again."""
         if self._gives_all and json.loads(self._ask("/_local/stats").read())["entries"] <= self.next:
             return
         is_read = False
@@ -211,5 +213,6 @@ class Follower:
         self._connection.request("GET", path)
         answer = self._connection.getresponse()
         if answer.status != 200:
-            raise http.client.HTTPException(f"GET {path}: {answer.status} {answer.read()[:200].decode(errors='replace')}")
+            raise http.client.HTTPException(
+                f"GET {path}: {answer.status} {answer.read()[:200].decode(errors='replace')}")
         return answer

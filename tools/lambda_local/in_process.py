@@ -38,7 +38,8 @@ class FunctionError(Exception):
     the handler raised."""
 
     def __init__(self, report):
-        super().__init__(f"{report.get('errorType')}: {report.get('errorMessage')}" if isinstance(report, dict) else str(report))
+        super().__init__(f"{report.get('errorType')}: {report.get('errorMessage')}" if isinstance(report, dict)
+                         else str(report))
         self.report = report
 
 
@@ -56,7 +57,8 @@ def function_of(name, members, handler):
     """A function's part of the configuration, with free ports, and its memory."""
     where = f"function {name}"
     if handler is not None and not callable(handler):
-        raise ValueError(f"{where}: its handler is {handler!r}: give a function of an event, or of an event and its context")
+        raise ValueError(
+            f"{where}: its handler is {handler!r}: give a function of an event, or of an event and its context")
     if not isinstance(members, dict):
         raise ValueError(f"{where}: its members are {members!r}: give a dict, such as {{\"timeout\": 5}}")
     for mistake in mistakes_of(members, MEMBERS, f"{where}: "):
@@ -73,10 +75,13 @@ def context_of(headers, memory):
     arn, deadline = headers["Lambda-Runtime-Invoked-Function-Arn"], int(headers["Lambda-Runtime-Deadline-Ms"])
     name = arn.split(":")[6]
     return types.SimpleNamespace(
-        headers=headers, aws_request_id=headers["Lambda-Runtime-Aws-Request-Id"], invoked_function_arn=arn, function_name=name,
-        function_version="$LATEST", memory_limit_in_mb=memory, log_group_name=f"/aws/lambda/{name}", log_stream_name="local/[$LATEST]1",
+        headers=headers, aws_request_id=headers["Lambda-Runtime-Aws-Request-Id"], invoked_function_arn=arn,
+        function_name=name,
+        function_version="$LATEST", memory_limit_in_mb=memory, log_group_name=f"/aws/lambda/{name}",
+        log_stream_name="local/[$LATEST]1",
         identity=types.SimpleNamespace(cognito_identity_id=None, cognito_identity_pool_id=None), client_context=None,
-        get_remaining_time_in_millis=lambda: max(0, deadline - int(1000 * time.time())), log=lambda text: sys.stdout.write(str(text)))
+        get_remaining_time_in_millis=lambda: max(0, deadline - int(1000 * time.time())),
+        log=lambda text: sys.stdout.write(str(text)))
 
 
 def takes_context(handler):
@@ -192,12 +197,13 @@ class LambdaLocal:
         if self.service is None:
             raise RuntimeError("no function is started yet: call start(NAME=handler) first")
         if self.has_ended():
-            raise RuntimeError("the service was stopped" if self.stopped else f"the service has ended: {self.service.lines[-1:]}")
+            raise RuntimeError("the service was stopped" if self.stopped
+                               else f"the service has ended: {self.service.lines[-1:]}")
         return self.service
 
     def invoke(self, name, event=None, patience=2.0):
-        """What the handler gave; FunctionError if it failed. An environment that has answered and not yet asked again is
-        busy: for `patience` seconds a throttle by it is tried again."""
+        """What the handler gave; FunctionError if it failed. An environment that has answered and not yet asked again
+        is busy: for `patience` seconds a throttle by it is tried again."""
         if self.endpoint_url is None or self.stopped:
             self.started()
         end = time.monotonic() + patience

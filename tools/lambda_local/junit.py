@@ -25,7 +25,8 @@ class Suite:
         failed = sum(failure is not None for _, _, _, failure, _, _, _ in self.cases)
         skipped = sum(reason is not None for _, _, _, _, _, reason, _ in self.cases)
         total = sum(case[2] for case in self.cases) if self.seconds is None else self.seconds
-        head = (f"<testsuite name={attribute(self.name)} tests=\"{len(self.cases)}\" failures=\"{failed}\" errors=\"0\" "
+        head = (f"<testsuite name={attribute(self.name)} tests=\"{len(self.cases)}\" failures=\"{failed}\" "
+                f"errors=\"0\" "
                 f"skipped=\"{skipped}\" time=\"{total:.3f}\">")
         return "\n".join(['<?xml version="1.0" encoding="UTF-8"?>', "<testsuites>", head, *map(self._case, self.cases),
                           "</testsuite>", "</testsuites>", ""])
@@ -56,7 +57,8 @@ class Suite:
 
 def allowed(text):
     """The text without what XML 1.0 cannot hold."""
-    return "".join(letter if letter in "\t\n" or 0x20 <= ord(letter) < 0xD800 or 0xE000 <= ord(letter) < 0xFFFE or ord(letter) > 0xFFFF
+    return "".join(letter if letter in "\t\n" or 0x20 <= ord(letter) < 0xD800 or 0xE000 <= ord(letter) < 0xFFFE
+                   or ord(letter) > 0xFFFF
                    else "\N{REPLACEMENT CHARACTER}" for letter in text)
 
 

@@ -175,7 +175,8 @@ class Life:
             return  # (the answer to another call: a reservation after a stop)
         self._identified.pop(invocation.identifier, None)
         body = answer.body if answer.kind in ("output", "error") else None
-        yield Ended(entry.moment, invocation, invocation.environment or self.environments.get(entry.environment), answer.kind, body)
+        yield Ended(entry.moment, invocation, invocation.environment or self.environments.get(entry.environment),
+                    answer.kind, body)
 
     def _closed(self, environment, entry):
         """A generation that begins to close by this entry."""

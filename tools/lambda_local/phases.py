@@ -1,5 +1,5 @@
-"""Who takes part in a generation of an environment, who asks for work, and what begins its end (docs/semantics.md): what
-a history says of that, for the timeline that draws it and for those who follow a service."""
+"""Who takes part in a generation of an environment, who asks for work, and what begins its end (docs/semantics.md):
+what a history says of that, for the timeline that draws it and for those who follow a service."""
 from .history import EXPIRE
 
 FAILURES = ("init-failure", "ext-init-failure", "ext-exit-failure")
@@ -30,9 +30,9 @@ class Members:
         self.extensions = {}  # by the count of the identifier
 
     def note(self, kind, count, ticket, answer, newcomer):
-        """What a call says of who takes part and who asks for work: its kind, the count of an extension in it, its ticket,
-        and the first word of its own answer, if it is answered at once. `newcomer` makes the count and the extension of
-        a registration."""
+        """What a call says of who takes part and who asks for work: its kind, the count of an extension in it, its
+        ticket, and the first word of its own answer, if it is answered at once. `newcomer` makes the count and the
+        extension of a registration."""
         extension = self.extensions.get(count) if kind.startswith("ext-") else None
         if kind == "next" and answer in (None, "deliver"):
             self.poll = ticket

@@ -45,11 +45,13 @@ if pytest:
 
     def last_lines(text, path):
         lines = text.splitlines()
-        return "\n".join([*([f".. {len(lines) - SHOWN} lines before these: {path}"] if len(lines) > SHOWN else []), *lines[-SHOWN:]])
+        return "\n".join(
+            [*([f".. {len(lines) - SHOWN} lines before these: {path}"] if len(lines) > SHOWN else []), *lines[-SHOWN:]])
 
     def timeline(*words):
         """What the timeline says of a history."""
-        return subprocess.run([*tool("timeline"), *map(str, words)], stdout=subprocess.PIPE, stderr=subprocess.STDOUT, text=True).stdout
+        return subprocess.run([*tool("timeline"), *map(str, words)], stdout=subprocess.PIPE, stderr=subprocess.STDOUT,
+                              text=True).stdout
 
     def sections(history, folder):
         """What a report says of a history, which stands whole in the folder, as does a page with its timeline."""

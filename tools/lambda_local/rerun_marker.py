@@ -14,7 +14,8 @@ FIXTURES = ("lambda_local", "lambda_local_session")
 
 
 def pytest_configure(config):
-    config.addinivalue_line("markers", f"{NAME}(history, ignore=(), one_by_one=False): after the test, sends the invocations of this "
+    config.addinivalue_line("markers", f"{NAME}(history, ignore=(), one_by_one=False): after the test, sends the "
+                                       f"invocations of this "
                                        "history again to the functions that it started, and compares their outputs")
 
 
@@ -35,7 +36,8 @@ def again(item, history, ignore=(), one_by_one=False):
     from .service import Fault
     service = next((item.funcargs[name].service for name in FIXTURES if name in item.funcargs), None)
     if service is None:
-        pytest.fail(f"{NAME}: start the functions in the test, by its fixture lambda_local or lambda_local_session", pytrace=False)
+        pytest.fail(f"{NAME}: start the functions in the test, by its fixture lambda_local or lambda_local_session",
+                    pytrace=False)
     try:
         recording = read(os.path.join(os.path.dirname(str(item.fspath)), history))
         results, _ = rerun(service, recording, [pointer_of(text) for text in ignore], one_by_one)

@@ -139,10 +139,12 @@ class Service:
         if NO_NETWORK not in self.lines:
             return
         owners = {self.given.get("invokePort"): "invokePort"}
-        owners.update({port: f"function {function['name']}" for function in self.given["functions"] for port in function["ports"]})
+        owners.update({port: f"function {function['name']}" for function in self.given["functions"]
+                       for port in function["ports"]})
         taken = [f"port {port} ({owner})" for port, owner in owners.items() if port and is_taken(port)]
         if taken:
-            raise Fault(4, f"{self._place()}{', '.join(taken)}: another program listens there: leave the port out, and a free one is used")
+            raise Fault(4, f"{self._place()}{', '.join(taken)}: another program listens there: leave the port out, and "
+                           f"a free one is used")
 
     def _place(self):
         return f"{self.path}: " if self.path else ""
@@ -158,7 +160,8 @@ class Service:
         configuration = json.loads(json.dumps(self.given))
         functions = configuration["functions"]
         given = {configuration.get("invokePort", 0)} | {port for function in functions for port in function["ports"]}
-        wanted = sum(1 for function in functions for port in function["ports"] if port == 0) + (not configuration.get("invokePort"))
+        wanted = sum(1 for function in functions for port in function["ports"]
+                     if port == 0) + (not configuration.get("invokePort"))
         found = iter(free_ports(wanted, given))
         if not configuration.get("invokePort"):
             configuration["invokePort"] = next(found)

@@ -12,7 +12,8 @@ sources, it is proved and built first. What proved it is said on standard error 
 the packages are written on standard output. The same commit and program give the same bytes. Files that the checkout
 has beside the commit do not matter, unless they lie where packaged files or sources do.
 
-Exit statuses: 2 for a fault in the arguments or in the checkout; 4 if there is no program or a file cannot be written."""
+Exit statuses: 2 for a fault in the arguments or in the checkout; 4 if there is no program or a file cannot be
+written."""
 import argparse
 import os
 import sys
@@ -29,7 +30,8 @@ def say(line):
 
 def main():
     """Makes the packages that the command line asks for."""
-    parser = argparse.ArgumentParser(prog="tools/package", usage="tools/package [--archive] [--wheel] [--deb] [FOLDER]", add_help=False,
+    parser = argparse.ArgumentParser(prog="tools/package",
+                                     usage="tools/package [--archive] [--wheel] [--deb] [FOLDER]", add_help=False,
                                      description=__doc__, formatter_class=argparse.RawDescriptionHelpFormatter)
     for kind in KINDS:
         parser.add_argument(f"--{kind}", action="store_true", help=argparse.SUPPRESS)

@@ -76,7 +76,8 @@ def lay_out(source, root):
     for name, (mode, data) in source.files.items():
         if name.startswith(("tools/", "examples/")) or name == "lambda_local":
             of_node = data.startswith(b"#!/usr/bin/env node")  # which this package does not depend on
-            write(root, f"{LIB}/{name}", data.replace(b"#!/usr/bin/env python3", b"#!/usr/bin/python3", 1), 0o644 if of_node else mode)
+            write(root, f"{LIB}/{name}", data.replace(b"#!/usr/bin/env python3", b"#!/usr/bin/python3", 1),
+                  0o644 if of_node else mode)
         elif name.startswith("docs/") or name in ("README.md", "CHANGELOG.md"):
             write(root, f"{DOC}/{name}", data)
     write(root, f"{LIB}/bin/lambda_local", source.program, 0o755)
@@ -91,7 +92,8 @@ def lay_out(source, root):
 def describe(source, root):
     """What a package says of itself."""
     size = sum(os.lstat(os.path.join(folder, name)).st_size for folder, _, names in os.walk(root) for name in names)
-    said = {"name": NAME, "version": source.version, "commit": source.commit, "person": source.person, "size": size // 1024,
+    said = {"name": NAME, "version": source.version, "commit": source.commit, "person": source.person,
+            "size": size // 1024,
             "date": email.utils.formatdate(source.moment), "year": email.utils.formatdate(source.moment).split(" ")[3]}
     write(root, f"{DOC}/copyright", COPYRIGHT.format(**said))
     write(root, f"{DOC}/changelog.gz", packed(CHANGELOG.format(**said)))
@@ -110,8 +112,10 @@ def make(source, folder):
         lay_out(source, root)
         describe(source, root)
         os.umask(before)
-        done = subprocess.run(["dpkg-deb", "--build", "--root-owner-group", "-Zxz", root, built], stdout=subprocess.PIPE,
-                              stderr=subprocess.STDOUT, text=True, env={**os.environ, "SOURCE_DATE_EPOCH": str(source.moment)})
+        done = subprocess.run(["dpkg-deb", "--build", "--root-owner-group", "-Zxz", root, built],
+                              stdout=subprocess.PIPE,
+                              stderr=subprocess.STDOUT, text=True,
+                              env={**os.environ, "SOURCE_DATE_EPOCH": str(source.moment)})
         if done.returncode:
             raise Fault(4, f"dpkg-deb ended with status {done.returncode}: {done.stdout.strip().splitlines()[-1:]}")
         with open(built, "rb") as file:

@@ -9,7 +9,8 @@ import tarfile
 
 ROOT = os.path.dirname(os.path.dirname(os.path.dirname(os.path.realpath(__file__))))
 PACKAGED = ("lambda_local", "README.md", "CHANGELOG.md", "LICENSE", "docs", "examples", "tools", "tests/clients")
-MAKERS = ("tools/package", "tools/packages/", "tools/release", "tools/proof_costs", "tools/library/crate_list.py")  # which stand in a checkout alone
+# which stand in a checkout alone
+MAKERS = ("tools/package", "tools/packages/", "tools/release", "tools/proof_costs", "tools/library/crate_list.py")
 PROVED = ("crates.txt", "HANDLES", ":(glob)crates/*/src/**", ":(glob)crates/*/specs/**", ":(glob)crates/*/proofs/**")
 STAMP = ("sources", "kit", "program", "gate")  # the lines of what proved a program
 TRIAL, ANSWER = "examples/first_call.txt", "crates/lambda_local/stdout"
@@ -48,7 +49,8 @@ class Source:
         if (platform.system(), platform.machine()) != ("Linux", "x86_64"):
             raise Fault(2, f"the program is for x86-64 Linux, and this is {platform.system()} {platform.machine()}")
         self.commit, self.moment, self.person, self.version = git(
-            "log", "-1", "--abbrev=12", "--date=format-local:%Y.%-m.%-d", "--format=%H%n%ct%n%cn <%ce>%n%cd+g%h").decode().split("\n")[:4]
+            "log", "-1", "--abbrev=12", "--date=format-local:%Y.%-m.%-d",
+            "--format=%H%n%ct%n%cn <%ce>%n%cd+g%h").decode().split("\n")[:4]
         self.moment = int(self.moment)
         self._refuse_changes()
         path = self._find_program()
@@ -72,14 +74,16 @@ class Source:
         plain = {name: value for name, value in os.environ.items() if name != "LAMBDA_LOCAL_PROGRAM"}
 
         def find():
-            return subprocess.run([launcher, "path"], env=plain, stdout=subprocess.PIPE, stderr=subprocess.PIPE, text=True)
+            return subprocess.run([launcher, "path"], env=plain, stdout=subprocess.PIPE, stderr=subprocess.PIPE,
+                                  text=True)
 
         found = find()
         if found.returncode and shutil.which("rt"):
             subprocess.run([launcher, "build"], env=plain, stdout=subprocess.DEVNULL)
             found = find()
         if found.returncode:
-            raise Fault(4, (found.stderr.strip().splitlines() or ["there is no program"])[-1].replace("lambda_local: ", ""))
+            raise Fault(
+                4, (found.stderr.strip().splitlines() or ["there is no program"])[-1].replace("lambda_local: ", ""))
         return found.stdout.rstrip("\n")
 
     def _what_proved(self, path):
@@ -94,7 +98,8 @@ class Source:
     @staticmethod
     def _try(path):
         """Without this machine's settings, as its users will start it."""
-        got = subprocess.run([path], input=read(TRIAL), stdout=subprocess.PIPE, stderr=subprocess.DEVNULL, env={}, cwd="/").stdout
+        got = subprocess.run([path], input=read(TRIAL), stdout=subprocess.PIPE, stderr=subprocess.DEVNULL, env={},
+                             cwd="/").stdout
         if got != read(ANSWER):
             raise Fault(1, f"the program does not answer {TRIAL} as it should")
 

@@ -1,5 +1,5 @@
-"""A wheel for pip: the command `lambda_local`, the pytest plugin by its entry point, the program and the bundled runtimes.
-The form is that of "Binary distribution format" and "Core metadata specifications" (packaging.python.org)."""
+"""A wheel for pip: the command `lambda_local`, the pytest plugin by its entry point, the program and the bundled
+runtimes. The form is that of "Binary distribution format" and "Core metadata specifications" (packaging.python.org)."""
 import base64
 import hashlib
 import io
@@ -42,7 +42,8 @@ def contents(source):
     info = f"lambda_local-{source.version}.dist-info"
     readme = source.files["README.md"][1].decode()
     files = {f"lambda_local/{name}": file for name, file in source.below("tools/lambda_local").items()}
-    files.update({f"lambda_local/examples/{name}": file for name, file in source.below("examples").items() if name.startswith("runtime.")})
+    files.update({f"lambda_local/examples/{name}": file for name,
+                  file in source.below("examples").items() if name.startswith("runtime.")})
     files["lambda_local/bin/lambda_local"] = (0o755, source.program)
     files["lambda_local/bin/lambda_local.proved"] = (0o644, source.proved)
     files[f"{info}/METADATA"] = (0o644, METADATA.format(version=source.version, readme=readme).encode())

@@ -2,7 +2,8 @@
 """A small emulator, shaped like AWS's Runtime Interface Emulator: one function named `function`, one port for callers,
 one for the Runtime API and the Extensions API. For tests of tools/conformance.
 
-usage: emulator.py INVOKE_PORT RUNTIME_PORT TIMEOUT [FAULT ..]     it writes a line once it listens, and runs until it is ended"""
+usage: emulator.py INVOKE_PORT RUNTIME_PORT TIMEOUT [FAULT ..]     it writes a line once it listens, and runs until it
+is ended"""
 import asyncio
 import json
 import re
@@ -46,8 +47,8 @@ async def serve(life, routes, reader, writer):
             body = await reader.readexactly(int(headers.get("content-length", 0)))
             reply = routes(life, method, path, headers, body)
             reply = await reply if asyncio.isfuture(reply) else reply
-            lines = [f"HTTP/1.1 {reply.status} Status", f"Content-Length: {len(reply.body)}", "Content-Type: application/json",
-                     *(f"{name}: {value}" for name, value in reply.headers.items())]
+            lines = [f"HTTP/1.1 {reply.status} Status", f"Content-Length: {len(reply.body)}",
+                     "Content-Type: application/json", *(f"{name}: {value}" for name, value in reply.headers.items())]
             writer.write("\r\n".join(lines).encode() + b"\r\n\r\n" + reply.body)
             await writer.drain()
     except (asyncio.IncompleteReadError, ConnectionError):

@@ -1,7 +1,7 @@
 """One execution environment, as docs/semantics.md tells it, with faults that can be planted: each is a flag.
 
-It is written apart from the definitions, in some other words of its own, and answers with futures: a poll, or an Invoke,
-that waits has one without a result."""
+It is written apart from the definitions, in some other words of its own, and answers with futures: a poll, or an
+Invoke, that waits has one without a result."""
 import asyncio
 import json
 import os
@@ -92,7 +92,8 @@ class Life:
         self.phase, self.invocation, self.answered = "busy", invocation, False
         self._clock(self.timeout, self._timed_out)
         headers = {"Lambda_Runtime_Aws_Request_Id": invocation.id, "Lambda_Runtime_Deadline_Ms": self.deadline,
-                   "Lambda_Runtime_Invoked_Function_Arn": ARN, "Lambda_Runtime_Trace_Id": invocation.trace or f"Root={uuid.uuid4()}"}
+                   "Lambda_Runtime_Invoked_Function_Arn": ARN,
+                   "Lambda_Runtime_Trace_Id": invocation.trace or f"Root={uuid.uuid4()}"}
         if "drops-deadline" in self.faults:
             del headers["Lambda_Runtime_Deadline_Ms"]
         self._answer_poll(Reply(200, invocation.payload, **headers))
@@ -104,7 +105,8 @@ class Life:
     def _timed_out(self):
         self.late = self.invocation.id
         if not self.answered:
-            self._fail({"errorType": "Sandbox.Timedout", "errorMessage": f"RequestId: {self.invocation.id} Error: Task timed out"})
+            self._fail({"errorType": "Sandbox.Timedout",
+                        "errorMessage": f"RequestId: {self.invocation.id} Error: Task timed out"})
         self._close("timeout")
 
     def _init_is_over(self):
@@ -139,7 +141,8 @@ class Life:
 
     def _tell_end(self, one):
         one.told = True
-        self._answer_extension(one, {"eventType": "SHUTDOWN", "deadlineMs": self.deadline, "shutdownReason": self.reason})
+        self._answer_extension(one,
+                               {"eventType": "SHUTDOWN", "deadlineMs": self.deadline, "shutdownReason": self.reason})
 
     def _look_at_end(self):
         if all(one.ended for one in self.extensions.values() if self._is_for_shutdown(one)):
@@ -176,7 +179,8 @@ class Life:
         elif "queues-invokes" in self.faults:
             self.queue.append(invocation)
         else:
-            return Reply(429, {"Reason": "ConcurrentInvocationLimitExceeded", "Type": "User", "message": "Rate Exceeded."},
+            return Reply(429, {"Reason": "ConcurrentInvocationLimitExceeded", "Type": "User",
+                               "message": "Rate Exceeded."},
                          x_amzn_ErrorType="TooManyRequestsException")
         return invocation.caller
 
@@ -212,7 +216,8 @@ class Life:
         if len(body) > LIMIT and "breaks-down" in self.faults:
             os._exit(1)
         if len(body) > LIMIT:
-            self._tell_caller(b'{"errorType":"Function.ResponseSizeTooLarge","errorMessage":"Response payload size exceeded"}', True)
+            self._tell_caller(
+                b'{"errorType":"Function.ResponseSizeTooLarge","errorMessage":"Response payload size exceeded"}', True)
         else:
             self._tell_caller(body, failed)
         self.answered = True
@@ -237,7 +242,8 @@ class Life:
         self.extensions[identifier] = Extension(name, events)
         self._contact()
         told = {"functionName": "test_function", "functionVersion": "$LATEST", "handler": "app.run"}
-        return Reply(200, {**told, **({"accountId": "012345678912"} if wants_account else {})}, Lambda_Extension_Identifier=identifier)
+        return Reply(200, {**told, **({"accountId": "012345678912"} if wants_account else {})},
+                     Lambda_Extension_Identifier=identifier)
 
     def ext_next(self, identifier):
         one = self._extension(identifier)

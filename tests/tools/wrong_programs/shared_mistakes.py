@@ -30,8 +30,8 @@ class DiesWithItsConnection:
 
 
 def is_scenario(name):
-    """Whether it is started for this scenario. (What takes too long by itself does so in one scenario: on a busy machine
-    it would be too long in others too.)"""
+    """Whether it is started for this scenario. (What takes too long by itself does so in one scenario: on a busy
+    machine it would be too long in others too.)"""
     return os.environ["AWS_LAMBDA_FUNCTION_NAME"] == name
 
 

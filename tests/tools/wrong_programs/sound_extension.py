@@ -46,7 +46,8 @@ class Extension(Client):
         return ["INVOKE", "SHUTDOWN"]
 
     def register(self):
-        answer, _ = self.ask("POST", PATH + "register", {"events": self.events()}, {"Lambda-Extension-Name": self.name()})
+        answer, _ = self.ask("POST", PATH + "register", {"events": self.events()},
+                             {"Lambda-Extension-Name": self.name()})
         self.identifier = answer.headers["Lambda-Extension-Identifier"]
 
     def initialize(self):

@@ -92,7 +92,8 @@ class Runtime(Client):
 
     def stream(self, request, parts):
         answer, _ = self.ask("POST", f"invocation/{request}/response", (part.encode() for part in parts),
-                             {"Lambda-Runtime-Function-Response-Mode": "streaming", "Transfer-Encoding": "chunked"}, chunked=True)
+                             {"Lambda-Runtime-Function-Response-Mode": "streaming", "Transfer-Encoding": "chunked"},
+                             chunked=True)
         self.sent(answer, request, parts)
 
     def sent(self, answer, request, output):
@@ -104,11 +105,13 @@ class Runtime(Client):
         return json.dumps(output, ensure_ascii=False).encode()
 
     def fails(self, request, fault):
-        answer, _ = self.ask("POST", f"invocation/{request}/error", self.dump(self.report(fault)), self.error_headers(fault))
+        answer, _ = self.ask("POST", f"invocation/{request}/error", self.dump(self.report(fault)),
+                             self.error_headers(fault))
         self.sent(answer, request, fault)
 
     def report(self, fault):
-        return {"errorMessage": str(fault), "errorType": type(fault).__name__, "stackTrace": traceback.format_tb(fault.__traceback__)}
+        return {"errorMessage": str(fault), "errorType": type(fault).__name__,
+                "stackTrace": traceback.format_tb(fault.__traceback__)}
 
     def error_headers(self, fault):
         return {"Lambda-Runtime-Function-Error-Type": f"Runtime.{type(fault).__name__}"}

@@ -1,5 +1,5 @@
-"""Runtimes with one mistake each in what they read, hand to the handler, or send. A class is named after its mistake, and
-`check` is the check that catches it."""
+"""Runtimes with one mistake each in what they read, hand to the handler, or send. A class is named after its mistake,
+and `check` is the check that catches it."""
 import io
 import json
 import os
@@ -189,7 +189,8 @@ class NeverRenewsTheTraceId(Runtime):
     check = "trace_renewed"
 
     def call(self, event, headers):
-        headers.replace_header("Lambda-Runtime-Trace-Id", os.environ.get("_X_AMZN_TRACE_ID") or headers["Lambda-Runtime-Trace-Id"])
+        headers.replace_header("Lambda-Runtime-Trace-Id",
+                               os.environ.get("_X_AMZN_TRACE_ID") or headers["Lambda-Runtime-Trace-Id"])
         return super().call(event, headers)
 
 

@@ -1,5 +1,5 @@
-"""Runtimes with one mistake each in when they begin, ask, respond or end. A class is named after its mistake, and `check`
-is the check that catches it, or that notes it if `noted`."""
+"""Runtimes with one mistake each in when they begin, ask, respond or end. A class is named after its mistake, and
+`check` is the check that catches it, or that notes it if `noted`."""
 import atexit
 import http.client
 import json

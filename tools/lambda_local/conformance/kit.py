@@ -71,7 +71,8 @@ def chosen(registry, only):
     """The scenarios of which a name of `only` is the name, or that of a check; all if there is none."""
     if not only:
         return list(registry)
-    return [scenario for scenario in registry if scenario.name in only or any(check.name in only for check in scenario.checks)]
+    return [scenario for scenario in registry if scenario.name in only
+            or any(check.name in only for check in scenario.checks)]
 
 
 def names_of(registry):
@@ -93,11 +94,13 @@ def run(scenario, open_stage):
         if scenario.settings.get("drawn", True) and any(outcome == FAIL for outcome, _ in jury.verdicts.values()):
             history, acts = stage.history(), tuple(stage.acts())
     seconds = time.monotonic() - begun
-    return [Verdict(check, scenario.name, *jury.verdicts[check.name], seconds, history, acts) for check in scenario.checks]
+    return [Verdict(check, scenario.name, *jury.verdicts[check.name], seconds, history, acts)
+            for check in scenario.checks]
 
 
 def run_all(scenarios, open_stage, at_once):
-    """The verdicts of each scenario as a list, in the order of the scenarios, each as soon as it and those before it are there."""
+    """The verdicts of each scenario as a list, in the order of the scenarios, each as soon as it and those before it
+    are there."""
     pool = concurrent.futures.ThreadPoolExecutor(at_once)
     # (the longest first, so that none of them begins last)
     order = sorted(scenarios, key=lambda scenario: -scenario.settings.get("lasts", 0))

@@ -16,11 +16,13 @@ class Page(NamedTuple):
 
 
 def _runtime_api(part):
-    return Page("Lambda Developer Guide, Using the Lambda runtime API for custom runtimes", part, f"{GUIDE}runtimes-api.html")
+    return Page("Lambda Developer Guide, Using the Lambda runtime API for custom runtimes", part,
+                f"{GUIDE}runtimes-api.html")
 
 
 def _custom(part):
-    return Page("Lambda Developer Guide, Building a custom runtime for AWS Lambda", part, f"{GUIDE}runtimes-custom.html")
+    return Page("Lambda Developer Guide, Building a custom runtime for AWS Lambda", part,
+                f"{GUIDE}runtimes-custom.html")
 
 
 def _life(part):

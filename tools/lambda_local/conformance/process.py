@@ -30,8 +30,8 @@ def variables_of(configuration, function, port, number, more):
         "AWS_LAMBDA_RUNTIME_API": f"127.0.0.1:{port}", "_HANDLER": function["handler"], "LAMBDA_TASK_ROOT": os.getcwd(),
         "AWS_LAMBDA_FUNCTION_NAME": function["name"], "AWS_LAMBDA_FUNCTION_VERSION": "$LATEST",
         "AWS_LAMBDA_FUNCTION_MEMORY_SIZE": "128", "AWS_LAMBDA_INITIALIZATION_TYPE": "on-demand",
-        "AWS_LAMBDA_LOG_GROUP_NAME": f"/aws/lambda/{function['name']}", "AWS_LAMBDA_LOG_STREAM_NAME": f"local/[$LATEST]{number}",
-        **more}
+        "AWS_LAMBDA_LOG_GROUP_NAME": f"/aws/lambda/{function['name']}",
+        "AWS_LAMBDA_LOG_STREAM_NAME": f"local/[$LATEST]{number}", **more}
 
 
 class Processes:

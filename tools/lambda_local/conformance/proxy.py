@@ -1,6 +1,6 @@
 """Stands between a runtime or an extension and an environment's port: forwards bytes as they come, and how each of the
-two ends the connection, and records each request with its reply and their times. A rule may answer in the service's place,
-or close the connection after a reply.
+two ends the connection, and records each request with its reply and their times. A rule may answer in the service's
+place, or close the connection after a reply.
 
     proxy = Proxy(port)                                      # listens at 127.0.0.1:proxy.port
     proxy.rule = Rule("response", reply=(500, b"{}"))        # of the next response, once
@@ -178,9 +178,9 @@ class Proxy:
 
 
 class Link:
-    """One connection of the client and, from its first request on, one to the service. How one of the two ends its side,
-    or resets the connection, is passed on to the other: a service that answers before the request is whole ends its own
-    side and may read on (RFC 9112, section 9.6)."""
+    """One connection of the client and, from its first request on, one to the service. How one of the two ends its
+    side, or resets the connection, is passed on to the other: a service that answers before the request is whole ends
+    its own side and may read on (RFC 9112, section 9.6)."""
 
     def __init__(self, proxy, client, number, peer, sources):
         self.proxy, self.client, self.number, self.peer, self.sources = proxy, client, number, peer, sources

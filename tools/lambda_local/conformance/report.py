@@ -36,7 +36,8 @@ class Report:
             try:
                 os.makedirs(self.pictures, exist_ok=True)
             except OSError as fault:
-                raise Fault(2, f"--pictures {self.pictures}: {fault.strerror}: name a folder that can be written") from None
+                raise Fault(2, f"--pictures {self.pictures}: {fault.strerror}: name a folder that can be "
+                               f"written") from None
 
     def add(self, verdict):
         self.counts[verdict.outcome] += 1
@@ -73,7 +74,8 @@ class Report:
         self.suite.seconds = seconds
         if CLOCK.stretch() > 1.5:
             self.write(f"(this machine is busy with other things: limits were {CLOCK.stretch():.1f} times as long)")
-        self.write(f"{self.counts[PASS]} passed, {self.counts[FAIL]} failed, {self.counts[NOTE]} noted in {seconds:.1f} s")
+        self.write(
+            f"{self.counts[PASS]} passed, {self.counts[FAIL]} failed, {self.counts[NOTE]} noted in {seconds:.1f} s")
         if self.junit_path:
             self.suite.write(self.junit_path)
         return 1 if self.counts[FAIL] else 0

@@ -25,11 +25,15 @@ class Parser(argparse.ArgumentParser):
 def parser_of(name, description, options):
     parser = parser_of_tool(f"conformance {name}", description, f"{options} -- COMMAND ..", Parser)
     parser.add_argument("--init-seconds", metavar="S", type=seconds, default=10, help="how long an Init may take (10)")
-    parser.add_argument("--only", metavar="NAME", action="append", default=[], help="a scenario or a check; may stand several times")
-    parser.add_argument("--list", action="store_true", help="list the scenarios and checks, each with its page, and start nothing")
+    parser.add_argument("--only", metavar="NAME", action="append", default=[],
+                        help="a scenario or a check; may stand several times")
+    parser.add_argument("--list", action="store_true",
+                        help="list the scenarios and checks, each with its page, and start nothing")
     parser.add_argument("--junit", metavar="FILE", help="write the verdicts there as JUnit XML")
-    parser.add_argument("--pictures", metavar="DIR", help="draw the timeline of each scenario with a FAIL there, as SVG")
-    parser.add_argument("--program", metavar="P", help="the service (default: LAMBDA_LOCAL_PROGRAM, else the repository's ./lambda_local)")
+    parser.add_argument("--pictures", metavar="DIR",
+                        help="draw the timeline of each scenario with a FAIL there, as SVG")
+    parser.add_argument("--program", metavar="P",
+                        help="the service (default: LAMBDA_LOCAL_PROGRAM, else the repository's ./lambda_local)")
     return parser
 
 
@@ -105,6 +109,7 @@ def play(name, registry, options, command, rehearse, title, stage=Stage):
 
 
 def at_once():
-    """How many scenarios run beside one another: most of them wait most of the time, but for those of a busy machine."""
+    """How many scenarios run beside one another: most of them wait most of the time, but for those of a busy
+    machine."""
     processors = os.cpu_count() or 1
     return max(4, processors, round(3 * processors / CLOCK.slowness()))

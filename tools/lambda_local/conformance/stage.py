@@ -80,7 +80,8 @@ class Environment:
     def start(self):
         """Starts the command anew, as Lambda starts an environment."""
         stage = self.stage
-        variables = variables_of(stage.service.configuration, stage.function, self.proxy.port, self.number, stage.variables)
+        variables = variables_of(stage.service.configuration, stage.function, self.proxy.port, self.number,
+                                 stage.variables)
         self.process = stage.tools.processes.start(stage.tools.command, variables)
         return self.process
 
@@ -123,21 +124,23 @@ class Environment:
 class Stage:
     """Opened for one scenario, and ended with it in any case."""
 
-    def __init__(self, tools, scenario, jury, environments=1, timeout=30, handler=KITS_HANDLER, start=True, extensions=(),
-                 lasts=0, drawn=True, variables=None):
+    def __init__(self, tools, scenario, jury, environments=1, timeout=30, handler=KITS_HANDLER, start=True,
+                 extensions=(), lasts=0, drawn=True, variables=None):
         self.tools, self.scenario, self.jury, self.variables = tools, scenario, jury, variables or {}
         # (the service's clock is the real one: on a busy machine a function has more of it)
         self.timeout = timeout = math.ceil(timeout * CLOCK.slowness())
         self.patience = tools.options.init_seconds + PATIENCE
         self.name = scenario.name
-        function = {"name": self.name, "handler": handler, "timeout": timeout, "ports": [0] * environments, "extensions": list(extensions)}
+        function = {"name": self.name, "handler": handler, "timeout": timeout, "ports": [0] * environments,
+                    "extensions": list(extensions)}
         configuration = {"account": ACCOUNT, "region": REGION, "salt": int(time.time()), "functions": [function]}
         self.service = Service(configuration, tools.program)
         self.function = self.service.configuration["functions"][0]
         self.arn = f"arn:aws:lambda:{REGION}:{ACCOUNT}:function:{self.name}"
         self.environments = [Environment(self, number, port) for number, port in enumerate(self.function["ports"], 1)]
         self.environment = self.environments[0]
-        self._callers, self._asking = concurrent.futures.ThreadPoolExecutor(16), concurrent.futures.ThreadPoolExecutor(16)
+        self._callers, self._asking = concurrent.futures.ThreadPoolExecutor(16), concurrent.futures.ThreadPoolExecutor(
+            16)
         try:
             if start:
                 for environment in self.environments:
@@ -147,8 +150,8 @@ class Stage:
             raise
 
     def prepare(self):
-        """Waits for the first Next of each process, since the service's limit for an Init is not what most scenarios are about.
-        (One whose Init cannot succeed has another handler.)"""
+        """Waits for the first Next of each process, since the service's limit for an Init is not what most scenarios
+        are about. (One whose Init cannot succeed has another handler.)"""
         if self.function["handler"] != KITS_HANDLER:
             return
         for environment in self.environments:
@@ -206,8 +209,10 @@ class Stage:
             time.sleep(0.05)
 
     def _received(self, path, body, headers):
-        """What the caller receives; Missing if the tested process ends without an answer, as Lambda would notice too."""
-        waiting = self._asking.submit(ask, self.service.port, "POST", path, body, headers, self.timeout + self.patience + ANSWERED_WITHIN)
+        """What the caller receives; Missing if the tested process ends without an answer, as Lambda would notice
+        too."""
+        waiting = self._asking.submit(ask, self.service.port, "POST", path, body, headers,
+                                      self.timeout + self.patience + ANSWERED_WITHIN)
         while not waiting.done():
             concurrent.futures.wait([waiting], 0.1)
             if all(environment.process and environment.process.ended for environment in self.environments):

@@ -1,5 +1,5 @@
-"""The Function URL and the HTTP routes of a function, as UP.json has them: of SAM's FunctionUrlConfig and Events, and of url
-and events of Serverless."""
+"""The Function URL and the HTTP routes of a function, as UP.json has them: of SAM's FunctionUrlConfig and Events, and
+of url and events of Serverless."""
 from ..front import settings
 from ..front.routes import DEFAULT, Route, WrongRoute
 from .telling import shown
@@ -12,7 +12,8 @@ REST = "is of a REST API: its events have payload format 1.0 there, and 2.0 here
 
 
 def cors_of(given, where, scope, tell):
-    """The member `cors` of a Cors in one of its forms; none if it allows no site. What it says and is not taken is told."""
+    """The member `cors` of a Cors in one of its forms; none if it allows no site. What it says and is not taken is
+    told."""
     try:
         given, placeholders = scope.known(given)
     except Unknown as reason:
@@ -66,7 +67,8 @@ class Addresses:
         if isinstance(given, dict):
             return self.url_of(given)
         given = self.value("url")
-        return url_with(cors_of(given.get("cors"), "its URL", self.scope, self.tell)) if isinstance(given, dict) else given is True or None
+        return url_with(cors_of(given.get("cors"), "its URL", self.scope,
+                                self.tell)) if isinstance(given, dict) else given is True or None
 
     def url_of(self, given):
         """By the members that FunctionUrlConfig and AWS::Lambda::Url have in common."""
@@ -138,8 +140,8 @@ class Addresses:
 
 
 def routes_of(functions, tell):
-    """The member `routes` of UP.json, and the HTTP APIs that they are of; takes the routes out of the functions. Of two that
-    take the same requests the first counts."""
+    """The member `routes` of UP.json, and the HTTP APIs that they are of; takes the routes out of the functions. Of two
+    that take the same requests the first counts."""
     found, shapes, apis = {}, {}, {}
     for made in functions:
         for key, api in made.pop("routes", {}).items():

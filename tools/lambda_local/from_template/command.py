@@ -4,15 +4,15 @@
   tools/from_template cdk.out/Stack.template.json -o up.json    what `cdk synth` writes
   tools/from_template serverless.yml -o up.json
 
-Each function has one environment, or as many as it reserves, up to ten. What runs it is the client of its Runtime if that
-is installed, else for Python and Node the runtime that comes with tools/up. Parameters count by their defaults; a
+Each function has one environment, or as many as it reserves, up to ten. What runs it is the client of its Runtime if
+that is installed, else for Python and Node the runtime that comes with tools/up. Parameters count by their defaults; a
 reference to a resource is a placeholder, which is told: so functions run, and you write into UP.json what they need.
-`directory` is the function's code, or the template's own folder if there is none, as it is seen from UP.json: so UP.json
-may stand anywhere, and tools/up be started from anywhere, as long as both stay where they are. Without -o it goes to
-standard output; if that is no file, folders are written from the root.
+`directory` is the function's code, or the template's own folder if there is none, as it is seen from UP.json: so
+UP.json may stand anywhere, and tools/up be started from anywhere, as long as both stay where they are. Without -o it
+goes to standard output; if that is no file, folders are written from the root.
 YAML needs a reader: pip install pyyaml.
-Exit statuses: 0; 2 for a template that cannot be read, or has no function; 4 without the reader, or if UP.json cannot be
-written."""
+Exit statuses: 0; 2 for a template that cannot be read, or has no function; 4 without the reader, or if UP.json cannot
+be written."""
 import argparse
 import json
 import os
@@ -30,7 +30,8 @@ from .values import REGION
 
 
 def stack_of(path):
-    """What a stack of this template would be called: by its file, or by its folder if the file is just called template."""
+    """What a stack of this template would be called: by its file, or by its folder if the file is just called
+    template."""
     stem = os.path.basename(path).split(".")[0]
     if stem in ("template", "serverless", ""):
         stem = os.path.basename(os.path.dirname(os.path.abspath(path)))
@@ -57,8 +58,8 @@ def up_of(path):
     routes, used = routes_of(functions, tell)
     shared, apis = apis_of(whole, scope) if is_of_resources else ({}, serverless.http_apis(scope))
     api = api_of(used, shared, apis, scope)
-    return {**({"region": region} if is_other else {}), **({"routes": routes} if routes else {}), **({"api": api} if api else {}),
-            "functions": functions}
+    return {**({"region": region} if is_other else {}), **({"routes": routes} if routes else {}),
+            **({"api": api} if api else {}), "functions": functions}
 
 
 def place(functions, template, folder):
@@ -93,7 +94,8 @@ def write(text, output):
 
 
 def main():
-    parser = argparse.ArgumentParser(prog="tools/from_template", description=__doc__, formatter_class=argparse.RawDescriptionHelpFormatter)
+    parser = argparse.ArgumentParser(prog="tools/from_template", description=__doc__,
+                                     formatter_class=argparse.RawDescriptionHelpFormatter)
     parser.add_argument("template", metavar="TEMPLATE")
     parser.add_argument("-o", metavar="UP.json", dest="output", help="write there (standard output)")
     options = parser.parse_args()
@@ -102,7 +104,8 @@ def main():
     except Fault as fault:
         tell(fault)
         return 2
-    place(up["functions"], options.template, os.path.dirname(os.path.abspath(options.output)) if options.output else folder_of_output())
+    place(up["functions"], options.template,
+          os.path.dirname(os.path.abspath(options.output)) if options.output else folder_of_output())
     try:
         write(json.dumps(up, indent=2) + "\n", options.output)
     except OSError as fault:

@@ -1,5 +1,5 @@
-"""A function's part of UP.json, made of its properties by the names that CloudFormation gives them. What cannot be taken
-is told and left out: never is a whole template refused for one function."""
+"""A function's part of UP.json, made of its properties by the names that CloudFormation gives them. What cannot be
+taken is told and left out: never is a whole template refused for one function."""
 import importlib.util
 import os
 import re
@@ -9,8 +9,8 @@ from . import addresses
 from .telling import shown, tell
 from .values import NO_VALUE, Unknown, is_scalar, text_of
 
-READ = {"FunctionName", "Handler", "Timeout", "ReservedConcurrentExecutions", "Environment", "Runtime", "CodeUri", "Code", "InlineCode",
-        "MemorySize",
+READ = {"FunctionName", "Handler", "Timeout", "ReservedConcurrentExecutions", "Environment", "Runtime", "CodeUri",
+        "Code", "InlineCode", "MemorySize",
         "PackageType", "ImageUri", "ImageConfig", *addresses.READ}
 MOST_ENVIRONMENTS = 10  # of a function that reserves more: each is a process
 MOST_IN_ALL, MOST_FUNCTIONS = 256, 64  # of a service
@@ -114,7 +114,8 @@ class Maker:
         self.put("reserved", reserved)
         self.made["environments"] = max(1, reserved or 0)
         if self.made["environments"] > MOST_ENVIRONMENTS:
-            self.tell(f"has {MOST_ENVIRONMENTS} environments, each a process, and reserves as many: its reservation is {reserved} "
+            self.tell(f"has {MOST_ENVIRONMENTS} environments, each a process, and reserves as many: its reservation is "
+                      f"{reserved} "
                       "(write more \"environments\" if your tests need them)")
             self.made["environments"] = self.made["reserved"] = MOST_ENVIRONMENTS
 
@@ -140,7 +141,8 @@ class Maker:
                 self.tell(f"leaves out the variable {name}: {reason}")
                 continue
             if placeholders:
-                self.tell(f"the variable {name} is {shown(found[str(name)])}, a placeholder for {' and '.join(placeholders)}: "
+                self.tell(f"the variable {name} is {shown(found[str(name)])}, a placeholder for "
+                          f"{' and '.join(placeholders)}: "
                           "write its value into UP.json if the handler needs it")
         if found:
             self.made["variables"] = found
@@ -177,9 +179,11 @@ class Maker:
     def command(self):
         """What starts its runtime; none if that cannot be known, and then the user starts it."""
         if self.is_image():
-            return self.tell("has no command, since its code is an image: write one, such as docker run (docs/your_function.md has it)")
+            return self.tell("has no command, since its code is an image: write one, such as docker run "
+                             "(docs/your_function.md has it)")
         if self.is_inline():
-            return self.tell("has no command, since its code stands in the template: write it into a file of its folder, and give it a "
+            return self.tell("has no command, since its code stands in the template: write it into a file of its "
+                             "folder, and give it a "
                              "\"command\" or a \"runtime\"")
         runtime, handler = self.known("Runtime"), self.made.get("handler", "index.handler")
         runtime = runtime if isinstance(runtime, str) else ""
@@ -197,9 +201,11 @@ class Maker:
             self.made["command"] = ["./bootstrap"]
             at = os.path.join(self.base, self.made.get("directory", ""))
             if os.path.isdir(at) and not os.path.isfile(os.path.join(at, "bootstrap")):
-                self.tell(f"there is no {os.path.normpath(os.path.join(at, 'bootstrap'))} yet: build it before tools/up is started")
+                self.tell(f"there is no {os.path.normpath(os.path.join(at, 'bootstrap'))} yet: build it before "
+                          f"tools/up is started")
         else:
-            self.tell(f"has no command, since none is known for the runtime {runtime or '(none)'}: write one, or start it yourself")
+            self.tell(f"has no command, since none is known for the runtime {runtime or '(none)'}: write one, or start "
+                      f"it yourself")
 
     def has_client(self, name):
         """Whether a package of npm is on the path, or installed for the function or above it."""

@@ -6,7 +6,8 @@ from .addresses import OF_SERVERLESS
 from .telling import shown, tell
 from .values import ACCOUNT, REGION, Scope, Unknown, is_scalar, members_of, text_of
 
-PROPERTIES = {"name": "FunctionName", "handler": "Handler", "timeout": "Timeout", "reservedConcurrency": "ReservedConcurrentExecutions",
+PROPERTIES = {"name": "FunctionName", "handler": "Handler", "timeout": "Timeout",
+              "reservedConcurrency": "ReservedConcurrentExecutions",
               "runtime": "Runtime", "memorySize": "MemorySize", "image": "ImageUri"}
 SHARED = ("timeout", "runtime", "memorySize")  # of `provider`, for all functions
 DEFAULTS = {"Timeout": 6, "MemorySize": 1024}  # the Serverless Framework's own
@@ -23,7 +24,8 @@ def logical_id(key):
 
 
 class ServerlessScope(Scope):
-    """Also knows `${self:..}`, `${opt:..}`, `${sls:..}`, `${env:..}`, `${param:..}` and `${aws:..}`, with their defaults."""
+    """Also knows `${self:..}`, `${opt:..}`, `${sls:..}`, `${env:..}`, `${param:..}` and `${aws:..}`, with their
+    defaults."""
 
     def __init__(self, whole, stack):
         self.provider = {"stage": "dev", "region": REGION, **members_of(whole, "provider")}
@@ -42,7 +44,8 @@ class ServerlessScope(Scope):
         return text_of(value) if is_scalar(value) and not placeholders else otherwise
 
     def text(self, text):
-        """A text with its variables replaced, the innermost first; one that is a single variable is what that stands for."""
+        """A text with its variables replaced, the innermost first; one that is a single variable is what that stands
+        for."""
         for _ in range(MOST_STEPS):
             found = INNERMOST.search(text)
             if found is None:
@@ -74,7 +77,8 @@ class ServerlessScope(Scope):
         return own or super().ref(name)
 
     def get_att(self, argument):
-        key = next((key for key in self.functions if argument in (f"{logical_id(key)}.Arn", [logical_id(key), "Arn"])), None)
+        key = next((key for key in self.functions if argument in (f"{logical_id(key)}.Arn", [logical_id(key), "Arn"])),
+                   None)
         return super().get_att([key, "Arn"] if key else argument)
 
     def source(self, source):
@@ -93,7 +97,8 @@ class ServerlessScope(Scope):
         if kind == "param":
             params = members_of(self.whole, "params")
             return {**members_of(params, "default"), **members_of(params, self.stage)}[address]
-        known = {"sls:stage": self.stage, "aws:region": self.region, "aws:accountId": ACCOUNT, "sls:instanceId": "local"}
+        known = {"sls:stage": self.stage, "aws:region": self.region, "aws:accountId": ACCOUNT,
+                 "sls:instanceId": "local"}
         return known[source.replace(" ", "")]
 
     def walk(self, part, address):

@@ -7,9 +7,12 @@ from typing import NamedTuple, Tuple
 ACCOUNT, REGION = "123456789012", "us-east-1"  # those of tools/up
 NO_VALUE = object()  # what AWS::NoValue stands for: the property is not there
 IN_TEXT = re.compile(r"\$\{(!?)([^${}]*)\}")  # of Fn::Sub
-NAMED_BY = {"AWS::DynamoDB::Table": "TableName", "AWS::Serverless::SimpleTable": "TableName", "AWS::S3::Bucket": "BucketName"}
-FUNCTIONS = {"Ref": "ref", "Fn::GetAtt": "get_att", "Fn::Join": "join", "Fn::Sub": "sub", "Fn::Select": "select", "Fn::Split": "split",
-             "Fn::FindInMap": "find_in_map", "Fn::ImportValue": "import_value", "Fn::If": "choose"}  # and the methods that work them out
+NAMED_BY = {"AWS::DynamoDB::Table": "TableName", "AWS::Serverless::SimpleTable": "TableName",
+            "AWS::S3::Bucket": "BucketName"}
+FUNCTIONS = {"Ref": "ref", "Fn::GetAtt": "get_att", "Fn::Join": "join", "Fn::Sub": "sub", "Fn::Select": "select",
+             "Fn::Split": "split",
+             # and the methods that work them out
+             "Fn::FindInMap": "find_in_map", "Fn::ImportValue": "import_value", "Fn::If": "choose"}
 DEEPEST, MOST_STEPS = 50, 10_000  # of one expression
 
 
@@ -51,7 +54,8 @@ class Scope:
         self.mappings, self.resources = members_of(template, "Mappings"), members_of(template, "Resources")
         self.functions, self.placeholders, self.depth, self.steps = {}, [], 0, 0
         self.pseudo = {
-            "AWS::AccountId": ACCOUNT, "AWS::Region": region, "AWS::Partition": "aws", "AWS::URLSuffix": "amazonaws.com",
+            "AWS::AccountId": ACCOUNT, "AWS::Region": region, "AWS::Partition": "aws",
+            "AWS::URLSuffix": "amazonaws.com",
             "AWS::StackName": stack, "AWS::NotificationARNs": [], "AWS::NoValue": NO_VALUE,
             "AWS::StackId": f"arn:aws:cloudformation:{region}:{ACCOUNT}:stack/{stack}/00000000-0000-0000-0000-000000000000"}
 

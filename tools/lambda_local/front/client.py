@@ -44,8 +44,8 @@ class Client:
 
     @contextlib.asynccontextmanager
     async def asking(self, method, target, headers, body=b"", pieces=None):
-        """The answer to a request whose body is there, or comes in pieces, while it is read. A request is never sent twice:
-        it could be an invocation."""
+        """The answer to a request whose body is there, or comes in pieces, while it is read. A request is never sent
+        twice: it could be an invocation."""
         wire = await self.connection()
         sending = answer = None
         try:

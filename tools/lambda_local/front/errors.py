@@ -20,7 +20,8 @@ def of_user(status, kind, message, identifier=None):
 
 
 def throttled(reason, identifier):
-    return refusal(429, "TooManyRequestsException", {"Reason": reason, "Type": "User", "message": "Rate Exceeded."}, identifier)
+    return refusal(429, "TooManyRequestsException", {"Reason": reason, "Type": "User", "message": "Rate Exceeded."},
+                   identifier)
 
 
 STOPPED = {"Message": "Service is stopped", "Type": "Service"}

@@ -27,7 +27,8 @@ def listener_at(port, owner, path):
         except OSError:
             made.close()
             if port or not left:
-                raise Fault(4, f"{path}: port {wanted} ({owner}): another program listens there: leave the port out, and a free "
+                raise Fault(4, f"{path}: port {wanted} ({owner}): another program listens there: leave the port out, "
+                               f"and a free "
                                "one is used") from None
 
 
@@ -91,7 +92,8 @@ class Front(threading.Thread):
         end = time.monotonic() + self.drain_seconds
         if not self.queue or not self.queue.count:
             return
-        self.log("up", f"{self.queue.count} events are left: waits up to {self.drain_seconds:g} s for them", kind="event")
+        self.log("up", f"{self.queue.count} events are left: waits up to {self.drain_seconds:g} s for them",
+                 kind="event")
         while self.queue.count and time.monotonic() < end and not is_over():
             time.sleep(0.01)
 

@@ -86,7 +86,8 @@ class Gateway:
         return message(413, "Request Entity Too Large") if status == 413 else self.broken()
 
     def say(self, function, request, text):
-        self.log(function, f"{request.method} {request.path[:200]}: {text}", level="error", kind="http", function=function)
+        self.log(function, f"{request.method} {request.path[:200]}: {text}", level="error", kind="http",
+                 function=function)
 
     @staticmethod
     def broken():
@@ -112,7 +113,8 @@ class Api(Gateway):
         super().__init__(client, address, identifiers, log)
         self.routes, self.context = Routes(routes), {
             "accountId": configuration["account"], "apiId": "local",
-            "domainName": f"local.execute-api.{configuration['region']}.amazonaws.com", "domainPrefix": "local", "stage": "$default"}
+            "domainName": f"local.execute-api.{configuration['region']}.amazonaws.com", "domainPrefix": "local",
+            "stage": "$default"}
 
     def find(self, request):
         found = self.routes.find(request.method, request.path)

@@ -35,7 +35,8 @@ def event_of(request, body, context, parameters=None):
 
 
 def cookies_of(request):
-    found = [cookie.strip() for value in every(request.headers, "cookie") for cookie in value.split(";") if cookie.strip()]
+    found = [cookie.strip() for value in every(request.headers, "cookie") for cookie in value.split(";")
+             if cookie.strip()]
     return {"cookies": found} if found else {}
 
 

@@ -1,5 +1,5 @@
-"""The events that wait for their function, and what becomes of them (Developer Guide, "How Lambda handles errors and retries
-with asynchronous invocation")."""
+"""The events that wait for their function, and what becomes of them (Developer Guide, "How Lambda handles errors and
+retries with asynchronous invocation")."""
 import asyncio
 import contextlib
 from collections import deque
@@ -21,8 +21,8 @@ class Full(Exception):
 
 
 class Lane:
-    """The events of one function. At most `limit` of them run at once: as many as there are environments, until a throttle
-    shows that fewer can."""
+    """The events of one function. At most `limit` of them run at once: as many as there are environments, until a
+    throttle shows that fewer can."""
 
     def __init__(self, environments):
         self.ready, self.running = deque(), 0
@@ -127,11 +127,12 @@ class Queue:
             event.result = None
             self.failed(event, "has no outcome, since the service broke its connection off")
         elif status != 200:
-            self.say(event, f"is refused: {status} {body.decode(errors='replace')[:200]}", "error", "refused", invocation)
+            self.say(event, f"is refused: {status} {body.decode(errors='replace')[:200]}", "error", "refused",
+                     invocation)
             self.forget(event)
         elif first(headers, "x-amz-function-error") is None:
-            self.say(event, f"ok after {1000 * event.age:.0f} ms" + (f", attempt {event.attempts}" if event.attempts > 1 else ""),
-                     "ok", "ok", invocation)
+            self.say(event, f"ok after {1000 * event.age:.0f} ms"
+                     + (f", attempt {event.attempts}" if event.attempts > 1 else ""), "ok", "ok", invocation)
             self.forget(event)
         else:
             event.result = body
@@ -139,17 +140,19 @@ class Queue:
 
     def failed(self, event, what, invocation=None):
         if event.attempts > self.settings.retries:
-            return self.given_up(event, "RetriesExhausted", f"{what}, attempt {event.attempts} of {event.attempts}", invocation)
+            return self.given_up(event, "RetriesExhausted", f"{what}, attempt {event.attempts} of {event.attempts}",
+                                 invocation)
         delay = self.settings.delay(event.attempts)
-        self.say(event, f"{what}, attempt {event.attempts} of {self.settings.retries + 1}: again after {delay:g} s", "warning", "retry",
-                 invocation)
+        self.say(event, f"{what}, attempt {event.attempts} of {self.settings.retries + 1}: again after {delay:g} s",
+                 "warning", "retry", invocation)
         asyncio.get_running_loop().call_later(delay, self.enqueue, event)
 
     def given_up(self, event, condition, why, invocation=None):
         """The destination gets its record; a destination's own failure ends here."""
         destination = self.settings.on_failure
         goes_on = destination and event.function != destination
-        self.say(event, f"{why}: " + (f"its record goes to {destination}" if goes_on else "it is dropped"), "error", condition, invocation)
+        self.say(event, f"{why}: " + (f"its record goes to {destination}" if goes_on else "it is dropped"), "error",
+                 condition, invocation)
         self.forget(event)
         if goes_on:
             record = event.record(condition, f"{self.arn}{event.function}:$LATEST")
@@ -162,7 +165,8 @@ class Queue:
 
     def say(self, event, text, level, status, invocation=None):
         self.log(event.function, f"event {event.identifier} {text}", level=level, kind="event", function=event.function,
-                 request=event.identifier, status=status, attempts=event.attempts, age_ms=round(1000 * event.age), invocation=invocation)
+                 request=event.identifier, status=status, attempts=event.attempts, age_ms=round(1000 * event.age),
+                 invocation=invocation)
 
     # ---- the end -----------------------------------------------------------------------------------------------------
 

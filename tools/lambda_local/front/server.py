@@ -9,14 +9,17 @@ from .http import Malformed, Reply, first, rendered, request_of, words_of
 from .wire import Gone, Wire
 
 MOST_CONNECTIONS = 1024  # of one port; a further one is closed
-HEAD_SECONDS, IDLE_SECONDS = 20, 300  # without a byte: in a head or a body; between requests, or while an answer is not taken
-LINGER_BYTES, LINGER_SECONDS = 64 << 20, 2  # of a body that was not read to its end, so that its sender can read the answer
+# without a byte: in a head or a body; between requests, or while an answer is not taken
+HEAD_SECONDS, IDLE_SECONDS = 20, 300
+# of a body that was not read to its end, so that its sender can read the answer
+LINGER_BYTES, LINGER_SECONDS = 64 << 20, 2
 BETWEEN_LOOKS = 1.0
 
 
 def refusal(status, text):
     kind = http.HTTPStatus(status).phrase.title().replace(" ", "")
-    return Reply(status, [("Content-Type", "application/json")], json.dumps({"errorMessage": text, "errorType": kind}).encode())
+    return Reply(status, [("Content-Type", "application/json")],
+                 json.dumps({"errorMessage": text, "errorType": kind}).encode())
 
 
 class Server:
@@ -81,12 +84,14 @@ class Server:
                 return False
             reply = await self.handler(request)
             if request.body.is_here and not request.body.is_read:
-                await request.body.whole(request.body.length)  # (a refusal that needs no body: the connection can be kept)
+                # (a refusal that needs no body: the connection can be kept)
+                await request.body.whole(request.body.length)
             is_understood = True
         except Malformed as fault:
             reply = refusal(fault.status, str(fault))
             self.log("up", f"a request is answered {fault.status}: {fault}", level="error", kind="http")
-        keeps = is_understood and request.body.is_read and self.is_kept(request) and "close" not in words_of(reply.headers, "connection")
+        keeps = is_understood and request.body.is_read and self.is_kept(request) and "close" not in words_of(
+            reply.headers, "connection")
         wire.patience, wire.touched = IDLE_SECONDS, time.monotonic()
         keeps = await send(wire, request, reply, keeps)
         if request is not None and request.body.is_read:
@@ -154,7 +159,8 @@ async def send(wire, request, reply, keeps):
 
 
 async def send_pieces(wire, head, pieces, in_chunks):
-    """The first piece goes with the head. A body that breaks off breaks the connection off, so that its reader knows."""
+    """The first piece goes with the head. A body that breaks off breaks the connection off, so that its reader
+    knows."""
     try:
         async for piece in pieces:
             await wire.write(head + (b"%x\r\n%b\r\n" % (len(piece), piece) if in_chunks else piece))

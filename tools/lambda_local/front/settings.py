@@ -16,12 +16,15 @@ YES = Kind(lambda value: isinstance(value, bool), "true or false")
 TEXTS = Kind(is_list_of(is_text), "a list of texts")
 OF_ASYNCHRONOUS = {
     "retries": Kind(lambda value: is_whole(value, MOST_RETRIES + 1), "a whole number from 0 to 2"),
-    "delays": Kind(lambda value: is_list_of(is_seconds)(value) and value != [], "a list of seconds, each from 0 to 900"),
-    "maximumAge": Kind(lambda value: is_whole(value, OLDEST + 1) and value > 0, "a whole number of seconds, from 1 to 21600"),
+    "delays": Kind(lambda value: is_list_of(is_seconds)(value) and value != [],
+                   "a list of seconds, each from 0 to 900"),
+    "maximumAge": Kind(lambda value: is_whole(value, OLDEST + 1) and value > 0,
+                       "a whole number of seconds, from 1 to 21600"),
     "onFailure": Kind(is_text, "a text: the name of a function"),
 }
 OF_CORS = {
-    "allowCredentials": YES, "allowHeaders": TEXTS, "allowMethods": TEXTS, "allowOrigins": TEXTS, "exposeHeaders": TEXTS,
+    "allowCredentials": YES, "allowHeaders": TEXTS, "allowMethods": TEXTS, "allowOrigins": TEXTS,
+    "exposeHeaders": TEXTS,
     "maxAge": Kind(lambda value: is_whole(value, 86401), "a whole number of seconds, up to 86400"),
 }
 OBJECT = Kind(lambda value: isinstance(value, dict), "an object")
@@ -112,7 +115,8 @@ def mistakes_of_routes(routes, names):
 def cors_of(given):
     if given is None:
         return None
-    return Cors(tuple(given.get("allowOrigins", ())), tuple(given.get("allowMethods", ())), tuple(given.get("allowHeaders", ())),
+    return Cors(tuple(given.get("allowOrigins", ())), tuple(given.get("allowMethods", ())),
+                tuple(given.get("allowHeaders", ())),
                 tuple(given.get("exposeHeaders", ())), given.get("allowCredentials", False), given.get("maxAge"))
 
 
@@ -125,8 +129,8 @@ def asynchronous_of(given):
     if not given and given != {}:
         return None
     given = given if isinstance(given, dict) else {}
-    return Asynchronous(given.get("retries", MOST_RETRIES), tuple(given.get("delays", DELAYS)), given.get("maximumAge", OLDEST),
-                        given.get("onFailure"))
+    return Asynchronous(given.get("retries", MOST_RETRIES), tuple(given.get("delays", DELAYS)),
+                        given.get("maximumAge", OLDEST), given.get("onFailure"))
 
 
 def settings_of(whole):
@@ -136,4 +140,5 @@ def settings_of(whole):
             if member.get("url") or member.get("url") == {}}
     if not (asynchronous or urls or whole.get("routes")):
         return None
-    return Settings(whole.get("invokePort", 0), asynchronous, urls, whole.get("routes", {}), address_of(whole.get("api")))
+    return Settings(whole.get("invokePort", 0), asynchronous, urls, whole.get("routes", {}),
+                    address_of(whole.get("api")))

@@ -111,8 +111,8 @@ class Wire(asyncio.Protocol):
         self.transport.abort()
 
     def is_silent(self):
-        """Whether nothing has come that was not read, not even the end: also nothing that the system has and the loop has
-        not looked at yet."""
+        """Whether nothing has come that was not read, not even the end: also nothing that the system has and the loop
+        has not looked at yet."""
         if self.ended or self.buffer or self.transport.is_closing():
             return False
         poll = select.poll()

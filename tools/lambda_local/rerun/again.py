@@ -21,6 +21,7 @@ def rerun(service, recording, pointers=(), one_by_one=False, is_over=lambda: Fal
         found = find(now, then.function, made.identifier) if made.identifier else None
         kind, body = (found.kind, found.body) if found else (f"status {made.status}", made.body)
         if kind == "stopped":
-            raise Fault(2, f"the service has ended while call {then.ticket} of {then.function} was sent again: it was stopped")
+            raise Fault(
+                2, f"the service has ended while call {then.ticket} of {then.function} was sent again: it was stopped")
         results.append(judged(then, kind, body, made.seconds, pointers))
     return results, history

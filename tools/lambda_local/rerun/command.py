@@ -10,8 +10,8 @@ HISTORY is what GET /_local/history gives, and what `lambda_local up --history F
 docs/rerun.md has an example.
 
 Each invocation is equal; changed, with what differs by JSON pointer; failed now (with what), or failed then.
-Exit statuses: 0, all are equal; 1, something differs; 2, a fault in the arguments or the files, or the functions could not be
-run to the end."""
+Exit statuses: 0, all are equal; 1, something differs; 2, a fault in the arguments or the files, or the functions could
+not be run to the end."""
 import os
 import sys
 import tempfile
@@ -34,7 +34,8 @@ def options_of():
                         help="leave this member of outputs out of the comparison; * is any member (may be repeated)")
     parser.add_argument("--update", action="store_true", help="write the new history over HISTORY")
     parser.add_argument("--junit", metavar="FILE", help="write a report for CI systems")
-    parser.add_argument("--ready", metavar="SECONDS", type=float, default=60, help="wait at most so long for the functions (60)")
+    parser.add_argument("--ready", metavar="SECONDS", type=float, default=60,
+                        help="wait at most so long for the functions (60)")
     parser.add_argument("--verbose", action="store_true",
                         help=called("show the lines of lambda_local up and of the functions"))
     parser.add_argument("--program", metavar="P",

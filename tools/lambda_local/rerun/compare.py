@@ -40,11 +40,13 @@ def escaped(part):
 
 def is_ignored(path, pointers):
     """Whether this place, or one that it lies in, is ignored."""
-    return any(len(pointer) <= len(path) and all(part in ("*", str(own)) for part, own in zip(pointer, path)) for pointer in pointers)
+    return any(len(pointer) <= len(path) and all(part in ("*", str(own)) for part, own in zip(pointer, path))
+               for pointer in pointers)
 
 
 def differences(then, now, pointers=()):
-    """How the outputs differ (bytes), but for the places that are ignored. Outputs that are not both JSON differ as a whole."""
+    """How the outputs differ (bytes), but for the places that are ignored. Outputs that are not both JSON differ as a
+    whole."""
     try:
         then_value, now_value = json.loads(then), json.loads(now)
     except (ValueError, RecursionError):

@@ -18,8 +18,8 @@ class Functions(Session):
     """Tells nothing of its own, unless it is verbose, and saves no history."""
 
     def __init__(self, path, recording, program, ready, verbose):
-        options = SimpleNamespace(up=path, debug=None, salt=recording.salt, program=program, reload=False, keep_credentials=False,
-                                  ready=ready, command=["rerun"], history=None)
+        options = SimpleNamespace(up=path, debug=None, salt=recording.salt, program=program, reload=False,
+                                  keep_credentials=False, ready=ready, command=["rerun"], history=None)
         names = {function.name for function in load(path)[1]}
         for invocation in recording.invocations:
             if invocation.was_served and invocation.function not in names:

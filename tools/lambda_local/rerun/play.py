@@ -57,8 +57,8 @@ class Attempt(threading.Thread):
 
 
 def play(port, invocations, timeouts, one_by_one=False, is_over=lambda: False):
-    """Sends the invocations in their order, each once those are answered that were answered before it came, or once all are
-    answered that came before it. Gives what came of each. `is_over` says that the service has gone."""
+    """Sends the invocations in their order, each once those are answered that were answered before it came, or once all
+    are answered that came before it. Gives what came of each. `is_over` says that the service has gone."""
     running, done = [], []
     for invocation in invocations:
         for attempt in [other for other in running if one_by_one or other.invocation.end < invocation.ticket]:

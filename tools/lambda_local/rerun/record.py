@@ -74,8 +74,8 @@ def invocations_of(entries):
         end, answer = answers.get(entry.number, (None, None))
         _, qualifier, trace, _ = entry.fields
         yield Invocation(entry.number, entry.function, counts[entry.function], qualifier == "q",
-                         None if trace == "-" else decoded(trace).decode("latin-1"), entry.body, answer.kind if answer else "open",
-                         answer.body if answer else None, end)
+                         None if trace == "-" else decoded(trace).decode("latin-1"), entry.body,
+                         answer.kind if answer else "open", answer.body if answer else None, end)
 
 
 def find(invocations, function, identifier):

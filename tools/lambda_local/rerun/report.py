@@ -27,7 +27,8 @@ def judged(then, kind, body, seconds, pointers):
     if failed == [False, True]:
         return Result(then, FAILED_NOW, [words_of(kind, body)], seconds)
     if failed == [True, False]:
-        return Result(then, FAILED_THEN, [f"then {words_of(then.kind, then.body)}, now {words_of(kind, body)}"], seconds)
+        return Result(then, FAILED_THEN, [f"then {words_of(then.kind, then.body)}, now {words_of(kind, body)}"],
+                      seconds)
     if then.kind != kind:
         return Result(then, CHANGED, [f"{words_of(then.kind, then.body)} -> {words_of(kind, body)}"], seconds)
     lines = [str(each) for each in differences(then.body or b"", body or b"", pointers)]
@@ -36,7 +37,8 @@ def judged(then, kind, body, seconds, pointers):
 
 def left_out(invocations):
     """The recorded invocations that are not sent, in words."""
-    counts = Counter("without an answer" if each.kind == "open" else each.kind for each in invocations if not each.was_served)
+    counts = Counter("without an answer" if each.kind == "open" else each.kind for each in invocations
+                     if not each.was_served)
     return ", ".join(f"{count} {kind}" for kind, count in sorted(counts.items()))
 
 
@@ -46,9 +48,11 @@ def text_of(results, recording):
     for result in results:
         if result.verdict != EQUAL:
             head = f"{result.verdict}: call {result.invocation.ticket}, {result.invocation.function}"
-            lines += [f"{head}: {result.lines[0]}"] if len(result.lines) == 1 else [f"{head}:", *(f"  {line}" for line in result.lines)]
+            lines += [f"{head}: {result.lines[0]}"] if len(result.lines) == 1 else [
+                f"{head}:", *(f"  {line}" for line in result.lines)]
     counts = Counter(result.verdict for result in results)
-    words = ", ".join(f"{counts[verdict]} {verdict}" for verdict in (EQUAL, CHANGED, FAILED_NOW, FAILED_THEN) if counts[verdict])
+    words = ", ".join(f"{counts[verdict]} {verdict}" for verdict in (EQUAL, CHANGED, FAILED_NOW, FAILED_THEN)
+                      if counts[verdict])
     others = left_out(recording.invocations)
     return lines + [f"{len(results)} invocations: {words or 'none'}" + (f"; not sent: {others}" if others else "")]
 
@@ -57,5 +61,6 @@ def write_junit(path, results):
     suite = Suite("rerun")
     for result in results:
         failure = None if result.verdict == EQUAL else f"{result.verdict}: {result.lines[0]}"
-        suite.case(result.invocation.function, f"call {result.invocation.ticket}", result.seconds, failure, "\n".join(result.lines))
+        suite.case(result.invocation.function, f"call {result.invocation.ticket}", result.seconds, failure,
+                   "\n".join(result.lines))
     suite.write(path)

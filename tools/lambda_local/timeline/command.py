@@ -53,21 +53,27 @@ def moment(word):
 def arguments():
     parser = parser_of("timeline", __doc__)
     form = parser.add_mutually_exclusive_group()
-    for name, words in (("text", "one line an event (the default)"), ("trace", "trace-event JSON for Perfetto and chrome://tracing"),
+    for name, words in (("text", "one line an event (the default)"),
+                        ("trace", "trace-event JSON for Perfetto and chrome://tracing"),
                         ("html", "one self-contained page"), ("svg", "the drawing alone")):
         form.add_argument(f"--{name}", dest="form", action="store_const", const=name, help=words)
     parser.add_argument("-o", metavar="FILE", dest="output", help="write there; .html, .json and .svg choose the form")
     given = parser.add_mutually_exclusive_group()
-    given.add_argument("--program", metavar="P", help="replay the calls with this program (else LAMBDA_LOCAL_PROGRAM, else "
+    given.add_argument("--program", metavar="P",
+                       help="replay the calls with this program (else LAMBDA_LOCAL_PROGRAM, else "
                                                       "the one that comes with the tools)")
     given.add_argument("--answers", metavar="FILE", help="take the answers from what a replay wrote")
-    parser.add_argument("--script", action="store_true", help="read the input as a script, though it looks like a history")
-    parser.add_argument("--limit", metavar="N", type=int, help=f"show at most so many calls (a drawing: {MOST_DRAWN:,}; else all)")
-    parser.add_argument("--from", metavar="MOMENT", type=moment, dest="begin", help="show what goes on from this moment on")
+    parser.add_argument("--script", action="store_true",
+                        help="read the input as a script, though it looks like a history")
+    parser.add_argument("--limit", metavar="N", type=int,
+                        help=f"show at most so many calls (a drawing: {MOST_DRAWN:,}; else all)")
+    parser.add_argument("--from", metavar="MOMENT", type=moment, dest="begin",
+                        help="show what goes on from this moment on")
     parser.add_argument("--to", metavar="MOMENT", type=moment, dest="end", help="show what goes on up to this moment")
     parser.add_argument("--all", action="store_true",
                         help=called("show what lambda_local up itself does as well: the extension lambda_local.up"))
-    parser.add_argument("--live", metavar="URL", help=f"show the last calls of the service at this address (--limit, else {MOST_LIVE})")
+    parser.add_argument("--live", metavar="URL",
+                        help=f"show the last calls of the service at this address (--limit, else {MOST_LIVE})")
     parser.add_argument("--scale", choices=("entries", "time"), default="entries",
                         help="a place for each entry, or an axis true to scale")
     parser.add_argument("input", nargs="?", default="-", help="a history or a script (standard input)")
@@ -86,8 +92,8 @@ def arguments():
 def refuse_beside_live(parser, chosen):
     """A live page takes --limit and --all alone."""
     given = {"-o": chosen.output, "--program": chosen.program, "--answers": chosen.answers, "--script": chosen.script,
-             "--from": chosen.begin, "--to": chosen.end, "an input": chosen.input != "-", f"--{chosen.form}": chosen.form != "text",
-             "--scale time": chosen.scale == "time"}
+             "--from": chosen.begin, "--to": chosen.end, "an input": chosen.input != "-",
+             f"--{chosen.form}": chosen.form != "text", "--scale time": chosen.scale == "time"}
     for name, value in given.items():
         if value:
             parser.error(f"--live shows what goes on: leave out {name}")

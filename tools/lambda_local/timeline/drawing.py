@@ -34,7 +34,8 @@ class Drawing(Kept):
             rows.append((20, f"environment {e} \u00b7 {self.configuration.names[f]}", "head", ("why", e)))
             rows.append((LANE, "phase", "", ("environment", e)))
             rows.append((LANE, "runtime", "", ("runtime", e)))
-            names = {lane[2]: None for call in self.calls for lane in [call.lane] if lane[0] == "extension" and lane[1] == e}
+            names = {lane[2]: None for call in self.calls for lane in [call.lane] if lane[0] == "extension"
+                     and lane[1] == e}
             rows += [(LANE, extension_words(name), "", ("extension", e, name)) for name in names]
         return rows
 
@@ -50,12 +51,14 @@ class Drawing(Kept):
                 self.labels.append(f'<path class="grid" d="M0 {top - 2}H{LABELS}"/>')
             self.tops[key] = top
             if key[0] in ("caller", "account", "reserved", "runtime", "extension"):
-                self.chart.append(f'<rect class="stripe" x="0" y="{top + 2}" width="{self.width:.0f}" height="{height - 4}"/>')
+                self.chart.append(
+                    f'<rect class="stripe" x="0" y="{top + 2}" width="{self.width:.0f}" height="{height - 4}"/>')
             room = int((LABELS - (12 if kind == "head" else 24)) / (7.4 if kind == "head" else LETTER))
             short = label if len(label) <= room else label[: room - 1] + "\u2026"
             indent = 6 if kind == "head" else 16
             title = f"<title>{escape(label)}</title>" if short != label else ""
-            self.labels.append(f'<text class="{kind}" x="{indent}" y="{top + height / 2 + 4:.0f}">{escape(short)}{title}</text>')
+            self.labels.append(
+                f'<text class="{kind}" x="{indent}" y="{top + height / 2 + 4:.0f}">{escape(short)}{title}</text>')
             top += height
         self.height = top + 26
         self.draw_axis(top)
@@ -101,7 +104,8 @@ class Drawing(Kept):
     def draw_axis(self, bottom):
         top, right = self.tops[("axis",)], -100.0
         clock = bool(self.moments) and self.zero in WALL_CLOCK
-        self.labels.append(f'<text class="muted" x="16" y="{bottom + 16}">{"seconds" if clock else "milliseconds"}</text>')
+        self.labels.append(
+            f'<text class="muted" x="16" y="{bottom + 16}">{"seconds" if clock else "milliseconds"}</text>')
         last = None
         for moment, x in zip(self.moments, self.places):
             if moment == last:
@@ -114,7 +118,8 @@ class Drawing(Kept):
             right = x + half
             self.chart.append(f'<path class="grid" d="M{x:.1f} {top + 16}V{bottom + 4}"/>')
             for y in (top + 11, bottom + 16):
-                self.chart.append(f'<text class="muted" x="{max(x, half):.1f}" y="{y}" text-anchor="middle">{words}</text>')
+                self.chart.append(
+                    f'<text class="muted" x="{max(x, half):.1f}" y="{y}" text-anchor="middle">{words}</text>')
 
     def draw_band(self, e, phase, generation, reason, since, since_entry, moment, entry, deadline):
         key = ("environment", e)
@@ -160,7 +165,8 @@ class Drawing(Kept):
                 words = str(count)
                 text = f'<text x="{left + 4:.1f}" y="{top + 15}">{words}</text>' if width_of(words) <= right - left else ""
                 self.put("step", f"{self.configuration.names[f]}: {count} reserved from {self.moment(moment)} on",
-                         f'<rect class="ended" x="{left:.1f}" y="{top + 4}" width="{right - left:.1f}" height="15" rx="3"/>', text)
+                         f'<rect class="ended" x="{left:.1f}" y="{top + 4}" width="{right - left:.1f}" height="15" '
+                         f'rx="3"/>', text)
 
     def draw_work(self, work, moment, entry):
         if work.lane not in self.tops:
@@ -174,7 +180,8 @@ class Drawing(Kept):
             if entry is None or moment >= work.until:
                 shapes.append(self.deadline_shape(left, work.until, top + 21))
         if right > left:
-            shapes.append(f'<rect class="work {kind}" x="{left:.1f}" y="{top + 3}" width="{right - left:.1f}" height="15" rx="2"/>')
+            shapes.append(f'<rect class="work {kind}" x="{left:.1f}" y="{top + 3}" width="{right - left:.1f}" '
+                          f'height="15" rx="2"/>')
             if width_of(work.name) <= right - left - 4:
                 shapes.append(f'<text x="{left + 7:.1f}" y="{top + 14}">{escape(work.name)}</text>')
         if shapes:
@@ -193,7 +200,8 @@ class Drawing(Kept):
             title += f"\npayload: {payload}"
         top = self.tops[call.lane]
         if right - left < 1:
-            short = {"ext-next": "next", "response-too-large": "too large", "ext-exit-failure": "exit", "ext-init-failure": "init failure"}
+            short = {"ext-next": "next", "response-too-large": "too large", "ext-exit-failure": "exit",
+                     "ext-init-failure": "init failure"}
             label = short.get(call.kind, words if call.kind in ("reserve", "invoke") else call.kind)
             labels = [label]
             if kind in ("refused", "throttled", "ended"):
@@ -226,7 +234,8 @@ class Drawing(Kept):
         """A line through the environment's lanes where it closes, with the reason above."""
         ends = {}
         for e in {reset[0] for reset in self.resets}:
-            own = [top for key, top in self.tops.items() if key[0] in ("environment", "runtime", "extension") and key[1] == e]
+            own = [top for key, top in self.tops.items() if key[0] in ("environment", "runtime", "extension")
+                   and key[1] == e]
             ends[e] = (self.tops[("why", e)], max(own) + LANE - 2) if own else None
         places = {}
         for reset in self.resets:
@@ -235,7 +244,8 @@ class Drawing(Kept):
             if not ends[e]:
                 continue
             (top, bottom), x = ends[e], self.x(entry)
-            cause = next((f"\nthe deadline of {phase} had come" for at, number, phase in self.expiries if at == entry and number == e), "")
+            cause = next((f"\nthe deadline of {phase} had come" for at, number,
+                          phase in self.expiries if at == entry and number == e), "")
             title = f"{self.configuration.place(e)} closes: {reason}{cause}\n{self.moment(moment)}, the end of generation {generation}"
             words = f"reset: {reason}"
             room = min((place - x for place in places[e] if place > x), default=self.width - x)
@@ -247,7 +257,8 @@ def svg(drawing):
     """The drawing alone, with its labels beside it."""
     drawing.draw()
     width, height = drawing.width + LABELS, drawing.height
-    return (f'<svg xmlns="http://www.w3.org/2000/svg" viewBox="0 0 {width:.0f} {height:.0f}" width="{width:.0f}" height="{height:.0f}" '
+    return (f'<svg xmlns="http://www.w3.org/2000/svg" viewBox="0 0 {width:.0f} {height:.0f}" width="{width:.0f}" '
+            f'height="{height:.0f}" '
             'role="img">\n'
             f'<title>{escape(drawing.name)}</title>\n<style>{COLOURS}{DRAWING}</style>\n'
             f'<rect width="{width:.0f}" height="{height:.0f}" fill="var(--page)"/>\n' + "\n".join(drawing.labels)

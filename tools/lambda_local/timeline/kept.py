@@ -34,8 +34,8 @@ class Kept(Sink):
         self.expiries.append((entry, environment.number, environment.phase))
 
     def phase(self, environment, moment, entry):
-        self.bands.append((environment.number, environment.phase, environment.generation, environment.reason, environment.since,
-                           environment.since_entry, moment, entry, environment.deadline))
+        self.bands.append((environment.number, environment.phase, environment.generation, environment.reason,
+                           environment.since, environment.since_entry, moment, entry, environment.deadline))
 
     def turned(self, environment, moment, entry, phase, deadline, reason):
         if phase == "Closing":

@@ -50,7 +50,8 @@ def fragment(drawing, world, limit, gone):
     """What changes: counts, failed calls and the drawing."""
     said = ""
     if gone:
-        said = (f'<p class="differs">The service has gone at {escape(gone)}. Its last calls stay here; if one answers there again, it is '
+        said = (f'<p class="differs">The service has gone at {escape(gone)}. Its last calls stay here; if one answers '
+                f'there again, it is '
                 "shown.</p>\n")
     words = "No call yet." if world.entry < 0 else f"{summary(drawing, world)} The last {limit:,} calls are shown."
     return f"{said}<p>{words}</p>\n{failures(drawing, newest_first=True)}{figure(drawing)}<h2>Counts</h2>\n{count_rows(world)}\n"
@@ -60,7 +61,9 @@ def page(url, version, drawn):
     """The whole page. Without scripts it shows what there is when it is loaded."""
     title = f"Live timeline of {url}"
     return document(title, (
-        f"<style>{STYLE}</style>\n<header><h1>{escape(title)}</h1><button id=\"pause\" hidden=\"hidden\">Pause</button></header>\n"
-        '<p class="note" id="lost" hidden="hidden">The tool that serves this page has ended: what is shown stays as it is.</p>\n'
+        f"<style>{STYLE}</style>\n<header><h1>{escape(title)}</h1><button id=\"pause\" "
+        f"hidden=\"hidden\">Pause</button></header>\n"
+        '<p class="note" id="lost" hidden="hidden">The tool that serves this page has ended: what is shown stays as it '
+        'is.</p>\n'
         "<noscript><p>Reload the page to see what is new: it updates itself by a script.</p></noscript>\n"
         f"{legend()}\n<div id=\"drawn\" data-version=\"{version}\">{drawn}</div>\n<script src=\"live.js\"></script>\n"))

@@ -74,7 +74,8 @@ class Configuration:
                 raise TypeError
             self.numbers = {name.encode(): f for f, name in enumerate(self.names)}
         except (KeyError, TypeError, AttributeError):
-            raise Fault(2, "configuration: BadShape: a member is missing or of another type; docs/formats.md lists them")
+            raise Fault(
+                2, "configuration: BadShape: a member is missing or of another type; docs/formats.md lists them")
         # The service writes every member, a person few of them: that tells a history from a script.
         self.is_of_a_history = form_2 and members.keys() >= {
             "account", "accountLimit", "functions", "invokePort", "leastRemainder", "maxEntries", "region", "salt"
@@ -262,7 +263,8 @@ def script_entries(lines, configuration, form_2, answers, world, finish):
         if configuration.most < count + (step if call.kind == "stop" else 2 * step):
             if not answers.full():
                 finish()
-                raise Fault(3, f"{answers.name}: the journal is full at line {lines.at} of the script, and no answer says so")
+                raise Fault(
+                    3, f"{answers.name}: the journal is full at line {lines.at} of the script, and no answer says so")
             world.full(call)
             continue
         last = max(last, call.moment)

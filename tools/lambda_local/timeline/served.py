@@ -1,4 +1,5 @@
-"""The port on which the live page is served: on loopback, for a browser on this machine, and for no other site in it."""
+"""The port on which the live page is served: on loopback, for a browser on this machine, and for no other site in
+it."""
 import http.server
 import ipaddress
 import json
@@ -10,7 +11,8 @@ from .live_page import SCRIPT, page
 HEADERS = (
     ("Cache-Control", "no-store"), ("X-Content-Type-Options", "nosniff"), ("Referrer-Policy", "no-referrer"),
     ("Cross-Origin-Resource-Policy", "same-origin"),
-    ("Content-Security-Policy", "default-src 'none'; script-src 'self'; style-src 'unsafe-inline'; connect-src 'self'; base-uri 'none'; "
+    ("Content-Security-Policy",
+     "default-src 'none'; script-src 'self'; style-src 'unsafe-inline'; connect-src 'self'; base-uri 'none'; "
                                 "form-action 'none'; frame-ancestors 'none'"),
 )
 

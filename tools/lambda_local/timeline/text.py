@@ -24,7 +24,8 @@ class Text(Sink):
 
     def expired(self, moment, entry, environment):
         self.now = moment
-        self.line(f"{self.configuration.place(environment.number)}: the deadline of {environment.phase} has come (entry {entry})")
+        self.line(f"{self.configuration.place(environment.number)}: the deadline of {environment.phase} has come "
+                  f"(entry {entry})")
 
     def taken(self, call, own):
         self.now = call.moment
@@ -44,7 +45,8 @@ class Text(Sink):
                       f"{length_words(call.end - call.moment)}: {call.said}")
 
     def still_open(self, call, moment, entry):
-        self.line(f"{who(self.configuration, call)}: {what(self.configuration, call)}, call {call.ticket}, has no answer yet")
+        self.line(
+            f"{who(self.configuration, call)}: {what(self.configuration, call)}, call {call.ticket}, has no answer yet")
 
     def turned(self, environment, moment, entry, phase, deadline, reason):
         place = self.configuration.place(environment.number)

@@ -46,7 +46,8 @@ class Trace(Sink):
 
     def span(self, lane, category, name, begin, end, args):
         process, thread = self.place(lane)
-        self.event(ph="X", cat=category, pid=process, tid=thread, name=name, ts=1000 * begin, dur=1000 * (end - begin), args=args)
+        self.event(ph="X", cat=category, pid=process, tid=thread, name=name, ts=1000 * begin, dur=1000 * (end - begin),
+                   args=args)
 
     def mark(self, lane, category, name, moment, args):
         process, thread = self.place(lane)
@@ -60,7 +61,8 @@ class Trace(Sink):
         self.mark(("account",), "full", f"{what(self.configuration, call)}: JournalFull", moment, {})
 
     def expired(self, moment, entry, environment):
-        self.mark(("environment", environment.number), "expiry", f"the deadline of {environment.phase} has come", moment, {"entry": entry})
+        self.mark(("environment", environment.number), "expiry", f"the deadline of {environment.phase} has come",
+                  moment, {"entry": entry})
 
     def call(self, call, end, colour):
         args = {"call": call.ticket, "outcome": outcome(call), "answer": call.said or "none yet"}
@@ -68,12 +70,13 @@ class Trace(Sink):
             args["payload"] = payload
         words = what(self.configuration, call)
         process, thread = self.place(call.lane)
-        self.event(ph="X", cat="call", pid=process, tid=thread, name=f"{words}: {call.answer[0] if call.answer else 'open'}",
+        self.event(ph="X", cat="call", pid=process, tid=thread,
+                   name=f"{words}: {call.answer[0] if call.answer else 'open'}",
                    ts=1000 * call.moment, dur=1000 * (end - call.moment), cname=colour, args=args)
 
     # the names of colours that chrome://tracing has; Perfetto chooses by the event's name, which has the outcome in it
-    COLOURS = {"good": "good", "handed": "thread_state_sleeping", "ending": "yellow", "error": "bad", "timeout": "terrible",
-               "throttled": "olive", "ended": "grey", "refused": "black", "open": "white"}
+    COLOURS = {"good": "good", "handed": "thread_state_sleeping", "ending": "yellow", "error": "bad",
+               "timeout": "terrible", "throttled": "olive", "ended": "grey", "refused": "black", "open": "white"}
 
     def answered(self, call):
         self.call(call, call.end, self.COLOURS[outcome(call)])
@@ -86,11 +89,13 @@ class Trace(Sink):
         if environment.deadline is not None:
             args["deadline"] = environment.deadline
         reset = f" ({environment.reason})" if environment.reason else ""
-        self.span(("environment", environment.number), "phase", environment.phase + reset, environment.since, moment, args)
+        self.span(("environment", environment.number), "phase", environment.phase + reset, environment.since, moment,
+                  args)
 
     def turned(self, environment, moment, entry, phase, deadline, reason):
         if phase == "Closing":
-            self.mark(("environment", environment.number), "reset", f"reset: {reason}", moment, {"generation": environment.generation})
+            self.mark(("environment", environment.number), "reset", f"reset: {reason}", moment,
+                      {"generation": environment.generation})
 
     def worked(self, work, moment, entry):
         self.span(work.lane, "work", f"works on {work.name}", work.moment, moment, {"deadline": work.until})

@@ -24,8 +24,8 @@ class Moment:
 class Window(Sink):
     """Passes on what is shown, and counts what is left out.
 
-    `events` are the sinks that show what happens at a moment: they are notified of what happens in the window. `spans` are
-    those that show what lasts: they are notified of all of which a part lies in the window."""
+    `events` are the sinks that show what happens at a moment: they are notified of what happens in the window. `spans`
+    are those that show what lasts: they are notified of all of which a part lies in the window."""
 
     def __init__(self, begin=None, end=None, limit=None, shows_all=False, events=(), spans=()):
         self.given, self.limit, self.shows_all, self.events, self.spans = (begin, end), limit, shows_all, events, spans
@@ -42,7 +42,8 @@ class Window(Sink):
         if end is not None:
             self.stop = end.after(moment)
         if self.stop < self.start:
-            raise Fault(2, f"--to is before --from: the history begins at {moment}, so the two are {self.stop} and {self.start}")
+            raise Fault(2, f"--to is before --from: the history begins at {moment}, so the two are {self.stop} and "
+                           f"{self.start}")
         for sink in (*self.events, *self.spans):
             sink.begin(moment)
 

@@ -2,7 +2,8 @@
 import functools
 from datetime import datetime, timezone
 
-WALL_CLOCK = range(100_000_000_000, 253_402_300_800_000)  # moments of the clock, to the year 9999; others are a script's
+# moments of the clock, to the year 9999; others are a script's
+WALL_CLOCK = range(100_000_000_000, 253_402_300_800_000)
 
 
 def moment_words(moment):

@@ -9,7 +9,8 @@ from .read import OF_EXTENSIONS, POLLS, shown
 
 # the outcome of a call, by the first word of its answer
 OUTCOMES = {
-    "output": "good", "accepted": "good", "done": "good", "registered": "good", "reserved": "good", "unreserved": "good",
+    "output": "good", "accepted": "good", "done": "good", "registered": "good", "reserved": "good",
+    "unreserved": "good",
     "deliver": "handed", "tell": "handed", "shutdown": "ending", "error": "error", "too-large-output": "error",
     "timeout": "timeout", "init-timeout": "timeout", "throttled": "throttled", "stopped": "ended", "withdrawn": "ended",
     "refused": "refused",
@@ -73,7 +74,8 @@ class Environment(phases.Members):
 
 
 class Work:
-    """What a runtime does between its delivery and its response, or an extension between being told and asking again."""
+    """What a runtime does between its delivery and its response, or an extension between being told and asking
+    again."""
 
     __slots__ = ("lane", "name", "moment", "entry", "until", "request", "outcome")
 
@@ -112,7 +114,8 @@ class World:
         """One entry."""
         self.entry += 1
         if moment < self.moment:
-            raise Fault(3, f"entry {self.entry}: its moment {moment} is before {self.moment}, that of the entry before it")
+            raise Fault(
+                3, f"entry {self.entry}: its moment {moment} is before {self.moment}, that of the entry before it")
         if self.entry == 0:
             self.sink.begin(moment)
             for f, count in enumerate(self.reserved):
@@ -284,7 +287,8 @@ class World:
         """A call gets its answer."""
         call = self.open.pop(ticket, None)
         if call is None:
-            raise Fault(3, f"entry {self.entry} answers call {ticket}, which is not open: these answers are not those of "
+            raise Fault(3, f"entry {self.entry} answers call {ticket}, which is not open: these answers are not those "
+                           f"of "
                            "the calls, or the history has gaps")
         call.end, call.end_entry, call.answer, call.said = self.moment, self.entry, answer, told
         word = answer[0]

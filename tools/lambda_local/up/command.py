@@ -59,16 +59,22 @@ def parser():
     made.add_argument("up", metavar="UP.json")
     made.add_argument("--reload", action="store_true", help="spin idle environments down when files change")
     made.add_argument("--debug", metavar="F", help="let a debugger hold the function F in its Init")
-    made.add_argument("--history", metavar="FILE", help="save the history there, payloads and all (if a command fails, it is saved as "
+    made.add_argument("--history", metavar="FILE",
+                      help="save the history there, payloads and all (if a command fails, it is saved as "
                                                         "lambda_local.history.txt by default)")
-    made.add_argument("--ready", metavar="SECONDS", type=float, default=60, help="wait at most so long for all environments (60)")
-    made.add_argument("--drain", metavar="SECONDS", type=seconds_of, default=5, help="at the end wait at most so long for asynchronous "
+    made.add_argument("--ready", metavar="SECONDS", type=float, default=60,
+                      help="wait at most so long for all environments (60)")
+    made.add_argument("--drain", metavar="SECONDS", type=seconds_of, default=5,
+                      help="at the end wait at most so long for asynchronous "
                                                                                       "invocations (5)")
-    made.add_argument("--salt", metavar="N", type=salt_of, help="the salt of all identifiers (that of UP.json, else the time)")
-    made.add_argument("--keep-credentials", action="store_true", help="leave your AWS credentials to the command and the functions")
+    made.add_argument("--salt", metavar="N", type=salt_of,
+                      help="the salt of all identifiers (that of UP.json, else the time)")
+    made.add_argument("--keep-credentials", action="store_true",
+                      help="leave your AWS credentials to the command and the functions")
     made.add_argument("--quiet", action="store_true", help="tell failures and what functions print alone")
     made.add_argument("--log", choices=("text", "json"), default="text", help="the form of each line (text)")
-    made.add_argument("--program", metavar="P", help="the program (default: LAMBDA_LOCAL_PROGRAM, else the repository's ./lambda_local)")
+    made.add_argument("--program", metavar="P",
+                      help="the program (default: LAMBDA_LOCAL_PROGRAM, else the repository's ./lambda_local)")
     return made
 
 

@@ -92,14 +92,16 @@ class Environment(threading.Thread):
         the first to register starts Init's clock, and this tool is awaited too.)"""
         for name, words in self.function.extensions.items():
             if words:
-                self.extensions.append((name, Process(f"{self.name} {name}", words, self.function, self.variables, self.log)))
+                self.extensions.append(
+                    (name, Process(f"{self.name} {name}", words, self.function, self.variables, self.log)))
 
     def start_runtime(self):
         self.generation += 1
         self.runtime = Process(self.name, self.function.command, self.function, self.variables, self.log)
 
     def begin_unseen(self):
-        """For a debugger: this tool's registration would start Init's clock, so it waits for the runtime's first Next."""
+        """For a debugger: this tool's registration would start Init's clock, so it waits for the runtime's first
+        Next."""
         try:
             self.start_runtime()
         except OSError as fault:
@@ -145,7 +147,8 @@ class Environment(threading.Thread):
         return self.close(0, time.time() + SHUTDOWN_SECONDS)
 
     def extension_exited(self, process, waiting):
-        """It is reported in its own name, so that its shutdown isn't waited for, and the service says that all closes."""
+        """It is reported in its own name, so that its shutdown isn't waited for, and the service says that all
+        closes."""
         name = next(name for name, other in self.extensions if other is process)
         generation = self.watch.generation(self.number, self.identifier)
         found = generation.named(name) if generation else None
@@ -160,7 +163,8 @@ class Environment(threading.Thread):
                 {"Lambda-Extension-Identifier": identifier, "Lambda-Extension-Function-Error-Type": kind})
         generation = self.watch.generation(self.number, self.identifier)
         init = "" if generation and generation.is_ready else "Init failed: "
-        self.say(f"{init}{who + ': ' if who else ''}{reason}", level="error", kind="exit", function=self.function.name, errorType=kind)
+        self.say(f"{init}{who + ': ' if who else ''}{reason}", level="error", kind="exit", function=self.function.name,
+                 errorType=kind)
 
     def remember(self, reason, kind):
         """The body of a report, which callers get in a pause as well."""
@@ -179,7 +183,8 @@ class Environment(threading.Thread):
         reason, deadline = event["shutdownReason"], event["deadlineMs"] / 1000
         if not self.stopping.is_set():
             self.say(f"shuts down, {reason}")
-        return self.close(min(deadline - time.time(), SHUTDOWN_SECONDS) - SPARE, deadline, reason == "SPINDOWN", asks=True)
+        return self.close(min(deadline - time.time(), SHUTDOWN_SECONDS) - SPARE, deadline, reason == "SPINDOWN",
+                          asks=True)
 
     def close(self, seconds, deadline, spins_down=False, asks=False):
         """Ends all processes, says that this generation is done, and waits for the end of its Closing."""

@@ -35,7 +35,8 @@ class Lines:
         members = {"function": function.name, "environment": event.environment.place if event.environment else None,
                    "request": invocation.identifier, "moment": event.moment, "duration_ms": duration}
         if event.kind == "output":
-            self.log(where, f"{invocation.identifier} ok {duration} ms", level="ok", kind="invocation", status="ok", **members)
+            self.log(where, f"{invocation.identifier} ok {duration} ms", level="ok", kind="invocation", status="ok",
+                     **members)
             return
         if event.kind == "error":
             report = Report(event.body, function.directory)
@@ -44,8 +45,10 @@ class Lines:
         else:
             text = {"timeout": f"timeout after {function.part.get('timeout', 3)} s",
                     "init-timeout": f"Init timed out after {INIT_SECONDS} s",
-                    "too-large-output": "error: its response has more than 6291456 bytes", "stopped": "ended by the stop"}[event.kind]
-        self.log(where, f"{invocation.identifier} {text}", level="error", kind="invocation", status=event.kind, **members)
+                    "too-large-output": "error: its response has more than 6291456 bytes",
+                    "stopped": "ended by the stop"}[event.kind]
+        self.log(where, f"{invocation.identifier} {text}", level="error", kind="invocation", status=event.kind,
+                 **members)
 
     def _init_failed(self, event):
         environment, function = event.environment, self.functions[event.environment.function]
@@ -56,14 +59,16 @@ class Lines:
         elif event.kind in FAILURES:
             report = Report(event.generation.report, function.directory)
             of = f"of the extension {event.extension.name} " if event.extension else ""
-            self.log(environment.name, f"Init {of}failed {report}", level="error", kind="init", **report.members, **members)
+            self.log(environment.name, f"Init {of}failed {report}", level="error", kind="init", **report.members,
+                     **members)
             for line in report.lines:
                 self.log(environment.name, f"  {line}", level="error", kind="trace")
 
     @staticmethod
     def waited_for(environment, generation):
         """Who has not come in an Init."""
-        late = [f"its extension {name}, which must {'ask for its next event' if generation.named(name) else 'register by this name'}"
+        late = [f"its extension {name}, which must "
+                f"{'ask for its next event' if generation.named(name) else 'register by this name'}"
                 for name in generation.missing(environment.expected) if name != NAME]
         if generation.poll is None:
             late.append("its runtime, which must ask for its next invocation")
@@ -75,7 +80,8 @@ class Lines:
             if at_the_end or time.monotonic() - since >= SUMMED_SECONDS:
                 del self.throttled[name]
                 count = sum(reasons.values())
-                why = ", ".join(REASONS[reason] + (f" {times}" if len(reasons) > 1 else "") for reason, times in reasons.most_common())
+                why = ", ".join(REASONS[reason] + (f" {times}" if len(reasons) > 1 else "") for reason,
+                                times in reasons.most_common())
                 times = "" if count == 1 else f" {count} times"
-                self.log(name, f"throttled{times}: {why}", level="warning", kind="throttled", function=name, count=count,
-                         reasons=dict(reasons))
+                self.log(name, f"throttled{times}: {why}", level="warning", kind="throttled", function=name,
+                         count=count, reasons=dict(reasons))

@@ -39,7 +39,8 @@ OWN = {
     "directory": Kind(is_text, "a text: a folder"),
     "memory": Kind(lambda value: is_whole(value, 1 << 32), "a whole number of MB"),
     "watch": Kind(is_list_of(is_text), "a list of files and folders"),
-    "extensions": Kind(is_extensions, "an object: the name by which each registers, and its command, or null if you start it"),
+    "extensions": Kind(is_extensions,
+                       "an object: the name by which each registers, and its command, or null if you start it"),
 }
 MEMBERS = {**OF_FUNCTION, **OWN, **settings.OF_FUNCTION}
 AT_THE_TOP = {**OF_SERVICE, **settings.AT_THE_TOP}
@@ -84,15 +85,18 @@ class Function:
         program, file = RUNTIMES[member["runtime"]]
         path, what = bundled(file), f'"runtime": "{member["runtime"]}"'
         if path is None:
-            raise Fault(4, f"{self.where}: {what} needs {file}, which is not in the examples that come with tools/up: write a command")
+            raise Fault(4, f"{self.where}: {what} needs {file}, which is not in the examples that come with tools/up: "
+                           f"write a command")
         if not shutil.which(program):
-            raise Fault(4, f"{self.where}: {what} needs the program {program}, which is not on PATH: install it, or write a command")
+            raise Fault(4, f"{self.where}: {what} needs the program {program}, which is not on PATH: install it, or "
+                           f"write a command")
         return [program, path]
 
     def _extensions(self, given):
         """The words of each extension's command by its name; none for one that is started by hand."""
         commands = dict.fromkeys(given) if isinstance(given, list) else given
-        return {name: words_of(command, f"{self.where}: extension {name}") if command else None for name, command in commands.items()}
+        return {name: words_of(command, f"{self.where}: extension {name}") if command else None for name,
+                command in commands.items()}
 
     def _look(self):
         """Whether its extensions can be, and the programs of its commands are there."""
@@ -100,13 +104,15 @@ class Function:
             raise Fault(2, f"{self.where}: extensions: at most nine, none of them {NAME}: the tenth is tools/up")
         for words in filter(None, [self.command, *self.extensions.values()]):
             if not shutil.which(program_of(words[0], self.directory)):
-                raise Fault(4, f"{self.where}: {words[0]} is no program (looked for in {self.directory if '/' in words[0] else 'PATH'})")
+                raise Fault(4, f"{self.where}: {words[0]} is no program (looked for in "
+                               f"{self.directory if '/' in words[0] else 'PATH'})")
 
     def _part(self, member):
         part = {name: value for name, value in member.items() if name in OF_FUNCTION}
         part.setdefault("ports", [0] * member.get("environments", 1))
         if "environments" in member and member["environments"] != len(part["ports"]):
-            raise Fault(2, f"{self.where}: {len(part['ports'])} ports for {member['environments']} environments: leave one of the two out")
+            raise Fault(2, f"{self.where}: {len(part['ports'])} ports for {member['environments']} environments: leave "
+                           f"one of the two out")
         if self.debug:
             part.update(ports=part["ports"][:1], timeout=DEBUG_TIMEOUT)
             if part.get("reserved", 0) > 1:
@@ -141,7 +147,8 @@ def load(path, debug=None, salt=None):
     if debug and not any(function.debug and function.command for function in functions):
         raise Fault(2, f"--debug {debug}: {path} has no such function with a command")
     own = {name: value for name, value in whole.items() if name in OF_SERVICE}
-    configuration = {"account": "123456789012", "region": "us-east-1", **own, "functions": [function.part for function in functions]}
+    configuration = {"account": "123456789012", "region": "us-east-1", **own,
+                     "functions": [function.part for function in functions]}
     front = settings.settings_of(whole)
     if front and front.asynchronous:
         configuration.pop("invokePort", None)  # (the front has it)

@@ -25,8 +25,8 @@ class Process:
         if not shutil.which(program):
             raise FileNotFoundError(f"{words[0]} is no program (any more)")
         command, pipe = GUARD.announcing([program, *words[1:]])
-        self.child = subprocess.Popen(command, cwd=function.directory, env=variables, stdin=pipe, stdout=subprocess.PIPE,
-                                      stderr=subprocess.STDOUT, start_new_session=True)
+        self.child = subprocess.Popen(command, cwd=function.directory, env=variables, stdin=pipe,
+                                      stdout=subprocess.PIPE, stderr=subprocess.STDOUT, start_new_session=True)
         self.handle = os.pidfd_open(self.child.pid)
         self.reader = threading.Thread(target=self.read, daemon=True)
         self.reader.start()

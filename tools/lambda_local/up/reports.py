@@ -28,7 +28,8 @@ class Report:
     @property
     def lines(self):
         """The lines of the trace, cut short: in Python the last ones are of the code that failed, else the first."""
-        found = [line for frame in self.frames for line in (frame if isinstance(frame, str) else json.dumps(frame)).rstrip().split("\n")]
+        found = [line for frame in self.frames
+                 for line in (frame if isinstance(frame, str) else json.dumps(frame)).rstrip().split("\n")]
         if len(found) <= MOST_LINES:
             return found
         return [".."] + found[-MOST_LINES:] if self._is_of_python() else found[:MOST_LINES] + [".."]

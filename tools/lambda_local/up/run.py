@@ -27,9 +27,9 @@ def has_terminal():
 
 
 class Run:
-    """A command that runs. In a terminal's foreground it shares this process's group: so it reads from the terminal, and
-    Ctrl-C comes to both. Elsewhere it has a group of its own: so whoever interrupts this process, or its whole group,
-    interrupts it once, by this process."""
+    """A command that runs. In a terminal's foreground it shares this process's group: so it reads from the terminal,
+    and Ctrl-C comes to both. Elsewhere it has a group of its own: so whoever interrupts this process, or its whole
+    group, interrupts it once, by this process."""
 
     def __init__(self, words, variables, when_ended):
         self.shares = has_terminal()

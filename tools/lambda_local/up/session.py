@@ -33,7 +33,8 @@ class Session:
         # From here on a signal ends it in order; a second one kills.
         for number in (signal.SIGTERM, signal.SIGINT, signal.SIGHUP):
             signal.signal(number, self.signalled)
-        self.service = Service(configuration, options.program, lambda line: log("service", line, kind="service"), options.up)
+        self.service = Service(configuration, options.program, lambda line: log("service", line, kind="service"),
+                               options.up)
         if self.front:
             self.front.serve(self.service)
         self.watch = Watch(self.service, Lines(log, self.functions), log, self.stopping)
@@ -55,12 +56,13 @@ class Session:
             for port in part["ports"]:
                 number += 1
                 here = self.watch.environment(number)
-                self.say(f"{here.name}: 127.0.0.1:{port}{'' if function.command else ', start its runtime yourself'}", kind="address",
-                         function=function.name, environment=here.place, port=port)
+                self.say(f"{here.name}: 127.0.0.1:{port}{'' if function.command else ', start its runtime yourself'}",
+                         kind="address", function=function.name, environment=here.place, port=port)
                 if function.command:
                     variables = surroundings.of_environment(self.service, function, number, port, self.options.keep_credentials)
                     restarts = Restarts(self.options.reload)
-                    yield Environment(self.service, self.watch, function, number, port, variables, restarts, self.stopping, self.log)
+                    yield Environment(self.service, self.watch, function, number, port, variables, restarts,
+                                      self.stopping, self.log)
 
     def signalled(self, number, _frame):
         if self.service is None:  # it is being built, or does not listen yet: nothing has to end in order
@@ -74,15 +76,15 @@ class Session:
             self.service.process.kill()
 
     def wait(self):
-        """Until something happens. (The system may give a signal to any thread, and Python runs its handler in this one: only
-        when it comes out of a wait.)"""
+        """Until something happens. (The system may give a signal to any thread, and Python runs its handler in this
+        one: only when it comes out of a wait.)"""
         while not self.happened.wait(0.1):
             pass
 
     def run(self):
         status = 0
-        self.say(f"callers: AWS_ENDPOINT_URL_LAMBDA={self.service.endpoint_url}", kind="address", always=not self.options.command,
-                 endpoint=self.service.endpoint_url)
+        self.say(f"callers: AWS_ENDPOINT_URL_LAMBDA={self.service.endpoint_url}", kind="address",
+                 always=not self.options.command, endpoint=self.service.endpoint_url)
         for function, text, url in self.front.addresses() if self.front else ():
             self.say(text, kind="address", always=not self.options.command, function=function, endpoint=url)
         for thread in self.threads:
@@ -107,12 +109,14 @@ class Session:
     # ---- ready -------------------------------------------------------------------------------------------------------
 
     def late(self):
-        """The environments whose Init is not over, and those of them that are waited for: if no command is to be run, one
-        that is debugged and one that a changed file must mend may take any time."""
-        late = [environment for environment in self.environments if not self.watch.environment(environment.number).generation.is_ready]
+        """The environments whose Init is not over, and those of them that are waited for: if no command is to be run,
+        one that is debugged and one that a changed file must mend may take any time."""
+        late = [environment for environment in self.environments
+                if not self.watch.environment(environment.number).generation.is_ready]
         if self.options.command:
             return late, late
-        return late, [environment for environment in late if not (environment.function.debug or environment.restarts.needs_a_change)]
+        return late, [environment for environment in late
+                      if not (environment.function.debug or environment.restarts.needs_a_change)]
 
     def wait_until_ready(self):
         """Whether all that is waited for is ready before time is over or something else happens."""
@@ -125,7 +129,8 @@ class Session:
                 return True
             hurried = [environment for environment in awaited if not environment.function.debug]
             if hurried and passed > self.options.ready:
-                raise Fault(5, f"not ready after {self.options.ready:g} s: " + "; ".join(map(self.lateness, hurried[:NAMED])))
+                raise Fault(5, f"not ready after {self.options.ready:g} s: "
+                            + "; ".join(map(self.lateness, hurried[:NAMED])))
             if passed > tell_at:
                 tell_at = 2 * tell_at
                 self.say(f"waits for {self.names(hurried or awaited)}{'' if hurried else ', which is being debugged'}")
@@ -133,7 +138,8 @@ class Session:
 
     @staticmethod
     def names(environments):
-        return ", ".join(environment.name for environment in environments[:NAMED]) + (" .." if len(environments) > NAMED else "")
+        return ", ".join(environment.name
+                         for environment in environments[:NAMED]) + (" .." if len(environments) > NAMED else "")
 
     def lateness(self, environment):
         """Why an environment is not ready."""

@@ -9,7 +9,8 @@ import time
 from ..guard import GUARD
 
 # What a client would take in place of the dummies, or read to go elsewhere.
-LEFT_OUT = ("AWS_PROFILE", "AWS_DEFAULT_PROFILE", "AWS_SESSION_TOKEN", "AWS_SECURITY_TOKEN", "AWS_ROLE_ARN", "AWS_WEB_IDENTITY_TOKEN_FILE",
+LEFT_OUT = ("AWS_PROFILE", "AWS_DEFAULT_PROFILE", "AWS_SESSION_TOKEN", "AWS_SECURITY_TOKEN", "AWS_ROLE_ARN",
+            "AWS_WEB_IDENTITY_TOKEN_FILE",
             "AWS_CONTAINER_CREDENTIALS_RELATIVE_URI", "AWS_CONTAINER_CREDENTIALS_FULL_URI")
 DUMMIES = {"AWS_ACCESS_KEY_ID": "local", "AWS_SECRET_ACCESS_KEY": "local"}
 # The first that read AWS_ENDPOINT_URL_LAMBDA; older ones call AWS itself.
@@ -24,7 +25,8 @@ def of_callers(service, keeps_credentials):
     found = {name: value for name, value in os.environ.items() if name != "AWS_IGNORE_CONFIGURED_ENDPOINT_URLS"}
     if not keeps_credentials:
         found = {**{name: value for name, value in found.items() if name not in LEFT_OUT}, **DUMMIES}
-    return {**found, "AWS_REGION": region, "AWS_DEFAULT_REGION": region, "AWS_ENDPOINT_URL_LAMBDA": service.endpoint_url}
+    return {**found, "AWS_REGION": region, "AWS_DEFAULT_REGION": region,
+            "AWS_ENDPOINT_URL_LAMBDA": service.endpoint_url}
 
 
 def of_environment(service, function, number, port, keeps_credentials):
@@ -36,8 +38,8 @@ def of_environment(service, function, number, port, keeps_credentials):
         "_HANDLER": function.handler, "LAMBDA_TASK_ROOT": os.path.realpath(function.directory),
         "AWS_LAMBDA_FUNCTION_NAME": function.name, "AWS_LAMBDA_FUNCTION_VERSION": "$LATEST",
         "AWS_LAMBDA_FUNCTION_MEMORY_SIZE": str(function.memory), "AWS_LAMBDA_INITIALIZATION_TYPE": "on-demand",
-        "AWS_LAMBDA_LOG_GROUP_NAME": f"/aws/lambda/{function.name}", "AWS_LAMBDA_LOG_STREAM_NAME": f"local/[$LATEST]{number}",
-        **function.variables}
+        "AWS_LAMBDA_LOG_GROUP_NAME": f"/aws/lambda/{function.name}",
+        "AWS_LAMBDA_LOG_STREAM_NAME": f"local/[$LATEST]{number}", **function.variables}
 
 
 def written(version):
@@ -45,7 +47,8 @@ def written(version):
 
 
 def warning(client, version, newer, otherwise):
-    return (f"{client} {written(version)} ignores AWS_ENDPOINT_URL_LAMBDA and would call AWS itself: take {newer} or newer, "
+    return (f"{client} {written(version)} ignores AWS_ENDPOINT_URL_LAMBDA and would call AWS itself: take {newer} or "
+            f"newer, "
             f"or give it {otherwise}")
 
 
@@ -76,8 +79,8 @@ class Clients(threading.Thread):
         if self.stopping.is_set():
             return None
         command, pipe = GUARD.announcing(words)
-        child = subprocess.Popen(command, stdin=pipe, stdout=subprocess.PIPE, stderr=subprocess.STDOUT, text=True, errors="replace",
-                                 start_new_session=True)
+        child = subprocess.Popen(command, stdin=pipe, stdout=subprocess.PIPE, stderr=subprocess.STDOUT, text=True,
+                                 errors="replace", start_new_session=True)
         printed, end = None, time.monotonic() + LONGEST_SECONDS
         while printed is None:
             try:

@@ -66,7 +66,8 @@ class Watch(threading.Thread):
             self._warn("full", f"the history is full ({count} entries): every call is answered 500 `Journal is full`; "
                                "stop, or write a higher maxEntries into UP.json", "error")
         elif count >= NEARLY_FULL * self.most:
-            self._warn("nearly", f"the history has {count} of its {self.most} entries: once it is full every call is answered 500; "
+            self._warn("nearly", f"the history has {count} of its {self.most} entries: once it is full every call is "
+                                 f"answered 500; "
                                  "write a higher maxEntries into UP.json", "warning")
 
     def _warn(self, name, text, level):
@@ -78,7 +79,8 @@ class Watch(threading.Thread):
         return self.life.environments[number]
 
     def generation(self, number, identifier):
-        """The generation of this environment in which an extension is registered, as it is now; none if it is not known."""
+        """The generation of this environment in which an extension is registered, as it is now; none if it is not
+        known."""
         with self.lock:
             self.refresh()
             return self.environment(number).of(identifier)

@@ -4,10 +4,10 @@
   lambda_local conformance extension --name NAME --events SHUTDOWN -- COMMAND ..
   lambda_local conformance extension --list                                      the checks, each with its public page
 
-COMMAND is started for each scenario, in this folder, with the variables that Lambda sets; the kit plays the runtime beside
-it. NAME is what it registers as: for Lambda the full file name of the extension. With CONFORMANCE_FAILS=init or exit in
-its environment an extension may show how it reports errors (docs/conformance.md). Each check is a PASS, a FAIL, or a NOTE
-if the documents leave it open or the extension does not do what the check is about.
+COMMAND is started for each scenario, in this folder, with the variables that Lambda sets; the kit plays the runtime
+beside it. NAME is what it registers as: for Lambda the full file name of the extension. With CONFORMANCE_FAILS=init or
+exit in its environment an extension may show how it reports errors (docs/conformance.md). Each check is a PASS, a FAIL,
+or a NOTE if the documents leave it open or the extension does not do what the check is about.
 
 Exit statuses: 0; 1 if a check is a FAIL; 2 for wrong usage, or a command that cannot be tested."""
 import argparse
@@ -41,11 +41,14 @@ def rehearse(tools):
 
 def main(words):
     words, command = split(words)
-    parser = parser_of("extension", __doc__, "--name NAME [--events INVOKE,SHUTDOWN] [--init-seconds S] [--only NAME] [--junit FILE] "
+    parser = parser_of("extension", __doc__,
+                       "--name NAME [--events INVOKE,SHUTDOWN] [--init-seconds S] [--only NAME] [--junit FILE] "
                                              "[--pictures DIR] [--program P]")
     parser.add_argument("--name", metavar="NAME", help="the name under which it registers")
-    parser.add_argument("--events", metavar="EVENTS", type=events, default=list(EVENTS), help="what it registers for (INVOKE,SHUTDOWN)")
-    parser.add_argument("--idle-seconds", metavar="S", type=seconds, default=5, help="how long a Next has to wait without a timeout (5)")
+    parser.add_argument("--events", metavar="EVENTS", type=events, default=list(EVENTS),
+                        help="what it registers for (INVOKE,SHUTDOWN)")
+    parser.add_argument("--idle-seconds", metavar="S", type=seconds, default=5,
+                        help="how long a Next has to wait without a timeout (5)")
     options = parser.parse_args(words)
     check_arguments(options, command, SCENARIOS)
     if options.list:

@@ -27,8 +27,10 @@ UNKNOWN_EVENT = b'{"eventType":"CONFORMANCE","deadlineMs":4102444800000,"request
     ("registers", pages.EXTENSION_INIT, "it registers within the Init phase's limit (--init-seconds, 10 by default)"),
     ("name", pages.REGISTER, "Lambda-Extension-Name is its full file name, --name"),
     ("events", pages.REGISTER, "it registers for the events that --events says, by default INVOKE and SHUTDOWN"),
-    ("asks_for_events", pages.EXTENSION_INIT, "once it has registered it asks, within as much time again, for its first event"),
-    ("identifier", pages.EXTENSION_NEXT, "each Next has the Lambda-Extension-Identifier that its registration was answered with"))
+    ("asks_for_events", pages.EXTENSION_INIT,
+     "once it has registered it asks, within as much time again, for its first event"),
+    ("identifier", pages.EXTENSION_NEXT,
+     "each Next has the Lambda-Extension-Identifier that its registration was answered with"))
 def registration(stage):
     options, environment = stage.tools.options, stage.environment
     stage.start()
@@ -41,20 +43,25 @@ def registration(stage):
     name, asked = exchange.request.headers.get("lambda-extension-name"), exchange.json()
     stage.check("name", name == options.name, f"{shown(name)} in place of {options.name}")
     events = asked.get("events") if isinstance(asked, dict) else None
-    stage.check("events", isinstance(events, list) and sorted(events) == sorted(options.events), f"{shown(exchange.request.body)}")
+    stage.check("events", isinstance(events, list) and sorted(events) == sorted(options.events),
+                f"{shown(exchange.request.body)}")
     polled = environment.asked(kind="event")
     first = environment.proxy.of("event")[0] if polled else None
     stage.check("asks_for_events", polled and first.since - exchange.since <= options.init_seconds,
-                f"{first.since - exchange.since:.2f} s after its registration" if polled else f"no Next: {stage.said()}")
+                f"{first.since - exchange.since:.2f} s after its registration" if polled
+                else f"no Next: {stage.said()}")
     CLOCK.sleep(SETTLES)
-    wrong = [one for one in environment.proxy.of("event") if one.request.headers.get("lambda-extension-identifier") != stage.identifier]
+    wrong = [one for one in environment.proxy.of("event")
+             if one.request.headers.get("lambda-extension-identifier") != stage.identifier]
     stage.check("identifier", not wrong, f"{len(wrong)} times another one or none")
 
 
 @scenario(
     ("asks_after_invoke", pages.EXTENSION_INVOKE, "after each INVOKE it asks for the next event"),
-    ("invoke_in_time", pages.EXTENSION_INVOKE, "it does so before the function's timeout, which is for all of the Invoke phase"),
-    ("one_poll", pages.EXTENSION_NEXT, "there is one Next at a time: no second one while one waits"), timeout=TIMEOUT, lasts=3)
+    ("invoke_in_time", pages.EXTENSION_INVOKE,
+     "it does so before the function's timeout, which is for all of the Invoke phase"),
+    ("one_poll", pages.EXTENSION_NEXT, "there is one Next at a time: no second one while one waits"), timeout=TIMEOUT,
+    lasts=3)
 def invocations(stage):
     stage.begin()
     if not stage.registered_for("INVOKE"):
@@ -76,7 +83,8 @@ def invocations(stage):
     polls = environment.proxy.of("event")
     overlap = any(one.ended is None or other.begun < one.ended for one, other in zip(polls, polls[1:]))
     stage.check("asks_after_invoke", not silent, f"no Next within {2 * TIMEOUT} s after an INVOKE: {stage.said()}")
-    stage.check("invoke_in_time", not late, f"{late[0] if late else 0:.1f} s after its INVOKE, of a timeout of {stage.timeout} s")
+    stage.check("invoke_in_time", not late,
+                f"{late[0] if late else 0:.1f} s after its INVOKE, of a timeout of {stage.timeout} s")
     stage.check("one_poll", not overlap, "a second Next while one waited")
     return None
 
@@ -110,7 +118,8 @@ def shutdown_for_a_spindown(stage):
 
 @scenario(
     ("ends_at_timeout", pages.EXTENSION_SHUTDOWN, f"at a SHUTDOWN for TIMEOUT it ends within {SHUTDOWN_SECONDS} s"),
-    ("registers_anew", pages.EXTENSION_INIT, "after a reset its new process registers anew and works as the first one"), timeout=3, lasts=4)
+    ("registers_anew", pages.EXTENSION_INIT,
+     "after a reset its new process registers anew and works as the first one"), timeout=3, lasts=4)
 def shutdown_for_a_timeout(stage):
     stage.begin()
     stage.idle()
@@ -126,11 +135,13 @@ def works_anew(stage, name):
     stage.begin()
     stage.idle()
     answer = stage.invoke(b'"anew"')
-    stage.check(name, stage.identifier != before and answer.body == b'"anew"', f"the next caller received {shown(answer.body)}")
+    stage.check(name, stage.identifier != before and answer.body == b'"anew"',
+                f"the next caller received {shown(answer.body)}")
 
 
 @scenario(
-    ("ends_at_failure", pages.EXTENSION_SHUTDOWN, f"at a SHUTDOWN for FAILURE it ends within {SHUTDOWN_SECONDS} s"), companion=True)
+    ("ends_at_failure", pages.EXTENSION_SHUTDOWN, f"at a SHUTDOWN for FAILURE it ends within {SHUTDOWN_SECONDS} s"),
+    companion=True)
 def shutdown_for_a_failure(stage):
     stage.begin()
     stage.idle()
@@ -140,8 +151,10 @@ def shutdown_for_a_failure(stage):
 
 
 @scenario(
-    ("crash_noticed", pages.EXTENSION_EXIT_ERROR, "if the process that asks for events is killed, the command ends: no crash is hidden"),
-    ("works_after_crash", pages.EXTENSION_INIT, "after its crash a new process registers and works as the first one"), lasts=3)
+    ("crash_noticed", pages.EXTENSION_EXIT_ERROR,
+     "if the process that asks for events is killed, the command ends: no crash is hidden"),
+    ("works_after_crash", pages.EXTENSION_INIT, "after its crash a new process registers and works as the first one"),
+    lasts=3)
 def crash(stage):
     stage.begin()
     stage.idle()
@@ -153,7 +166,8 @@ def crash(stage):
         raise Missing("the process that asks for events was not found")
     identifier = stage.identifier
     os.kill(found, signal.SIGKILL)
-    stage.check("crash_noticed", environment.process.wait(ENDS), f"{ENDS} s after its process {found} was killed the command still runs")
+    stage.check("crash_noticed", environment.process.wait(ENDS),
+                f"{ENDS} s after its process {found} was killed the command still runs")
     environment.kill()
     report_failure(environment.service_port, identifier, "it was killed")
     works_anew(stage, "works_after_crash")
@@ -164,7 +178,8 @@ def reports(stage, name, kind):
     environment = stage.environment
     exchange = environment.saw(kind, ASKS)
     if exchange is None:
-        return stage.note(name, f"it makes no such report, though CONFORMANCE_FAILS asks for one: {environment.process.how_it_ended()}")
+        return stage.note(name, f"it makes no such report, though CONFORMANCE_FAILS asks for one: "
+                                f"{environment.process.how_it_ended()}")
     header, report = exchange.request.headers.get(FAILURE_TYPE.lower()), exchange.json()
     faults = []
     if not header:
@@ -180,7 +195,8 @@ def reports(stage, name, kind):
 
 @scenario(
     ("init_error", pages.EXTENSION_INIT_ERROR,
-     f"if it fails after its registration (CONFORMANCE_FAILS=init asks for that) it sends init/error, with {FAILURE_TYPE}, "
+     f"if it fails after its registration (CONFORMANCE_FAILS=init asks for that) it sends init/error, with "
+     f"{FAILURE_TYPE}, "
      "\"errorMessage\" and \"errorType\", and exits; one that never does so is a NOTE"),
     variables={"CONFORMANCE_FAILS": "init"})
 def failing_init(stage):
@@ -192,7 +208,8 @@ def failing_init(stage):
 
 @scenario(
     ("exit_error", pages.EXTENSION_EXIT_ERROR,
-     "if it fails later (CONFORMANCE_FAILS=exit asks for that at its first event) it sends exit/error in the same way, and exits; one "
+     "if it fails later (CONFORMANCE_FAILS=exit asks for that at its first event) it sends exit/error in the same way, "
+     "and exits; one "
      "that never does so is a NOTE"),
     variables={"CONFORMANCE_FAILS": "exit"})
 def failing_later(stage):
@@ -216,10 +233,12 @@ def container_error(stage):
 
 
 @scenario(
-    ("unknown_event", pages.EXTENSION_NEXT, "an event of a type that it does not know does not end it: it asks for the next one"))
+    ("unknown_event", pages.EXTENSION_NEXT,
+     "an event of a type that it does not know does not end it: it asks for the next one"))
 def event_of_another_type(stage):
     environment = stage.environment
-    environment.proxy.rule = Rule("event", reply=(200, UNKNOWN_EVENT), headers=[("Lambda-Extension-Event-Identifier", "0")])
+    environment.proxy.rule = Rule("event", reply=(200, UNKNOWN_EVENT),
+                                  headers=[("Lambda-Extension-Event-Identifier", "0")])
     stage.begin()
     goes_on = environment.asked(2, ASKS, kind="event") and not environment.process.wait(0.2)
     stage.check("unknown_event", goes_on, f"after an unknown event {stage.said()}")
@@ -237,7 +256,8 @@ def no_telemetry(stage):
 
 
 @scenario(
-    ("connection_end", pages.RETRYING, "if its peer ends the connection after an event, it asks for the next one on a new connection"))
+    ("connection_end", pages.RETRYING,
+     "if its peer ends the connection after an event, it asks for the next one on a new connection"))
 def connection_ends(stage):
     environment = stage.environment
     stage.begin()
@@ -247,11 +267,13 @@ def connection_ends(stage):
     environment.proxy.of("event")[-1].by_rule = Rule("event", close=True)
     stage.invoke(b"1")
     event = stage.event("INVOKE")
-    return stage.check("connection_end", environment.asked_after(event, ASKS, "event"), f"no Next within {ASKS} s: {stage.said()}")
+    return stage.check("connection_end", environment.asked_after(event, ASKS, "event"),
+                       f"no Next within {ASKS} s: {stage.said()}")
 
 
 @scenario(
-    ("next_without_timeout", pages.EXTENSION_NEXT, "Next has no timeout: it waits while there is no event (--idle-seconds, 5 by default)"),
+    ("next_without_timeout", pages.EXTENSION_NEXT,
+     "Next has no timeout: it waits while there is no event (--idle-seconds, 5 by default)"),
     lasts=5)
 def idle_for_long(stage):
     environment, seconds = stage.environment, stage.tools.options.idle_seconds

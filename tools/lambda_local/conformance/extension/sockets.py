@@ -3,7 +3,8 @@ import os
 
 
 def owner_of(port, peer_port, processes):
-    """The number of the process, among these, that has the connection from `port` to `peer_port` of 127.0.0.1; None if none has."""
+    """The number of the process, among these, that has the connection from `port` to `peer_port` of 127.0.0.1; None if
+    none has."""
     inode = inode_of(port, peer_port)
     return next((process for process in processes if inode and inode in sockets_of(process)), None)
 

@@ -34,7 +34,8 @@ class PlayedRuntime(threading.Thread):
                 event = answer.read()
                 if answer.status != 200 or event == b'"hang"':
                     return
-                connection.request("POST", f"{RUNTIME}invocation/{answer.getheader('Lambda-Runtime-Aws-Request-Id')}/response", event)
+                connection.request(
+                    "POST", f"{RUNTIME}invocation/{answer.getheader('Lambda-Runtime-Aws-Request-Id')}/response", event)
                 connection.getresponse().read()
         except (OSError, http.client.HTTPException):
             pass  # (the stage has ended)
@@ -43,7 +44,8 @@ class PlayedRuntime(threading.Thread):
 
 
 class Companion:
-    """A second extension, of the kit: it fails when it is told to, so that the tested one receives SHUTDOWN for FAILURE."""
+    """A second extension, of the kit: it fails when it is told to, so that the tested one receives SHUTDOWN for
+    FAILURE."""
 
     def __init__(self, port):
         self._port = port
@@ -79,7 +81,8 @@ class ExtensionStage(Stage):
         self.environment.start()
 
     def begin(self):
-        """A generation: the extension registers and asks for its first event, then come the kit's companion and runtime."""
+        """A generation: the extension registers and asks for its first event, then come the kit's companion and
+        runtime."""
         before, polls = len(self.environment.proxy.of("register")), len(self.environment.proxy.of("event"))
         self.start()
         environment = self.environment
@@ -120,7 +123,8 @@ class ExtensionStage(Stage):
     def events(self, kind):
         """The exchanges that brought it an event of a kind."""
         return [one for one in self.environment.proxy.of("event")
-                if one.status == 200 and isinstance(one.reply_json(), dict) and one.reply_json().get("eventType") == kind]
+                if one.status == 200 and isinstance(one.reply_json(), dict)
+                and one.reply_json().get("eventType") == kind]
 
     def event(self, kind, count=1, seconds=5):
         """The count-th exchange that brought it an event of a kind; Missing if that does not come."""
@@ -135,8 +139,8 @@ class ExtensionStage(Stage):
         return [one for one in self.environment.proxy.of("event") if one.begun >= exchange.answered]
 
     def shut_down(self):
-        """Waits for its SHUTDOWN, and whether its process ends in time: the exchange, and whether it did. Then all is ended as
-        Lambda ends it, and the service knows."""
+        """Waits for its SHUTDOWN, and whether its process ends in time: the exchange, and whether it did. Then all is
+        ended as Lambda ends it, and the service knows."""
         exchange = self.event("SHUTDOWN")
         ended = self.environment.process.wait(SHUTDOWN_SECONDS + SPARE)
         self.environment.kill()

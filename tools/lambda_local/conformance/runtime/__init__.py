@@ -4,9 +4,9 @@
   lambda_local conformance runtime --only error_type --pictures failed -- COMMAND ..
   lambda_local conformance runtime --list                  the checks, each with its public page
 
-COMMAND is started for each scenario, in this folder, with the variables that Lambda sets; it runs the handler of the kit
-(docs/conformance.md defines it, examples/conformance has it for four runtimes). Each check is a PASS, a FAIL, or a NOTE
-if the documents leave it open.
+COMMAND is started for each scenario, in this folder, with the variables that Lambda sets; it runs the handler of the
+kit (docs/conformance.md defines it, examples/conformance has it for four runtimes). Each check is a PASS, a FAIL, or a
+NOTE if the documents leave it open.
 
 Exit statuses: 0; 1 if a check is a FAIL; 2 for wrong usage, or a command that cannot be tested."""
 import argparse
@@ -16,7 +16,8 @@ from ..run import check_arguments, listed, parser_of, play, seconds, split
 from ..stage import Stage
 from . import connections, context, errors, life, load, payloads
 
-SCENARIOS = [*life.SCENARIOS, *payloads.SCENARIOS, *context.SCENARIOS, *errors.SCENARIOS, *connections.SCENARIOS, *load.SCENARIOS]
+SCENARIOS = [*life.SCENARIOS, *payloads.SCENARIOS, *context.SCENARIOS, *errors.SCENARIOS, *connections.SCENARIOS,
+             *load.SCENARIOS]
 
 
 def rehearse(tools):
@@ -38,12 +39,16 @@ def many(text):
 
 def main(words):
     words, command = split(words)
-    parser = parser_of("runtime", __doc__, "[--init-seconds S] [--only NAME] [--junit FILE] [--pictures DIR] [--program P]")
-    parser.add_argument("--idle-seconds", metavar="S", type=seconds, default=5, help="how long a Next has to wait without a timeout (5)")
+    parser = parser_of("runtime", __doc__,
+                       "[--init-seconds S] [--only NAME] [--junit FILE] [--pictures DIR] [--program P]")
+    parser.add_argument("--idle-seconds", metavar="S", type=seconds, default=5,
+                        help="how long a Next has to wait without a timeout (5)")
     parser.add_argument("--invocations", metavar="N", type=many,
-                        help="after how many invocations memory and descriptors are compared (1000, or as many as there are in 15 s)")
+                        help="after how many invocations memory and descriptors are compared (1000, or as many as "
+                        "there are in 15 s)")
     options = parser.parse_args(words)
     check_arguments(options, command, SCENARIOS)
     if options.list:
         return listed(SCENARIOS)
-    return play("conformance runtime", SCENARIOS, options, command, rehearse, f"conformance runtime: {' '.join(command)}")
+    return play("conformance runtime", SCENARIOS, options, command, rehearse,
+                f"conformance runtime: {' '.join(command)}")

@@ -14,7 +14,8 @@ SETTLES = 1  # seconds in which a poll too many is seen
 
 @scenario(
     ("one_next", pages.NEXT, "there is one Next at a time: no second one while one waits"),
-    ("next_after_response", pages.PROCESSING_TASKS, "Next is asked for after the response was sent, and not while the handler works"),
+    ("next_after_response", pages.PROCESSING_TASKS,
+     "Next is asked for after the response was sent, and not while the handler works"),
     ("responds_once", pages.RESPONSE, "each invocation gets one response, or one error"))
 def one_after_the_other(stage):
     for number in range(ROUNDS):
@@ -23,8 +24,10 @@ def one_after_the_other(stage):
     CLOCK.sleep(SETTLES)
     proxy = stage.environment.proxy
     polls = proxy.of("next")
-    overlap = next(((one, other) for one, other in zip(polls, polls[1:]) if one.ended is None or other.begun < one.ended), None)
-    stage.check("one_next", overlap is None, "a second Next while one waited" if overlap else f"{len(polls)} one after the other")
+    overlap = next(
+        ((one, other) for one, other in zip(polls, polls[1:]) if one.ended is None or other.begun < one.ended), None)
+    stage.check("one_next", overlap is None,
+                "a second Next while one waited" if overlap else f"{len(polls)} one after the other")
     judge_responses(stage, polls, proxy.of("response", "error"))
 
 
@@ -35,13 +38,17 @@ def judge_responses(stage, polls, sent):
             own = [one for one in sent if one.request_id == poll.delivered]
             counts.append(len(own))
             # (the proxy notes an answer before it hands it on: what comes by it is later)
-            early += any(poll.answered <= other.begun and (not own or not own[0].asked or other.begun < own[0].asked) for other in polls)
-    stage.check("next_after_response", early == 0, f"in {early} of {len(counts)} invocations Next came before the response")
-    stage.check("responds_once", all(count == 1 for count in counts), f"responses to each of {len(counts)} invocations: {counts}")
+            early += any(poll.answered <= other.begun and (not own or not own[0].asked or other.begun < own[0].asked)
+                         for other in polls)
+    stage.check("next_after_response", early == 0,
+                f"in {early} of {len(counts)} invocations Next came before the response")
+    stage.check("responds_once", all(count == 1 for count in counts),
+                f"responses to each of {len(counts)} invocations: {counts}")
 
 
 @scenario(
-    ("keep_alive", pages.PERSISTENCE, "requests share connections, which HTTP/1.1 recommends; a connection for each one is a NOTE"))
+    ("keep_alive", pages.PERSISTENCE,
+     "requests share connections, which HTTP/1.1 recommends; a connection for each one is a NOTE"))
 def kept_alive(stage):
     for number in range(ROUNDS):
         stage.output({"do": "echo", "value": number})
@@ -52,7 +59,8 @@ def kept_alive(stage):
 
 
 @scenario(
-    ("connection_end", pages.RETRYING, "if its peer ends the connection after a response, it asks for the next invocation on a new one"))
+    ("connection_end", pages.RETRYING,
+     "if its peer ends the connection after a response, it asks for the next invocation on a new one"))
 def connection_ends(stage):
     environment = stage.environment
     stage.idle()
@@ -66,13 +74,16 @@ def connection_ends(stage):
 
 
 @scenario(
-    ("next_without_timeout", pages.NEXT, "Next has no timeout: it waits as long as there is no invocation (--idle-seconds, 5 by default)"),
+    ("next_without_timeout", pages.NEXT,
+     "Next has no timeout: it waits as long as there is no invocation (--idle-seconds, 5 by default)"),
     lasts=5)
 def idle_for_long(stage):
     environment, seconds = stage.environment, stage.tools.options.idle_seconds
     stage.idle()
     if poll := environment.given_up("next", seconds):
         return stage.check("next_without_timeout", False,
-                           f"it gave its Next up after {poll.left - poll.begun:.1f} s; {environment.process.how_it_ended()}")
+                           f"it gave its Next up after {poll.left - poll.begun:.1f} s; "
+                           f"{environment.process.how_it_ended()}")
     output = stage.output({"do": "echo", "value": "at last"})
-    return stage.check("next_without_timeout", output == "at last", f"after {seconds:g} s the invocation had the output {shown(output)}")
+    return stage.check("next_without_timeout", output == "at last",
+                       f"after {seconds:g} s the invocation had the output {shown(output)}")

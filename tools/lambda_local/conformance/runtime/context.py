@@ -13,11 +13,15 @@ TRACES = ("Root=1-5759e988-bd862e3fe1be46a994272793;Parent=53995c3f42cd8ad8;Samp
 
 
 @scenario(
-    ("request_id", pages.NEXT, "the handler sees the request identifier of each invocation, as Lambda-Runtime-Aws-Request-Id has it"),
-    ("function_arn", pages.NEXT, "the handler sees the ARN that was invoked, as Lambda-Runtime-Invoked-Function-Arn has it"),
-    ("deadline", pages.NEXT, "the remaining time is what is left until Lambda-Runtime-Deadline-Ms, in Unix milliseconds"),
+    ("request_id", pages.NEXT,
+     "the handler sees the request identifier of each invocation, as Lambda-Runtime-Aws-Request-Id has it"),
+    ("function_arn", pages.NEXT,
+     "the handler sees the ARN that was invoked, as Lambda-Runtime-Invoked-Function-Arn has it"),
+    ("deadline", pages.NEXT,
+     "the remaining time is what is left until Lambda-Runtime-Deadline-Ms, in Unix milliseconds"),
     ("remaining_time", pages.PROCESSING_TASKS, "the remaining time gets less while the handler works"),
-    ("trace_id", pages.PROCESSING_TASKS, "_X_AMZN_TRACE_ID has the value of Lambda-Runtime-Trace-Id while the handler works"),
+    ("trace_id", pages.PROCESSING_TASKS,
+     "_X_AMZN_TRACE_ID has the value of Lambda-Runtime-Trace-Id while the handler works"),
     ("trace_renewed", pages.PROCESSING_TASKS, "_X_AMZN_TRACE_ID is renewed for each invocation"), timeout=TIMEOUT)
 def context(stage):
     for place, trace in enumerate(TRACES):
@@ -25,16 +29,19 @@ def context(stage):
         answer = stage.invoke(event, qualified=qualified, trace=trace)
         seen = answer.value if isinstance(answer.value, dict) else {}
         request = answer.headers.get("x-amzn-requestid")
-        stage.check("request_id", seen.get("requestId") == request, f"{shown(seen.get('requestId'))} in place of {request}")
+        stage.check("request_id", seen.get("requestId") == request,
+                    f"{shown(seen.get('requestId'))} in place of {request}")
         arn = stage.arn + (":$LATEST" if qualified else "")
-        stage.check("function_arn", seen.get("functionArn") == arn, f"{shown(seen.get('functionArn'))} in place of {arn}")
+        stage.check("function_arn", seen.get("functionArn") == arn,
+                    f"{shown(seen.get('functionArn'))} in place of {arn}")
         judge_time(stage, seen.get("remaining"))
         judge_trace(stage, place, seen.get("traceId"))
 
 
 def judge_time(stage, remaining):
     """Two looks at the remaining time, in milliseconds."""
-    numbers = isinstance(remaining, list) and len(remaining) == 2 and all(isinstance(each, (int, float)) for each in remaining)
+    numbers = isinstance(remaining,
+                         list) and len(remaining) == 2 and all(isinstance(each, (int, float)) for each in remaining)
     came = f"remaining milliseconds before and after {SLEEP} ms: {shown(remaining)}, of {stage.timeout * 1000}"
     # (from 0 at the worst, on a machine that is busy with other things, to the whole timeout)
     stage.check("deadline", numbers and 0 < remaining[0] <= stage.timeout * 1000 + 1, came)

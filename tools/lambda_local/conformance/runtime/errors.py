@@ -19,7 +19,8 @@ REPORTED = 5  # seconds beyond an Init's own time
     ("error_message", pages.INVOKE_ERROR, "its report has the error's message as \"errorMessage\""),
     ("error_type", pages.INVOKE_ERROR, "its report has the error's type as \"errorType\""),
     ("stack_trace", pages.INVOKE_ERROR, "\"stackTrace\" is a list of texts; without it, a NOTE"),
-    ("error_header", pages.INVOKE_ERROR, "Lambda-Runtime-Function-Error-Type names the type; it is not required: without it, a NOTE"))
+    ("error_header", pages.INVOKE_ERROR,
+     "Lambda-Runtime-Function-Error-Type names the type; it is not required: without it, a NOTE"))
 def errors(stage):
     answer = stage.invoke({"do": "fail", "type": TYPE, "message": MESSAGE})
     report, came = answer.report, f"the caller received {shown(answer.body)}"
@@ -30,7 +31,8 @@ def errors(stage):
                 "error" if exchange else "no request to invocation/ID/error, but " + ", ".join(
                     f"{one.method} {one.path}" for one in proxy.of("response")))
     stage.check("error_message", report.get("errorMessage") == MESSAGE, came)
-    stage.check("error_type", isinstance(report.get("errorType"), str) and report["errorType"].split(".")[-1] == TYPE, came)
+    stage.check("error_type", isinstance(report.get("errorType"), str) and report["errorType"].split(".")[-1] == TYPE,
+                came)
     judge_trace(stage, report.get("stackTrace"))
     judge_header(stage, exchange)
 
@@ -63,11 +65,13 @@ def error_then_output(stage):
 
 
 def init_fails(stage, report_check):
-    """An Init that cannot succeed is reported: that report's exchange; None, with the check judged, if there is none."""
+    """An Init that cannot succeed is reported: that report's exchange; None, with the check judged, if there is
+    none."""
     environment = stage.environment
     process, proxy = environment.process, environment.proxy
     end = CLOCK.now() + stage.patience + REPORTED
-    while not (process.ended or proxy.of("next") or any(one.ended for one in proxy.of("init_error"))) and CLOCK.now() < end:
+    while not (process.ended or proxy.of("next")
+               or any(one.ended for one in proxy.of("init_error"))) and CLOCK.now() < end:
         proxy.wait(lambda: any(one.kind == "next" or one.answered for one in proxy.exchanges), 0.05)
     exchange = environment.saw("init_error", 1)
     if exchange:
@@ -79,7 +83,8 @@ def init_fails(stage, report_check):
     if proxy.of("next"):
         answer = stage.invoke({"do": "echo", "value": 1})
         if answer.failed:
-            stage.check(report_check, False, f"it asked for an invocation, and only that one failed: {shown(answer.body)}")
+            stage.check(report_check, False,
+                        f"it asked for an invocation, and only that one failed: {shown(answer.body)}")
         else:
             stage.note(report_check, "it takes invocations all the same: it does not look at _HANDLER")
     else:
@@ -88,7 +93,8 @@ def init_fails(stage, report_check):
 
 
 @scenario(
-    ("init_error", pages.INIT_ERROR, "an error while the handler is loaded is sent to init/error with \"errorMessage\" and \"errorType\""),
+    ("init_error", pages.INIT_ERROR,
+     "an error while the handler is loaded is sent to init/error with \"errorMessage\" and \"errorType\""),
     ("init_error_ends", pages.INITIALIZATION_TASKS, "after init/error the process exits"), handler="failing.handler")
 def failing_init(stage):
     exchange = init_fails(stage, "init_error")
@@ -127,7 +133,8 @@ def asks_again(stage, name, exchange):
 
 
 @scenario(
-    ("too_large", pages.RESPONSE, "after a response that is too large (413) it asks for the next invocation; an end instead is a NOTE"),
+    ("too_large", pages.RESPONSE,
+     "after a response that is too large (413) it asks for the next invocation; an end instead is a NOTE"),
     lasts=3)
 def response_too_large(stage):
     answer = stage.later(stage.invoke, {"do": "large", "value": LIMIT - 1})
@@ -141,14 +148,16 @@ def response_too_large(stage):
 
 
 @scenario(
-    ("late_response", pages.INVOKE_FAILURES, "after a response that is too late (403) it asks for the next invocation; an end instead is a "
+    ("late_response", pages.INVOKE_FAILURES,
+     "after a response that is too late (403) it asks for the next invocation; an end instead is a "
                                              "NOTE"),
     timeout=1, lasts=3)
 def response_too_late(stage):
     stage.idle()
     answer = stage.invoke({"do": "sleep", "value": 1000 * stage.timeout + 300})
     if not answer.failed:
-        raise Missing(f"a handler that sleeps beyond its timeout of {stage.timeout} s was answered: {shown(answer.body)}")
+        raise Missing(
+            f"a handler that sleeps beyond its timeout of {stage.timeout} s was answered: {shown(answer.body)}")
     exchange = stage.environment.saw("response", REPORTED) or stage.environment.saw("error", 0)
     if exchange is None:
         raise Missing(f"it sent no response, not even a late one ({stage.environment.process.how_it_ended()})")

@@ -17,7 +17,8 @@ CONTAINER_ERROR = b'{"errorMessage":"Environment is shutting down","errorType":"
 
 
 @scenario(
-    ("init_in_time", pages.INIT_PHASE, "the first Next comes within the Init phase's limit (--init-seconds, 10 by default)"))
+    ("init_in_time", pages.INIT_PHASE,
+     "the first Next comes within the Init phase's limit (--init-seconds, 10 by default)"))
 def first_next(stage):
     environment, limit = stage.environment, stage.tools.options.init_seconds
     seconds = environment.proxy.of("next")[0].since - environment.process.begun
@@ -30,7 +31,8 @@ def ends(stage, name, since, seconds=ENDS):
     seen = len(stage.environment.proxy.exchanges)
     ended = process.wait(seconds)
     more = len(stage.environment.proxy.exchanges) - seen
-    stage.check(name, ended, f"{seconds:g} s after {since} {process.how_it_ended()}" + (f", and made {more} more requests" if more else ""))
+    stage.check(name, ended, f"{seconds:g} s after {since} {process.how_it_ended()}"
+                + (f", and made {more} more requests" if more else ""))
 
 
 @scenario(
@@ -44,7 +46,8 @@ def container_error_at_next(stage):
 
 
 @scenario(
-    ("ends_at_500_response", pages.RESPONSE, "after 500 at its response, which is not recoverable, the process exits promptly"), timeout=3)
+    ("ends_at_500_response", pages.RESPONSE,
+     "after 500 at its response, which is not recoverable, the process exits promptly"), timeout=3)
 def container_error_at_response(stage):
     stage.environment.proxy.rule = Rule("response", reply=(500, CONTAINER_ERROR))
     stage.later(stage.invoke, {"do": "echo", "value": 1})
@@ -54,7 +57,8 @@ def container_error_at_response(stage):
 
 
 @scenario(
-    ("ends_at_sigterm", pages.SHUTDOWN_PHASE, f"after SIGTERM the process ends within {SHUTDOWN_SECONDS} s, before Lambda sends SIGKILL"))
+    ("ends_at_sigterm", pages.SHUTDOWN_PHASE,
+     f"after SIGTERM the process ends within {SHUTDOWN_SECONDS} s, before Lambda sends SIGKILL"))
 def terminated(stage):
     stage.output({"do": "echo", "value": 1})
     stage.idle()
@@ -63,7 +67,8 @@ def terminated(stage):
 
 
 @scenario(
-    ("cold_start", pages.INVOKE_FAILURES, "after a timeout, at which the process is killed, a new one serves the next invocation"),
+    ("cold_start", pages.INVOKE_FAILURES,
+     "after a timeout, at which the process is killed, a new one serves the next invocation"),
     timeout=3, lasts=4)
 def killed_at_a_timeout(stage):
     environment = stage.environment
@@ -81,7 +86,8 @@ def killed_at_a_timeout(stage):
 
 
 @scenario(
-    ("handler_exits", pages.INVOKE_FAILURES, "if the handler ends its process, the runtime ends too or reports an error: no invocation is "
+    ("handler_exits", pages.INVOKE_FAILURES,
+     "if the handler ends its process, the runtime ends too or reports an error: no invocation is "
                                              "lost"),
     timeout=4)
 def handler_ends_the_process(stage):
@@ -92,7 +98,8 @@ def handler_ends_the_process(stage):
         environment.process.wait(0.02)
     if environment.process.ended:
         sent = len(environment.proxy.of("response"))
-        return stage.check("handler_exits", sent == 0, environment.process.how_it_ended() + (", and sent a response" if sent else ""))
+        return stage.check("handler_exits", sent == 0,
+                           environment.process.how_it_ended() + (", and sent a response" if sent else ""))
     if answer.done():
         received = answer.result()
         return stage.check("handler_exits", received.failed, f"the caller received {shown(received.body)}")

@@ -72,7 +72,8 @@ def invoke_often(stage, count, seconds):
 
 
 @scenario(
-    ("environments_apart", pages.REUSE, "several environments of a function, each a process, do not meet: each caller has its own output"),
+    ("environments_apart", pages.REUSE,
+     "several environments of a function, each a process, do not meet: each caller has its own output"),
     environments=ENVIRONMENTS)
 def several_at_once(stage):
     stage.idle()

@@ -11,7 +11,8 @@ scenario = scenarios_of(SCENARIOS)
 LIMIT = 6_291_456  # bytes of a synchronous payload, in each direction
 TEXT = "Grüße, 世界, \u0627\u0644\u0639\u0627\u0644\u0645, 🚀, e\u0301"
 ESCAPES = r'"\"\\\/\b\f\n\r\t\u0000\u00e9\u4e16\ud83d\ude80\u2028"'
-NUMBERS = ["0", "-1", "1.50", "1e3", "0.1", "9007199254740993", "12345678901234567890", "-1.7976931348623157e308", "5e-324"]
+NUMBERS = ["0", "-1", "1.50", "1e3", "0.1", "9007199254740993", "12345678901234567890", "-1.7976931348623157e308",
+           "5e-324"]
 DEPTH = 100
 
 
@@ -30,9 +31,11 @@ def is_json(body, expected):
 
 
 @scenario(
-    ("payload_empty", pages.NEXT, "a handler that returns its event gives {} for the event {}, which an empty payload is"),
+    ("payload_empty", pages.NEXT,
+     "a handler that returns its event gives {} for the event {}, which an empty payload is"),
     ("payload_null", pages.NEXT, "a handler that returns its event gives null for the event null"),
-    ("payload_scalars", pages.NEXT, "a handler that returns its event gives a text, a number, true, false and a list as they are"))
+    ("payload_scalars", pages.NEXT,
+     "a handler that returns its event gives a text, a number, true, false and a list as they are"))
 def small_payloads(stage):
     received(stage, "payload_empty", b"", {})
     received(stage, "payload_null", b"null", None)
@@ -63,7 +66,8 @@ def nested(stage):
 
 
 @scenario(
-    ("numbers", pages.JSON_NUMBERS, "numbers are returned as they were written, or at least with the same value as binary64 (a NOTE)"))
+    ("numbers", pages.JSON_NUMBERS,
+     "numbers are returned as they were written, or at least with the same value as binary64 (a NOTE)"))
 def numbers(stage):
     sent = "[" + ",".join(NUMBERS) + "]"
     body = stage.invoke(b'{"do":"echo","value":' + sent.encode() + b"}").body.decode(errors="replace")
@@ -88,12 +92,14 @@ def as_many(came):
 
 
 @scenario(
-    ("payload_limit", pages.QUOTAS, f"an event of {LIMIT:,} bytes reaches the handler whole, and its output the caller"),
+    ("payload_limit", pages.QUOTAS,
+     f"an event of {LIMIT:,} bytes reaches the handler whole, and its output the caller"),
     ("output_limit", pages.QUOTAS, f"an output of {LIMIT:,} bytes reaches the caller"), lasts=3)
 def large_payloads(stage):
     value = "x" * (LIMIT - len(compact({"do": "echo", "value": ""})))
     answer = stage.invoke({"do": "echo", "value": value})
-    stage.check("payload_limit", is_json(answer.body, value), f"the caller received {len(answer.body):,} bytes: {shown(answer.body)}")
+    stage.check("payload_limit", is_json(answer.body, value),
+                f"the caller received {len(answer.body):,} bytes: {shown(answer.body)}")
     answer = stage.invoke({"do": "large", "value": LIMIT - 2})
     stage.check("output_limit", answer.body == b'"' + b"x" * (LIMIT - 2) + b'"',
                 f"the caller received {len(answer.body):,} bytes: {shown(answer.body)}")
@@ -116,7 +122,8 @@ def events_one_after_the_other(stage):
 
 
 @scenario(
-    ("stream", pages.STREAMING, "a streamed response has Lambda-Runtime-Function-Response-Mode: streaming and is sent in chunks; "
+    ("stream", pages.STREAMING,
+     "a streamed response has Lambda-Runtime-Function-Response-Mode: streaming and is sent in chunks; "
                                 "a runtime that streams nothing sends the texts as one (a NOTE)"))
 def streamed(stage):
     texts = ["first ", "second ", "third"]
@@ -131,5 +138,6 @@ def streamed(stage):
             return stage.note("stream", "it does not stream: the response came whole")
         return stage.check("stream", False, f"the caller received {shown(answer.body)}")
     right = mode.lower() == "streaming" and exchange.request.chunked and answer.body in (whole.encode(), compact(whole))
-    return stage.check("stream", right, f"mode {shown(mode)}, {'in chunks' if exchange.request.chunked else 'not in chunks'}, "
+    return stage.check("stream", right,
+                       f"mode {shown(mode)}, {'in chunks' if exchange.request.chunked else 'not in chunks'}, "
                                         f"and the caller received {shown(answer.body)}")

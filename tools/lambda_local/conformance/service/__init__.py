@@ -1,12 +1,13 @@
 """Compares another local Lambda, with one environment, with the definitions.
 
   lambda_local conformance service --invoke http://127.0.0.1:8080 --runtime 127.0.0.1:9001
-  lambda_local conformance service --invoke URL --runtime HOST:PORT --seconds 60 --seed 7 --known accepted.txt --junit report.xml
+  lambda_local conformance service --invoke URL --runtime HOST:PORT --seconds 60 --seed 7 --known accepted.txt --junit
+  report.xml
 
-The tool plays a caller, a runtime and extensions, in worked and in random sequences of calls, one call after the other; no
-runtime of the service's own may be connected. The same calls are replayed by `lambda_local replay`, and each answer is
-compared, up to identifiers, times, and the texts that are a service's own. What differs is reported with as few calls as
-show it. docs/conformance.md says more.
+The tool plays a caller, a runtime and extensions, in worked and in random sequences of calls, one call after the other;
+no runtime of the service's own may be connected. The same calls are replayed by `lambda_local replay`, and each answer
+is compared, up to identifiers, times, and the texts that are a service's own. What differs is reported with as few
+calls as show it. docs/conformance.md says more.
 
 Exit statuses: 0; 1 if an answer differs; 2 for wrong usage, or a service that does not answer."""
 import argparse
@@ -50,9 +51,11 @@ class Run:
         status = self.course.ask(Call("init-failure", "", ("={}",)), {}, ANSWER_SECONDS)
         place = ":".join(map(str, self.tested.runtime))
         if not status:
-            raise Fault(2, f"{place}: POST /2018-06-01/runtime/init/error is not answered within {ANSWER_SECONDS:.0f} s")
+            raise Fault(
+                2, f"{place}: POST /2018-06-01/runtime/init/error is not answered within {ANSWER_SECONDS:.0f} s")
         if status not in (202, 403):
-            raise Fault(2, f"{place}: POST /2018-06-01/runtime/init/error is answered {status}: no Runtime API listens there")
+            raise Fault(
+                2, f"{place}: POST /2018-06-01/runtime/init/error is answered {status}: no Runtime API listens there")
         self.course.restore()
         found = self.course.learn_timeout()
         if found:
@@ -76,7 +79,8 @@ class Run:
         """Random sequences until their share of the number or of the time is used up."""
         wanted = self.options.sequences
         made, count = 0, round(wanted * until) - round(wanted * share) if wanted else None
-        while not self.over() and (made < count if wanted else time.monotonic() - self.begun < self.options.seconds * until):
+        while not self.over() and (made < count if wanted
+                                   else time.monotonic() - self.begun < self.options.seconds * until):
             plans = plans_of(self.generator.sequences(start, BATCH), self.oracle)
             made += self.play(plans[:count - made] if wanted else plans, True)
 
@@ -95,8 +99,8 @@ class Run:
         return len(plans)
 
     def _look_into(self, plan, played):
-        """Reports a difference with as few calls as show it. One that does not show again with more time between the calls
-        was a matter of their order, and is none."""
+        """Reports a difference with as few calls as show it. One that does not show again with more time between the
+        calls was a matter of their order, and is none."""
         difference = played.difference
         try:
             difference = confirmed(self.course, self.oracle, plan)
@@ -128,7 +132,8 @@ def look_for(address):
     try:
         socket.create_connection(address, timeout=5).close()
     except OSError as fault:
-        raise Fault(2, f"{address[0]}:{address[1]}: no service answers there ({fault.strerror or fault}): start it first") from None
+        raise Fault(2, f"{address[0]}:{address[1]}: no service answers there ({fault.strerror or fault}): start it "
+                       f"first") from None
 
 
 def count(text):
@@ -143,17 +148,24 @@ def main(words):
     parser.add_argument("--invoke", metavar="URL", help="the port for callers, for example http://127.0.0.1:8080")
     parser.add_argument("--runtime", metavar="HOST:PORT", help="the Runtime API, for example 127.0.0.1:9001")
     parser.add_argument("--function", metavar="NAME", default="function", help="the function's name (function)")
-    parser.add_argument("--seconds", metavar="S", type=seconds, default=20, help="how long random sequences are played (20)")
-    parser.add_argument("--sequences", metavar="N", type=count, help="how many random sequences are played, in place of --seconds")
-    parser.add_argument("--seed", metavar="N", type=int, default=random.SystemRandom().randrange(10 ** 6), help="of the random sequences")
-    parser.add_argument("--known", metavar="FILE", help="differences that are accepted, one a line, as a report names them")
-    parser.add_argument("--most", metavar="N", type=count, default=5, help="after how many differences the run ends (5)")
+    parser.add_argument("--seconds", metavar="S", type=seconds, default=20,
+                        help="how long random sequences are played (20)")
+    parser.add_argument("--sequences", metavar="N", type=count,
+                        help="how many random sequences are played, in place of --seconds")
+    parser.add_argument("--seed", metavar="N", type=int, default=random.SystemRandom().randrange(10 ** 6),
+                        help="of the random sequences")
+    parser.add_argument("--known", metavar="FILE",
+                        help="differences that are accepted, one a line, as a report names them")
+    parser.add_argument("--most", metavar="N", type=count, default=5,
+                        help="after how many differences the run ends (5)")
     parser.add_argument("--junit", metavar="FILE", help="write the result there as JUnit XML")
-    parser.add_argument("--program", metavar="P", help="lambda_local (default: LAMBDA_LOCAL_PROGRAM, else the repository's ./lambda_local)")
+    parser.add_argument("--program", metavar="P",
+                        help="lambda_local (default: LAMBDA_LOCAL_PROGRAM, else the repository's ./lambda_local)")
     options = parser.parse_args(words)
     for name in ("invoke", "runtime"):
         if not getattr(options, name):
-            raise Fault(2, f"write --{name} {'URL' if name == 'invoke' else 'HOST:PORT'}, where the tested service listens")
+            raise Fault(
+                2, f"write --{name} {'URL' if name == 'invoke' else 'HOST:PORT'}, where the tested service listens")
     for number in (signal.SIGTERM, signal.SIGINT, signal.SIGHUP):
         signal.signal(number, ended_by_signal)
     try:
@@ -172,7 +184,8 @@ def run(whole, report, options):
         whole.everything()
     except (OSError, Unrecoverable) as fault:
         why = f"does not answer any more: {fault.strerror or fault}" if isinstance(fault, OSError) else (
-            "comes to no fresh environment by a failed Init or a timeout: end what is connected to it, and have it serve one environment")
+            "comes to no fresh environment by a failed Init or a timeout: end what is connected to it, and have it "
+            "serve one environment")
         if not report.differences:
             raise Fault(2, f"the service at {options.invoke}, {options.runtime} {why}") from None
         report.write(f"the run ends: the service {why}")

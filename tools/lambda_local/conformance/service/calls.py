@@ -2,10 +2,10 @@
 
   next
   invoke a ={"n":1}          a label for the invocation, and its payload; with a trace: `invoke a trace=TRACE =..`
-  response a ="done"         also `failure a =REPORT`, `response-too-large a`; the label ? is an identifier that was never given
-  init-failure =REPORT
-  register x =NAME is -      a label for the extension, its name, its events (i, s, is or -), `a` if it asks for the account
-  ext-next x                 also `ext-init-failure x =REPORT`, `ext-exit-failure x =REPORT`
+  response a ="done"         also `failure a =REPORT`, `response-too-large a`; the label ? is an identifier that was
+  never given init-failure =REPORT
+  register x =NAME is -      a label for the extension, its name, its events (i, s, is or -), `a` if it asks for the
+  account ext-next x                 also `ext-init-failure x =REPORT`, `ext-exit-failure x =REPORT`
   wait                       until the function's timeout has passed
 
 Texts are percent-decoded, as in a script (docs/formats.md)."""

@@ -1,4 +1,5 @@
-"""Plays sequences on the tested service, one call after the other, and compares each answer in the step it belongs to."""
+"""Plays sequences on the tested service, one call after the other, and compares each answer in the step it belongs
+to."""
 import contextlib
 import time
 from typing import NamedTuple, Optional, Tuple
@@ -52,8 +53,9 @@ class Course:
     # ---- one sequence ----
 
     def play(self, plan, settle=None, patience=ANSWER_SECONDS):
-        """Plays it from the state in which it begins: the first difference that is not accepted, if there is one. `settle`
-        is how long a call that is not answered has to wait, `patience` how long an answer may take that is given at once."""
+        """Plays it from the state in which it begins: the first difference that is not accepted, if there is one.
+        `settle` is how long a call that is not answered has to wait, `patience` how long an answer may take that is
+        given at once."""
         self.bring(plan.sequence.start)
         begun, judge, exchanges, moments = time.monotonic(), Judge(plan), {}, []
         self.ids, self.state = judge.ids, None
@@ -85,7 +87,8 @@ class Course:
     def _await(self, plan, step, exchanges, settle, patience):
         """Waits for the answers that belong to the step; if its own call gets none, until it surely waits."""
         call, given = plan.sequence.calls[step], plan.steps[step]
-        answered = [one for one in given if not self.known.accepts_silence((plan.sequence.calls[one.call].kind, label_of(one, False)))]
+        answered = [one for one in given
+                    if not self.known.accepts_silence((plan.sequence.calls[one.call].kind, label_of(one, False)))]
         if answered:
             limit = self.timeout + BEYOND_SECONDS if call.kind == "wait" else patience
             self.wire.collect([exchanges[one.call] for one in answered], limit)
@@ -100,8 +103,8 @@ class Course:
         self.wire.collect()
 
     def _compare(self, plan, step, exchanges, judge):
-        """The first difference of a step that is not accepted (a call's place, its label, the aspect), and whether the two
-        have parted with one that is."""
+        """The first difference of a step that is not accepted (a call's place, its label, the aspect), and whether the
+        two have parted with one that is."""
         here = {given.call: given for given in plan.steps[step]}
         before = [given for earlier in plan.steps[:step] for given in earlier]
         answered_before = open_invocation(plan, step) is None and any(given.answer.kind == "deliver" for given in before)
@@ -129,7 +132,8 @@ class Course:
         waiting = plan.waiting()
         self.state = WARM if waiting else FRESH
         self.poll = exchanges[waiting[0]] if waiting else None
-        self.wire.leave([exchange for exchange in exchanges.values() if not exchange.over and exchange is not self.poll])
+        self.wire.leave(
+            [exchange for exchange in exchanges.values() if not exchange.over and exchange is not self.poll])
 
     # ---- the state in which a sequence begins ----
 
@@ -173,8 +177,8 @@ class Course:
         self.ids, self.state, self.poll = {}, FRESH, None
 
     def learn_timeout(self):
-        """The function's timeout in seconds, by the deadline of an invocation in a fresh environment; none if it has none.
-        With an extension, whose failure ends the environment at once."""
+        """The function's timeout in seconds, by the deadline of an invocation in a fresh environment; none if it has
+        none. With an extension, whose failure ends the environment at once."""
         register = self.send(Call("register", "probe", ("=probe", "-")), {})
         self.wire.collect([register], ANSWER_SECONDS)
         if identifier := register.headers.get("lambda-extension-identifier"):

@@ -2,16 +2,19 @@
 import json
 from typing import NamedTuple
 
-from ..pages import (EXTENSION_EXIT_ERROR, EXTENSION_INIT_ERROR, EXTENSION_NEXT, INIT_ERROR, INIT_PHASE, INVOKE_ERROR, NEXT, REGISTER,
-                     RESPONSE, Page)
+from ..pages import (EXTENSION_EXIT_ERROR, EXTENSION_INIT_ERROR, EXTENSION_NEXT, INIT_ERROR, INIT_PHASE, INVOKE_ERROR,
+                     NEXT, REGISTER, RESPONSE, Page)
 
-INVOKE = Page("AWS Lambda API Reference, Invoke", "Response Elements", "https://docs.aws.amazon.com/lambda/latest/api/API_Invoke.html")
+INVOKE = Page("AWS Lambda API Reference, Invoke", "Response Elements",
+              "https://docs.aws.amazon.com/lambda/latest/api/API_Invoke.html")
 PAGES = {"invoke": INVOKE, "next": NEXT, "response": RESPONSE, "response-too-large": RESPONSE, "failure": INVOKE_ERROR,
-         "init-failure": INIT_ERROR, "register": REGISTER, "ext-next": EXTENSION_NEXT, "ext-init-failure": EXTENSION_INIT_ERROR,
-         "ext-exit-failure": EXTENSION_EXIT_ERROR}
+         "init-failure": INIT_ERROR, "register": REGISTER, "ext-next": EXTENSION_NEXT,
+         "ext-init-failure": EXTENSION_INIT_ERROR, "ext-exit-failure": EXTENSION_EXIT_ERROR}
 TOLERANCE = 1500  # milliseconds that a deadline may differ by
-STATUSES = {"deliver": 200, "tell": 200, "shutdown": 200, "registered": 200, "accepted": 202, "output": 200, "error": 200,
-            "timeout": 200, "init-timeout": 200, "too-large-output": 200, "throttled": 429, "State": 403, "Replaced": 403,
+STATUSES = {"deliver": 200, "tell": 200, "shutdown": 200, "registered": 200, "accepted": 202, "output": 200,
+            "error": 200,
+            "timeout": 200, "init-timeout": 200, "too-large-output": 200, "throttled": 429, "State": 403,
+            "Replaced": 403,
             "BadId": 400, "Unknown": 403, "TooLarge": 413, "Container": 500, "NameInUse": 403, "TooMany": 403}
 FUNCTION_ERRORS = ("error", "timeout", "init-timeout", "too-large-output")
 TEXT = "a text of the service's own"
@@ -126,7 +129,8 @@ class Judge:
     def _error(self, given, exchange):
         yield self._flag(exchange)
         report, ours = exchange.body, given.answer.body
-        yield "report", report, report if given.cause.startswith("ext-") else ours  # (of an extension: docs/differences.md)
+        # (of an extension: docs/differences.md)
+        yield "report", report, report if given.cause.startswith("ext-") else ours
 
     def _timeout(self, given, exchange):
         yield self._flag(exchange)

@@ -1,7 +1,7 @@
 """Differences that are accepted: those that docs/differences.md has, and those of a file.
 
-Each is named by three words, as a report gives them: the call, the definitions' answer to it, and the respect in which the
-other answer differs; `*` stands for any word. What is more than that is said where it is compared (judge.py)."""
+Each is named by three words, as a report gives them: the call, the definitions' answer to it, and the respect in which
+the other answer differs; `*` stands for any word. What is more than that is said where it is compared (judge.py)."""
 from typing import NamedTuple
 
 from ...service import Fault
@@ -58,7 +58,8 @@ def read(path):
         if not words:
             continue
         if len(words) != 3:
-            raise Fault(2, f"--known {path}: line {number} has {len(words)} words: write three, CALL ANSWER RESPECT, as a report "
+            raise Fault(2, f"--known {path}: line {number} has {len(words)} words: write three, CALL ANSWER RESPECT, "
+                           f"as a report "
                            "names the difference")
         found.append(Known(words, f"{path}, line {number}"))
     return found

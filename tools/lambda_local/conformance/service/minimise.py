@@ -24,8 +24,9 @@ def confirmed(course, oracle, plan):
 
 
 def determined(course, oracle, plan, settle, patience=ANSWER_SECONDS):
-    """The difference that a plan shows, if the definitions give the same answers for the moments at which the calls were
-    made, and no deadline came before the answer that differs. On a machine that is too slow for that, it is tried again."""
+    """The difference that a plan shows, if the definitions give the same answers for the moments at which the calls
+    were made, and no deadline came before the answer that differs. On a machine that is too slow for that, it is tried
+    again."""
     for _ in range(TRIES):
         difference = course.play(plan, settle, patience).difference
         if not difference or by_its_moments(oracle, difference):
@@ -59,7 +60,8 @@ def minimised(course, oracle, difference):
 
 
 def smaller(course, oracle, difference, size, first, end):
-    """The same difference with so many neighbouring calls less, and the place where they stood, from a place on; or none."""
+    """The same difference with so many neighbouring calls less, and the place where they stood, from a place on; or
+    none."""
     calls, sequence = calls_before(difference), difference.plan.sequence
     places = {calls[:place] + calls[place + size:]: place for place in range(first, len(calls), size)}
     candidates = [sequence._replace(name=str(places[one]), calls=one) for one in places if one]

@@ -17,8 +17,8 @@ FIRST_PORT = 20000  # of environments that no one serves
 
 
 class Sequence(NamedTuple):
-    """Calls that begin with an environment of which nothing has been heard (fresh), or whose runtime alone waits (warm):
-    then the first call is that Next, which was made before."""
+    """Calls that begin with an environment of which nothing has been heard (fresh), or whose runtime alone waits
+    (warm): then the first call is that Next, which was made before."""
     name: str
     start: str
     calls: tuple
@@ -44,12 +44,14 @@ class Plan(NamedTuple):
         return next((given.answer for given in self.steps[place] if given.call == place), None)
 
     def label_of(self, identifier_count, of_extension=False):
-        return next((label for (kind, label), count in self.counts.items() if kind == of_extension and count == identifier_count), None)
+        return next((label for (kind, label),
+                     count in self.counts.items() if kind == of_extension and count == identifier_count), None)
 
     def waiting(self):
         """The places of the calls that are not answered."""
         answered = {given.call for step in self.steps for given in step}
-        return [place for place, call in enumerate(self.sequence.calls) if call.kind != "wait" and place not in answered]
+        return [place for place,
+                call in enumerate(self.sequence.calls) if call.kind != "wait" and place not in answered]
 
 
 class Oracle:
@@ -58,7 +60,8 @@ class Oracle:
 
     def plans(self, sequences):
         """A plan for each of the sequences."""
-        return [plan for first in range(0, len(sequences), AT_ONCE) for plan in self._some(sequences[first:first + AT_ONCE])]
+        return [plan for first in range(0, len(sequences), AT_ONCE)
+                for plan in self._some(sequences[first:first + AT_ONCE])]
 
     def plan(self, sequence, moments=None):
         """The plan of one; of calls that were made at these moments, if there are any."""
@@ -90,8 +93,10 @@ class Oracle:
 
     def opening(self, count):
         """The first two lines of a script with so many functions."""
-        functions = [{"name": f"f{number + 1}", "ports": [FIRST_PORT + number], "timeout": self.timeout} for number in range(count)]
-        return ["form 2", json.dumps({"account": "123456789012", "region": "us-east-1", "functions": functions}, separators=(",", ":"))]
+        functions = [{"name": f"f{number + 1}", "ports": [FIRST_PORT + number], "timeout": self.timeout}
+                     for number in range(count)]
+        return ["form 2", json.dumps({"account": "123456789012", "region": "us-east-1", "functions": functions},
+                                     separators=(",", ":"))]
 
     def _replay(self, lines):
         self.replays += 1
@@ -134,8 +139,8 @@ def deadline_of(answer):
 
 
 def counts_of(calls, registered):
-    """The count in the identifier of each label: all Invokes count, and the registrations that are taken (all, if that is
-    not known yet)."""
+    """The count in the identifier of each label: all Invokes count, and the registrations that are taken (all, if that
+    is not known yet)."""
     counts, invocations, extensions = {}, 0, 0
     for place, call in enumerate(calls):
         if call.kind == "invoke":
@@ -158,7 +163,8 @@ def playable(plan):
     for place, call in enumerate(plan.sequence.calls):
         refers = call.kind in OF_INVOCATIONS or call.kind in OF_EXTENSIONS
         own = plan.own(place)
-        # What no service gave is known to be unknown only while another invocation is open: else the phase is refused first.
+        # What no service gave is known to be unknown only while another invocation is open: else the phase is refused
+        # first.
         guessed = call.label == "?" and call.kind in OF_INVOCATIONS and (not own or own.fields[:1] != ("BadId",))
         if (not refers or (about_extension(call), call.label) in known) and not guessed:
             kept.append(call)

@@ -37,10 +37,12 @@ class Report:
         for why, count in sorted(course.known.met.items()):
             self.write(f"accepted {count} times: {why}")
         if self.undecided:
-            self.write(f"undecided: {self.undecided} sequences, in which deadlines came between calls; this machine is slow")
+            self.write(
+                f"undecided: {self.undecided} sequences, in which deadlines came between calls; this machine is slow")
         self.suite.case("conformance service", f"{self.random} random sequences", seconds)
         self.suite.seconds = seconds
-        self.write(f"{self.sequences} sequences ({self.random} random), {course.calls} calls, {self.differences} differences "
+        self.write(f"{self.sequences} sequences ({self.random} random), {course.calls} calls, {self.differences} "
+                   f"differences "
                    f"in {seconds:.1f} s")
         if self.path:
             self.suite.write(self.path)

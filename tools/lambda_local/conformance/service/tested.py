@@ -28,7 +28,8 @@ class Tested(NamedTuple):
 
 def from_environment(call, ids):
     request = ids.get((False, call.label), NEVER) if call.label != NEVER_GIVEN else NEVER
-    extension = [("Lambda-Extension-Identifier", ids.get((True, call.label), NEVER) if call.label != NEVER_GIVEN else NEVER)]
+    extension = [("Lambda-Extension-Identifier",
+                  ids.get((True, call.label), NEVER) if call.label != NEVER_GIVEN else NEVER)]
     if call.kind == "next":
         return "GET", RUNTIME + "invocation/next", [], None
     if call.kind == "response":

@@ -12,7 +12,8 @@ RECENT = 64  # round trips by which that is measured
 
 
 class Exchange:
-    """A request and what came of it: `status` of a reply, `ended` if the connection ended without one, else it waits."""
+    """A request and what came of it: `status` of a reply, `ended` if the connection ended without one, else it
+    waits."""
 
     def __init__(self, address):
         self.address, self.message = address, Message()
@@ -48,13 +49,15 @@ class Wire:
 
     def send(self, address, method, path, headers=(), body=None):
         """Sends a request. OSError if nobody listens there."""
-        lines = [f"{method} {path} HTTP/1.1", f"Host: {address[0]}:{address[1]}", *(f"{name}: {value}" for name, value in headers)]
+        lines = [f"{method} {path} HTTP/1.1", f"Host: {address[0]}:{address[1]}",
+                 *(f"{name}: {value}" for name, value in headers)]
         if body is not None:
             lines.append(f"Content-Length: {len(body)}")
         data = ("\r\n".join(lines) + "\r\n\r\n").encode() + (body or b"")
         exchange = Exchange(address)
         connection = self._connection(address)
-        with contextlib.suppress(BrokenPipeError, ConnectionResetError):  # (what it answered before it had read all is read)
+        # (what it answered before it had read all is read)
+        with contextlib.suppress(BrokenPipeError, ConnectionResetError):
             connection.sendall(data)
         self.open[connection] = exchange
         return exchange
