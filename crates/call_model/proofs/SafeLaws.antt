@@ -1,14 +1,15 @@
 -- Where invocations live and Nexts stand, as the public law states it.
-use Rattle.std.proofs.Common.{◌≡◌, ℕ, Bool, true, false, List, Some, sym, refl, ◌∙◌, not, ◌&&◌}
+use Rattle.std.proofs.Common.{◌≡◌, ℕ, true, false, List, Some, sym, refl, ◌∙◌, true≢false}
 use Rattle.call_types.specs.declared.call.Entry.{Entry}
 use Rattle.arn_ids.specs.declared.config.Config.{Config}
-use Rattle.call_model.specs.History.{pending, answered, place_of, call_of, is_expiry}
+use Rattle.call_model.specs.History.{pending, place_of, call_of}
 use Rattle.call_model.specs.Generation.{Actor}
-use Rattle.call_model.specs.Stand.{at_hand, is_number}
+use Rattle.call_model.specs.Stand.{at_hand, bound_of, is_number}
 use Rattle.call_model.specs.Life.{phase}
 use Rattle.call_model.specs.Laws.{lives, poll_of, is_open}
 use Rattle.call_model.specs.Next.{IsLegal}
 use Rattle.call_model.proofs.AtHand.{held}
+use Rattle.call_model.proofs.BoundWaits.{bound_waits}
 use Rattle.call_model.proofs.Lives as L
 use Rattle.call_model.proofs.ParkedNexts.{standing}
 use Rattle.call_model.proofs.Basics.{eqb-self, and_right, number_some}
@@ -24,15 +25,13 @@ at_place config h p e q = number_some (at_hand (phase config h e)) p (and_right 
 pub lives_only_there : (config : Config) (h : List Entry) (p e : ℕ) → IsLegal config h → lives config h p e ≡ true → place_of h p ≡ Some e
 lives_only_there config h p e l q = number_some (place_of h p) e ((held config h e p l (at_place config h p e q)).placed)
 
-pub lives_alone : (config : Config) (h : List Entry) (p q e : ℕ) → lives config h p e ≡ true → lives config h q e ≡ true → p ≡ q
-lives_alone config h p q e a b = same_Some p q (sym (at_place config h p e a) ∙ at_place config h q e b)
+-- of those that were placed in one environment, one waits
+pub waits_alone : (config : Config) (h : List Entry) (p q e : ℕ) → IsLegal config h → place_of h p ≡ Some e → pending h p ≡ true → place_of h q ≡ Some e → pending h q ≡ true → q ≡ p
+waits_alone config h p q e l a w b v = same_Some q p (sym (L.lives config h e q l (rw b (eqb-self e)) v) ∙ L.lives config h e p l (rw a (eqb-self e)) w)
 
-pub lives_nowhere : (config : Config) (h : List Entry) (p e : ℕ) → answered h p ≡ true → lives config h p e ≡ false
-lives_nowhere config h p e q = rw q (go (not (is_expiry (call_of h p))))
-  where
-    go : (b : Bool) → ((b && false) && is_number (at_hand (phase config h e)) p) ≡ false
-    go true = refl
-    go false = refl
+-- one that waits no more is bound nowhere
+pub bound_nowhere : (config : Config) (h : List Entry) (p e : ℕ) → IsLegal config h → pending h p ≡ false → bound_of (phase config h e) ≡ Some p → ⊥
+bound_nowhere config h p e l w q = true≢false (sym (bound_waits config h e p l q) ∙ w)
 
 -- parked polls
 pub stands_open : (config : Config) (h : List Entry) (e t : ℕ) (actor : Actor) → IsLegal config h → poll_of (call_of h t) ≡ Some (e, actor) → pending h t ≡ true → is_open (phase config h e) ≡ true

@@ -15,7 +15,7 @@ use Rattle.call_model.specs.Laws.{deliveries, times, charged_in}
 use Rattle.call_model.specs.Isolation.{IsUnnamed}
 use Rattle.call_model.specs.Sample.{function, account, one, reserved_two, invoke}
 
--- a configuration with a reservation above its environments: without IsWithinEnvironments never_local is false
+-- a configuration with a reservation above its environments: without its premise never_crowded is false
 crowded : Config
 crowded = account 1000 100 ((function 3 (Some 1) [] 0) ∷ [])
 

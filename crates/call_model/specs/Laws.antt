@@ -1,5 +1,6 @@
 -- Words of the laws over legal histories.
-use Rattle.std.specs.Prelude.{◌≡◌, ◌≤◌, ℕ, Bool, true, false, ◌&&◌, ◌||◌, if◌then◌else◌, ◌+◌, ◌==◌, nat_le, nat_lt, nat_eq, List, [], ◌∷◌, Option, Some, None, option_map, count_by, filter_map, is_some, length}
+use Rattle.std.specs.Prelude.{ℕ, Bool, true, false, ◌&&◌, ◌||◌, if◌then◌else◌, ◌+◌, ◌==◌, nat_le, nat_lt, nat_eq, List}
+use Rattle.std.specs.Prelude.{[], ◌∷◌, Option, Some, None, option_map, count_by, filter_map, is_some}
 use Rattle.std.specs.List.{list_any, list_all}
 use Rattle.call_types.specs.declared.call.Call.{Call}
 use Rattle.call_types.specs.declared.call.Call.TheVariants.{Reserve, RuntimeNext, ExtNext}
@@ -10,7 +11,6 @@ use Rattle.call_types.specs.declared.answer.Phase.{Phase}
 use Rattle.call_types.specs.declared.answer.Phase.TheVariants.{Starting, Idle, Busy}
 use Rattle.call_model.specs.Generation.{Actor, TheRuntime, TheExtension}
 use Rattle.arn_ids.specs.declared.config.Config.{Config}
-use Rattle.arn_ids.specs.declared.config.Function.{Function}
 use Rattle.arn_ids.specs.Environments.{environments}
 use Rattle.call_model.specs.History.{with_tickets, is_invoke_of, pending}
 use Rattle.call_model.specs.Life.{phase}
@@ -20,7 +20,8 @@ use Rattle.call_model.specs.Next.{deadline_of}
 
 -- how many charged invocations are placed in an environment
 abbrev pub charged_in : Config → List Entry → ℕ → ℕ
-charged_in config h e = count_by (λ taken. is_number taken.1.place e && charged config h taken.0 taken.1) (with_tickets h)
+charged_in config h e =
+    count_by (λ taken. is_number taken.1.place e && charged config h taken.0 taken.1) (with_tickets h)
 
 -- whether a phase is Busy or has an invocation bound
 abbrev pub is_taken : Phase → Bool
@@ -47,10 +48,6 @@ is_reserve _ = false
 -- whether a Reserve stands in the history
 abbrev pub re_reserved : List Entry → Bool
 re_reserved h = list_any (λ entry. is_reserve entry.call) h
-
--- the configuration gives a function no greater reservation than it has environments
-abbrev pub IsWithinEnvironments : Function → Type 0
-IsWithinEnvironments fun = (n : ℕ) → fun.reserved ≡ Some n → n ≤ length fun.slots
 
 -- whether an answer delivers an invocation
 abbrev pub delivers : ℕ → Answer → Bool

@@ -10,13 +10,12 @@ use Rattle.call_model.specs.History.{answer_in, answer_of, answered, call_of, is
 use Rattle.call_model.specs.Laws.{times}
 use Rattle.call_model.specs.Life.{phase}
 use Rattle.call_model.specs.Next.{IsLegal}
-use Rattle.call_model.specs.Stand.{at_hand}
 use Rattle.call_model.proofs.AtHand.{held}
 use Rattle.call_model.proofs.Basics.{count_cons, eqb-self, number_some}
-use Rattle.call_model.proofs.BoundWaits.{bound_waits}
 use Rattle.call_model.proofs.Flight.{placed_of}
 use Rattle.call_model.proofs.Lives.{lives}
 use Rattle.call_model.proofs.Once.{once}
+use Rattle.call_model.proofs.SafeLaws.{bound_nowhere, waits_alone}
 use Rattle.headline.specs.Headline.{Waits, Answered, HasOneFate}
 
 same_number : (m n : ℕ) → Some m ≡ Some n → m ≡ n
@@ -49,19 +48,16 @@ no_expiry f call q = absurd (true≢false (sym q))
 waiting : (config : Config) (h : List Entry) (p e : ℕ) → IsLegal config h → place_of h p ≡ Some e → pending h p ≡ true → Waits config h p e
 waiting config h p e l at w = record {
   waits = w;
-  there = there p at w;
+  there = lives config h e p l (rw at (eqb-self e)) w;
   nowhere_else = λ d q. same_number d e (sym (number_some (place_of h p) d ((held config h d p l q).placed)) ∙ at);
-  alone = λ q there_too waits_too. same_number q p (sym (there q there_too waits_too) ∙ there p at w);
+  alone = λ q there_too waits_too. waits_alone config h p q e l at w there_too waits_too;
 }
-  where
-    there : (q : ℕ) → place_of h q ≡ Some e → pending h q ≡ true → at_hand (phase config h e) ≡ Some q
-    there q r v = lives config h e q l (rw r (eqb-self e)) v
 
 over : (config : Config) (h : List Entry) (p : ℕ) → IsLegal config h → is_expiry (call_of h p) ≡ false → pending h p ≡ false → Answered config h p
 over config h p l call w = record {
   once = omega (arith, once config h p l, once_at_least h p (is_answered (is_expiry (call_of h p)) (answered h p) call w));
   over = w;
-  nowhere = λ d q. true≢false (sym (bound_waits config h d p l q) ∙ w);
+  nowhere = λ d q. bound_nowhere config h p d l w q;
 }
   where
     is_answered : (x b : Bool) → x ≡ false → (not x && not b) ≡ false → b ≡ true

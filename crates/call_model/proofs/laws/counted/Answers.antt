@@ -2,7 +2,6 @@ use Rattle.call_model.proofs.AdmissionLimits.{within_reservation, within_remaind
 use Rattle.call_model.proofs.Charges.{charged_count}
 use Rattle.call_model.proofs.Flight as F
 use Rattle.call_model.proofs.FlightStep.{flight_step}
-use Rattle.call_model.proofs.NoLocalRefusal.{never_crowded}
 use Rattle.call_model.proofs.laws.counted.Goals as goal
 
 pub returns : goal.returns
@@ -14,5 +13,4 @@ returns c = record {
   taken = charged_count;
   flight = F.flight;
   flight_moves = flight_step;
-  never_local = never_crowded;
 }
