@@ -1,10 +1,12 @@
 -- The answers that a call gives: for each ticket, its own among them, the one that it gets, if any.
-use Rattle.std.specs.Prelude.{ℕ, zero, suc, ◌+◌, ◌-◌, Bool, true, false, ◌||◌, if◌then◌else◌, ◌==◌, nat_lt, List, [], ◌∷◌, length, Option, Some, None}
+use Rattle.std.specs.Prelude.{ℕ, zero, suc, ◌+◌, ◌-◌, Bool, true, false, ◌||◌, if◌then◌else◌, ◌==◌, nat_lt, List, []}
+use Rattle.std.specs.Prelude.{◌∷◌, length, Option, Some, None}
 use Rattle.call_types.specs.declared.call.Call.{Call}
 use Rattle.call_types.specs.declared.call.Call.TheVariants.{Invoke, Tick, Withdraw, Stop, Reserve}
 use Rattle.call_types.specs.declared.call.Entry.{Entry}
 use Rattle.call_types.specs.declared.answer.Answer.{Answer}
-use Rattle.call_types.specs.declared.answer.Answer.TheVariants.{Told, Ending, Accepted, Done, Throttled, Stopped, Refused, Reserved, Unreserved}
+use Rattle.call_types.specs.declared.answer.Answer.TheVariants.{Told, Ending, Accepted, Done, Throttled, Stopped}
+use Rattle.call_types.specs.declared.answer.Answer.TheVariants.{Refused, Reserved, Unreserved}
 use Rattle.call_types.specs.declared.answer.Rejection.TheVariants.{BadReservation}
 use Rattle.arn_ids.specs.declared.config.Config.{Config}
 use Rattle.arn_ids.specs.Environments.{function_at}
@@ -14,7 +16,8 @@ use Rattle.call_model.specs.Table.{own_answer}
 use Rattle.call_model.specs.Stand.{role}
 use Rattle.call_model.specs.Polls.{by_role, delivered, begun}
 use Rattle.call_model.specs.Life.{names, phase, stand, events, events_in}
-use Rattle.call_model.specs.Limits.{Verdict, AfterStop, Refuses, Admits, verdict, place_for, reservation, or_zero, reserved_in_all}
+use Rattle.call_model.specs.Limits.{Verdict, AfterStop, Refuses, Admits, verdict, place_for, reservation, or_zero}
+use Rattle.call_model.specs.Limits.{reserved_in_all}
 
 -- what the verdict answers at once; an admitted Invoke waits
 abbrev pub verdict_answer : Verdict → Option Answer
@@ -27,7 +30,9 @@ verdict_answer (Admits e) = None
 abbrev pub reserve_answer : Config → List Entry → ℕ → Option ℕ → Answer
 reserve_answer config h f None = Unreserved
 reserve_answer config h f (Some count) =
-    if nat_lt (length (function_at config f).slots) count || nat_lt config.account_limit (((reserved_in_all config h - or_zero (reservation config h f)) + count) + config.least_remainder)
+    if nat_lt (length (function_at config f).slots) count
+    || nat_lt config.account_limit
+    (((reserved_in_all config h - or_zero (reservation config h f)) + count) + config.least_remainder)
     then Refused BadReservation else Reserved count
 
 -- by the table of phases, where the call names an environment
@@ -49,18 +54,29 @@ abbrev pub home : List Entry → ℕ → Option ℕ
 home h t = or_else (place_of h t) (env_of (call_of h t))
 
 -- what an older ticket at environment e gets of a call that concerns it
-abbrev pub answer_at : Config → List Entry → ℕ → ℕ → Call → ℕ → Bool → Option Answer
+abbrev pub answer_at : Config → List Entry → (now e : ℕ) → Call → (t : ℕ) → Bool → Option Answer
 answer_at config h now e call t false = None
 answer_at config h now e call t true = by_role (length h) now (stand config h e) call t (role (stand config h e) t)
 
 -- what an older ticket gets, by its environment
-abbrev pub other_answer : Config → List Entry → ℕ → Call → ℕ → Option ℕ → Option Answer
+abbrev pub other_answer : Config → List Entry → (now : ℕ) → Call → (t : ℕ) → Option ℕ → Option Answer
 other_answer config h now call t None = None
 other_answer config h now call t (Some e) = answer_at config h now e call t (names h e call)
 
+-- An entry answers in two parts, with the phase between them. Each part reads what stands to its left:
+--
+--   stand before ───> first answers ───> phase after ───────────> second answers
+--   (Life.stand)      (first_answer)     (Life.phase, of the      (second_answer: where a Busy begins
+--         │                 │             entry's first_part)      between the two phases)
+--         └─────────────────┴──────────────────┴───────────────────────────┘
+--
+-- There is no circle: the phase after an entry reads of its answers the first ones alone. `first_part` knows them by
+-- their kind: only a Busy that begins gives a Delivered or a Told (`is_second`). `answers` joins both parts.
+
 -- The first answers: what ticket t gets, by the table's cell for the call, with those of close.
-unfoldable pub first_answer : Config → List Entry → ℕ → Call → ℕ → Option Answer
-first_answer config h now call t = if t == length h then own_first config h call else other_answer config h now call t (home h t)
+unfoldable pub first_answer : Config → List Entry → (now : ℕ) → Call → (t : ℕ) → Option Answer
+first_answer config h now call t =
+    if t == length h then own_first config h call else other_answer config h now call t (home h t)
 
 -- a ticket's answer, where it gets one, before the others
 abbrev pub with_answer : ℕ → Option Answer → List (ℕ × Answer) → List (ℕ × Answer)
@@ -119,4 +135,5 @@ numbered h entry before (a ∷ rest) =
 -- The answers that a call at a moment gives.
 unfoldable pub answers : Config → List Entry → ℕ → Call → List (ℕ × Answer)
 answers config h now call =
-    numbered h (first_entry config h now call) [] (each_from 0 (suc (length h)) (answer_to config h (first_entry config h now call)))
+    numbered h (first_entry config h now call) []
+    (each_from 0 (suc (length h)) (answer_to config h (first_entry config h now call)))

@@ -1,9 +1,11 @@
 -- What is counted over a history, and when the journal is full.
-use Rattle.std.specs.Prelude.{ℕ, ◌+◌, ◌*◌, Bool, true, false, not, if◌then◌else◌, nat_lt, List, length, count_by, is_some, sum_by}
+use Rattle.std.specs.Prelude.{ℕ, ◌+◌, ◌*◌, Bool, true, false, not, if◌then◌else◌, nat_lt, List, length, count_by}
+use Rattle.std.specs.Prelude.{is_some, sum_by}
 use Rattle.call_types.specs.declared.call.Call.{Call}
 use Rattle.call_types.specs.declared.call.Entry.{Entry}
 use Rattle.call_types.specs.declared.answer.Answer.{Answer}
-use Rattle.call_types.specs.declared.answer.Answer.TheVariants.{Throttled, Error, TimedOut, InitTimedOut, OutputTooLarge}
+use Rattle.call_types.specs.declared.answer.Answer.TheVariants.{Throttled, Error, TimedOut, InitTimedOut}
+use Rattle.call_types.specs.declared.answer.Answer.TheVariants.{OutputTooLarge}
 use Rattle.call_types.specs.declared.stats.Stats.{Stats}
 use Rattle.arn_ids.specs.declared.config.Config.{Config}
 use Rattle.arn_ids.specs.Environments.{function_numbers, environments}

@@ -1,9 +1,11 @@
 -- One generation of an environment: its extensions, their Nexts, and what is missing until it is ready.
 -- A generation is what AWS calls one execution environment from its Init on; each reset begins the next one.
-use Rattle.std.specs.Prelude.{ℕ, ◌+◌, Bool, true, false, not, ◌&&◌, ◌||◌, if◌then◌else◌, ◌==◌, List, [], ◌∷◌, map, Option, Some, None, count_by, filter, filter_map, is_some, is_none, bytes_eq}
+use Rattle.std.specs.Prelude.{ℕ, ◌+◌, Bool, true, false, not, ◌&&◌, ◌||◌, if◌then◌else◌, ◌==◌, List, [], ◌∷◌, map}
+use Rattle.std.specs.Prelude.{Option, Some, None, count_by, filter, filter_map, is_some, is_none, bytes_eq}
 use Rattle.std.specs.List.{list_any}
 use Rattle.call_types.specs.declared.call.Call.{Call}
-use Rattle.call_types.specs.declared.call.Call.TheVariants.{RuntimeNext, Register, ExtNext, ExtInitFailure, ExtExitFailure}
+use Rattle.call_types.specs.declared.call.Call.TheVariants.{RuntimeNext, Register, ExtNext, ExtInitFailure}
+use Rattle.call_types.specs.declared.call.Call.TheVariants.{ExtExitFailure}
 use Rattle.call_types.specs.declared.call.Entry.{Entry}
 use Rattle.call_types.specs.declared.answer.Answer.{Answer}
 use Rattle.call_types.specs.declared.answer.Answer.TheVariants.{Ending, Registered, Accepted}
@@ -42,7 +44,9 @@ asks TheRuntime (RuntimeNext e) = true
 asks (TheExtension x) (ExtNext e y) = y == x
 asks _ _ = false
 
--- the ticket of the actor's last Next of this generation
+-- The ticket of the actor's last Next of this generation.
+-- Of extension 1, say, with an ExtNext at ticket 3, a Spindown at 7 that answers ticket 3 with Ending, and an ExtNext
+-- at 8, this is 8; up to entry 7 it is 3.
 abbrev pub last_next : Generation → Actor → Option ℕ
 last_next [] actor = None
 last_next (taken ∷ g) actor = if asks actor taken.1.call then Some taken.0 else last_next g actor
@@ -68,12 +72,14 @@ answer_to_next entry None = None
 answer_to_next entry (Some t) = answer_in entry.answers t
 
 -- The extension was told the end: some entry of the generation answered so to the last Next that it had sent by then.
+-- In the example above it is told from entry 7 on, which answers its last Next by then.
 -- (Extensions API: Shutdown event)
 abbrev pub told : Generation → ℕ → Bool
 told [] x = false
 told (taken ∷ g) x = told g x || is_ending (answer_to_next taken.1 (last_next (taken ∷ g) (TheExtension x)))
 
 -- It asked again: it sent a Next in an entry after the one in which it was told.
+-- In the example it has asked again from entry 8 on: the Next at 3 came before it was told.
 abbrev pub asked_again : Generation → ℕ → Bool
 asked_again [] x = false
 asked_again (taken ∷ g) x = asked_again g x || (told g x && asks (TheExtension x) taken.1.call)
@@ -118,7 +124,8 @@ members h g = map (member h g) (extensions g)
 -- How many are missing: the registered extensions without a parked Next, and the expected names that nobody registered.
 abbrev pub missing : List Member → List (List ℕ) → ℕ
 missing members expected =
-    count_by (λ s. is_none s.next) members + count_by (λ name. not (list_any (λ s. bytes_eq name s.extension.name) members)) expected
+    count_by (λ s. is_none s.next) members
+    + count_by (λ name. not (list_any (λ s. bytes_eq name s.extension.name) members)) expected
 
 -- Ready: the runtime and all extensions have asked for Next. This ends Init and Invoke.
 -- (Lambda Developer Guide, "Understanding the Lambda execution environment lifecycle": Init phase, Invoke phase)

@@ -1,6 +1,7 @@
 -- A history is the list of all entries of an account, the newest first. An entry is one call with what it caused.
 -- The ticket of a call is how many entries are older: 0 for the first.
-use Rattle.std.specs.Prelude.{ℕ, Bool, true, false, not, ◌&&◌, if◌then◌else◌, ◌==◌, nat_lt, List, [], ◌∷◌, length, Option, Some, None, count_by, is_some}
+use Rattle.std.specs.Prelude.{ℕ, Bool, true, false, not, ◌&&◌, if◌then◌else◌, ◌==◌, nat_lt, List, [], ◌∷◌, length}
+use Rattle.std.specs.Prelude.{Option, Some, None, count_by, is_some}
 use Rattle.std.specs.List.{list_any}
 use Rattle.call_types.specs.declared.call.Call.{Call}
 use Rattle.call_types.specs.declared.call.Call.TheVariants.{Invoke, RuntimeNext, ExtNext, Stop, Expire}

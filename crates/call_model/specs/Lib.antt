@@ -1,6 +1,6 @@
--- What the headline (`headline/specs/Headline.antt`) rests on, in the order in which it reads: whoever believes these words
--- believes the headline. They are under 600 lines without comments; only the second half of Next isn't among them. What a call
--- is, and which environment it names, tells `call_types`.
+-- What the headline (`headline/specs/Headline.antt`) rests on, in the order in which it reads: whoever believes these
+-- words believes the headline. Only the second half of Next isn't among them. What a call is, and which environment it
+-- names, tells `call_types`.
 -- What has happened: entries, answers, what is pending.
 pub mod History
 -- An environment: its generation, its stand, the table of phases, what its parked Nexts get, its life.
@@ -14,7 +14,7 @@ pub mod Limits
 pub mod Answers
 pub mod Next
 pub mod Counts
--- Words of the laws. Two of them, `times` and `admits`, are the headline's too; each other is read with the law that has it.
+-- Words of the laws. Two of them, `times` and `admits`, are the headline's too; each other is read with its law.
 pub mod Laws
 -- From here on nothing is the headline's.
 -- Words of isolation by reservation, for whoever reads those laws.

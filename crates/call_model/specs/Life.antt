@@ -1,5 +1,6 @@
 -- The phase of an environment, and its present generation: a fold over the history.
-use Rattle.std.specs.Prelude.{ℕ, ◌+◌, ◌*◌, Bool, true, false, not, ◌&&◌, ◌||◌, if◌then◌else◌, ◌==◌, List, [], ◌∷◌, length, Option, Some, None, count_by, filter, is_some}
+use Rattle.std.specs.Prelude.{ℕ, ◌+◌, ◌*◌, Bool, true, false, not, ◌&&◌, ◌||◌, if◌then◌else◌, ◌==◌, List, [], ◌∷◌}
+use Rattle.std.specs.Prelude.{length, Option, Some, None, count_by, filter, is_some}
 use Rattle.call_types.specs.declared.call.Call.{Call}
 use Rattle.call_types.specs.declared.call.Call.TheVariants.{Withdraw, Stop}
 use Rattle.call_types.specs.declared.call.Entry.{Entry}
@@ -9,7 +10,8 @@ use Rattle.call_types.specs.declared.answer.Phase.{Phase}
 use Rattle.call_types.specs.declared.answer.Phase.TheVariants.{Starting}
 use Rattle.arn_ids.specs.declared.config.Config.{Config}
 use Rattle.arn_ids.specs.Environments.{timeout_of, expected_at, function_of}
-use Rattle.call_model.specs.History.{answer_in, pending, stopped, poll_env, call_of, with_tickets, requests, upto, is_expiry}
+use Rattle.call_model.specs.History.{answer_in, pending, stopped, poll_env, call_of, with_tickets, requests, upto}
+use Rattle.call_model.specs.History.{is_expiry}
 use Rattle.call_types.specs.Calls.{env_of}
 use Rattle.call_model.specs.Generation.{Generation, Member, members, ready, awaited, parked, TheRuntime}
 use Rattle.call_model.specs.Stand.{Stand, at_hand, bound_of, is_number, is_closing}
@@ -39,7 +41,8 @@ request_at config h e (Some p) = if pending h p then Some (requests (upto h p) (
 -- identifier. (Extensions API: Lambda-Extension-Identifier)
 abbrev pub registrations : List Entry → ℕ → ℕ
 registrations h e =
-    count_by (λ taken. is_number (env_of taken.1.call) e && is_registered (answer_in taken.1.answers taken.0)) (with_tickets h)
+    count_by (λ taken. is_number (env_of taken.1.call) e && is_registered (answer_in taken.1.answers taken.0))
+    (with_tickets h)
 
 -- the answers that are events (Extensions API: Invoke and Shutdown events)
 abbrev pub is_event : Answer → Bool
@@ -81,7 +84,8 @@ first_part entry = record entry { answers = filter (λ a. not (is_second a.1)) e
 
 -- A Closing ends where no extension is awaited any more, or its time is over. (life cycle: Shutdown phase)
 abbrev pub ends : Phase → Call → Phase → List Member → Bool
-ends before call phase members = is_closing phase && ((length (awaited members) == 0) || (is_closing before && is_expiry call))
+ends before call phase members =
+    is_closing phase && ((length (awaited members) == 0) || (is_closing before && is_expiry call))
 
 -- the deadline of a Busy that begins now: the function's timeout is in seconds
 abbrev pub limit_of : Config → ℕ → ℕ → ℕ
@@ -122,7 +126,8 @@ ends_here v = ends v.found.phase v.entry.call (phase_by_table v) (members_with v
 
 -- whether all actors have asked for Next
 abbrev pub is_ready : Visit → Bool
-is_ready v = ready (parked (history_with v) (generation_with v) TheRuntime) (members_with v) (expected_at v.config v.environment)
+is_ready v =
+    ready (parked (history_with v) (generation_with v) TheRuntime) (members_with v) (expected_at v.config v.environment)
 
 -- whether the call at hand still waits for its answer
 abbrev pub waits : Visit → Bool
@@ -137,7 +142,10 @@ new_generation v = record {
 
 -- the life of the present one, its phase settled by who is ready
 abbrev pub settled_life : Visit → Lifecycle
-settled_life v = record { phase = settled (limit v) (is_ready v) (waits v) (phase_by_table v); generation = generation_with v }
+settled_life v = record {
+  phase = settled (limit v) (is_ready v) (waits v) (phase_by_table v);
+  generation = generation_with v;
+}
 
 -- A new generation begins where a Closing ends in the visit; else the phase is settled by who is ready.
 unfoldable pub after : Visit → Lifecycle
@@ -147,10 +155,11 @@ after v = if ends_here v then new_generation v else settled_life v
 unfoldable pub lived : Visit → Lifecycle
 lived v = if concerns v.history v.environment v.entry then after v else v.found
 
--- The life of an environment after a history: it begins in Starting, with no deadline, and each entry goes on from there.
+-- The life of an environment after a history: it begins in Starting, with no deadline, and each entry goes on from it.
 unfoldable pub life : Config → List Entry → ℕ → Lifecycle
 life config [] e = record { phase = Starting None None; generation = [] }
-life config (entry ∷ h) e = lived (record { config = config; environment = e; history = h; found = life config h e; entry = entry })
+life config (entry ∷ h) e =
+    lived (record { config = config; environment = e; history = h; found = life config h e; entry = entry })
 
 -- The phase of an environment.
 abbrev pub phase : Config → List Entry → ℕ → Phase

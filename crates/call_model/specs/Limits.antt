@@ -1,6 +1,7 @@
 -- Which invocations are charged, the limits on them, the verdict on an Invoke, and its place.
 -- (Lambda Developer Guide, "Understanding Lambda function scaling", "Configuring reserved concurrency")
-use Rattle.std.specs.Prelude.{ℕ, ◌-◌, Bool, true, false, ◌&&◌, ◌||◌, if◌then◌else◌, ◌==◌, nat_le, List, [], ◌∷◌, length, Option, Some, None, count_by, is_some, is_none, sum_by}
+use Rattle.std.specs.Prelude.{ℕ, ◌-◌, Bool, true, false, ◌&&◌, ◌||◌, if◌then◌else◌, ◌==◌, nat_le, List, [], ◌∷◌, length}
+use Rattle.std.specs.Prelude.{Option, Some, None, count_by, is_some, is_none, sum_by}
 use Rattle.std.specs.List.{find}
 use Rattle.call_types.specs.declared.call.Call.{Call}
 use Rattle.call_types.specs.declared.call.Call.TheVariants.{Invoke, Reserve}
@@ -8,7 +9,8 @@ use Rattle.call_types.specs.declared.call.Entry.{Entry}
 use Rattle.call_types.specs.declared.answer.Answer.{Answer}
 use Rattle.call_types.specs.declared.answer.Answer.TheVariants.{Reserved, Unreserved}
 use Rattle.call_types.specs.declared.answer.Throttle.{Throttle}
-use Rattle.call_types.specs.declared.answer.Throttle.TheVariants.{Function as ByFunction, Account as ByAccount, Environments as ByEnvironments}
+use Rattle.call_types.specs.declared.answer.Throttle.TheVariants.{Function as ByFunction, Account as ByAccount}
+use Rattle.call_types.specs.declared.answer.Throttle.TheVariants.{Environments as ByEnvironments}
 use Rattle.call_types.specs.declared.answer.Phase.{Phase}
 use Rattle.call_types.specs.declared.answer.Phase.TheVariants.{Starting, Busy, Closing}
 use Rattle.arn_ids.specs.declared.config.Config.{Config}
@@ -38,7 +40,8 @@ is_charged config h t = is_some (place_of h t) && (pending h t || busy_at config
 
 -- In flight: how many charged Invokes a function has. (concurrency: the requests that it is serving)
 unfoldable pub in_flight : Config → List Entry → ℕ → ℕ
-in_flight config h f = count_by (λ taken. is_invoke_of f taken.1.call && charged config h taken.0 taken.1) (with_tickets h)
+in_flight config h f =
+    count_by (λ taken. is_invoke_of f taken.1.call && charged config h taken.0 taken.1) (with_tickets h)
 
 -- whether a call sets a function's reservation (Lambda API: PutFunctionConcurrency, DeleteFunctionConcurrency)
 abbrev pub reserves : ℕ → Call → Bool
@@ -75,7 +78,8 @@ remainder config h = config.account_limit - reserved_in_all config h
 
 -- what the functions without a reservation have in flight together
 abbrev pub unreserved_in_flight : Config → List Entry → ℕ
-unreserved_in_flight config h = sum_by (λ f. if is_none (reservation config h f) then in_flight config h f else 0) (function_numbers config)
+unreserved_in_flight config h =
+    sum_by (λ f. if is_none (reservation config h f) then in_flight config h f else 0) (function_numbers config)
 
 -- an environment that starts and has nothing bound
 abbrev pub is_free_starting : Phase → Bool
@@ -91,10 +95,13 @@ is_free_closing _ = false
 abbrev pub lowest : Config → List Entry → ℕ → (Phase → Bool) → Option ℕ
 lowest config h f passes = find (λ e. (function_of config e == f) && passes (phase config h e)) (environments config)
 
--- Where a function's next invocation goes: its lowest numbered environment that is Idle, else one that is Starting, else
+-- Where a function's next invocation goes: its lowest numbered environment that is Idle, else one that is Starting,
+-- else
 -- one that is Closing, with nothing bound; none where all are taken.
 unfoldable pub place : Config → List Entry → ℕ → Option ℕ
-place config h f = or_else (lowest config h f is_idle) (or_else (lowest config h f is_free_starting) (lowest config h f is_free_closing))
+place config h f =
+    or_else (lowest config h f is_idle)
+    (or_else (lowest config h f is_free_starting) (lowest config h f is_free_closing))
 
 -- what is said of an Invoke: the service is stopped; a limit refuses it; an environment takes it
 pub data Verdict : Type 0 where
@@ -109,7 +116,8 @@ where_placed (Some e) = Admits e
 
 -- Its limits: a reserved function is held against its own reservation alone, the others together against the remainder.
 abbrev pub by_limits : Config → List Entry → ℕ → Option ℕ → Verdict
-by_limits config h f (Some limit) = if nat_le limit (in_flight config h f) then Refuses ByFunction else where_placed (place config h f)
+by_limits config h f (Some limit) =
+    if nat_le limit (in_flight config h f) then Refuses ByFunction else where_placed (place config h f)
 by_limits config h f None =
     if nat_le (remainder config h) (unreserved_in_flight config h)
     then Refuses ByAccount

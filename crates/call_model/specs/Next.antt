@@ -1,5 +1,6 @@
 -- What is due, and which histories are legal; the next history, and a whole run.
-use Rattle.std.specs.Prelude.{◌≡◌, ℕ, ◌≤◌, max, if◌then◌else◌, nat_le, List, [], ◌∷◌, ◌++◌, length, map, Option, Some, None, filter_map}
+use Rattle.std.specs.Prelude.{◌≡◌, ℕ, ◌≤◌, max, if◌then◌else◌, nat_le, List, [], ◌∷◌, ◌++◌, length, map, Option, Some}
+use Rattle.std.specs.Prelude.{None, filter_map}
 use Rattle.call_types.specs.declared.call.Call.{Call}
 use Rattle.call_types.specs.declared.call.Call.TheVariants.{Expire}
 use Rattle.call_types.specs.declared.call.Entry.{Entry}
@@ -36,7 +37,8 @@ by_deadline (a ∷ rest) = in_order a (by_deadline rest)
 
 -- Due: the environments whose deadline has come, the earliest first, of several with one deadline the lowest numbered.
 unfoldable pub due : Config → List Entry → ℕ → List ℕ
-due config h m = map (λ a. a.1) (by_deadline (filter_map (λ e. due_at m e (deadline_of (phase config h e))) (environments config)))
+due config h m =
+    map (λ a. a.1) (by_deadline (filter_map (λ e. due_at m e (deadline_of (phase config h e))) (environments config)))
 
 -- the moment of the newest entry; 0 before the first
 abbrev pub last_moment : List Entry → ℕ
@@ -67,7 +69,12 @@ IsLegal config (entry ∷ h) = IsLegal config h × Follows config h entry
 
 -- the entry of a call that is taken at a moment
 abbrev pub entry_of : Config → List Entry → ℕ → Call → Entry
-entry_of config h m call = record { moment = m; call = call; answers = answers config h m call; place = place_for config h call }
+entry_of config h m call = record {
+  moment = m;
+  call = call;
+  answers = answers config h m call;
+  place = place_for config h call;
+}
 
 -- the history with that entry
 abbrev pub entered : Config → List Entry → ℕ → Call → List Entry
@@ -76,7 +83,8 @@ entered config h m call = entry_of config h m call ∷ h
 -- the entries by which environments expire at a moment, one after the other, the newest first
 abbrev pub expiries : Config → ℕ → List ℕ → List Entry → List Entry
 expiries config m [] h = []
-expiries config m (e ∷ rest) h = expiries config m rest (entered config h m (Expire e)) ++ (entry_of config h m (Expire e) ∷ [])
+expiries config m (e ∷ rest) h =
+    expiries config m rest (entered config h m (Expire e)) ++ (entry_of config h m (Expire e) ∷ [])
 
 -- those of all that is due
 abbrev pub expiries_at : Config → List Entry → ℕ → List Entry

@@ -1,5 +1,6 @@
 -- The own history of a function: what the account would have seen if nobody else had called, the clock aside.
-use Rattle.std.specs.Prelude.{ℕ, ◌==◌, Bool, true, false, if◌then◌else◌, List, [], ◌∷◌, length, Option, Some, None, filter}
+use Rattle.std.specs.Prelude.{ℕ, ◌==◌, Bool, true, false, if◌then◌else◌, List, [], ◌∷◌, length, Option, Some, None}
+use Rattle.std.specs.Prelude.{filter}
 use Rattle.call_types.specs.declared.call.Call.{Call}
 use Rattle.call_types.specs.declared.call.Call.TheVariants.{Invoke, Tick, Withdraw, Stop}
 use Rattle.call_types.specs.declared.call.Entry.{Entry}
@@ -29,8 +30,10 @@ own_ticket config (entry ∷ h) f t = if t == length h then is_own config h f en
 
 -- such an entry with its answers to the function's tickets alone; in any other's place a Tick at its moment
 abbrev pub own_entry : Bool → Config → List Entry → ℕ → Entry → Entry
-own_entry true config h f entry = record entry { answers = filter (λ a. own_ticket config (entry ∷ h) f a.0) entry.answers }
-own_entry false config h f entry = record { moment = entry.moment; call = Tick; answers = (length h, Done) ∷ []; place = None }
+own_entry true config h f entry =
+    record entry { answers = filter (λ a. own_ticket config (entry ∷ h) f a.0) entry.answers }
+own_entry false config h f entry =
+    record { moment = entry.moment; call = Tick; answers = (length h, Done) ∷ []; place = None }
 
 -- The own history of a function; every ticket keeps its number.
 unfoldable pub own : Config → List Entry → ℕ → List Entry

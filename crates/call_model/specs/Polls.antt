@@ -25,15 +25,15 @@ at_close now (Some reason) call (ExtensionPoll x) =
 at_close now _ call _ = None
 
 -- A newer Next of the same actor replaces a parked one; a Withdraw takes the one back that it names.
-abbrev pub replaced : ℕ → Call → Role → Option Answer
+abbrev pub replaced : (t : ℕ) → Call → Role → Option Answer
 replaced t (RuntimeNext e) RuntimePoll = refused Replaced
 replaced t (ExtNext e x) (ExtensionPoll y) = if y.extension.count == x then refused Replaced else None
 replaced t (Withdraw u) RuntimePoll = if u == t then Some Withdrawn else None
 replaced t (Withdraw u) (ExtensionPoll y) = if u == t then Some Withdrawn else None
 replaced t call role = None
 
--- What an older ticket gets by its role.
-abbrev pub by_role : ℕ → ℕ → Stand → Call → ℕ → Role → Option Answer
+-- What an older ticket t gets by its role of the call, which has this ticket and moment.
+abbrev pub by_role : (ticket now : ℕ) → Stand → Call → (t : ℕ) → Role → Option Answer
 by_role ticket now s call t NoRole = None
 by_role ticket now s call t Waiting = to_waiting ticket s call
 by_role ticket now s call t role = or_else (at_close now (closes s call) call role) (replaced t call role)

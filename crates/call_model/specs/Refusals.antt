@@ -1,13 +1,20 @@
 -- Histories that a plausible mistake in the definitions would answer otherwise, written from the table of phases.
 -- Each is named for what the mistake would break. A line is (entry, ticket, answer).
 use Rattle.std.specs.Prelude.{◌≡◌, true, false, [], ◌∷◌, Some, None, refl}
-use Rattle.call_types.specs.declared.call.Call.TheVariants.{RuntimeNext, ResponseTooLarge, Failure, InitFailure, ExtNext, ExtInitFailure, ExtExitFailure, Tick, Withdraw, Spindown, Stop, Reserve}
-use Rattle.call_types.specs.declared.answer.Answer.TheVariants.{Delivered, Told, Ending, Registered, Accepted, Done, Output, Error, TimedOut, InitTimedOut, Throttled, Stopped, Withdrawn, Refused, Unreserved}
-use Rattle.call_types.specs.declared.answer.Rejection.TheVariants.{State, Replaced, BadId, Unknown, Container, NameInUse, NotIdle, BadReservation}
-use Rattle.call_types.specs.declared.answer.Throttle.TheVariants.{Function as ByFunction, Environments as ByEnvironments}
+use Rattle.call_types.specs.declared.call.Call.TheVariants.{RuntimeNext, ResponseTooLarge, Failure, InitFailure}
+use Rattle.call_types.specs.declared.call.Call.TheVariants.{ExtNext, ExtInitFailure, ExtExitFailure, Tick, Withdraw}
+use Rattle.call_types.specs.declared.call.Call.TheVariants.{Spindown, Stop, Reserve}
+use Rattle.call_types.specs.declared.answer.Answer.TheVariants.{Delivered, Told, Ending, Registered, Accepted, Done}
+use Rattle.call_types.specs.declared.answer.Answer.TheVariants.{Output, Error, TimedOut, InitTimedOut, Throttled}
+use Rattle.call_types.specs.declared.answer.Answer.TheVariants.{Stopped, Withdrawn, Refused, Unreserved}
+use Rattle.call_types.specs.declared.answer.Rejection.TheVariants.{State, Replaced, BadId, Unknown, Container}
+use Rattle.call_types.specs.declared.answer.Rejection.TheVariants.{NameInUse, NotIdle, BadReservation}
+use Rattle.call_types.specs.declared.answer.Throttle.TheVariants.{Function as ByFunction}
+use Rattle.call_types.specs.declared.answer.Throttle.TheVariants.{Environments as ByEnvironments}
 use Rattle.call_types.specs.declared.answer.Reason.TheVariants.{Timeout, Failure as Failed, Spindown as SpunDown}
 use Rattle.call_types.specs.declared.answer.Phase.TheVariants.{Closing}
-use Rattle.call_model.specs.Sample.{name_a, name_b, one, two, reserved_two, invoke, registers, response, outcome, phase_after, requests_after, reservation_after}
+use Rattle.call_model.specs.Sample.{name_a, name_b, one, two, reserved_two, invoke, registers, response, outcome}
+use Rattle.call_model.specs.Sample.{phase_after, requests_after, reservation_after}
 
 -- Extensions and the end of their environment
 

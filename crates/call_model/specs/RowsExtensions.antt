@@ -2,12 +2,14 @@
 use Rattle.std.specs.Prelude.{◌≡◌, ℕ, true, false, [], ◌∷◌, None, refl}
 use Rattle.call_types.specs.declared.call.Call.{Call}
 use Rattle.call_types.specs.declared.call.Call.TheVariants.{RuntimeNext, InitFailure, ExtNext, ExtExitFailure}
-use Rattle.call_types.specs.declared.answer.Answer.TheVariants.{Delivered, Told, Ending, Registered, Accepted, Output, Error, Throttled, Refused}
+use Rattle.call_types.specs.declared.answer.Answer.TheVariants.{Delivered, Told, Ending, Registered, Accepted, Output}
+use Rattle.call_types.specs.declared.answer.Answer.TheVariants.{Error, Throttled, Refused}
 use Rattle.call_types.specs.declared.answer.Rejection.TheVariants.{State, Unknown, Container, NameInUse, TooMany}
 use Rattle.call_types.specs.declared.answer.Throttle.TheVariants.{Function as ByFunction}
 use Rattle.call_types.specs.declared.answer.Reason.TheVariants.{Failure as Failed}
 use Rattle.arn_ids.specs.declared.config.Config.{Config}
-use Rattle.call_model.specs.Sample.{name_a, name_b, function, account, one, reserved_one, invoke, registers, response, outcome}
+use Rattle.call_model.specs.Sample.{name_a, name_b, function, account, one, reserved_one, invoke, registers, response}
+use Rattle.call_model.specs.Sample.{outcome}
 
 -- a function that expects the extension a
 abbrev pub expecting : Config
@@ -36,7 +38,8 @@ unfolding outcome
 charged_until_extensions_ask_again = refl
 
 ten_extensions : outcome one
-    (joins 1 ∷ joins 2 ∷ joins 3 ∷ joins 4 ∷ joins 5 ∷ joins 6 ∷ joins 7 ∷ joins 8 ∷ joins 9 ∷ joins 10 ∷ joins 11 ∷ joins 1 ∷ [])
+    (joins 1 ∷ joins 2 ∷ joins 3 ∷ joins 4 ∷ joins 5 ∷ joins 6 ∷ joins 7 ∷ joins 8 ∷ joins 9 ∷ joins 10
+    ∷ joins 11 ∷ joins 1 ∷ [])
     ≡ ((0, 0, Registered 1) ∷ (1, 1, Registered 2) ∷ (2, 2, Registered 3) ∷ (3, 3, Registered 4) ∷
     (4, 4, Registered 5) ∷ (5, 5, Registered 6) ∷ (6, 6, Registered 7) ∷ (7, 7, Registered 8) ∷
     (8, 8, Registered 9) ∷ (9, 9, Registered 10) ∷ (10, 10, Refused TooMany) ∷ (11, 11, Refused NameInUse) ∷
@@ -46,7 +49,8 @@ ten_extensions = refl
 
 -- Ten in each generation: the next one may register in the next generation.
 ten_extensions_in_each_generation : outcome one
-    (joins 1 ∷ joins 2 ∷ joins 3 ∷ joins 4 ∷ joins 5 ∷ joins 6 ∷ joins 7 ∷ joins 8 ∷ joins 9 ∷ joins 10 ∷ (0, InitFailure 1 []) ∷ joins 11 ∷ [])
+    (joins 1 ∷ joins 2 ∷ joins 3 ∷ joins 4 ∷ joins 5 ∷ joins 6 ∷ joins 7 ∷ joins 8 ∷ joins 9 ∷ joins 10
+    ∷ (0, InitFailure 1 []) ∷ joins 11 ∷ [])
     ≡ ((0, 0, Registered 1) ∷ (1, 1, Registered 2) ∷ (2, 2, Registered 3) ∷ (3, 3, Registered 4) ∷
     (4, 4, Registered 5) ∷ (5, 5, Registered 6) ∷ (6, 6, Registered 7) ∷ (7, 7, Registered 8) ∷
     (8, 8, Registered 9) ∷ (9, 9, Registered 10) ∷ (10, 10, Accepted) ∷ (11, 11, Registered 11) ∷ [])

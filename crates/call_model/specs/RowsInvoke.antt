@@ -1,7 +1,9 @@
 -- Worked histories: runtimes, callers and their polls. A line is (entry, ticket, answer).
 use Rattle.std.specs.Prelude.{◌≡◌, true, false, [], ◌∷◌, refl}
-use Rattle.call_types.specs.declared.call.Call.TheVariants.{RuntimeNext, ResponseTooLarge, ExtNext, Tick, Withdraw, Spindown, Stop}
-use Rattle.call_types.specs.declared.answer.Answer.TheVariants.{Delivered, Ending, Registered, Accepted, Done, Output, TimedOut, OutputTooLarge, Stopped, Withdrawn, Refused}
+use Rattle.call_types.specs.declared.call.Call.TheVariants.{RuntimeNext, ResponseTooLarge, ExtNext, Tick, Withdraw}
+use Rattle.call_types.specs.declared.call.Call.TheVariants.{Spindown, Stop}
+use Rattle.call_types.specs.declared.answer.Answer.TheVariants.{Delivered, Ending, Registered, Accepted, Done, Output}
+use Rattle.call_types.specs.declared.answer.Answer.TheVariants.{TimedOut, OutputTooLarge, Stopped, Withdrawn, Refused}
 use Rattle.call_types.specs.declared.answer.Rejection.TheVariants.{State, Replaced, BadId, TooLarge, Container, NotIdle}
 use Rattle.call_types.specs.declared.answer.Reason.TheVariants.{Spindown as SpunDown}
 use Rattle.call_model.specs.Sample.{name_a, one, two, invoke, registers, response, outcome}

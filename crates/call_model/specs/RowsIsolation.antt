@@ -24,13 +24,15 @@ neighbours = account 1000 100 (function 1 None [] 1 ∷ function 3 (Some 1) [] 1
 
 -- the answers of a function's own history
 unfoldable pub outcome_alone : Config → List (ℕ × Call) → ℕ → List (ℕ × ℕ × Answer)
-unfolding own run next added due answers first_answers first_answer second_answer answer_to own_first role own_answer closes kept to_waiting members seen after lived life verdict in_flight reservation place
+unfolding own run next added due answers first_answers first_answer second_answer answer_to own_first role
+    own_answer closes kept to_waiting members seen after lived life verdict in_flight reservation place
 outcome_alone config calls f = lines (own config (run config [] calls) f)
 
 -- The neighbour is invoked and times out;
 own_history_of_the_account : outcome neighbours
     ((0, RuntimeNext 1) ∷ (0, RuntimeNext 2) ∷ (0, invoke 1) ∷ (1000, invoke 2) ∷ (1100, response 2 1) ∷ [])
-    ≡ ((2, 0, Delivered 2 1000) ∷ (3, 2, TimedOut) ∷ (4, 1, Delivered 4 4000) ∷ (5, 4, Output 5) ∷ (5, 5, Accepted) ∷ [])
+    ≡ ((2, 0, Delivered 2 1000) ∷ (3, 2, TimedOut) ∷ (4, 1, Delivered 4 4000) ∷ (5, 4, Output 5)
+    ∷ (5, 5, Accepted) ∷ [])
 unfolding outcome
 own_history_of_the_account = refl
 
@@ -56,22 +58,26 @@ own_history_has_the_stop = refl
 
 -- what is due after calls,
 unfoldable pub due_after : Config → List (ℕ × Call) → ℕ → List ℕ
-unfolding own run next added due answers first_answers first_answer second_answer answer_to own_first role own_answer closes kept to_waiting members seen after lived life verdict in_flight reservation place
+unfolding own run next added due answers first_answers first_answer second_answer answer_to own_first role
+    own_answer closes kept to_waiting members seen after lived life verdict in_flight reservation place
 due_after config calls now = due config (run config [] calls) now
 
 -- and in a function's own history of them
 unfoldable pub due_alone : Config → List (ℕ × Call) → ℕ → ℕ → List ℕ
-unfolding own run next added due answers first_answers first_answer second_answer answer_to own_first role own_answer closes kept to_waiting members seen after lived life verdict in_flight reservation place
+unfolding own run next added due answers first_answers first_answer second_answer answer_to own_first role
+    own_answer closes kept to_waiting members seen after lived life verdict in_flight reservation place
 due_alone config calls f now = due config (own config (run config [] calls) f) now
 
 -- the verdict on a function's next Invoke after calls,
 unfoldable pub verdict_after : Config → List (ℕ × Call) → ℕ → Verdict
-unfolding own run next added due answers first_answers first_answer second_answer answer_to own_first role own_answer closes kept to_waiting members seen after lived life verdict in_flight reservation place
+unfolding own run next added due answers first_answers first_answer second_answer answer_to own_first role
+    own_answer closes kept to_waiting members seen after lived life verdict in_flight reservation place
 verdict_after config calls f = verdict config (run config [] calls) f
 
 -- and in its own history of them
 unfoldable pub verdict_alone : Config → List (ℕ × Call) → ℕ → Verdict
-unfolding own run next added due answers first_answers first_answer second_answer answer_to own_first role own_answer closes kept to_waiting members seen after lived life verdict in_flight reservation place
+unfolding own run next added due answers first_answers first_answer second_answer answer_to own_first role
+    own_answer closes kept to_waiting members seen after lived life verdict in_flight reservation place
 verdict_alone config calls f = verdict config (own config (run config [] calls) f) f
 
 -- an environment that waits for its extension a
@@ -82,7 +88,8 @@ slow = function 3 (Some 1) ((97 ∷ []) ∷ []) 1
 abbrev two_slow : Config
 two_slow = account 1000 100 (slow ∷ slow ∷ [])
 
--- Both environments are due at 10000, the first of another function: its expiry is a Tick in the second function's own history, at which the second environment is due.
+-- Both environments are due at 10000, the first of another function: its expiry is a Tick in the second function's own
+-- history, at which the second environment is due.
 tick_due : due_after two_slow ((0, RuntimeNext 1) ∷ (0, RuntimeNext 2) ∷ []) 10000 ≡ 1 ∷ 2 ∷ []
 unfolding due_after
 tick_due = refl
@@ -96,7 +103,8 @@ abbrev two_plain : Config
 two_plain = account 1 0 (plain ∷ plain ∷ [])
 
 -- An unreserved function is throttled for the sake of another.
-unreserved_together : verdict_after two_plain ((0, RuntimeNext 1) ∷ (0, RuntimeNext 2) ∷ (1, invoke 1) ∷ []) 2 ≡ Refuses ByAccount
+unreserved_together : verdict_after two_plain ((0, RuntimeNext 1) ∷ (0, RuntimeNext 2) ∷ (1, invoke 1) ∷ []) 2
+    ≡ Refuses ByAccount
 unfolding verdict_after
 unreserved_together = refl
 

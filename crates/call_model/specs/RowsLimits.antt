@@ -1,11 +1,15 @@
 -- Worked histories: deadlines, limits, reservations and the full journal. A line is (entry, ticket, answer).
 use Rattle.std.specs.Prelude.{◌≡◌, true, false, [], ◌∷◌, Some, None, refl}
 use Rattle.call_types.specs.declared.call.Call.TheVariants.{ResponseTooLarge, Failure, RuntimeNext, Tick, Stop, Reserve}
-use Rattle.call_types.specs.declared.answer.Answer.TheVariants.{Delivered, Accepted, Done, Output, TimedOut, InitTimedOut, Throttled, Stopped, Refused, Reserved, Unreserved}
+use Rattle.call_types.specs.declared.answer.Answer.TheVariants.{Delivered, Accepted, Done, Output, TimedOut}
+use Rattle.call_types.specs.declared.answer.Answer.TheVariants.{InitTimedOut, Throttled, Stopped, Refused, Reserved}
+use Rattle.call_types.specs.declared.answer.Answer.TheVariants.{Unreserved}
 use Rattle.call_types.specs.declared.answer.Rejection.TheVariants.{State, BadReservation}
-use Rattle.call_types.specs.declared.answer.Throttle.TheVariants.{Function as ByFunction, Account as ByAccount, Environments as ByEnvironments}
+use Rattle.call_types.specs.declared.answer.Throttle.TheVariants.{Function as ByFunction, Account as ByAccount}
+use Rattle.call_types.specs.declared.answer.Throttle.TheVariants.{Environments as ByEnvironments}
 use Rattle.arn_ids.specs.declared.config.Config.{Config}
-use Rattle.call_model.specs.Sample.{function, account, plain, one, two, reserved_two, three, invoke, response, outcome, refusals, stats_after, calls_after}
+use Rattle.call_model.specs.Sample.{function, account, plain, one, two, reserved_two, three, invoke, response, outcome}
+use Rattle.call_model.specs.Sample.{refusals, stats_after, calls_after}
 
 -- three functions with timeouts of 5, 2 and 2 s
 abbrev pub timeouts : Config
@@ -131,7 +135,8 @@ counts_after_stop = refl
 
 -- A timeout, an Init timeout, too large an output and an error have failed.
 counts_of_failures : stats_after two
-    ((0, RuntimeNext 1) ∷ (0, invoke 1) ∷ (0, invoke 1) ∷ (10000, RuntimeNext 1) ∷ (10000, invoke 1) ∷ (10010, ResponseTooLarge 1 3) ∷ (10020, RuntimeNext 1) ∷ (10030, invoke 1) ∷ (10040, Failure 1 4 []) ∷ [])
+    ((0, RuntimeNext 1) ∷ (0, invoke 1) ∷ (0, invoke 1) ∷ (10000, RuntimeNext 1) ∷ (10000, invoke 1)
+    ∷ (10010, ResponseTooLarge 1 3) ∷ (10020, RuntimeNext 1) ∷ (10030, invoke 1) ∷ (10040, Failure 1 4 []) ∷ [])
     ≡ record { entries = 11; admitted = 4; throttled = 0; failed = 4; in_flight = 1 }
 unfolding stats_after
 counts_of_failures = refl

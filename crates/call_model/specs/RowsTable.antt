@@ -1,11 +1,16 @@
 -- The table of phases cell by cell, at one stand for each of its columns: what a call is answered, why it makes the
 -- environment close, and what the waiting call gets.
-use Rattle.std.specs.Prelude.{◌≡◌, ℕ, Bool, true, false, if◌then◌else◌, List, [], ◌∷◌, map, Option, Some, None, is_some, refl}
+use Rattle.std.specs.Prelude.{◌≡◌, ℕ, Bool, true, false, if◌then◌else◌, List, [], ◌∷◌, map, Option, Some, None, is_some}
+use Rattle.std.specs.Prelude.{refl}
 use Rattle.call_types.specs.declared.call.Call.{Call}
-use Rattle.call_types.specs.declared.call.Call.TheVariants.{RuntimeNext, Response, ResponseTooLarge, Failure, InitFailure, Register, ExtNext, ExtInitFailure, ExtExitFailure, Tick, Spindown, Stop, Expire}
+use Rattle.call_types.specs.declared.call.Call.TheVariants.{RuntimeNext, Response, ResponseTooLarge, Failure}
+use Rattle.call_types.specs.declared.call.Call.TheVariants.{InitFailure, Register, ExtNext, ExtInitFailure}
+use Rattle.call_types.specs.declared.call.Call.TheVariants.{ExtExitFailure, Tick, Spindown, Stop, Expire}
 use Rattle.call_types.specs.declared.answer.Answer.{Answer}
-use Rattle.call_types.specs.declared.answer.Answer.TheVariants.{Ending, Registered, Accepted, Output, Error, TimedOut, InitTimedOut, OutputTooLarge, Stopped, Refused}
-use Rattle.call_types.specs.declared.answer.Rejection.TheVariants.{State, BadId, Unknown, TooLarge, Container, NameInUse, NotIdle}
+use Rattle.call_types.specs.declared.answer.Answer.TheVariants.{Ending, Registered, Accepted, Output, Error, TimedOut}
+use Rattle.call_types.specs.declared.answer.Answer.TheVariants.{InitTimedOut, OutputTooLarge, Stopped, Refused}
+use Rattle.call_types.specs.declared.answer.Rejection.TheVariants.{State, BadId, Unknown, TooLarge, Container}
+use Rattle.call_types.specs.declared.answer.Rejection.TheVariants.{NameInUse, NotIdle}
 use Rattle.call_types.specs.declared.answer.Reason.{Reason}
 use Rattle.call_types.specs.declared.answer.Reason.TheVariants.{Timeout, Failure as Failed, Spindown as SpunDown}
 use Rattle.call_types.specs.declared.answer.Phase.{Phase}
@@ -51,7 +56,8 @@ Effect = Option Answer × Option Reason × Option Answer
 -- what the cells of a call's row give; its ticket is 9
 unfoldable effects : Call → List Effect
 unfolding own_answer closes to_waiting
-effects call = map (λ s. (own_answer s call, closes s call, if is_some s.request then to_waiting 9 s call else None)) columns
+effects call =
+    map (λ s. (own_answer s call, closes s call, if is_some s.request then to_waiting 9 s call else None)) columns
 
 -- the call parks, or gives nothing here
 abbrev nothing : Effect
@@ -102,15 +108,18 @@ response : effects (Response 1 7 []) ≡ (state ∷ state ∷ both Accepted (Out
 unfolding effects
 response = refl
 
-response_to_another : effects (Response 1 6 []) ≡ (state ∷ state ∷ answer (Refused BadId) ∷ state ∷ state ∷ container ∷ [])
+response_to_another : effects (Response 1 6 [])
+    ≡ (state ∷ state ∷ answer (Refused BadId) ∷ state ∷ state ∷ container ∷ [])
 unfolding effects
 response_to_another = refl
 
-response_too_large : effects (ResponseTooLarge 1 7) ≡ (state ∷ state ∷ both (Refused TooLarge) OutputTooLarge ∷ state ∷ state ∷ container ∷ [])
+response_too_large : effects (ResponseTooLarge 1 7)
+    ≡ (state ∷ state ∷ both (Refused TooLarge) OutputTooLarge ∷ state ∷ state ∷ container ∷ [])
 unfolding effects
 response_too_large = refl
 
-response_too_large_to_another : effects (ResponseTooLarge 1 6) ≡ (state ∷ state ∷ answer (Refused BadId) ∷ state ∷ state ∷ container ∷ [])
+response_too_large_to_another : effects (ResponseTooLarge 1 6)
+    ≡ (state ∷ state ∷ answer (Refused BadId) ∷ state ∷ state ∷ container ∷ [])
 unfolding effects
 response_too_large_to_another = refl
 
@@ -118,7 +127,8 @@ failure : effects (Failure 1 7 []) ≡ (state ∷ state ∷ both Accepted (Error
 unfolding effects
 failure = refl
 
-failure_of_another : effects (Failure 1 6 []) ≡ (state ∷ state ∷ answer (Refused BadId) ∷ state ∷ state ∷ container ∷ [])
+failure_of_another : effects (Failure 1 6 [])
+    ≡ (state ∷ state ∷ answer (Refused BadId) ∷ state ∷ state ∷ container ∷ [])
 unfolding effects
 failure_of_another = refl
 
@@ -126,15 +136,18 @@ init_failure : effects (InitFailure 1 []) ≡ (fails ∷ state ∷ state ∷ sta
 unfolding effects
 init_failure = refl
 
-register : effects (Register 1 name_b true true false) ≡ (answer (Registered 4) ∷ state ∷ state ∷ state ∷ state ∷ container ∷ [])
+register : effects (Register 1 name_b true true false)
+    ≡ (answer (Registered 4) ∷ state ∷ state ∷ state ∷ state ∷ container ∷ [])
 unfolding effects
 register = refl
 
-register_again : effects (Register 1 name_a true true false) ≡ (answer (Refused NameInUse) ∷ state ∷ state ∷ state ∷ state ∷ container ∷ [])
+register_again : effects (Register 1 name_a true true false)
+    ≡ (answer (Refused NameInUse) ∷ state ∷ state ∷ state ∷ state ∷ container ∷ [])
 unfolding effects
 register_again = refl
 
-ext_next : effects (ExtNext 1 1) ≡ (nothing ∷ nothing ∷ nothing ∷ nothing ∷ answer (Ending Failed 2000 0) ∷ container ∷ [])
+ext_next : effects (ExtNext 1 1)
+    ≡ (nothing ∷ nothing ∷ nothing ∷ nothing ∷ answer (Ending Failed 2000 0) ∷ container ∷ [])
 unfolding effects
 ext_next = refl
 
@@ -146,15 +159,18 @@ ext_init_failure : effects (ExtInitFailure 1 1 []) ≡ (fails ∷ state ∷ stat
 unfolding effects
 ext_init_failure = refl
 
-ext_init_failure_unknown : effects (ExtInitFailure 1 2 []) ≡ (unknown ∷ unknown ∷ unknown ∷ unknown ∷ unknown ∷ container ∷ [])
+ext_init_failure_unknown : effects (ExtInitFailure 1 2 [])
+    ≡ (unknown ∷ unknown ∷ unknown ∷ unknown ∷ unknown ∷ container ∷ [])
 unfolding effects
 ext_init_failure_unknown = refl
 
-ext_exit_failure : effects (ExtExitFailure 1 1 []) ≡ (fails ∷ closing Failed ∷ fails ∷ closing Failed ∷ answer Accepted ∷ container ∷ [])
+ext_exit_failure : effects (ExtExitFailure 1 1 [])
+    ≡ (fails ∷ closing Failed ∷ fails ∷ closing Failed ∷ answer Accepted ∷ container ∷ [])
 unfolding effects
 ext_exit_failure = refl
 
-ext_exit_failure_unknown : effects (ExtExitFailure 1 2 []) ≡ (unknown ∷ unknown ∷ unknown ∷ unknown ∷ unknown ∷ container ∷ [])
+ext_exit_failure_unknown : effects (ExtExitFailure 1 2 [])
+    ≡ (unknown ∷ unknown ∷ unknown ∷ unknown ∷ unknown ∷ container ∷ [])
 unfolding effects
 ext_exit_failure_unknown = refl
 
@@ -162,11 +178,14 @@ spindown : effects (Spindown 1) ≡ (not_idle ∷ closing SpunDown ∷ not_idle 
 unfolding effects
 spindown = refl
 
-expire : effects (Expire 1) ≡ (ending Timeout InitTimedOut ∷ nothing ∷ ending Timeout TimedOut ∷ ends Timeout ∷ nothing ∷ nothing ∷ [])
+expire : effects (Expire 1)
+    ≡ (ending Timeout InitTimedOut ∷ nothing ∷ ending Timeout TimedOut ∷ ends Timeout ∷ nothing ∷ nothing ∷ [])
 unfolding effects
 expire = refl
 
-stop : effects Stop ≡ (ending SpunDown Stopped ∷ ends SpunDown ∷ ending SpunDown Stopped ∷ ends SpunDown ∷ (None, None, Some Stopped) ∷ nothing ∷ [])
+stop : effects Stop
+    ≡ (ending SpunDown Stopped ∷ ends SpunDown ∷ ending SpunDown Stopped ∷ ends SpunDown ∷ (None, None, Some Stopped)
+    ∷ nothing ∷ [])
 unfolding effects
 stop = refl
 

@@ -89,32 +89,38 @@ registers e name invoke shutdown = Register e name invoke shutdown false
 
 -- the answers that calls with their moments give: the entry, the ticket, the answer
 unfoldable pub outcome : Config → List (ℕ × Call) → List (ℕ × ℕ × Answer)
-unfolding run next added due answers first_answers first_answer second_answer answer_to own_first role own_answer closes kept to_waiting members seen after lived life verdict in_flight reservation place
+unfolding run next added due answers first_answers first_answer second_answer answer_to own_first role
+    own_answer closes kept to_waiting members seen after lived life verdict in_flight reservation place
 outcome config calls = lines (run config [] calls)
 
 -- the phase of an environment after calls
 unfoldable pub phase_after : Config → List (ℕ × Call) → ℕ → Phase
-unfolding run next added due answers first_answers first_answer second_answer answer_to own_first role own_answer closes kept to_waiting members seen after lived life verdict in_flight reservation place
+unfolding run next added due answers first_answers first_answer second_answer answer_to own_first role
+    own_answer closes kept to_waiting members seen after lived life verdict in_flight reservation place
 phase_after config calls e = phase_of config (run config [] calls) e
 
 -- the count in the request identifier of the Invoke with a ticket
 unfoldable pub requests_after : Config → List (ℕ × Call) → ℕ → ℕ → ℕ
-unfolding run next added due answers first_answers first_answer second_answer answer_to own_first role own_answer closes kept to_waiting members seen after lived life verdict in_flight reservation place
+unfolding run next added due answers first_answers first_answer second_answer answer_to own_first role
+    own_answer closes kept to_waiting members seen after lived life verdict in_flight reservation place
 requests_after config calls f t = requests (upto (run config [] calls) t) f
 
 -- a function's reservation after calls
 unfoldable pub reservation_after : Config → List (ℕ × Call) → ℕ → Option ℕ
-unfolding run next added due answers first_answers first_answer second_answer answer_to own_first role own_answer closes kept to_waiting members seen after lived life verdict in_flight reservation place
+unfolding run next added due answers first_answers first_answer second_answer answer_to own_first role
+    own_answer closes kept to_waiting members seen after lived life verdict in_flight reservation place
 reservation_after config calls f = reservation config (run config [] calls) f
 
 -- the counts after calls
 unfoldable pub stats_after : Config → List (ℕ × Call) → Stats
-unfolding run next added due answers first_answers first_answer second_answer answer_to own_first role own_answer closes kept to_waiting members seen after lived life verdict in_flight reservation place
+unfolding run next added due answers first_answers first_answer second_answer answer_to own_first role
+    own_answer closes kept to_waiting members seen after lived life verdict in_flight reservation place
 stats_after config calls = stats config (run config [] calls)
 
 -- how many of the entries are calls
 unfoldable pub calls_after : Config → List (ℕ × Call) → ℕ
-unfolding run next added due answers first_answers first_answer second_answer answer_to own_first role own_answer closes kept to_waiting members seen after lived life verdict in_flight reservation place
+unfolding run next added due answers first_answers first_answer second_answer answer_to own_first role
+    own_answer closes kept to_waiting members seen after lived life verdict in_flight reservation place
 calls_after config calls = calls_of (run config [] calls)
 
 -- whether the journal is full for each call in turn, where those for which it is are left out
@@ -125,5 +131,6 @@ refused_by config max h (c ∷ calls) =
 
 -- the same from the start
 unfoldable pub refusals : Config → ℕ → List (ℕ × Call) → List Bool
-unfolding run next added due answers first_answers first_answer second_answer answer_to own_first role own_answer closes kept to_waiting members seen after lived life verdict in_flight reservation place
+unfolding run next added due answers first_answers first_answer second_answer answer_to own_first role
+    own_answer closes kept to_waiting members seen after lived life verdict in_flight reservation place
 refusals config max calls = refused_by config max [] calls

@@ -1,13 +1,18 @@
 -- The table of phases: what each call does to an environment in each of its phases.
 -- (Lambda Developer Guide, "Understanding the Lambda execution environment lifecycle"; Runtime API; Extensions API)
-use Rattle.std.specs.Prelude.{ℕ, suc, ◌+◌, Bool, true, false, not, ◌&&◌, if◌then◌else◌, nat_le, List, length, Option, Some, None, is_some, bytes_eq}
+use Rattle.std.specs.Prelude.{ℕ, suc, ◌+◌, Bool, true, false, not, ◌&&◌, if◌then◌else◌, nat_le, List, length, Option}
+use Rattle.std.specs.Prelude.{Some, None, is_some, bytes_eq}
 use Rattle.std.specs.List.{list_any, find}
 use Rattle.call_types.specs.declared.call.Call.{Call}
-use Rattle.call_types.specs.declared.call.Call.TheVariants.{Invoke, RuntimeNext, Response, ResponseTooLarge, Failure, InitFailure, Register, ExtNext, ExtInitFailure, ExtExitFailure, Spindown, Stop, Expire}
+use Rattle.call_types.specs.declared.call.Call.TheVariants.{Invoke, RuntimeNext, Response, ResponseTooLarge, Failure}
+use Rattle.call_types.specs.declared.call.Call.TheVariants.{InitFailure, Register, ExtNext, ExtInitFailure}
+use Rattle.call_types.specs.declared.call.Call.TheVariants.{ExtExitFailure, Spindown, Stop, Expire}
 use Rattle.call_types.specs.declared.answer.Answer.{Answer}
-use Rattle.call_types.specs.declared.answer.Answer.TheVariants.{Ending, Registered, Accepted, Output, Error, TimedOut, InitTimedOut, OutputTooLarge, Stopped, Refused}
+use Rattle.call_types.specs.declared.answer.Answer.TheVariants.{Ending, Registered, Accepted, Output, Error, TimedOut}
+use Rattle.call_types.specs.declared.answer.Answer.TheVariants.{InitTimedOut, OutputTooLarge, Stopped, Refused}
 use Rattle.call_types.specs.declared.answer.Rejection.{Rejection}
-use Rattle.call_types.specs.declared.answer.Rejection.TheVariants.{State, BadId, Unknown, TooLarge, Container, NameInUse, TooMany, NotIdle}
+use Rattle.call_types.specs.declared.answer.Rejection.TheVariants.{State, BadId, Unknown, TooLarge, Container}
+use Rattle.call_types.specs.declared.answer.Rejection.TheVariants.{NameInUse, TooMany, NotIdle}
 use Rattle.call_types.specs.declared.answer.Reason.{Reason}
 use Rattle.call_types.specs.declared.answer.Reason.TheVariants.{Timeout, Failure as Failed, Spindown as SpunDown}
 use Rattle.call_types.specs.declared.answer.Phase.{Phase}

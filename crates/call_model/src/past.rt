@@ -25,7 +25,8 @@ impl<'a> Past<'a> {
     /// The call with a ticket, where there is one.
     #[tactic(auto, using(crate::proofs::PastLemmas::no_call_here))]
     pub fn call(&self, ticket: Ticket) -> Option<&'a Call>
-        ensures { MatchOption result (call_of (reverse self.now.entries.now.0) ticket ≡ NoCall 0) (λ call. call.now ≡ call_of (reverse self.now.entries.now.0) ticket) }
+        ensures { MatchOption result (call_of (reverse self.now.entries.now.0) ticket ≡ NoCall 0)
+            (λ call. call.now ≡ call_of (reverse self.now.entries.now.0) ticket) }
     {
         let place = ticket as usize;
         if place >= self.entries.len() {
