@@ -1,5 +1,6 @@
 -- What a call makes of an environment's stand, and the answers that it gives there: functions of the stand alone.
-use Rattle.std.specs.Prelude.{ℕ, suc, ◌+◌, ◌*◌, Bool, false, ◌&&◌, ◌||◌, if◌then◌else◌, ◌==◌, nat_lt, List, [], ◌∷◌, ◌++◌, length, map, Option, Some, None, is_some}
+use Rattle.std.specs.Prelude.{ℕ, suc, ◌+◌, ◌*◌, Bool, false, ◌&&◌, ◌||◌, if◌then◌else◌, ◌==◌, nat_lt, List, [], ◌∷◌}
+use Rattle.std.specs.Prelude.{◌++◌, length, map, Option, Some, None, is_some}
 use Rattle.call_types.specs.declared.call.Call.{Call}
 use Rattle.call_types.specs.declared.answer.Answer.{Answer}
 use Rattle.call_types.specs.declared.answer.Phase.{Phase}
@@ -7,7 +8,8 @@ use Rattle.call_types.specs.declared.call.Entry.{Entry}
 use Rattle.arn_ids.specs.declared.config.Config.{Config}
 use Rattle.arn_ids.specs.Environments.{timeout_of, expected_at, function_of}
 use Rattle.call_model.specs.History.{is_stop, requests, is_expiry}
-use Rattle.call_model.specs.Generation.{Member, Extension, Actor, TheRuntime, TheExtension, asks, as_registered, is_ending, is_accepted, reports_exit, ready, awaited}
+use Rattle.call_model.specs.Generation.{Member, Extension, Actor, TheRuntime, TheExtension, asks, as_registered}
+use Rattle.call_model.specs.Generation.{is_ending, is_accepted, reports_exit, ready, awaited}
 use Rattle.call_model.specs.Stand.{Stand, Role, RuntimePoll, ExtensionPoll, at_hand, bound_of, is_closing}
 use Rattle.call_model.specs.Table.{own_answer, to_waiting, after_cell, reborn, settled, is_registered}
 use Rattle.call_model.specs.Polls.{by_role, begun, delivered}
@@ -50,7 +52,8 @@ actor_gets actor step s call role next = if asks actor call then own_answer s ca
 
 -- the runtime's pending Next after the first answers
 abbrev pub runtime_first : Step → Stand → Call → Option ℕ
-runtime_first step s call = left (actor_gets TheRuntime step s call RuntimePoll s.runtime) (asked_now TheRuntime call step.ticket s.runtime)
+runtime_first step s call =
+    left (actor_gets TheRuntime step s call RuntimePoll s.runtime) (asked_now TheRuntime call step.ticket s.runtime)
 
 -- the first answer to an extension's last Next
 abbrev pub member_gets : Step → Stand → Call → Member → Option Answer
@@ -73,7 +76,8 @@ fresh_members (Some x) = record { extension = x; next = None; told = false; agai
 
 -- the extensions after the first answers
 abbrev pub members_first : Step → Stand → Call → List Member
-members_first step s call = fresh_members (as_registered call (own_answer s call)) ++ map (member_first step s call) s.members
+members_first step s call =
+    fresh_members (as_registered call (own_answer s call)) ++ map (member_first step s call) s.members
 
 -- the request count of the call that waits at hand after an entry
 abbrev pub request_of : Step → Stand → Call → Option ℕ → Option ℕ
@@ -129,7 +133,8 @@ served b phase s = record s {
 
 -- the phase after each entry, by who has asked for Next
 abbrev pub settled_phase : Fixed → ℕ → Stand → Phase
-settled_phase fixed now s = settled (now + fixed.timeout) (ready s.runtime s.members fixed.expected) (is_some s.request) s.phase
+settled_phase fixed now s =
+    settled (now + fixed.timeout) (ready s.runtime s.members fixed.expected) (is_some s.request) s.phase
 
 -- the stand with that phase
 abbrev pub settled_stand : Fixed → ℕ → Phase → Stand → Stand
@@ -172,7 +177,8 @@ first_moves step s call =
 
 -- those of a Busy that begins
 abbrev pub served_moves : Option (ℕ × ℕ) → Stand → List (ℕ × Answer) → List (ℕ × Answer)
-served_moves b s moves = give_each (λ x. delivered b (ExtensionPoll x)) s.members (give s.runtime (delivered b RuntimePoll) moves)
+served_moves b s moves =
+    give_each (λ x. delivered b (ExtensionPoll x)) s.members (give s.runtime (delivered b RuntimePoll) moves)
 
 -- the answers with those of a Busy that begins
 unfoldable pub turned_moves : Fixed → ℕ → Bool → Phase → Stand → List (ℕ × Answer) → List (ℕ × Answer)
@@ -206,7 +212,8 @@ finished_moves fixed now expires before s moves = numbered_from s.events (turned
 -- the stand after all
 unfoldable pub finished : Fixed → ℕ → Bool → Phase → Stand → List (ℕ × Answer) → Stand
 finished fixed now expires before s moves =
-    with_events (events_of (turned_moves fixed now expires before s moves) + s.events) (turned fixed now expires before s)
+    with_events (events_of (turned_moves fixed now expires before s moves) + s.events)
+    (turned fixed now expires before s)
 
 -- The answers that a call gives to tickets at an environment, in rising ticket order.
 unfoldable pub moves_of : Fixed → Step → Stand → Call → List (ℕ × Answer)

@@ -15,11 +15,21 @@ ghost use Rattle.environment_step.specs.After.{stand_after, moves_of, fixed_of, 
 /// The step of one environment: what an entry makes of its stand, a function of that stand and the call.
 pub fn step()
     // An entry that doesn't concern an environment leaves its stand as it is.
-    ensures frame { (config : Config) (h : List Entry) (entry : Entry) (e : ℕ) → IsLegal config (entry ∷ h) → concerns h e entry ≡ false → stand config (entry ∷ h) e ≡ stand config h e }
+    ensures frame { (config : Config) (h : List Entry) (entry : Entry) (e : ℕ) → IsLegal config (entry ∷ h)
+        → concerns h e entry ≡ false → stand config (entry ∷ h) e ≡ stand config h e }
     // One that does makes of it what stand_after says,
-    ensures stands { (config : Config) (h : List Entry) (entry : Entry) (e : ℕ) → IsLegal config (entry ∷ h) → concerns h e entry ≡ true → stand config (entry ∷ h) e ≡ stand_after (fixed_of config e) (step_at h entry (count_at config h entry e)) (stand config h e) entry.call }
+    ensures stands { (config : Config) (h : List Entry) (entry : Entry) (e : ℕ) → IsLegal config (entry ∷ h)
+        → concerns h e entry ≡ true
+        → stand config (entry ∷ h) e
+        ≡ stand_after (fixed_of config e) (step_at h entry (count_at config h entry e)) (stand config h e)
+        entry.call }
     // and gives the environment's tickets the answers that moves_of lists.
-    ensures moves { (config : Config) (h : List Entry) (entry : Entry) (e : ℕ) → IsLegal config (entry ∷ h) → concerns h e entry ≡ true → filter (λ a. is_number (home (entry ∷ h) a.0) e) entry.answers ≡ moves_of (fixed_of config e) (step_at h entry (count_at config h entry e)) (stand config h e) entry.call }
+    ensures moves { (config : Config) (h : List Entry) (entry : Entry) (e : ℕ) → IsLegal config (entry ∷ h)
+        → concerns h e entry ≡ true
+        → filter (λ a. is_number (home (entry ∷ h) a.0) e) entry.answers
+        ≡ moves_of (fixed_of config e) (step_at h entry (count_at config h entry e)) (stand config h e) entry.call }
     // An invocation placed there was charged before the entry and isn't after just where ended_by names it.
-    ensures ended { (config : Config) (h : List Entry) (entry : Entry) (e p : ℕ) → IsLegal config (entry ∷ h) → (is_number (place_of h p) e && (is_charged config h p && not (is_charged config (entry ∷ h) p))) ≡ is_number (ended_by (phase config h e) (phase config (entry ∷ h) e)) p }
+    ensures ended { (config : Config) (h : List Entry) (entry : Entry) (e p : ℕ) → IsLegal config (entry ∷ h)
+        → (is_number (place_of h p) e && (is_charged config h p && not (is_charged config (entry ∷ h) p)))
+        ≡ is_number (ended_by (phase config h e) (phase config (entry ∷ h) e)) p }
 {}

@@ -1,5 +1,6 @@
 -- What registering an extension needs, and what it brings.
-use Rattle.std.specs.Prelude.{ℕ, Bool, false, not, ◌&&◌, if◌then◌else◌, nat_le, List, length, Option, Some, None, Result, Ok, Err, bytes_eq}
+use Rattle.std.specs.Prelude.{ℕ, Bool, false, not, ◌&&◌, if◌then◌else◌, nat_le, List, length, Option, Some, None}
+use Rattle.std.specs.Prelude.{Result, Ok, Err, bytes_eq}
 use Rattle.std.specs.List.{list_any}
 use Rattle.call_model.specs.Generation.{Member, Extension, hears_end}
 use Rattle.extension_set.specs.declared.register_fault.RegisterFault.{RegisterFault}

@@ -20,7 +20,8 @@ actor_gets actor turn call role next = if asks actor call then turn.own else pol
 
 -- the actor's parked Next after the call
 abbrev pub next_after : Actor → Turn → Call → Role → Option ℕ → Option ℕ
-next_after actor turn call role next = left (actor_gets actor turn call role next) (asked_now actor call turn.ticket next)
+next_after actor turn call role next =
+    left (actor_gets actor turn call role next) (asked_now actor call turn.ticket next)
 
 -- what an extension's last Next gets
 abbrev pub member_gets : Turn → Call → Member → Option Answer

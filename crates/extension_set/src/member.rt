@@ -41,7 +41,13 @@ impl Model for Member {
 
     ghost Value = { Member };
 
-    ghost view = { λ m. record { extension = record { count = m.count; name = m.name; invoke = m.invoke; shutdown = m.shutdown }; next = m.next; told = m.told; again = m.again; exited = m.exited } };
+    ghost view = { λ m. record {
+      extension = record { count = m.count; name = m.name; invoke = m.invoke; shutdown = m.shutdown };
+      next = m.next;
+      told = m.told;
+      again = m.again;
+      exited = m.exited;
+    } };
 }
 
 impl Member {
@@ -49,7 +55,8 @@ impl Member {
     /// bytes. (Extensions API: Register)
     pub(crate) fn registered(count: u64, name: &Text, invoke: bool, shutdown: bool) -> Member
         requires short { length name.now ≤ 128 }
-        ensures { result ≡ registered (record { count = count; name = name.now; invoke = invoke; shutdown = shutdown }) }
+        ensures { result
+            ≡ registered (record { count = count; name = name.now; invoke = invoke; shutdown = shutdown }) }
     {
         Member {
             count,
@@ -111,7 +118,8 @@ impl Member {
     pub(crate) fn offer(&mut self, invoke: Ticket, deadline: u64, moves: &mut Moves)
         requires room { length moves.old < 32 }
         ensures told { self.new ≡ member_second (Some (invoke, deadline)) self.old }
-        ensures given { moves.new ≡ give self.old.next (delivered (Some (invoke, deadline)) (ExtensionPoll self.old)) moves.old }
+        ensures given { moves.new
+            ≡ give self.old.next (delivered (Some (invoke, deadline)) (ExtensionPoll self.old)) moves.old }
     {
         if self.invoke {
             let told = Answer::Told {
@@ -200,7 +208,8 @@ impl Member {
         requires moment { turn.now < 2 ^ 53 }
         requires room { length moves.old < 32 }
         ensures after { self.new ≡ member_after turn call.now self.old }
-        ensures given { moves.new ≡ give self.old.next (poll_gets turn call.now (ExtensionPoll self.old) self.old.next) moves.old }
+        ensures given { moves.new
+            ≡ give self.old.next (poll_gets turn call.now (ExtensionPoll self.old) self.old.next) moves.old }
     {
         let older = self.poll_gets(turn, call);
         moves.give(self.next, older);

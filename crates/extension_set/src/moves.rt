@@ -9,7 +9,7 @@ use call_model::{Answer, Ticket};
 use std::marker::Model;
 
 /// Answers with the tickets that get them, in rising ticket order. There is room for 32, which is
-/// more than one entry gives at an environment: with ten extensions at most 24. So nothing here
+/// more than one call gives at an environment, at whatever stand: with ten extensions at most 24. So nothing here
 /// takes memory.
 #[derive(Drop)]
 pub struct Moves {

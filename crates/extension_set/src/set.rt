@@ -81,7 +81,12 @@ impl ExtensionSet {
     ) -> Result<(), RegisterFault>
         requires short { length name.now ≤ 128 }
         ensures verdict { result ≡ admits self.old name.now }
-        ensures added { OnOk result (self.new ≡ registered (record { count = count; name = name.now; invoke = invoke; shutdown = shutdown }) ∷ self.old) }
+        ensures added { OnOk result (self.new ≡ registered (record {
+          count = count;
+          name = name.now;
+          invoke = invoke;
+          shutdown = shutdown;
+        }) ∷ self.old) }
         ensures kept { OnErr result (self.new ≡ self.old) }
     {
         self.admits(name)?;
@@ -182,7 +187,8 @@ impl ExtensionSet {
         requires moment { turn.now < 2 ^ 53 }
         requires room { length self.old + length moves.old < 32 }
         ensures after { self.new ≡ map (member_after turn call.now) self.old }
-        ensures given { moves.new ≡ give_each (λ x. poll_gets turn call.now (ExtensionPoll x) x.next) self.old moves.old }
+        ensures given { moves.new
+            ≡ give_each (λ x. poll_gets turn call.now (ExtensionPoll x) x.next) self.old moves.old }
         ensures few { length moves.new ≤ length self.old + length moves.old }
     {
         for member in self.members.iter_mut() {
@@ -202,7 +208,8 @@ impl ExtensionSet {
     pub fn take_invoke(&mut self, invoke: Ticket, deadline: u64, moves: &mut Moves)
         requires { length self.old + length moves.old < 32 }
         ensures told { self.new ≡ map (member_second (Some (invoke, deadline))) self.old }
-        ensures given { moves.new ≡ give_each (λ x. delivered (Some (invoke, deadline)) (ExtensionPoll x)) self.old moves.old }
+        ensures given { moves.new
+            ≡ give_each (λ x. delivered (Some (invoke, deadline)) (ExtensionPoll x)) self.old moves.old }
     {
         for member in self.members.iter_mut() {
             member.offer(invoke, deadline, moves);
