@@ -22,13 +22,10 @@ use Rattle.call_model.proofs.Pairs.{eqb-other, is_some_none}
 use Rattle.environment_step.proofs.Puts.{filter_rising, filter_answer}
 use Rattle.environment_step.proofs.Rising.{IsRising, each_rising, numbered_rising, rising_same}
 use Rattle.env_phase.proofs.Homes.{home_new, home_old, past}
+use Rattle.env_phase.proofs.Meets.{answers_rising}
 use Rattle.account_book.specs.Reaches.{reach, reaches, book_answer, unless_named, with_own}
 use Rattle.account_book.proofs.Concerned.{concerns_reach}
 use Rattle.account_book.proofs.Merging.{last_rising, last_answer}
-
-pub answers_rising : (config : Config) (h : List Entry) (entry : Entry) → Follows config h entry → IsRising 0 entry.answers
-unfolding answers
-answers_rising config h entry w = rw w.answers (numbered_rising h (first_entry config h entry.moment entry.call) [] _ 0 (each_rising 0 (suc (length h)) (answer_to config h (first_entry config h entry.moment entry.call))))
 
 -- an older ticket without an environment gets nothing
 pub homeless : (config : Config) (h : List Entry) (entry : Entry) (t : ℕ) → Follows config h entry → t < length h → home h t ≡ None → answer_in entry.answers t ≡ None

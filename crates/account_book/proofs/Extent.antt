@@ -25,6 +25,6 @@ pub put_all_length : (moves answers : List (ℕ × Answer)) → length (put_all 
 put_all_length [] answers = omega arith
 put_all_length (a ∷ rest) answers = put_all_length rest (put a answers) ∙ ap (λ n. length rest + n) (put_length a answers) ∙ omega arith
 
-pub merged_few : (moves : Site → List (ℕ × Answer)) (each : List Site) (answers : List (ℕ × Answer)) → All (λ s. length (moves s) ≤ 24) each → length (merged moves each answers) ≤ 24 * length each + length answers
+pub merged_few : (moves : Site → List (ℕ × Answer)) (each : List Site) (answers : List (ℕ × Answer)) → All (λ s. length (moves s) ≤ 13) each → length (merged moves each answers) ≤ 13 * length each + length answers
 merged_few moves [] answers all = omega arith
 merged_few moves (s ∷ ss) answers all = omega (arith, merged_few moves ss (put_all (moves s) answers) (λ i d lt. all (suc i) d (omega (arith, lt))), put_all_length (moves s) answers, all 0 s (omega arith))

@@ -27,13 +27,12 @@ use Rattle.account_book.specs.Fleets.{no_site, moves_at}
 use Rattle.account_book.specs.Reaches.{reach, book_answer, with_own, homed}
 use Rattle.account_book.specs.Taking.{site, sites, request_counts, IsKnown, AllKnown}
 use Rattle.account_book.proofs.EntryAnswers.{answers_parts}
-use Rattle.account_book.proofs.EntryExtent.{few_moves}
 use Rattle.account_book.proofs.EntryMoves.{homed_nowhere, homed_at, homed_everywhere}
 use Rattle.account_book.proofs.Expiring.{due_within}
 use Rattle.account_book.proofs.Extent.{put_all_length, merged_few}
 use Rattle.account_book.proofs.FleetMeets.{sites_length}
 use Rattle.account_book.proofs.Reaching.{AreExpiries, are_expiries, no_expiry}
-use Rattle.account_book.proofs.Visiting.{reach_within, site_of, no_stop, all_stop, few_there}
+use Rattle.account_book.proofs.Visiting.{reach_within, site_of, no_stop, all_stop, few_there, few_everywhere}
 use Rattle.account_book.proofs.Visits.{site_is_at}
 
 -- what is known of every environment is known by its number
@@ -68,7 +67,7 @@ few_in_entry config h entry widest l w k known narrow =
     moves : Site → List (ℕ × Answer)
     moves s = moves_at (length h) entry.moment (request_counts config (entry ∷ h)) entry.call s
 
-    one : (b : Bool) → 1 ≤ (if b then 24 * n + 1 else widest + 4)
+    one : (b : Bool) → 1 ≤ (if b then 13 * n + 1 else widest + 4)
     one true = omega arith
     one false = omega arith
 
@@ -84,7 +83,7 @@ few_in_entry config h entry widest l w k known narrow =
           arith,
           le,
           ap length (homed_everywhere config h entry l w k known q),
-          merged_few moves (sites config h) [] (All-map (λ s. length (moves s) ≤ 24) (site config h) (environments config) (λ i d lt. few_moves config h (get_or (environments config) i d) (length h) entry.moment (request_counts config (entry ∷ h)) entry.call l)),
+          merged_few moves (sites config h) [] (few_everywhere config h entry l w q),
           sites_length config h,
         ))
 

@@ -19,7 +19,6 @@ pub mod RequestCounts
 pub mod Verdicts
 pub mod Visiting
 pub mod Visits
-pub mod Waiting
 -- The room of the journal.
 pub mod RoomMeets
 -- A history's text is replayed to that history.

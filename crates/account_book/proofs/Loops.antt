@@ -12,7 +12,7 @@ pub record IsVisited (move : Site → Site) (moves : Site → List (ℕ × Answe
   pub pool : now.pool ≡ flown now.sites first.pool
   pub widest : now.widest ≡ first.widest
   pub answers : merged moves (drop n first.sites) new.0 ≡ merged moves first.sites old.0
-  pub room : old.1 ≤ new.1 + 24 * n
+  pub room : old.1 ≤ new.1 + 13 * n
 
 -- one that has not taken it is as it was
 pub not_yet : {A : Type 0} (move : A → A) (xs : List A) (n : ℕ) (d : A) → n < length xs → get_or (map move (take n xs) ++ drop n xs) n d ≡ get_or xs n d
@@ -37,7 +37,7 @@ flown_again s t a [] = refl
 flown_again s t a (u ∷ us) = ap (λ vs. record u { in_flight = count_by (serves_function a) t } ∷ vs) (flown_again s t (suc a) us)
 
 pub visit_one : (move : Site → Site) (moves : Site → List (ℕ × Answer)) (n : ℕ) (first now after : Crew) (old new then : List (ℕ × Answer) × ℕ) (s : Site) → IsVisited move moves n first now old new → n < length first.sites
-    → s ≡ get_or first.sites n no_site → after.sites ≡ set now.sites n (move s) → after.pool ≡ flown after.sites now.pool → after.widest ≡ now.widest → then.0 ≡ put_all (moves s) new.0 → then.1 + length (moves s) ≡ new.1 → length (moves s) ≤ 24 → IsVisited move moves (n + 1) first after old then
+    → s ≡ get_or first.sites n no_site → after.sites ≡ set now.sites n (move s) → after.pool ≡ flown after.sites now.pool → after.widest ≡ now.widest → then.0 ≡ put_all (moves s) new.0 → then.1 + length (moves s) ≡ new.1 → length (moves s) ≤ 13 → IsVisited move moves (n + 1) first after old then
 visit_one move moves n first now after old new then s k lt is sites pool widest answers room few = record {
   sites = sites ∙ ap₂ (λ xs x. set xs n (move x)) k.sites is ∙ one_more move first.sites n no_site lt ∙ ap (λ m. map move (take m first.sites) ++ drop m first.sites) (sym (add-one n));
   pool = pool ∙ ap (flown after.sites) k.pool ∙ ap (λ (us : List Usage). record first.pool { functions = us }) (flown_again now.sites after.sites 1 first.pool.functions);

@@ -1,11 +1,10 @@
 -- What holds of the environment that a call reaches.
-use Rattle.std.proofs.Common.{◌≡◌, ℕ, ◌+◌, ◌-◌, ◌≤◌, Bool, true, false, List, ◌∷◌, length, Option, Some, None, sym, refl, ap, ◌∙◌, arith, inl, inr, true≢false, subst, if◌then◌else◌, ◌==◌}
+use Rattle.std.proofs.Common.{◌≡◌, ℕ, ◌+◌, ◌-◌, ◌<◌, ◌≤◌, All, Bool, true, false, List, ◌∷◌, length, Option, Some, None, sym, refl, ap, ◌∙◌, arith, inl, inr, true≢false, if◌then◌else◌, ◌==◌}
 use Rattle.std.proofs.lemmas.Bool.{cases_lt, eqb-true}
 use Rattle.arn_ids.specs.declared.config.Config.{Config}
 use Rattle.arn_ids.specs.Environments.{owners, function_of}
 use Rattle.arn_ids.proofs.Bounds.{label_between}
 use Rattle.call_types.specs.declared.answer.Throttle.{Throttle}
-use Rattle.call_types.specs.declared.answer.Answer.{Answer}
 use Rattle.call_types.specs.declared.call.Call.{Call}
 use Rattle.call_types.specs.declared.call.Call.TheVariants.{Invoke, RuntimeNext, Response, ResponseTooLarge, Failure, InitFailure, Register, ExtNext, ExtInitFailure, ExtExitFailure, Tick, Withdraw, Spindown, Stop, Expire, Reserve}
 use Rattle.call_types.specs.declared.call.Entry.{Entry}
@@ -13,12 +12,8 @@ use Rattle.call_model.specs.History.{call_of, or_else, is_stop, stopped, poll_en
 use Rattle.call_types.specs.Calls.{env_of, is_invoke}
 use Rattle.call_model.specs.Limits.{Verdict, AfterStop, Refuses, Admits, admitted_to, verdict, place_for, by_limits, reservation}
 use Rattle.call_model.specs.Limits as limits
-use Rattle.environment_step.specs.After.{fixed_of}
-use Rattle.call_model.specs.Answers.{home}
 use Rattle.call_model.specs.Life.{stand}
 use Rattle.call_model.specs.Next.{IsLegal, Follows}
-use Rattle.call_model.specs.Stand.{is_number}
-use Rattle.environment_step.proofs.Rising.{IsRising}
 use Rattle.call_model.proofs.Basics.{none-some, eqb-self}
 use Rattle.call_model.proofs.Flight.{place_for_between}
 use Rattle.call_model.proofs.OwnTickets.{placed_function}
@@ -26,20 +21,19 @@ use Rattle.concurrency_pool.specs.Meets.{numbers, by_throttle}
 use Rattle.concurrency_pool.specs.Pools.{throttle}
 use Rattle.concurrency_pool.proofs.History as pool
 use Rattle.env_phase.specs.Taking.{registered_name, IsShort}
+use Rattle.env_phase.proofs.Meets.{few_here, ten_members}
 use Rattle.call_model.proofs.PastLemmas.{no_call}
 use Rattle.call_types.specs.Within.{IsEnv}
 use Rattle.account_book.specs.Answering.{most_answers}
 use Rattle.account_book.specs.declared.reach.Reach.{Reach}
 use Rattle.account_book.specs.declared.reach.Reach.TheVariants.{Nowhere, At, Everywhere}
-use Rattle.account_book.specs.Fleets.{no_site, site_at, step_at, moves_at}
+use Rattle.account_book.specs.Fleets.{no_site, site_at, moves_at}
 use Rattle.account_book.specs.Reaches.{reach, reaches, at_most}
 use Rattle.account_book.specs.Taking.{site, sites, request_counts, IsKnown, AllKnown}
 use Rattle.account_book.proofs.EntryMoves.{env_within, known_call, moves_there}
-use Rattle.account_book.proofs.EntryAnswers.{part_rising}
 use Rattle.account_book.proofs.FleetMeets.{sites_length}
 use Rattle.account_book.proofs.RequestCounts.{numbered_at}
 use Rattle.account_book.proofs.Visits.{site_is_at}
-use Rattle.account_book.proofs.Waiting.{rising_few, moves_in, tickets, few_tickets}
 
 one_env : (o : Option ℕ) (e : ℕ) → at_most o ≡ At e → o ≡ Some e
 one_env None e q = absurd (nowhere q)
@@ -118,20 +112,22 @@ all_stop h place call q = absurd (one (or_else place (env_of call)) q)
     one None k = cc
     one (Some d) k = cc
 
--- it answers each of its waiting tickets once at most
+-- an environment that is reached answers each of its waiting tickets once at most
+few_where : (config : Config) (h : List Entry) (entry : Entry) (e : ℕ) → IsLegal config h → Follows config h entry → reaches (reach h entry.place entry.call) e ≡ true → 1 ≤ e → e ≤ length (owners config)
+    → length (moves_at (length h) entry.moment (request_counts config (entry ∷ h)) entry.call (site config h e)) ≤ length (stand config h e).members + 3
+few_where config h entry e l w here low high = rw (moves_there config h entry e l w low high here) (few_here config h entry e (l, w))
+
 pub few_there : (config : Config) (h : List Entry) (entry : Entry) (e : ℕ) → IsLegal config h → Follows config h entry → reach h entry.place entry.call ≡ At e → 1 ≤ e → e ≤ length (owners config)
     → length (moves_at (length h) entry.moment (request_counts config (entry ∷ h)) entry.call (site config h e)) ≤ length (stand config h e).members + 3
-few_there config h entry e l w r low high =
-    let here : reaches (reach h entry.place entry.call) e ≡ true = ap (λ (x : Reach). reaches x e) r ∙ eqb-self e in
-    let rising = part_rising config h entry (λ t. is_number (home (entry ∷ h) t) e) w in
-    omega (
-      arith,
-      rising_few 0 (tickets (length h) (stand config h e)) moves (subst (IsRising 0) (sym (moves_there config h entry e l w low high here)) rising) (moves_in (fixed_of config e) (step_at (length h) entry.moment (request_counts config (entry ∷ h)) (site config h e)) (stand config h e) entry.call),
-      few_tickets (length h) (stand config h e),
-    )
-  where
-    moves : List (ℕ × Answer)
-    moves = moves_at (length h) entry.moment (request_counts config (entry ∷ h)) entry.call (site config h e)
+few_there config h entry e l w r low high = few_where config h entry e l w (ap (λ (x : Reach). reaches x e) r ∙ eqb-self e) low high
+
+-- and so each of all, where all are reached
+pub few_everywhere : (config : Config) (h : List Entry) (entry : Entry) → IsLegal config h → Follows config h entry → reach h entry.place entry.call ≡ Everywhere
+    → All (λ s. length (moves_at (length h) entry.moment (request_counts config (entry ∷ h)) entry.call s) ≤ 13) (sites config h)
+few_everywhere config h entry l w r i d lt =
+    let there : i < length (owners config) = omega (arith, lt, sites_length config h) in
+    rw (numbered_at (site config h) 1 (length (owners config)) i d there)
+    (omega (arith, few_where config h entry (1 + i) l w (ap (λ (x : Reach). reaches x (1 + i)) r) (omega arith) (omega (arith, there)), ten_members config h (1 + i) l))
 
 -- so there is room for its answers, and for one more
 pub room_there : (h : List Entry) (place : Option ℕ) (call : Call) (e widest environments moves members : ℕ) → reach h place call ≡ At e → moves ≤ members + 3 → members ≤ widest → moves + 1 ≤ most_answers widest environments call

@@ -15,7 +15,7 @@ use Rattle.call_types.specs.Within.{IsEnv}
 -- For how many answers a call wants room: a Stop at every environment, any other call at one, where the call itself, the
 -- waiting call, the runtime's Next and that of each extension may get one; and for the book's own.
 abbrev pub most_answers : ℕ → ℕ → Call → ℕ
-most_answers widest environments call = if is_stop call then 24 * environments + 1 else widest + 4
+most_answers widest environments call = if is_stop call then 13 * environments + 1 else widest + 4
 
 -- how many answers entries have
 abbrev pub answers_in : List Entry → ℕ

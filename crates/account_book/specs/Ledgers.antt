@@ -16,9 +16,9 @@ shelf l = record { history = reverse l.entries.0; room = l.entries.1 }
 abbrev pub totals : List Entry → Counters
 totals h = record { admitted = admitted h; throttled = throttled h; failed = failed h }
 
--- how many answers an entry has at most: 24 at each of 256 environments, and the call's own
+-- how many answers an entry has at most: 13 at each of 256 environments, and the call's own
 abbrev pub answer_limit : ℕ
-answer_limit = 6145
+answer_limit = 3329
 
 -- what is kept beside the entries is what they say
 pub record IsLedger (l : Inside) : Type 0 where

@@ -133,7 +133,7 @@ fn answers_wanted(widest: usize, environments: u64, call: &Call) -> usize
     ensures { result ≡ most_answers widest environments call.now }
 {
     if matches!(call, Call::Stop) {
-        24 * environments as usize + 1
+        13 * environments as usize + 1
     } else {
         widest + 4
     }
@@ -276,7 +276,7 @@ impl Book {
     /// How many answers a call gives at most that is handed in at a moment at which so many environments
     /// are due (`count_due`): those of its own entry, and of the expiries before it. Who notes answers
     /// makes room for so many. They are few: at most 14 for each environment that is due, and 14 for the
-    /// call itself; for a Stop 24 for each environment, and one.
+    /// call itself; for a Stop 13 for each environment, and one.
     pub fn most_given(&self, expiries: usize, call: &Call) -> usize
         requires within { IsWithin self.now.config call.now }
         requires few_due { expiries ≤ 256 }

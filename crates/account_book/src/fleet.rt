@@ -209,13 +209,15 @@ impl Fleet {
         requires counted { length arrival.requests.now ≡ length self.old.pool.functions }
         requires few { All IsFew self.old.sites }
         requires unnamed { registered_name arrival.call.now ≡ None }
-        requires room { 24 * length self.old.sites ≤ answers.old.1 }
+        requires gives_few { All (λ site. length (moves_at arrival.ticket arrival.moment arrival.requests.now
+            arrival.call.now site) ≤ 13) self.old.sites }
+        requires room { 13 * length self.old.sites ≤ answers.old.1 }
         requires brings_none { is_invoke arrival.call.now ≡ false }
         ensures sites { self.new.sites ≡ map (moved arrival.entry.ticket arrival.entry.moment arrival.entry.requests.now arrival.entry.call.now) self.old.sites }
         ensures pool { self.new.pool ≡ flown self.new.sites self.old.pool }
         ensures widest { self.new.widest ≡ self.old.widest }
         ensures answers { answers.new.0 ≡ merged (moves_at arrival.entry.ticket arrival.entry.moment arrival.entry.requests.now arrival.entry.call.now) self.old.sites answers.old.0 }
-        ensures room { answers.old.1 ≤ answers.new.1 + 24 * length self.old.sites }
+        ensures room { answers.old.1 ≤ answers.new.1 + 13 * length self.old.sites }
     {
         for index in 0..self.sites.as_slice().len() {
             self.take_at(index as u32 + 1, arrival, answers);

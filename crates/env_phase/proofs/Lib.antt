@@ -10,4 +10,5 @@ pub mod Room
 pub mod Extent
 -- The stand after every history.
 pub mod Homes
+pub mod Waiting
 pub mod Meets

@@ -16,7 +16,10 @@ turn_of step s call = record { ticket = step.ticket; now = step.now; own = own_a
 
 -- the parked Nexts after it
 abbrev pub polled : Turn → Call → Stand → Stand
-polled turn call s = record s { runtime = next_after TheRuntime turn call RuntimePoll s.runtime; members = map (member_after turn call) s.members }
+polled turn call s = record s {
+  runtime = next_after TheRuntime turn call RuntimePoll s.runtime;
+  members = map (member_after turn call) s.members;
+}
 
 -- its answers, where the waiting call gets this
 abbrev pub answers : Turn → Option Answer → Call → Stand → List (ℕ × Answer)
@@ -30,7 +33,8 @@ answers turn caller call s =
 -- call was answered
 abbrev pub request_kept : Step → Bool → Option ℕ → Option ℕ → Option ℕ
 request_kept step answered request None = None
-request_kept step answered request (Some p) = if p == step.ticket then Some step.count else if answered then None else request
+request_kept step answered request (Some p) =
+    if p == step.ticket then Some step.count else if answered then None else request
 
 -- the extension that a call brings, where it brings one, may be registered
 abbrev pub IsWelcome : List Member → Option Extension → Type 0
@@ -39,4 +43,7 @@ IsWelcome xs (Some x) = admits xs x.name ≡ Ok tt
 
 -- the stand with the extension that a call brings
 abbrev pub joined : Call → Option Answer → Stand → Stand
-joined call own s = record s { members = fresh_members (as_registered call own) ++ s.members; registrations = (if is_registered own then 1 else 0) + s.registrations }
+joined call own s = record s {
+  members = fresh_members (as_registered call own) ++ s.members;
+  registrations = (if is_registered own then 1 else 0) + s.registrations;
+}

@@ -11,11 +11,14 @@ named_answer s id answer = if is_number s.request id then Some answer else refus
 
 -- the row of such a report
 abbrev pub report_answers : Stand → ℕ → Answer → Option Answer
-report_answers s id answer = row s (refused State) (refused State) (named_answer s id answer) (refused State) (refused State) (refused Container)
+report_answers s id answer =
+    row s (refused State) (refused State) (named_answer s id answer) (refused State) (refused State) (refused Container)
 
 -- the row of a call by an extension, which is unknown where it isn't registered in the present generation
-abbrev pub ext_answers : Stand → ℕ → Option Answer → Option Answer → Option Answer → Option Answer → Option Answer → Option Answer
+abbrev pub ext_answers : Stand → ℕ → Option Answer → Option Answer → Option Answer → Option Answer → Option Answer
+    → Option Answer
 ext_answers s x starting idle unanswered answered closing =
     if is_known s x
     then row s starting idle unanswered answered closing (refused Container)
-    else row s (refused Unknown) (refused Unknown) (refused Unknown) (refused Unknown) (refused Unknown) (refused Container)
+    else row s (refused Unknown) (refused Unknown) (refused Unknown) (refused Unknown) (refused Unknown)
+    (refused Container)

@@ -12,11 +12,22 @@ use Rattle.env_phase.specs.declared.step.Step.{Step as TheStep}
 
 -- the stand before any call
 abbrev pub unused : Stand
-unused = record { phase = Starting None None; runtime = None; members = []; request = None; stopped = false; registrations = 0; events = 0 }
+unused = record {
+  phase = Starting None None;
+  runtime = None;
+  members = [];
+  request = None;
+  stopped = false;
+  registrations = 0;
+  events = 0;
+}
 
 -- an environment of a function before any call
 abbrev pub opened : Function → Known
-opened function = record { fixed = record { timeout = 1000 * function.timeout_s; expected = function.extensions }; stand = unused }
+opened function = record {
+  fixed = record { timeout = 1000 * function.timeout_s; expected = function.extensions };
+  stand = unused;
+}
 
 -- what a call comes with
 abbrev pub step_of : TheStep → Step

@@ -48,7 +48,18 @@ impl Model for Environment {
 
     ghost Value = { Known };
 
-    ghost view = { λ a. record { fixed = record { timeout = a.timeout; expected = a.expected }; stand = record { phase = a.phase; runtime = a.runtime; members = a.extensions; request = a.request; stopped = a.stopped; registrations = a.registrations; events = a.events } } };
+    ghost view = { λ a. record {
+      fixed = record { timeout = a.timeout; expected = a.expected };
+      stand = record {
+        phase = a.phase;
+        runtime = a.runtime;
+        members = a.extensions;
+        request = a.request;
+        stopped = a.stopped;
+        registrations = a.registrations;
+        events = a.events;
+      };
+    } };
 
     ghost invariant = { λ a. (a.timeout < 2 ^ 32) × (length a.extensions ≤ 10) };
 }
@@ -99,8 +110,9 @@ impl Environment {
         requires short { IsShort (registered_name call.now) }
         ensures stand { self.new ≡ taken self.old (step_of step) call.now }
         ensures given { moves.new ≡ given self.old (step_of step) call.now }
-        // At most two answers to each extension, and one each to the waiting call, to the runtime
-        // before and where a Busy begins, and to the call itself.
+        // At any stand at most two answers to each extension, and one each to the waiting call, to the runtime
+        // before and where a Busy begins, and to the call itself: 24. At one that a history leads to they are 13 at
+        // most (`laws::meets`).
         ensures answers { length moves.new ≤ 2 * length self.old.stand.members + 4 }
         ensures members { length self.new.stand.members ≤ 10 }
         ensures events { self.new.stand.events ≤ self.old.stand.events + 24 }

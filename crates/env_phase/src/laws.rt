@@ -1,34 +1,46 @@
 //! An environment's own words, over every legal history. The function does nothing; its clauses are the laws.
 
-ghost use Rattle.std.specs.Prelude.{◌≡◌, ◌+◌, ◌*◌, ◌≤◌, ℕ, true, List, [], ◌∷◌, length, filter, not, ◌&&◌};
+ghost use Rattle.std.specs.Prelude.{◌≡◌, ◌+◌, ◌≤◌, ℕ, true, List, [], ◌∷◌, length, not, ◌&&◌};
 ghost use Rattle.arn_ids.specs.declared.config.Config.{Config};
 ghost use Rattle.arn_ids.specs.Environments.{owners, function_of, function_at};
 ghost use Rattle.call_types.specs.declared.call.Entry.{Entry};
-ghost use Rattle.environment_step.specs.After.{Known, fixed_of, step_at, count_at};
 ghost use Rattle.call_model.specs.Laws.{ended_by};
-ghost use Rattle.call_model.specs.Answers.{home};
 ghost use Rattle.call_model.specs.History.{place_of};
 ghost use Rattle.call_model.specs.Life.{stand, concerns};
 ghost use Rattle.call_model.specs.Limits.{is_charged};
 ghost use Rattle.call_model.specs.Next.{IsLegal};
 ghost use Rattle.call_model.specs.Stand.{is_number};
+ghost use Rattle.env_phase.specs.Meeting.{known_at, step_there, answers_there};
 ghost use Rattle.env_phase.specs.Taking.{opened, taken, given};
 
 /// An environment meets its stand: opened, and taking each call that concerns it, it is at every moment what a legal
 /// history says of it. (An entry that doesn't concern it leaves its stand: `environment_step::laws::step`.)
 pub fn meets()
     // An environment that is opened is what the empty history says of it.
-    ensures opens { (config : Config) (e : ℕ) → 1 ≤ e → e ≤ length (owners config) → opened (function_at config (function_of config e)) ≡ record { fixed = fixed_of config e; stand = stand config [] e } }
+    ensures opens { (config : Config) (e : ℕ) → 1 ≤ e → e ≤ length (owners config)
+        → opened (function_at config (function_of config e)) ≡ known_at config [] e }
     // One that takes the call of an entry which concerns it becomes what the history with that entry says of it,
-    ensures stands { (config : Config) (h : List Entry) (entry : Entry) (e : ℕ) → IsLegal config (entry ∷ h) → concerns h e entry ≡ true → let known : Known = record { fixed = fixed_of config e; stand = stand config h e } in taken known (step_at h entry (count_at config h entry e)) entry.call ≡ record known { stand = stand config (entry ∷ h) e } }
+    ensures stands { (config : Config) (h : List Entry) (entry : Entry) (e : ℕ) → IsLegal config (entry ∷ h)
+        → concerns h e entry ≡ true
+        → taken (known_at config h e) (step_there config h entry e) entry.call ≡ known_at config (entry ∷ h) e }
     // gives the entry's answers to its tickets, in their order,
-    ensures moves { (config : Config) (h : List Entry) (entry : Entry) (e : ℕ) → IsLegal config (entry ∷ h) → concerns h e entry ≡ true → let known : Known = record { fixed = fixed_of config e; stand = stand config h e } in given known (step_at h entry (count_at config h entry e)) entry.call ≡ filter (λ a. is_number (home (entry ∷ h) a.0) e) entry.answers }
+    ensures moves { (config : Config) (h : List Entry) (entry : Entry) (e : ℕ) → IsLegal config (entry ∷ h)
+        → concerns h e entry ≡ true
+        → given (known_at config h e) (step_there config h entry e) entry.call ≡ answers_there h entry e }
     // and shows by its phases before and after whose charge the entry ends.
-    ensures ended { (config : Config) (h : List Entry) (entry : Entry) (e p : ℕ) → IsLegal config (entry ∷ h) → concerns h e entry ≡ true → let known : Known = record { fixed = fixed_of config e; stand = stand config h e } in (is_number (place_of h p) e && (is_charged config h p && not (is_charged config (entry ∷ h) p))) ≡ is_number (ended_by known.stand.phase (taken known (step_at h entry (count_at config h entry e)) entry.call).stand.phase) p }
-    // An entry gives an environment's tickets at most two answers for each extension, and four more;
-    ensures answers { (config : Config) (h : List Entry) (entry : Entry) (e : ℕ) → IsLegal config (entry ∷ h) → length (filter (λ a. is_number (home (entry ∷ h) a.0) e) entry.answers) ≤ 2 * length (stand config h e).members + 4 }
+    ensures ended { (config : Config) (h : List Entry) (entry : Entry) (e p : ℕ) → IsLegal config (entry ∷ h)
+        → concerns h e entry ≡ true
+        → (is_number (place_of h p) e && (is_charged config h p && not (is_charged config (entry ∷ h) p)))
+        ≡ is_number (ended_by (stand config h e).phase
+        (taken (known_at config h e) (step_there config h entry e) entry.call).stand.phase) p }
+    // An entry gives an environment's tickets at most one answer for each extension, and three more: to the waiting
+    // call, to the runtime's Next and to its own;
+    ensures answers { (config : Config) (h : List Entry) (entry : Entry) (e : ℕ) → IsLegal config (entry ∷ h)
+        → length (answers_there h entry e) ≤ length (stand config h e).members + 3 }
     // there are ten extensions at most,
-    ensures ten { (config : Config) (h : List Entry) (e : ℕ) → IsLegal config h → length (stand config h e).members ≤ 10 }
-    // and so 24 answers.
-    ensures few { (config : Config) (h : List Entry) (entry : Entry) (e : ℕ) → IsLegal config (entry ∷ h) → length (filter (λ a. is_number (home (entry ∷ h) a.0) e) entry.answers) ≤ 24 }
+    ensures ten { (config : Config) (h : List Entry) (e : ℕ) → IsLegal config h
+        → length (stand config h e).members ≤ 10 }
+    // and so 13 answers.
+    ensures few { (config : Config) (h : List Entry) (entry : Entry) (e : ℕ) → IsLegal config (entry ∷ h)
+        → length (answers_there h entry e) ≤ 13 }
 {}

@@ -5,7 +5,9 @@ ghost use Rattle.call_types.specs.declared.answer.Answer.TheVariants.{Delivered}
 ghost use Rattle.call_model.specs.Generation.{ready};
 ghost use Rattle.call_model.specs.Polls.{begun, delivered};
 ghost use Rattle.call_model.specs.Stand.{RuntimePoll};
-ghost use Rattle.environment_step.specs.After.{with_events, finished, finished_moves, turned, turned_moves, closing_ends, restarted, settled_stand, settled_phase, served_moves, left, member_second, give};
+ghost use Rattle.environment_step.specs.After.{with_events, finished, finished_moves, turned, turned_moves};
+ghost use Rattle.environment_step.specs.After.{closing_ends, restarted, settled_stand, settled_phase, served_moves};
+ghost use Rattle.environment_step.specs.After.{left, member_second, give};
 
 use super::Environment;
 use crate::phases::{at_hand, begin_again, begun, bound_of, is_closing, settle};
@@ -41,7 +43,14 @@ impl Environment {
     #[tactic(auto, using(crate::proofs::NoneServed::none_served))]
     fn serve(&mut self, begins: Option<(Ticket, u64)>, moves: &mut Moves)
         requires room { length self.old.stand.members + length moves.old < 31 }
-        ensures stand { self.new ≡ record { fixed = self.old.fixed; stand = record self.old.stand { runtime = left (delivered begins RuntimePoll) self.old.stand.runtime; members = map (member_second begins) self.old.stand.members } } }
+        ensures stand { self.new
+            ≡ record {
+              fixed = self.old.fixed;
+              stand = record self.old.stand {
+                runtime = left (delivered begins RuntimePoll) self.old.stand.runtime;
+                members = map (member_second begins) self.old.stand.members;
+              };
+            } }
         ensures given { moves.new ≡ served_moves begins self.old.stand moves.old }
     {
         match begins {
@@ -71,8 +80,10 @@ impl Environment {
     fn settle(&mut self, now: u64, before: Phase, moves: &mut Moves)
         requires moment { now < 2 ^ 53 }
         requires room { length self.old.stand.members + length moves.old < 31 }
-        ensures stand { self.new ≡ record { fixed = self.old.fixed; stand = settled_stand self.old.fixed now before self.old.stand } }
-        ensures given { moves.new ≡ served_moves (begun before (settled_phase self.old.fixed now self.old.stand)) self.old.stand moves.old }
+        ensures stand { self.new
+            ≡ record { fixed = self.old.fixed; stand = settled_stand self.old.fixed now before self.old.stand } }
+        ensures given { moves.new
+            ≡ served_moves (begun before (settled_phase self.old.fixed now self.old.stand)) self.old.stand moves.old }
     {
         let ready = self.is_ready();
         let phase = settle(self.phase, ready, self.request.is_some(), self.limit(now));
@@ -95,7 +106,8 @@ impl Environment {
     fn turn(&mut self, now: u64, expires: bool, before: Phase, moves: &mut Moves)
         requires moment { now < 2 ^ 53 }
         requires room { length self.old.stand.members + length moves.old < 31 }
-        ensures stand { self.new ≡ record { fixed = self.old.fixed; stand = turned self.old.fixed now expires before self.old.stand } }
+        ensures stand { self.new
+            ≡ record { fixed = self.old.fixed; stand = turned self.old.fixed now expires before self.old.stand } }
         ensures given { moves.new ≡ turned_moves self.old.fixed now expires before self.old.stand moves.old }
     {
         if self.ends(expires) {
@@ -112,7 +124,11 @@ impl Environment {
         requires moment { now < 2 ^ 53 }
         requires few { self.old.stand.events < 2 ^ 53 }
         requires room { length self.old.stand.members + length moves.old < 31 }
-        ensures stand { self.new ≡ record { fixed = self.old.fixed; stand = finished self.old.fixed now expires before self.old.stand moves.old } }
+        ensures stand { self.new
+            ≡ record {
+              fixed = self.old.fixed;
+              stand = finished self.old.fixed now expires before self.old.stand moves.old;
+            } }
         ensures given { moves.new ≡ finished_moves self.old.fixed now expires before self.old.stand moves.old }
         ensures ten { length self.new.stand.members ≤ 10 }
     {

@@ -40,7 +40,11 @@ impl Environment {
         requires empty { moves.old ≡ [] }
         requires short { IsShort (registered_name call.now) }
         requires few { self.old.stand.registrations < 2 ^ 52 }
-        ensures stand { self.new ≡ record { fixed = self.old.fixed; stand = first_stand self.old.fixed (step_of step) self.old.stand call.now } }
+        ensures stand { self.new
+            ≡ record {
+              fixed = self.old.fixed;
+              stand = first_stand self.old.fixed (step_of step) self.old.stand call.now;
+            } }
         ensures given { moves.new ≡ first_moves (step_of step) self.old.stand call.now }
     {
         let turn = self.turn_of(step, call);
@@ -81,7 +85,11 @@ impl Environment {
 
     /// Enters the phase, with the request count of the invocation that it has at hand.
     fn enter(&mut self, phase: Phase, request: Option<u64>, stopped: bool)
-        ensures { self.new ≡ record { fixed = self.old.fixed; stand = record self.old.stand { phase = phase; request = request; stopped = stopped } } }
+        ensures { self.new
+            ≡ record {
+              fixed = self.old.fixed;
+              stand = record self.old.stand { phase = phase; request = request; stopped = stopped };
+            } }
     {
         self.phase = phase;
         self.request = request;

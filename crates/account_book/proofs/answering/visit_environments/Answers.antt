@@ -19,7 +19,7 @@ use Rattle.account_book.proofs.Concerned.{sites_nowhere, sites_at, sites_everywh
 use Rattle.account_book.proofs.EntryMoves.{homed_nowhere, homed_at, homed_everywhere}
 use Rattle.account_book.proofs.Extent.{few_site, few_sites}
 use Rattle.account_book.proofs.FleetMeets.{sites_length, numbers_flown}
-use Rattle.account_book.proofs.Visiting.{reach_within, site_of, few_there, room_there, admitted_there, all_stop, known_short}
+use Rattle.account_book.proofs.Visiting.{reach_within, site_of, few_there, few_everywhere, room_there, admitted_there, all_stop, known_short}
 use Rattle.account_book.proofs.Visits.{site_is_at}
 use Rattle.std.proofs.lemmas.List.Elements.{All-get_or}
 use Rattle.account_book.proofs.answering.visit_environments.Goals as goal
@@ -82,6 +82,11 @@ take_at-requires-clause-admitted c = λ invoke.
 
 pub take_all-requires-clause-few : goal.take_all-requires-clause-few
 take_all-requires-clause-few c = rw c.requires.sites (few_sites c.args.config.now (reverse c.args.entries.now.0) c.requires.legal (rw (length-reverse c.args.entries.now.0) c.requires.short))
+
+pub take_all-requires-clause-gives_few : goal.take_all-requires-clause-gives_few
+take_all-requires-clause-gives_few c =
+    rw ((c.requires.ticket ∙ sym (length-reverse c.args.entries.now.0)), c.requires.sites, c.requires.counts)
+    (few_everywhere c.args.config.now (reverse c.args.entries.now.0) (entry_of c.args.config.now (reverse c.args.entries.now.0) c.args.arrival.moment c.args.arrival.call.now) c.requires.legal c.requires.follows (ap (λ (p : Option ℕ). reach (reverse c.args.entries.now.0) p c.args.arrival.call.now) (sym c.requires.placed) ∙ sym c.of.ensures ∙ c.in-Everywhere.is))
 
 pub take_all-requires-clause-room : goal.take_all-requires-clause-room
 take_all-requires-clause-room c =

@@ -14,7 +14,7 @@ with_ten expiries environments widest call ten = omega (arith, own (is_stop call
     each : expiries * (widest + 4) ≤ expiries * 14
     each = mul-le-mul_left expiries (omega (arith, ten))
 
-    own : (b : Bool) → (if b then 24 * environments + 1 else widest + 4) ≤ (if b then 24 * environments + 1 else 14)
+    own : (b : Bool) → (if b then 13 * environments + 1 else widest + 4) ≤ (if b then 13 * environments + 1 else 14)
     own true = omega arith
     own false = omega (arith, ten)
 

@@ -1,9 +1,8 @@
-use Rattle.std.proofs.Common.{◌≡◌, ◌<◌, ◌≤◌, ◌+◌, ◌-◌, ◌++◌, ℕ, arith, sym, ap, ◌∙◌, length, get_or, List, map, take, drop, set}
+use Rattle.std.proofs.Common.{◌≡◌, ◌<◌, ◌≤◌, ◌+◌, ◌-◌, ◌++◌, ℕ, arith, sym, ap, ◌∙◌, length, get_or, List, map, take, drop, set, All}
 use Rattle.std.proofs.lemmas.List.Elements.{All-get_or}
-use Rattle.env_phase.proofs.Room.{moves_few}
 use Rattle.account_book.specs.declared.site.Site.{Site}
 use Rattle.account_book.specs.Crew.{Crew}
-use Rattle.account_book.specs.Fleets.{no_site, site_at, step_at, moves_at, moved, crew, IsFleet, IsFew}
+use Rattle.account_book.specs.Fleets.{no_site, site_at, moves_at, moved, crew, IsFew}
 use Rattle.account_book.specs.declared.fleet.Fleet.TheInside.{Inside}
 use Rattle.call_types.specs.declared.call.Call.{Call}
 use Rattle.concurrency_pool.specs.Numbers.{Numbers}
@@ -21,14 +20,8 @@ next_is move sites now n is lt =
 within : (f : Inside) (w : Crew) (i n : ℕ) → crew f ≡ w → i < n → n ≡ length f.sites.items → i < length w.sites
 within f w i n view lt is = let le : length f.sites.items ≡ length w.sites = ap (λ (k : Crew). length k.sites) view in omega (arith, lt, is, le)
 
-few_moves : (f : Inside) (w : Crew) (ticket now : ℕ) (requests : List ℕ) (call : Call) (i : ℕ) → crew f ≡ w → IsFleet f → i < length w.sites → length (moves_at ticket now requests call (get_or w.sites i no_site)) ≤ 24
-few_moves f w ticket now requests call i view k lt =
-    let same : get_or w.sites i no_site ≡ get_or f.sites.items i no_site = ap (λ (c : Crew). get_or c.sites i no_site) (sym view) in
-    let lt' : i < length f.sites.items = let le : length f.sites.items ≡ length w.sites = ap (λ (c : Crew). length c.sites) view in omega (arith, lt, le) in
-    rw same (bound (get_or f.sites.items i no_site) (All-get_or (λ site. length site.environment.stand.members ≤ f.widest) f.sites.items i no_site lt' k.narrow) k.ten)
-  where
-    bound : (s : Site) → length s.environment.stand.members ≤ f.widest → f.widest ≤ 10 → length (moves_at ticket now requests call s) ≤ 24
-    bound s le ten = omega (arith, moves_few s.environment.fixed (step_at ticket now requests s) s.environment.stand call, le, ten)
+few_moves : (ticket now : ℕ) (requests : List ℕ) (call : Call) (sites : List Site) (i : ℕ) → All (λ s. length (moves_at ticket now requests call s) ≤ 13) sites → i < length sites → length (moves_at ticket now requests call (get_or sites i no_site)) ≤ 13
+few_moves ticket now requests call sites i few lt = All-get_or (λ (s : Site). length (moves_at ticket now requests call s) ≤ 13) sites i no_site lt few
 
 pub take_at-requires-clause-counted : goal.take_at-requires-clause-counted
 take_at-requires-clause-counted c = c.requires.counted ∙ sym (ap (λ (p : Numbers). length p.functions) c.loop-index.invariant.pool ∙ flown_length c.loop-index.self.sites 1 c.args.self.now.pool.functions)
@@ -44,7 +37,7 @@ take_at-requires-clause-few c =
 pub take_at-requires-clause-room : goal.take_at-requires-clause-room
 take_at-requires-clause-room c =
     let lt : c.loop-index.index < length c.args.self.now.sites = within c.self.inside c.args.self.now c.loop-index.index (length c.as_slice-index-end.result.now) c.self.view_is c.loop-index-test.true (ap length c.as_slice-index-end.ensures.value) in
-    rw (next_is _ c.args.self.now.sites c.loop-index.self.sites c.loop-index.index c.loop-index.invariant.sites lt) (omega (arith, few_moves c.self.inside c.args.self.now c.args.arrival.ticket c.args.arrival.moment c.args.arrival.requests.now c.args.arrival.call.now c.loop-index.index c.self.view_is c.self.invariant lt, c.loop-index.invariant.room, c.requires.room, lt))
+    rw (next_is _ c.args.self.now.sites c.loop-index.self.sites c.loop-index.index c.loop-index.invariant.sites lt) (omega (arith, few_moves c.args.arrival.ticket c.args.arrival.moment c.args.arrival.requests.now c.args.arrival.call.now c.args.self.now.sites c.loop-index.index c.requires.gives_few lt, c.loop-index.invariant.room, c.requires.room, lt))
 
 pub loop-index-preserved : goal.loop-index-preserved
 loop-index-preserved c =
@@ -55,4 +48,4 @@ loop-index-preserved c =
     visit_one (moved c.args.arrival.ticket c.args.arrival.moment c.args.arrival.requests.now c.args.arrival.call.now) (moves_at c.args.arrival.ticket c.args.arrival.moment c.args.arrival.requests.now c.args.arrival.call.now) c.loop-index.index c.args.self.now c.loop-index.self c.take_at.new.self c.args.answers.now c.loop-index.answers c.take_at.new.answers s c.loop-index.invariant lt is
     (c.take_at.ensures.sites ∙ ap (λ i. set c.loop-index.self.sites i (moved c.args.arrival.ticket c.args.arrival.moment c.args.arrival.requests.now c.args.arrival.call.now s)) back)
     c.take_at.ensures.pool (c.take_at.ensures.widest c.requires.unnamed) c.take_at.ensures.answers c.take_at.ensures.room
-    (rw is (few_moves c.self.inside c.args.self.now c.args.arrival.ticket c.args.arrival.moment c.args.arrival.requests.now c.args.arrival.call.now c.loop-index.index c.self.view_is c.self.invariant lt))
+    (rw is (few_moves c.args.arrival.ticket c.args.arrival.moment c.args.arrival.requests.now c.args.arrival.call.now c.args.self.now.sites c.loop-index.index c.requires.gives_few lt))
