@@ -101,11 +101,6 @@ pub limit_between : (config : Config) → first_fault config ≡ None → (1 ≤
 unfolding has_bad_account_limit
 limit_between config none = between 1 1000000 config.account_limit (sound config none).limit
 
--- The least remainder is within the account's limit.
-pub least_remainder_within : (config : Config) → first_fault config ≡ None → config.least_remainder ≤ config.account_limit
-unfolding has_bad_least_remainder
-least_remainder_within config none = ltb-false config.account_limit config.least_remainder (sound config none).least_remainder
-
 -- The reservations and the least remainder are together within the account's limit.
 pub reservations_fit : (config : Config) → first_fault config ≡ None → config.least_remainder + sum_by reservation_of config.functions ≤ config.account_limit
 unfolding has_too_small_remainder
@@ -125,11 +120,6 @@ pub name_is : (config : Config) (f : ℕ) → first_fault config ≡ None → 1 
 unfolding has_bad_name
 name_is config f none from_one there =
     is_true (is_name (function_at config f).name) (none_at (λ function. not (is_name function.name)) config f (sound config none).names from_one there)
-
-pub handler_is : (config : Config) (f : ℕ) → first_fault config ≡ None → 1 ≤ f → f ≤ length config.functions → is_label (function_at config f).handler ≡ true
-unfolding has_bad_handler
-handler_is config f none from_one there =
-    is_true (is_label (function_at config f).handler) (none_at (λ function. not (is_label function.handler)) config f (sound config none).handlers from_one there)
 
 -- The length of a text of a form.
 word_between : (p : ℕ → Bool) (most : ℕ) (text : List ℕ) → is_word p most text ≡ true → (1 ≤ length text) × (length text ≤ most)
@@ -162,16 +152,6 @@ unfolding has_bad_timeout
 timeout_between config f none from_one there =
     between 1 900 (function_at config f).timeout_s (none_at (λ function. not (is_between 1 900 function.timeout_s)) config f (sound config none).timeouts from_one there)
 
--- Each function has an environment.
-pub slots_from_one : (config : Config) (f : ℕ) → first_fault config ≡ None → 1 ≤ f → f ≤ length config.functions → 1 ≤ length (function_at config f).slots
-unfolding has_function_without_environment
-slots_from_one config f none from_one there =
-    go (length (function_at config f).slots) (none_at (λ function. length function.slots == 0) config f (sound config none).each_has_one from_one there)
-  where
-    go : (n : ℕ) → (n == 0) ≡ false → 1 ≤ n
-    go zero h = cc
-    go (suc n) h = omega arith
-
 -- What holds of each function that passes no test, and of a function that isn't there, holds at each number.
 every : {A : Type 0} (p : A → Bool) (P : A → Type 0) → ((x : A) → p x ≡ false → P x) → (d : A) → P d → (xs : List A) (i : ℕ) → list_any p xs ≡ false → P (at d xs i)
 every p P to_P d at_d [] i h = at_d
@@ -182,49 +162,6 @@ every_function : (p : Function → Bool) (P : Function → Type 0) → ((x : Fun
 every_function p P to_P at_none functions zero h = at_none
 every_function p P to_P at_none functions (suc i) h = every p P to_P no_function at_none functions i h
 
-in_either : {A : Type 0} (P : A → Type 0) (d : A) (xs ys : List A) (i : ℕ) → ((j : ℕ) → P (at d xs j)) → ((j : ℕ) → P (at d ys j)) → P (at d (xs ++ ys) i)
-in_either P d [] ys i a b = b i
-in_either P d (x ∷ xs) ys zero a b = a 0
-in_either P d (x ∷ xs) ys (suc i) a b = in_either P d xs ys i (λ j. a (suc j)) b
-
-in_copies : {A B : Type 0} (P : B → Type 0) (d b : B) (xs : List A) (i : ℕ) → P d → P b → P (at d (map (λ _. b) xs) i)
-in_copies P d b [] i at_d at_b = at_d
-in_copies P d b (x ∷ xs) zero at_d at_b = at_b
-in_copies P d b (x ∷ xs) (suc i) at_d at_b = in_copies P d b xs i at_d at_b
-
-every_owner_from : (p : Function → Bool) (P : Function → Type 0) → ((x : Function) → p x ≡ false → P x) → P no_function → (f : ℕ) (functions : List Function) (i : ℕ) → list_any p functions ≡ false → P (at (0, no_function) (owners_from f functions) i).1
-every_owner_from p P to_P at_none f [] i h = at_none
-every_owner_from p P to_P at_none f (x ∷ xs) i h =
-    let split = either_true (p x) (list_any p xs) h in
-    let Q : ℕ × Function → Type 0 = λ owner. P owner.1 in
-    in_either Q (0, no_function) (map (λ _. (f, x)) x.slots) (owners_from (suc f) xs) i
-    (λ j. in_copies Q (0, no_function) (f, x) x.slots j at_none (to_P x split.0))
-    (λ j. every_owner_from p P to_P at_none (suc f) xs j split.1)
-
-every_owner : (p : Function → Bool) (P : Function → Type 0) → ((x : Function) → p x ≡ false → P x) → P no_function → (config : Config) (e : ℕ) → list_any p config.functions ≡ false → P (owner_of config e).1
-every_owner p P to_P at_none config zero h = at_none
-every_owner p P to_P at_none config (suc i) h = every_owner_from p P to_P at_none 1 config.functions i h
-
--- No timeout is above 900 seconds, whatever the number.
-pub timeout_900 : (config : Config) (e : ℕ) → first_fault config ≡ None → timeout_of config e ≤ 900
-unfolding has_bad_timeout
-timeout_900 config e none =
-    every_owner (λ function. not (is_between 1 900 function.timeout_s)) (λ function. function.timeout_s ≤ 900)
-    (λ function h. (between 1 900 function.timeout_s h).1) (omega arith) config e (sound config none).timeouts
-
--- No function expects more than ten extensions, whatever the number.
-pub extensions_10 : (config : Config) (f : ℕ) → first_fault config ≡ None → length (function_at config f).extensions ≤ 10
-unfolding has_too_many_extensions
-extensions_10 config f none =
-    every_function (λ function. nat_lt 10 (length function.extensions)) (λ function. length function.extensions ≤ 10)
-    (λ function h. ltb-false 10 (length function.extensions) h) (omega arith) config.functions f (sound config none).extensions
-
-pub expected_10 : (config : Config) (e : ℕ) → first_fault config ≡ None → length (expected_at config e) ≤ 10
-unfolding has_too_many_extensions
-expected_10 config e none =
-    every_owner (λ function. nat_lt 10 (length function.extensions)) (λ function. length function.extensions ≤ 10)
-    (λ function h. ltb-false 10 (length function.extensions) h) (omega arith) config e (sound config none).extensions
-
 -- No reservation is above the function's environments, whatever the number.
 pub reserved_within : (config : Config) (f n : ℕ) → first_fault config ≡ None → (function_at config f).reserved ≡ Some n → n ≤ length (function_at config f).slots
 unfolding has_reservation_above_environments
@@ -233,15 +170,6 @@ reserved_within config f n none some =
     (λ function h. ltb-false (length function.slots) (reservation_of function) h) (omega arith) config.functions f (sound config none).reservations in
     let is : reservation_of (function_at config f) ≡ n = ap (λ (o : Option ℕ). unwrap_or o 0) some in
     omega (arith, within, is)
-
--- No port is 0.
-pub invoke_port_from_one : (config : Config) → first_fault config ≡ None → 1 ≤ config.invoke_port
-unfolding has_bad_port
-invoke_port_from_one config none = not_zero config.invoke_port (either_true (nat_eq 0 config.invoke_port) (list_any (nat_eq 0) (environment_ports config.functions)) (sound config none).ports).0
-  where
-    not_zero : (n : ℕ) → nat_eq 0 n ≡ false → 1 ≤ n
-    not_zero zero h = cc
-    not_zero (suc n) h = omega arith
 
 -- An owner among the functions numbered from f on.
 pub record Owns (f : ℕ) (functions : List Function) (owner : ℕ × Function) : Type 0 where

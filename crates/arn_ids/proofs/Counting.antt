@@ -65,16 +65,3 @@ owner_later functions i place function lt is beyond =
     rw (owners_step 1 functions i function lt is)
     (at_back (0, no_function) own (owners_from (1 + (i + 1)) (drop (i + 1) functions)) place (rw as_many beyond)
     ∙ ap (λ n. at (0, no_function) (owners_from (1 + (i + 1)) (drop (i + 1) functions)) (place - n)) as_many)
-
--- a sum over the numbers of a list's elements is the sum over the elements
-sum_behind : {A : Type 0} (d : A) (r : A → ℕ) (before xs : List A) → sum_by (λ f. r (numbered d (before ++ xs) f)) (count_from (suc (length before)) (length xs)) ≡ sum_by r xs
-sum_behind d r before [] = refl
-sum_behind {A} d r before (x ∷ xs) =
-    let front : at d (before ++ x ∷ xs) (length before) ≡ x = at_back d before (x ∷ xs) (length before) (omega arith) ∙ (let e : length before - length before ≡ 0 = omega arith in rw e refl) in
-    let more : length (before ++ x ∷ []) ≡ suc (length before) = length-append before (x ∷ []) ∙ omega arith in
-    let rest = rw (append_assoc before (x ∷ []) xs, more) at (sum_behind {A = A} d r (before ++ x ∷ []) xs) in
-    sum_by-cons (λ f. r (numbered d (before ++ x ∷ xs) f)) (suc (length before)) (count_from (suc (suc (length before))) (length xs))
-    ∙ rw (front, rest) (sym (sum_by-cons r x xs))
-
-pub sum_by_number : {A : Type 0} (d : A) (r : A → ℕ) (xs : List A) → sum_by (λ f. r (numbered d xs f)) (count_from 1 (length xs)) ≡ sum_by r xs
-sum_by_number d r xs = sum_behind d r [] xs

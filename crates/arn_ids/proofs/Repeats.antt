@@ -33,24 +33,6 @@ pub repeats_later : {A : Type 0} (same : A → A → Bool) (xs : List A) (i : �
     → list_any (same x) (drop (i + 1) xs) ≡ false → repeats same (drop i xs) ≡ repeats same (drop (i + 1) xs)
 repeats_later same xs i x lt is found = repeats_step same xs i x lt is ∙ ap (λ b. b || repeats same (drop (i + 1) xs)) found
 
--- one step of the search where more follows
-repeats_step_before : {A B : Type 0} (same : B → B → Bool) (f : A → B) (xs : List A) (ys : List B) (i : ℕ) (x : A) → i < length xs → x ≡ get_or xs i x
-    → repeats same (map f (drop i xs) ++ ys) ≡ ((list_any (same (f x)) (map f (drop (i + 1) xs)) || list_any (same (f x)) ys) || repeats same (map f (drop (i + 1) xs) ++ ys))
-repeats_step_before same f xs ys i x lt is =
-    rw (add-one, drop-cons xs i x lt, ← is)
-    (ap (λ b. b || repeats same (map f (drop (suc i) xs) ++ ys)) (list_any-append (same (f x)) (map f (drop (suc i) xs)) ys))
-
-pub repeats_here_before : {A B : Type 0} (same : B → B → Bool) (f : A → B) (xs : List A) (ys : List B) (i : ℕ) (x : A) → i < length xs → x ≡ get_or xs i x
-    → (list_any (same (f x)) (map f (drop (i + 1) xs)) || list_any (same (f x)) ys) ≡ true → repeats same (map f (drop i xs) ++ ys) ≡ true
-repeats_here_before same f xs ys i x lt is found =
-    repeats_step_before same f xs ys i x lt is ∙ ap (λ b. b || repeats same (map f (drop (i + 1) xs) ++ ys)) found
-
-pub repeats_later_before : {A B : Type 0} (same : B → B → Bool) (f : A → B) (xs : List A) (ys : List B) (i : ℕ) (x : A) → i < length xs → x ≡ get_or xs i x
-    → (list_any (same (f x)) (map f (drop (i + 1) xs)) || list_any (same (f x)) ys) ≡ false
-    → repeats same (map f (drop i xs) ++ ys) ≡ repeats same (map f (drop (i + 1) xs) ++ ys)
-repeats_later_before same f xs ys i x lt is found =
-    repeats_step_before same f xs ys i x lt is ∙ ap (λ b. b || repeats same (map f (drop (i + 1) xs) ++ ys)) found
-
 -- a test that stops at its first part, and one that goes on to its second
 pub or_first : (r a b : Bool) → r ≡ a → r ≡ true → r ≡ (a || b)
 or_first r true b same holds = holds

@@ -46,14 +46,6 @@ pub next_length : (config : Config) (h : List Entry) (now : ℕ) (call : Call) �
 unfolding next
 next_length config h now call = rw (length-append (added config h now call) h, added_length config h now call) (omega (arith, due_length config h (moment_at h now)))
 
--- a journal that isn't full has room for it,
-pub room_for_call : (config : Config) (most : ℕ) (h : List Entry) (now : ℕ) (call : Call) → full config most h call ≡ false → length (next config h now call) ≤ most
-room_for_call config most h now call q = go (is_stop call) q (next_length config h now call)
-  where
-    go : (b : Bool) → nat_lt most (length h + (if b then most_added config else 2 * most_added config)) ≡ false → length (next config h now call) ≤ length h + most_added config → length (next config h now call) ≤ most
-    go true r k = grind (arith, nat_tests, r, k)
-    go false r k = grind (arith, nat_tests, r, k)
-
 -- and after any call but a Stop there is room for a Stop.
 pub room_for_stop : (config : Config) (most : ℕ) (h : List Entry) (now : ℕ) (call : Call) → full config most h call ≡ false → is_stop call ≡ false → full config most (next config h now call) Stop ≡ false
 room_for_stop config most h now call q s = enough (rw s at q) (next_length config h now call)

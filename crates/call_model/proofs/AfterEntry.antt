@@ -26,14 +26,6 @@ call_of_old entry h t lt = rw (eqb-other t (length h) (omega (arith, lt))) refl
 pub place_of_old : (entry : Entry) (h : List Entry) (t : ℕ) → t < length h → place_of (entry ∷ h) t ≡ place_of h t
 place_of_old entry h t lt = rw (eqb-other t (length h) (omega (arith, lt))) refl
 
--- An answer stays.
-pub answer_of_stays : (config : Config) (entry : Entry) (h : List Entry) (t : ℕ) (a : Answer) → IsLegal config (entry ∷ h) → answer_of h t ≡ Some a → answer_of (entry ∷ h) t ≡ Some a
-answer_of_stays config entry h t a l q =
-    rw (l.1.answers, silent config h entry.moment entry.call t new (ap (λ (o : Option Answer). not (is_expiry (call_of h t)) && not (is_some o)) q ∙ and_false (not (is_expiry (call_of h t))))) q
-  where
-    new : t ≢ length h
-    new eqb-self = absurd (some-none (sym q ∙ fresh config h t l.0 (omega (arith, eqb-self))))
-
 -- The new ticket waits where its call is no expiry and has no answer in its own entry.
 pub pending_new : (config : Config) (entry : Entry) (h : List Entry) → IsLegal config h → pending (entry ∷ h) (length h) ≡ (not (is_expiry entry.call) && is_none (answer_in entry.answers (length h)))
 pending_new config entry h l = rw (eqb-self (length h), fresh config h (length h) l (omega arith)) (go (not (is_expiry entry.call)) (answer_in entry.answers (length h)))
@@ -42,13 +34,9 @@ pending_new config entry h l = rw (eqb-self (length h), fresh config h (length h
     go b None = refl
     go b (Some a) = refl
 
--- The requests of a function are counted entry by entry,
+-- The requests of a function are counted entry by entry.
 pub requests_cons : (entry : Entry) (h : List Entry) (f : ℕ) → requests (entry ∷ h) f ≡ cond (is_invoke_of f entry.call) 1 0 + requests h f
 requests_cons entry h f = sum_by-cons (λ (x : Entry). cond (is_invoke_of f x.call) 1 0) entry h
-
--- and part by part.
-pub requests_append : (added h : List Entry) (f : ℕ) → requests (added ++ h) f ≡ requests added f + requests h f
-requests_append added h f = sum_by-append (λ (x : Entry). cond (is_invoke_of f x.call) 1 0) added h
 
 -- The answers of a history are those of its newer part, else those of its older.
 pub answer_of_append : (added h : List Entry) (t : ℕ) → answer_of (added ++ h) t ≡ or_else (answer_of added t) (answer_of h t)

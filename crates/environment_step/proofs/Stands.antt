@@ -26,12 +26,3 @@ one_changes f g first (suc n) (suc i) e lt = let same : suc first + i ≡ first 
 -- the stands of all environments
 abbrev pub stands : Config → List Entry → List Stand
 stands config h = map (stand config h) (environments config)
-
--- An entry that concerns one environment changes that one's stand alone.
-pub stands_one : (config : Config) (h : List Entry) (entry : Entry) (i : ℕ) → IsLegal config h → Follows config h entry → ((d : ℕ) → d ≢ 1 + i → concerns h d entry ≡ false) → i < length (owners config)
-    → stands config (entry ∷ h) ≡ set (stands config h) i (stand config (entry ∷ h) (1 + i))
-stands_one config h entry i l w only lt = one_changes (stand config (entry ∷ h)) (stand config h) 1 (length (owners config)) i (λ d ne. stand_elsewhere config h entry d l w (only d ne)) lt
-
--- An entry that concerns none changes none.
-pub stands_none : (config : Config) (h : List Entry) (entry : Entry) → IsLegal config h → Follows config h entry → ((d : ℕ) → concerns h d entry ≡ false) → stands config (entry ∷ h) ≡ stands config h
-stands_none config h entry l w only = all_same (stand config (entry ∷ h)) (stand config h) 1 (length (owners config)) (λ d le. stand_elsewhere config h entry d l w (only d))
