@@ -20,6 +20,8 @@ ghost use Rattle.account_lock.specs.Shown.{Sees};
 ghost use Rattle.headline.specs.Headline.{Headline, HasOneFate, IsWithinLimits};
 ghost use Rattle.headline.specs.Refused.{admitted, answered_twice, shut};
 
+use environment_step::laws::step;
+
 /// The headline holds of every legal history, with its own counts.
 pub fn headline()
     ensures { (config : Config) (h : List Entry) → IsLegal config h → Headline config h (stats config h) }
@@ -64,4 +66,6 @@ pub fn ticks_change_nothing()
     ensures { (config : Config) (h : List Entry) (entry : Entry) (e : ℕ) → IsLegal config (entry ∷ h)
         → entry.call ≡ Tick
         → stand config (entry ∷ h) e ≡ stand config h e }
-{}
+{
+    step();
+}
