@@ -10,8 +10,8 @@ use Rattle.call_types.specs.declared.call.Call.TheVariants.{Expire}
 use Rattle.call_types.specs.declared.call.Entry.{Entry}
 use Rattle.call_model.specs.Life.{phase}
 use Rattle.call_model.specs.Next.{IsLegal, due, due_at, deadline_of, in_order, by_deadline, expiries, expiries_at, entered, last_moment}
+use Rattle.call_model.specs.Next.{first}
 use Rattle.call_model.proofs.NextLegal.{due_after_expiry, expiries_on}
-use Rattle.deadlines.specs.Due.{first}
 use Rattle.call_types.specs.Within.{IsEnv}
 use Rattle.account_book.specs.Answering.{IsRoom, first_or_0}
 use Rattle.account_book.specs.Pages.{Pages}

@@ -11,14 +11,14 @@ use Rattle.call_types.specs.declared.call.Entry.{Entry}
 use Rattle.call_model.specs.Laws.{is_taken, has_come}
 use Rattle.call_model.specs.Life.{phase, seen}
 use Rattle.call_model.specs.Limits.{in_flight, by_limits, reservation}
-use Rattle.call_model.specs.Next.{IsLegal, due, due_at, deadline_of, by_deadline}
+use Rattle.call_model.specs.Next.{IsLegal, due, due_at, deadline_of, by_deadline, first}
 use Rattle.call_model.proofs.Deadlines.{by_deadline_length}
 use Rattle.call_model.proofs.Flight.{flight}
 use Rattle.concurrency_pool.specs.declared.pool.Usage.{Usage}
 use Rattle.concurrency_pool.specs.Meets.{numbers, usage, by_throttle}
 use Rattle.concurrency_pool.specs.Pools.{throttle}
 use Rattle.concurrency_pool.proofs.History as pool
-use Rattle.deadlines.specs.Due.{first, first_due, come, due_among}
+use Rattle.deadlines.specs.Due.{first_due, come, due_among}
 use Rattle.deadlines.specs.Meets.{deadlines}
 use Rattle.deadlines.proofs.Order.{first_is}
 use Rattle.placement.specs.Meets.{places}

@@ -11,11 +11,11 @@ use Rattle.environment_step.specs.After.{fixed_of, step_at, count_at}
 use Rattle.call_model.specs.History.{is_stop}
 use Rattle.call_model.specs.Life.{stand, concerns}
 use Rattle.call_model.specs.Next.{IsLegal, Follows, IsTimely, IsFirst, added, next, due, expiries, entry_of, moment_at}
+use Rattle.call_model.specs.Next.{first}
 use Rattle.call_model.proofs.Added.{added_length}
 use Rattle.environment_step.proofs.Frame.{stand_elsewhere}
 use Rattle.call_model.proofs.NextLegal.{legal_next}
 use Rattle.environment_step.proofs.StepLaws.{stand_is}
-use Rattle.deadlines.specs.Due.{first}
 use Rattle.env_phase.specs.Taking.{registered_name}
 use Rattle.env_phase.proofs.Extent.{none_joins}
 use Rattle.call_types.specs.Within.{IsWithin}

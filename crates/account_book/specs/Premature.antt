@@ -10,9 +10,8 @@ use Rattle.call_types.specs.declared.call.Call.TheVariants.{Invoke}
 use Rattle.call_types.specs.declared.call.Entry.{Entry}
 use Rattle.call_model.specs.Life.{stand}
 use Rattle.call_model.specs.Limits.{reservation, verdict, Verdict, Refuses}
-use Rattle.call_model.specs.Next.{due, moment_at}
+use Rattle.call_model.specs.Next.{due, moment_at, first}
 use Rattle.call_model.specs.Stand.{is_number}
-use Rattle.deadlines.specs.Due.{first}
 use Rattle.env_phase.specs.Taking.{has_answered}
 
 -- Whether what the function own has in flight stands in the way of an Invoke of the function f that is refused for this

@@ -8,8 +8,7 @@ use Rattle.call_types.specs.declared.call.Call.{Call}
 use Rattle.call_types.specs.declared.call.Entry.{Entry}
 use Rattle.call_model.specs.Counts.{full}
 use Rattle.call_model.specs.History.{pending}
-use Rattle.call_model.specs.Next.{IsLegal, added, due, next}
-use Rattle.deadlines.specs.Due.{first}
+use Rattle.call_model.specs.Next.{IsLegal, added, due, next, first}
 use Rattle.usage_ledger.specs.Counts.{plus}
 use Rattle.usage_ledger.specs.Keeping.{Kept}
 use Rattle.usage_ledger.specs.Tallies.{Held}

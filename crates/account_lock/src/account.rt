@@ -10,8 +10,7 @@ ghost use Rattle.account_book.specs.declared.book.OpenFault.TheVariants.{Entries
 ghost use Rattle.call_model.specs.Counts.{stats};
 ghost use Rattle.call_model.specs.History.{answer_of};
 ghost use Rattle.call_model.specs.Limits.{reservation};
-ghost use Rattle.call_model.specs.Next.{due};
-ghost use Rattle.deadlines.specs.Due.{first};
+ghost use Rattle.call_model.specs.Next.{due, first};
 ghost use Rattle.call_types.specs.Within.{IsWithin};
 ghost use Rattle.call_types.specs.declared.call.Call.TheVariants.{Tick};
 ghost use Rattle.account_book.specs.Books.{life};

@@ -45,7 +45,12 @@ abbrev pub last_moment : List Entry → ℕ
 last_moment [] = 0
 last_moment (entry ∷ h) = entry.moment
 
--- the first of a list
+-- the first of a list, where there is one
+abbrev pub first : {A : Type 0} → List A → Option A
+first [] = None
+first (x ∷ xs) = Some x
+
+-- a number is the first of a list
 abbrev pub IsFirst : ℕ → List ℕ → Type 0
 IsFirst e [] = ⊥
 IsFirst e (d ∷ rest) = e ≡ d

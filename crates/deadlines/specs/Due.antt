@@ -1,12 +1,7 @@
 -- Which environment is due first, of a list of deadlines.
-use Rattle.std.specs.Prelude.{ℕ, suc, List, [], ◌∷◌, Option, Some, None, option_map}
+use Rattle.std.specs.Prelude.{ℕ, suc, List, [], ◌∷◌, Option, option_map}
 use Rattle.std.specs.List.{cons_option}
-use Rattle.call_model.specs.Next.{due_at, by_deadline}
-
--- the first of a list
-abbrev pub first : {A : Type 0} → List A → Option A
-first [] = None
-first (x ∷ xs) = Some x
+use Rattle.call_model.specs.Next.{due_at, by_deadline, first}
 
 -- the deadlines that have come, each with the number of its environment, of environments numbered from e on
 abbrev pub come : ℕ → ℕ → List (Option ℕ) → List (ℕ × ℕ)

@@ -4,8 +4,8 @@ ghost use Rattle.std.specs.Prelude.{◌≡◌, ℕ, List, [], length, replicate,
 ghost use Rattle.arn_ids.specs.declared.config.Config.{Config};
 ghost use Rattle.arn_ids.specs.Environments.{owners};
 ghost use Rattle.call_types.specs.declared.call.Entry.{Entry};
-ghost use Rattle.call_model.specs.Next.{due};
-ghost use Rattle.deadlines.specs.Due.{first, first_due};
+ghost use Rattle.call_model.specs.Next.{due, first};
+ghost use Rattle.deadlines.specs.Due.{first_due};
 ghost use Rattle.deadlines.specs.Meets.{deadlines};
 
 /// The deadlines meet the history.
