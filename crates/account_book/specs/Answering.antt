@@ -12,7 +12,8 @@ use Rattle.concurrency_pool.specs.Numbers.{Numbers}
 use Rattle.concurrency_pool.specs.Pools.{may_reserve, with_reserved}
 use Rattle.call_types.specs.Within.{IsEnv}
 
--- For how many answers a call wants room: a Stop at every environment, any other call at one, where the call itself, the
+-- For how many answers a call wants room: a Stop at every environment, any other call at one, where the call itself,
+-- the
 -- waiting call, the runtime's Next and that of each extension may get one; and for the book's own.
 abbrev pub most_answers : ℕ → ℕ → Call → ℕ
 most_answers widest environments call = if is_stop call then 13 * environments + 1 else widest + 4

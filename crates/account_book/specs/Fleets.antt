@@ -1,5 +1,6 @@
 -- What a call makes of the environments that it visits, and what is kept beside them.
-use Rattle.std.specs.Prelude.{◌≡◌, ℕ, suc, ◌<◌, ◌≤◌, ◌^◌, Bool, ◌==◌, ◌&&◌, List, [], ◌∷◌, length, map, count_by, Option, All}
+use Rattle.std.specs.Prelude.{◌≡◌, ℕ, suc, ◌<◌, ◌≤◌, ◌^◌, Bool, ◌==◌, ◌&&◌, List, [], ◌∷◌, length, map, count_by}
+use Rattle.std.specs.Prelude.{Option, All}
 use Rattle.arn_ids.specs.Environments.{numbered}
 use Rattle.call_types.specs.declared.answer.Answer.{Answer}
 use Rattle.call_types.specs.declared.call.Call.{Call}
@@ -17,7 +18,10 @@ use Rattle.account_book.specs.Crew.{Crew}
 
 -- an environment that isn't there
 abbrev pub no_site : Site
-no_site = record { function = 0; environment = record { fixed = record { timeout = 0; expected = [] }; stand = unused } }
+no_site = record {
+  function = 0;
+  environment = record { fixed = record { timeout = 0; expected = [] }; stand = unused };
+}
 
 -- the environment with a number
 abbrev pub site_at : List Site → ℕ → Site
@@ -29,7 +33,9 @@ step_at ticket now requests site = record { ticket = ticket; now = now; count = 
 
 -- an environment after a call
 abbrev pub moved : ℕ → ℕ → List ℕ → Call → Site → Site
-moved ticket now requests call site = record site { environment = taken site.environment (step_at ticket now requests site) call }
+moved ticket now requests call site = record site {
+  environment = taken site.environment (step_at ticket now requests site) call;
+}
 
 -- the answers that the call gives there
 abbrev pub moves_at : ℕ → ℕ → List ℕ → Call → Site → List (ℕ × Answer)
@@ -52,7 +58,8 @@ serves_function f site = (site.function == f) && is_taken site.environment.stand
 -- functions numbered from f on, each with as many in flight as environments serve it
 abbrev pub flown_from : List Site → ℕ → List Usage → List Usage
 flown_from sites f [] = []
-flown_from sites f (usage ∷ usages) = record usage { in_flight = count_by (serves_function f) sites } ∷ flown_from sites (suc f) usages
+flown_from sites f (usage ∷ usages) =
+    record usage { in_flight = count_by (serves_function f) sites } ∷ flown_from sites (suc f) usages
 
 -- a pool with as many in flight as environments serve
 abbrev pub flown : List Site → Numbers → Numbers

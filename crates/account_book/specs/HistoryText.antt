@@ -12,7 +12,8 @@ opening_text config salt max_entries = codes "form 2\n" ++ (setup_text config sa
 -- the texts of entries of a history, the oldest first; an entry's number is how many are older
 abbrev pub entries_text : Config → ℕ → List Entry → List Entry → List ℕ
 entries_text config salt h [] = []
-entries_text config salt h (entry ∷ older) = entries_text config salt h older ++ entry_text config salt h (length older) entry
+entries_text config salt h (entry ∷ older) =
+    entries_text config salt h older ++ entry_text config salt h (length older) entry
 
 -- The text of a history.
 unfoldable pub history_text : Config → ℕ → ℕ → List Entry → List ℕ

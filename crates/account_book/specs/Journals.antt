@@ -9,7 +9,12 @@ use Rattle.account_book.specs.Pages.{Pages}
 use Rattle.account_book.specs.Taking.{AllKnown, sites, request_counts}
 
 abbrev pub pages : Inside → Pages
-pages j = record { config = arc_value j.config; history = j.ledger.history; room = j.ledger.room; widest = j.fleet.widest }
+pages j = record {
+  config = arc_value j.config;
+  history = j.ledger.history;
+  room = j.ledger.room;
+  widest = j.fleet.widest;
+}
 
 -- the history is legal, and what is kept beside it is what it says
 pub record IsJournal (j : Inside) : Type 0 where

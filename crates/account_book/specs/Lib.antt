@@ -1,4 +1,4 @@
--- The headline has no word of this crate. Its public contracts and laws have these, under 150 lines without comments.
+-- The headline has no word of this crate. Its public contracts and laws have these.
 -- A book as its callers see it, which histories it can have, and how far its service has come to its end.
 pub mod Book
 pub mod Reached
@@ -14,6 +14,7 @@ pub mod Answering
 -- invariants of types speak of it, and no public one does.
 -- The environments, those that a call visits, and what it makes of them.
 pub mod Taking
+pub mod Arriving
 pub mod Crew
 pub mod Fleets
 pub mod Reaches

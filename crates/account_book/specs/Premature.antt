@@ -4,7 +4,8 @@ use Rattle.std.specs.List.{list_any}
 use Rattle.arn_ids.specs.declared.config.Config.{Config}
 use Rattle.arn_ids.specs.Environments.{environments, function_of}
 use Rattle.call_types.specs.declared.answer.Throttle.{Throttle}
-use Rattle.call_types.specs.declared.answer.Throttle.TheVariants.{Function as ByFunction, Account as ByAccount, Environments as ByEnvironments}
+use Rattle.call_types.specs.declared.answer.Throttle.TheVariants.{Function as ByFunction, Account as ByAccount}
+use Rattle.call_types.specs.declared.answer.Throttle.TheVariants.{Environments as ByEnvironments}
 use Rattle.call_types.specs.declared.call.Call.{Call}
 use Rattle.call_types.specs.declared.call.Call.TheVariants.{Invoke}
 use Rattle.call_types.specs.declared.call.Entry.{Entry}
@@ -25,7 +26,8 @@ in_way ByEnvironments f reserved own = own == f
 -- whether an environment that stands in the way has answered its invocation and is not ready again
 abbrev pub is_awaited : Config → List Entry → ℕ → Throttle → Bool
 is_awaited config h f reason =
-    list_any (λ e. has_answered (stand config h e) && in_way reason f (reservation config h (function_of config e)) (function_of config e))
+    list_any (λ e. has_answered (stand config h e)
+    && in_way reason f (reservation config h (function_of config e)) (function_of config e))
     (environments config)
 
 -- the same by the verdict on the Invoke

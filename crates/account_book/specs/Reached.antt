@@ -32,7 +32,8 @@ led_to config (c ∷ calls) = next config (led_to config calls) c.0 c.1
 -- each of them is taken after those before it
 abbrev pub AreTaken : Config → ℕ → List (ℕ × Call) → Type 0
 AreTaken config max_entries [] = Unit {0}
-AreTaken config max_entries (c ∷ calls) = AreTaken config max_entries calls × IsTakenAfter config max_entries (led_to config calls) c.0 c.1
+AreTaken config max_entries (c ∷ calls) =
+    AreTaken config max_entries calls × IsTakenAfter config max_entries (led_to config calls) c.0 c.1
 
 -- Reached: a history that calls led to, each of which a book takes.
 pub record IsReached (config : Config) (max_entries : ℕ) (h : List Entry) : Type 0 where

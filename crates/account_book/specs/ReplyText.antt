@@ -23,6 +23,7 @@ gist_with h t a source = record {
 abbrev pub own_gist : List Entry → ℕ → Gist
 own_gist h t = gist_with h t (answer_of h t) (source_of t (named_in (answer_of h t)))
 
--- The reply to a ticket: a function of what isolation compares and of the configuration; none where nothing was answered.
+-- The reply to a ticket: a function of what isolation compares and of the configuration; none where nothing was
+-- answered.
 unfoldable pub reply_text : Config → ℕ → List Entry → ℕ → Option Reply
 reply_text config salt h t = reply_of config salt (own_gist h t)

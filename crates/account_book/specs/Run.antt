@@ -1,5 +1,6 @@
 -- What a script comes to: what is written while it is replayed, and the fault that ends it, if any.
-use Rattle.std.specs.Prelude.{ℕ, ◌+◌, ◌^◌, ◌==◌, Bool, true, false, nat_lt, if◌then◌else◌, List, [], ◌∷◌, ◌++◌, length, reverse, bytes_eq, codes, Option, Some, None, Result, Ok, Err}
+use Rattle.std.specs.Prelude.{ℕ, ◌+◌, ◌^◌, ◌==◌, Bool, true, false, nat_lt, if◌then◌else◌, List, [], ◌∷◌, ◌++◌, length}
+use Rattle.std.specs.Prelude.{reverse, bytes_eq, codes, Option, Some, None, Result, Ok, Err}
 use Rattle.std.specs.Str.Lines.{lines}
 use Rattle.arn_ids.specs.Environments.{owners}
 use Rattle.arn_ids.specs.Faults.{first_fault, is_between}
@@ -51,7 +52,9 @@ new_book setup = record { config = setup.config; salt = setup.salt; max_entries 
 -- a book is opened where the configuration has no fault, and its greatest number of entries is in range
 abbrev pub book_where : Option ConfigFault → Setup → Result Kept ScriptFault
 book_where (Some fault) setup = Err (InConfiguration fault)
-book_where None setup = if is_between (length (owners setup.config) + 1) (2 ^ 32) setup.max_entries then Ok (new_book setup) else Err (InConfiguration BadEntries)
+book_where None setup =
+    if is_between (length (owners setup.config) + 1) (2 ^ 32) setup.max_entries then Ok (new_book setup)
+    else Err (InConfiguration BadEntries)
 
 -- the book of what was read as a setup
 abbrev pub book_of : Result Setup WireFault → Result Kept ScriptFault
@@ -74,8 +77,10 @@ added_lines salt h new = lines_from salt (new ++ h) (length h) (reverse new)
 -- What a book makes of a call: the next book, and the lines that are written. A full journal takes no call.
 unfoldable pub call_answered : Kept → ℕ → Call → Kept × List ℕ
 call_answered book now call =
-    if full book.config book.max_entries book.history call then (book, codes "refused JournalFull\n") else
-    (record book { history = next book.config book.history now call }, added_lines book.salt book.history (added book.config book.history now call))
+    if full book.config book.max_entries book.history call then (book, codes "refused JournalFull\n") else (
+      record book { history = next book.config book.history now call },
+      added_lines book.salt book.history (added book.config book.history now call),
+    )
 
 -- the same where a line stands for a call; else the line of this number is at fault
 abbrev pub answered_if : ℕ → Kept → Option (ℕ × Call) → Result (Kept × List ℕ) ScriptFault
@@ -128,7 +133,8 @@ and_then (Ok (next, text)) rest = before text (rest next)
 -- line after line, the first of them with this number
 abbrev pub replay_from : ℕ → Progress → List (List ℕ) → Replayed
 replay_from number progress [] = record { text = []; fault = fault_at_end progress }
-replay_from number progress (line ∷ lines) = and_then (line_taken number progress line) (λ next. replay_from (number + 1) next lines)
+replay_from number progress (line ∷ lines) =
+    and_then (line_taken number progress line) (λ next. replay_from (number + 1) next lines)
 
 -- What the replay of a script comes to. A line feed ends each line, with one carriage return before it; the last may
 -- lack it.

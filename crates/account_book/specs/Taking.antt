@@ -13,7 +13,10 @@ use Rattle.account_book.specs.declared.site.Site.{Site}
 
 -- an environment as the history has it, with its function's number
 abbrev pub site : Config → List Entry → ℕ → Site
-site config h e = record { function = function_of config e; environment = record { fixed = fixed_of config e; stand = stand config h e } }
+site config h e = record {
+  function = function_of config e;
+  environment = record { fixed = fixed_of config e; stand = stand config h e };
+}
 
 abbrev pub sites : Config → List Entry → List Site
 sites config h = map (site config h) (environments config)

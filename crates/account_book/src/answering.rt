@@ -3,15 +3,15 @@
 ghost use Rattle.std.specs.Prelude.{◌≡◌, ◌<◌, ◌≤◌, ◌^◌, [], length, reverse, None};
 ghost use Rattle.arn_ids.specs.Environments.{owners};
 ghost use Rattle.call_model.specs.Answers.{answers as answers_to};
-ghost use Rattle.call_model.specs.Limits.{place_for};
-ghost use Rattle.call_model.specs.Next.{IsLegal, Follows, entry_of, entered};
+ghost use Rattle.call_model.specs.Next.{entry_of, entered};
 ghost use Rattle.concurrency_pool.specs.Meets.{numbers};
 ghost use Rattle.env_phase.specs.Taking.{registered_name};
 ghost use Rattle.call_model.specs.CallCounts.{request_count};
 ghost use Rattle.account_book.specs.Answering.{most_answers, in_force, IsInOrder};
+ghost use Rattle.account_book.specs.Arriving.{IsReady};
 ghost use Rattle.account_book.specs.Fleets.{flown};
 ghost use Rattle.account_book.specs.Reaches.{book_answer, homed};
-ghost use Rattle.account_book.specs.Taking.{IsKnown, AllKnown, sites as sites_in, request_counts};
+ghost use Rattle.account_book.specs.Taking.{IsKnown, sites as sites_in, request_counts};
 
 use crate::fleet::{Arrival, Fleet};
 use crate::reach::Reach;
@@ -31,7 +31,8 @@ pub fn count_call(
     requires known { IsKnown config.now call.now }
     requires short { length entries.now.0 < 2 ^ 32 }
     requires counts { requests.old ≡ request_counts config.now (reverse entries.now.0) }
-    ensures counts { requests.new ≡ request_counts config.now (entered config.now (reverse entries.now.0) moment call.now) }
+    ensures counts { requests.new
+        ≡ request_counts config.now (entered config.now (reverse entries.now.0) moment call.now) }
     ensures count { result ≡ request_count (entered config.now (reverse entries.now.0) moment call.now) call.now }
 {
     match call {
@@ -64,21 +65,20 @@ pub fn answer_call(
     requires moment { arrival.moment < 2 ^ 53 }
     requires short { length entries.now.0 < 2 ^ 32 }
     requires ticket { arrival.ticket ≡ length entries.now.0 }
-    requires legal { IsLegal config.now (reverse entries.now.0) }
-    requires all_known { AllKnown config.now (reverse entries.now.0) }
-    requires follows { Follows config.now (reverse entries.now.0) (entry_of config.now (reverse entries.now.0) arrival.moment arrival.call.now) }
-    requires known { IsKnown config.now arrival.call.now }
-    requires placed { place ≡ place_for config.now (reverse entries.now.0) arrival.call.now }
+    requires ready { IsReady config.now (reverse entries.now.0) arrival.moment arrival.call.now place fleet.old.sites
+        fleet.old.pool }
+    requires counts { arrival.requests.now
+        ≡ request_counts config.now (entered config.now (reverse entries.now.0) arrival.moment arrival.call.now) }
     requires own { own ≡ book_answer config.now (reverse entries.now.0) arrival.call.now }
-    requires sites { fleet.old.sites ≡ sites_in config.now (reverse entries.now.0) }
-    requires pool { fleet.old.pool ≡ numbers config.now (reverse entries.now.0) }
-    requires counts { arrival.requests.now ≡ request_counts config.now (entered config.now (reverse entries.now.0) arrival.moment arrival.call.now) }
     requires room { most_answers fleet.old.widest (length (owners config.now)) arrival.call.now ≤ answers.old.1 }
     requires empty { answers.old.0 ≡ [] }
-    ensures sites { fleet.new.sites ≡ sites_in config.now (entered config.now (reverse entries.now.0) arrival.entry.moment arrival.entry.call.now) }
-    ensures pool { fleet.new.pool ≡ numbers config.now (entered config.now (reverse entries.now.0) arrival.entry.moment arrival.entry.call.now) }
+    ensures sites { fleet.new.sites
+        ≡ sites_in config.now (entered config.now (reverse entries.now.0) arrival.entry.moment arrival.entry.call.now) }
+    ensures pool { fleet.new.pool
+        ≡ numbers config.now (entered config.now (reverse entries.now.0) arrival.entry.moment arrival.entry.call.now) }
     ensures widest { registered_name arrival.entry.call.now ≡ None → fleet.new.widest ≡ fleet.old.widest }
-    ensures answers { answers.new.0 ≡ answers_to config.now (reverse entries.now.0) arrival.entry.moment arrival.entry.call.now }
+    ensures answers { answers.new.0
+        ≡ answers_to config.now (reverse entries.now.0) arrival.entry.moment arrival.entry.call.now }
 {
     visit_environments(config, entries, fleet, arrival, place, answers);
     put_in_force(fleet, arrival.call, own);
@@ -99,20 +99,19 @@ fn visit_environments(
     requires moment { arrival.moment < 2 ^ 53 }
     requires short { length entries.now.0 < 2 ^ 32 }
     requires ticket { arrival.ticket ≡ length entries.now.0 }
-    requires legal { IsLegal config.now (reverse entries.now.0) }
-    requires all_known { AllKnown config.now (reverse entries.now.0) }
-    requires follows { Follows config.now (reverse entries.now.0) (entry_of config.now (reverse entries.now.0) arrival.moment arrival.call.now) }
-    requires known { IsKnown config.now arrival.call.now }
-    requires placed { place ≡ place_for config.now (reverse entries.now.0) arrival.call.now }
-    requires sites { fleet.old.sites ≡ sites_in config.now (reverse entries.now.0) }
-    requires pool { fleet.old.pool ≡ numbers config.now (reverse entries.now.0) }
-    requires counts { arrival.requests.now ≡ request_counts config.now (entered config.now (reverse entries.now.0) arrival.moment arrival.call.now) }
+    requires ready { IsReady config.now (reverse entries.now.0) arrival.moment arrival.call.now place fleet.old.sites
+        fleet.old.pool }
+    requires counts { arrival.requests.now
+        ≡ request_counts config.now (entered config.now (reverse entries.now.0) arrival.moment arrival.call.now) }
     requires room { most_answers fleet.old.widest (length (owners config.now)) arrival.call.now ≤ answers.old.1 }
     requires empty { answers.old.0 ≡ [] }
-    ensures sites { fleet.new.sites ≡ sites_in config.now (entered config.now (reverse entries.now.0) arrival.entry.moment arrival.entry.call.now) }
+    ensures sites { fleet.new.sites
+        ≡ sites_in config.now (entered config.now (reverse entries.now.0) arrival.entry.moment arrival.entry.call.now) }
     ensures pool { fleet.new.pool ≡ flown fleet.new.sites fleet.old.pool }
     ensures widest { registered_name arrival.entry.call.now ≡ None → fleet.new.widest ≡ fleet.old.widest }
-    ensures answers { answers.new.0 ≡ homed (reverse entries.now.0) (entry_of config.now (reverse entries.now.0) arrival.entry.moment arrival.entry.call.now) }
+    ensures answers { answers.new.0
+        ≡ homed (reverse entries.now.0)
+        (entry_of config.now (reverse entries.now.0) arrival.entry.moment arrival.entry.call.now) }
     ensures room { 0 < answers.new.1 }
 {
     fleet.facts();

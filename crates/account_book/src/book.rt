@@ -1,6 +1,8 @@
 //! The book of an account: what callers hand their calls to.
 
-ghost use Rattle.std.specs.Prelude.{◌≡◌, ◌+◌, ◌*◌, ◌<◌, ◌≤◌, ◌^◌, ◌↔◌, ℕ, [], length, reverse, All, IfOk, IfErr, Err, Some, None, true, false, is_some, slice_get, slice_index_or, option_map, MatchOption};
+ghost use Rattle.std.specs.Prelude.{◌≡◌, ◌+◌, ◌*◌, ◌<◌, ◌≤◌, ◌^◌, ◌↔◌, ℕ, [], length, reverse, All, IfOk, IfErr, Err};
+ghost use Rattle.std.specs.Prelude.{Some, None, true, false, is_some, slice_get, slice_index_or, option_map};
+ghost use Rattle.std.specs.Prelude.{MatchOption};
 ghost use Rattle.std.specs.Arc.{arc_value};
 ghost use Rattle.arn_ids.specs.Environments.{owners};
 ghost use Rattle.arn_ids.specs.Faults.{first_fault};
@@ -206,7 +208,8 @@ impl Book {
     ) -> Result<Book, OpenFault>
         ensures range { (result ≡ Err EntriesOutOfRange) ↔ ((length (owners (arc_value config)) + 1 ≤ max_entries)
             × (max_entries ≤ 2 ^ 32) → ⊥) }
-        ensures opened { IfOk result (λ book. book ≡ record { config = arc_value config; salt = salt; max_entries = max_entries; history = [] }) }
+        ensures opened { IfOk result (λ book. book
+            ≡ record { config = arc_value config; salt = salt; max_entries = max_entries; history = [] }) }
     {
         if max_entries <= u64::from(config.environments()) || max_entries > 1 << 32 {
             return Err(OpenFault::EntriesOutOfRange);
@@ -226,7 +229,8 @@ impl Book {
     pub fn apply(&mut self, now: u64, call: Call) -> Result<Ticket, Refusal>
         requires moment { now < 2 ^ 53 }
         requires within { IsWithin self.old.config call }
-        ensures full { (result ≡ Err JournalFull) ↔ (full self.old.config self.old.max_entries self.old.history call ≡ true) }
+        ensures full { (result ≡ Err JournalFull)
+            ↔ (full self.old.config self.old.max_entries self.old.history call ≡ true) }
         ensures step { IfOk result
             (λ ticket. self.new ≡ record self.old { history = next self.old.config self.old.history now call }) }
         ensures ticket { IfOk result (λ ticket. ticket + 1 ≡ length self.new.history) }
@@ -407,7 +411,9 @@ impl Book {
     /// The only error is want of memory.
     pub fn history(&self, ticket: Ticket) -> Result<Option<Draft>, AllocError>
         ensures { IfOk result (λ draft. MatchOption draft (length self.now.history ≤ ticket)
-            (λ text. (ticket < length self.now.history) × ((d : Entry) → text ≡ entry_text self.now.config self.now.salt self.now.history ticket (slice_index_or (reverse self.now.history) ticket d)))) }
+            (λ text. (ticket < length self.now.history) × ((d : Entry)
+            → text ≡ entry_text self.now.config self.now.salt self.now.history ticket
+            (slice_index_or (reverse self.now.history) ticket d)))) }
     {
         if ticket >= self.len() {
             return Ok(None);

@@ -1,18 +1,21 @@
 //! The environments of an account, and what is kept beside them: when each is due, where an
 //! invocation goes, and what is in flight.
 
-ghost use Rattle.std.specs.Prelude.{◌≡◌, ◌+◌, ◌-◌, ◌*◌, ◌<◌, ◌≤◌, ◌^◌, length, map, slice_set, All, true, false, None, cond, [], count_by, IfOk, MatchResult, ◌&&◌};
+ghost use Rattle.std.specs.Prelude.{◌≡◌, ◌+◌, ◌-◌, ◌*◌, ◌<◌, ◌≤◌, ◌^◌, length, map, slice_set, All, true, false, None};
+ghost use Rattle.std.specs.Prelude.{cond, [], count_by, IfOk, MatchResult, ◌&&◌};
 ghost use Rattle.std.specs.List.{list_all, list_any};
 ghost use Rattle.arn_ids.specs.Faults.{first_fault};
 ghost use Rattle.call_types.specs.Calls.{is_invoke};
 ghost use Rattle.call_model.specs.Limits.{Admits, Refuses};
 ghost use Rattle.concurrency_pool.specs.Meets.{numbers, by_throttle};
-ghost use Rattle.concurrency_pool.specs.Pools.{usage_at, throttle, with_in_flight, in_flight_in_all, may_reserve, with_reserved};
+ghost use Rattle.concurrency_pool.specs.Pools.{usage_at, throttle, with_in_flight, in_flight_in_all, may_reserve};
+ghost use Rattle.concurrency_pool.specs.Pools.{with_reserved};
 ghost use Rattle.deadlines.specs.Due.{first_due};
 ghost use Rattle.placement.specs.Places.{place_among};
 ghost use Rattle.account_book.specs.Taking.{sites as sites_in};
 ghost use Rattle.env_phase.specs.Taking.{registered_name, IsShort, is_off, has_answered};
-ghost use Rattle.account_book.specs.Fleets.{site_at, moved, moves_at, put_all, merged, flown, deadline_at, place_at, is_due, IsFew};
+ghost use Rattle.account_book.specs.Fleets.{site_at, moved, moves_at, put_all, merged, flown, deadline_at, place_at};
+ghost use Rattle.account_book.specs.Fleets.{is_due, IsFew};
 ghost use Rattle.account_book.specs.Premature.{in_way};
 
 use crate::opening::open_sites;
@@ -70,7 +73,8 @@ fn recount(pool: &mut Pool, function: FnNo, was: bool, is: bool)
     requires there { function ≤ length pool.old.functions }
     requires charged { was ≡ true → 0 < (usage_at pool.old function).in_flight }
     requires admitted { was ≡ false → is ≡ true → throttle pool.old function ≡ None }
-    ensures { pool.new ≡ with_in_flight pool.old function (((usage_at pool.old function).in_flight + cond is 1 0) - cond was 1 0) }
+    ensures { pool.new
+        ≡ with_in_flight pool.old function (((usage_at pool.old function).in_flight + cond is 1 0) - cond was 1 0) }
 {
     if was == is {
         return;
@@ -152,7 +156,11 @@ impl Fleet {
     pub fn admit(&self, function: FnNo) -> Result<EnvNo, Throttle>
         requires from_one { 1 ≤ function }
         requires there { function ≤ length self.now.pool.functions }
-        ensures { MatchResult result (λ e. by_throttle (throttle self.now.pool function) (place_among (map place_at self.now.sites) function) ≡ Admits e) (λ reason. by_throttle (throttle self.now.pool function) (place_among (map place_at self.now.sites) function) ≡ Refuses reason) }
+        ensures { MatchResult result
+            (λ e. by_throttle (throttle self.now.pool function) (place_among (map place_at self.now.sites) function)
+            ≡ Admits e)
+            (λ reason. by_throttle (throttle self.now.pool function) (place_among (map place_at self.now.sites) function)
+            ≡ Refuses reason) }
     {
         self.pool.may_admit(function)?;
         self.places.choose(function).ok_or(Throttle::Environments)
@@ -161,7 +169,9 @@ impl Fleet {
     /// Whether an environment that stands in the way of an Invoke of a function, which is refused for
     /// this reason, has answered its invocation and is not ready again.
     pub fn is_awaited(&self, reason: Throttle, function: FnNo) -> bool
-        ensures { result ≡ list_any (λ site. has_answered site.environment.stand && in_way reason function (usage_at self.now.pool site.function).reserved site.function) self.now.sites }
+        ensures { result
+            ≡ list_any (λ site. has_answered site.environment.stand
+            && in_way reason function (usage_at self.now.pool site.function).reserved site.function) self.now.sites }
     {
         is_any_awaited(&self.sites, &self.pool, reason, function)
     }
@@ -213,10 +223,14 @@ impl Fleet {
             arrival.call.now site) ≤ 13) self.old.sites }
         requires room { 13 * length self.old.sites ≤ answers.old.1 }
         requires brings_none { is_invoke arrival.call.now ≡ false }
-        ensures sites { self.new.sites ≡ map (moved arrival.entry.ticket arrival.entry.moment arrival.entry.requests.now arrival.entry.call.now) self.old.sites }
+        ensures sites { self.new.sites
+            ≡ map (moved arrival.entry.ticket arrival.entry.moment arrival.entry.requests.now arrival.entry.call.now)
+            self.old.sites }
         ensures pool { self.new.pool ≡ flown self.new.sites self.old.pool }
         ensures widest { self.new.widest ≡ self.old.widest }
-        ensures answers { answers.new.0 ≡ merged (moves_at arrival.entry.ticket arrival.entry.moment arrival.entry.requests.now arrival.entry.call.now) self.old.sites answers.old.0 }
+        ensures answers { answers.new.0
+            ≡ merged (moves_at arrival.entry.ticket arrival.entry.moment arrival.entry.requests.now arrival.entry.call.now)
+            self.old.sites answers.old.0 }
         ensures room { answers.old.1 ≤ answers.new.1 + 13 * length self.old.sites }
     {
         for index in 0..self.sites.as_slice().len() {
@@ -237,14 +251,20 @@ impl Fleet {
         requires short { IsShort (registered_name arrival.call.now) }
         requires counted { length arrival.requests.now ≡ length self.old.pool.functions }
         requires few { IsFew (site_at self.old.sites env) }
-        requires room { length (moves_at arrival.ticket arrival.moment arrival.requests.now arrival.call.now (site_at self.old.sites env)) ≤ answers.old.1 }
+        requires room { length (moves_at arrival.ticket arrival.moment arrival.requests.now arrival.call.now
+            (site_at self.old.sites env)) ≤ answers.old.1 }
         requires admitted { is_invoke arrival.call.now ≡ true
             → throttle self.old.pool (site_at self.old.sites env).function ≡ None }
-        ensures sites { self.new.sites ≡ slice_set self.old.sites (env - 1) (moved arrival.entry.ticket arrival.entry.moment arrival.entry.requests.now arrival.entry.call.now (site_at self.old.sites env)) }
+        ensures sites { self.new.sites
+            ≡ slice_set self.old.sites (env - 1) (moved arrival.entry.ticket arrival.entry.moment
+            arrival.entry.requests.now arrival.entry.call.now (site_at self.old.sites env)) }
         ensures pool { self.new.pool ≡ flown self.new.sites self.old.pool }
         ensures widest { registered_name arrival.entry.call.now ≡ None → self.new.widest ≡ self.old.widest }
-        ensures answers { answers.new.0 ≡ put_all (moves_at arrival.entry.ticket arrival.entry.moment arrival.entry.requests.now arrival.entry.call.now (site_at self.old.sites env)) answers.old.0 }
-        ensures room { answers.new.1 + length (moves_at arrival.entry.ticket arrival.entry.moment arrival.entry.requests.now arrival.entry.call.now (site_at self.old.sites env)) ≡ answers.old.1 }
+        ensures answers { answers.new.0
+            ≡ put_all (moves_at arrival.entry.ticket arrival.entry.moment arrival.entry.requests.now
+            arrival.entry.call.now (site_at self.old.sites env)) answers.old.0 }
+        ensures room { answers.new.1 + length (moves_at arrival.entry.ticket arrival.entry.moment
+            arrival.entry.requests.now arrival.entry.call.now (site_at self.old.sites env)) ≡ answers.old.1 }
     {
         let site = &mut self.sites[env as usize - 1];
         let step = Step {

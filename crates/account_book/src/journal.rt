@@ -1,6 +1,7 @@
 //! The history of an account, with what is known of it.
 
-ghost use Rattle.std.specs.Prelude.{◌≡◌, ◌+◌, ◌++◌, ◌-◌, ◌<◌, ◌≤◌, ◌^◌, [], length, reverse, Some, None, IfOk, OnOk, All, false, if◌then◌else◌};
+ghost use Rattle.std.specs.Prelude.{◌≡◌, ◌+◌, ◌++◌, ◌-◌, ◌<◌, ◌≤◌, ◌^◌, [], length, reverse, Some, None, IfOk, OnOk};
+ghost use Rattle.std.specs.Prelude.{All, false, if◌then◌else◌};
 ghost use Rattle.std.specs.Arc.{arc_value};
 ghost use Rattle.std.specs.List.{list_all};
 ghost use Rattle.arn_ids.specs.Environments.{owners, environments};
@@ -283,7 +284,8 @@ impl Journal {
     pub fn awaits(&self, function: FnNo) -> bool
         requires from_one { 1 ≤ function }
         requires there { function ≤ length self.now.config.functions }
-        ensures { result ≡ awaits self.now.config self.now.history function (verdict self.now.config self.now.history function) }
+        ensures { result
+            ≡ awaits self.now.config self.now.history function (verdict self.now.config self.now.history function) }
     {
         if self.ledger.is_stopped() {
             return false;
@@ -298,7 +300,9 @@ impl Journal {
     fn reserve(&self, function: FnNo, count: Option<u32>) -> Answer
         requires from_one { 1 ≤ function }
         requires there { function ≤ length self.now.config.functions }
-        ensures { result ≡ if stopped self.now.history then Stopped else reserve_answer self.now.config self.now.history function count }
+        ensures { result
+            ≡ if stopped self.now.history then Stopped
+            else reserve_answer self.now.config self.now.history function count }
     {
         if self.ledger.is_stopped() {
             return Answer::Stopped;
@@ -315,7 +319,8 @@ impl Journal {
     /// Takes a call to which the account says this, as the next entry.
     fn enter(&mut self, moment: u64, call: Call, verdict: Verdict, answers: Roomy<(Ticket, Answer)>)
         requires moment { moment < 2 ^ 53 }
-        requires follows { Follows self.old.config self.old.history (entry_of self.old.config self.old.history moment call) }
+        requires follows { Follows self.old.config self.old.history
+            (entry_of self.old.config self.old.history moment call) }
         requires known { IsKnown self.old.config call }
         requires placed { verdict.place ≡ place_for self.old.config self.old.history call }
         requires own { verdict.own ≡ book_answer self.old.config self.old.history call }
@@ -356,7 +361,11 @@ impl Journal {
         requires as_many { length rooms.items ≡ length (due self.old.config self.old.history moment) }
         requires enough { All (IsRoom self.old.widest) rooms.items }
         requires room { length rooms.items ≤ self.old.room }
-        ensures { self.new ≡ record self.old { history = expiries_at self.old.config self.old.history moment ++ self.old.history; room = self.old.room - length rooms.items } }
+        ensures { self.new
+            ≡ record self.old {
+              history = expiries_at self.old.config self.old.history moment ++ self.old.history;
+              room = self.old.room - length rooms.items;
+            } }
     {
         self.facts();
         let mut rooms = rooms;
@@ -372,7 +381,12 @@ impl Journal {
         requires some_due { 0 < length (due self.old.config self.old.history moment) }
         requires room { 0 < self.old.room }
         requires enough { IsRoom self.old.widest answers }
-        ensures expired { self.new ≡ record self.old { history = entered self.old.config self.old.history moment (Expire (first_or_0 (due self.old.config self.old.history moment))); room = self.old.room - 1 } }
+        ensures expired { self.new
+            ≡ record self.old {
+              history = entered self.old.config self.old.history moment
+                  (Expire (first_or_0 (due self.old.config self.old.history moment)));
+              room = self.old.room - 1;
+            } }
         ensures legal { IsLegal self.new.config self.new.history }
     {
         match self.first_due(moment) {

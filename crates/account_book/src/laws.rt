@@ -1,6 +1,7 @@
 //! Laws of histories and their texts: functions with no work in them, whose contracts are proved.
 
-ghost use Rattle.std.specs.Prelude.{◌≡◌, ◌+◌, ℕ, true, false, List, [], ◌++◌, length, reverse, slice_index_or, codes, None};
+ghost use Rattle.std.specs.Prelude.{◌≡◌, ◌+◌, ℕ, true, false, List, [], ◌++◌, length, reverse, slice_index_or, codes};
+ghost use Rattle.std.specs.Prelude.{None};
 ghost use Rattle.std.specs.List.{flat_map};
 ghost use Rattle.std.specs.Str.Lines.{lines};
 ghost use Rattle.arn_ids.specs.Environments.{count_from};
@@ -30,7 +31,8 @@ pub fn reached()
 pub fn text_in_parts()
     ensures { (config : Config) (salt max_entries : ℕ) (h : List Entry) (d : Entry)
         → history_text config salt max_entries h
-        ≡ opening_text config salt max_entries ++ flat_map (λ t. entry_text config salt h t (slice_index_or (reverse h) t d)) (count_from 0 (length h)) }
+        ≡ opening_text config salt max_entries
+        ++ flat_map (λ t. entry_text config salt h t (slice_index_or (reverse h) t d)) (count_from 0 (length h)) }
 {}
 
 /// A history replays to its own answers: the text of a history that calls led to is a script
@@ -46,7 +48,8 @@ pub fn replays()
 pub fn goes_on()
     ensures { (config : Config) (salt max_entries : ℕ) (h : List Entry) (more : List ℕ)
         → IsBooked config salt max_entries → IsReached config max_entries h
-        → run (history_text config salt max_entries h ++ more) ≡ before (answers_text salt h) (replay_from (1 + length (lines (history_text config salt max_entries h)))
+        → run (history_text config salt max_entries h ++ more)
+        ≡ before (answers_text salt h) (replay_from (1 + length (lines (history_text config salt max_entries h)))
         (Taking true (record { config = config; salt = salt; max_entries = max_entries; history = h })) (lines more)) }
 {}
 

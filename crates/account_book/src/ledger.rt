@@ -116,11 +116,18 @@ impl Ledger {
         count: u64,
     )
         requires room { 0 < self.old.room }
-        requires count { count ≡ request_count (record { moment = moment; call = call; answers = answers.items; place = place } ∷ self.old.history) call }
+        requires count { count
+            ≡ request_count (record { moment = moment; call = call; answers = answers.items; place = place }
+            ∷ self.old.history) call }
         requires tickets { All (λ a. a.0 ≤ length self.old.history) answers.items }
         requires few { length answers.items ≤ answer_limit }
         requires fresh { answer_of self.old.history (length self.old.history) ≡ None }
-        ensures { self.new ≡ record { history = record { moment = moment; call = call; answers = answers.items; place = place } ∷ self.old.history; room = self.old.room - 1 } }
+        ensures { self.new
+            ≡ record {
+              history = record { moment = moment; call = call; answers = answers.items; place = place }
+                  ∷ self.old.history;
+              room = self.old.room - 1;
+            } }
     {
         self.given.push(None);
         note(&mut self.given, &answers);

@@ -30,7 +30,9 @@ fn is_in_way(pool: &Pool, reason: Throttle, function: FnNo, own: FnNo) -> bool
 /// not ready again.
 pub(crate) fn is_any_awaited(sites: &[Site], pool: &Pool, reason: Throttle, function: FnNo) -> bool
     requires owned { All (IsOwned (length pool.now.functions)) sites.now }
-    ensures { result ≡ list_any (λ site. has_answered site.environment.stand && in_way reason function (usage_at pool.now site.function).reserved site.function) sites.now }
+    ensures { result
+        ≡ list_any (λ site. has_answered site.environment.stand
+        && in_way reason function (usage_at pool.now site.function).reserved site.function) sites.now }
 {
     for site in sites {
         if site.environment.has_answered() && is_in_way(pool, reason, function, site.function) {

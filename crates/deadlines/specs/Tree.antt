@@ -1,6 +1,7 @@
 -- The tree over a list of deadlines. Node 1 is its root, nodes 2 i and 2 i + 1 are below node i, and
 -- behind the inner nodes come the environments, one node each.
-use Rattle.std.specs.Prelude.{◌≡◌, ◌≢◌, ℕ, suc, ◌+◌, ◌-◌, ◌*◌, ◌/◌, ◌<◌, ◌≤◌, nat_lt, if◌then◌else◌, List, [], ◌∷◌, length, get_or, Option, Some, None}
+use Rattle.std.specs.Prelude.{◌≡◌, ◌≢◌, ℕ, suc, ◌+◌, ◌-◌, ◌*◌, ◌/◌, ◌<◌, ◌≤◌, nat_lt, if◌then◌else◌, List, [], ◌∷◌}
+use Rattle.std.specs.Prelude.{length, get_or, Option, Some, None}
 use Rattle.call_model.specs.Laws.{comes_before, with_number}
 
 -- whichever of two comes first
@@ -22,7 +23,8 @@ first_below deadlines firsts node =
 
 -- an inner node has the first of the two nodes below it
 abbrev pub IsNode : List (Option ℕ) → List (Option (ℕ × ℕ)) → ℕ → Type 0
-IsNode deadlines firsts i = get_or firsts i None ≡ sooner (first_below deadlines firsts (2 * i)) (first_below deadlines firsts (2 * i + 1))
+IsNode deadlines firsts i =
+    get_or firsts i None ≡ sooner (first_below deadlines firsts (2 * i)) (first_below deadlines firsts (2 * i + 1))
 
 -- each inner node does
 abbrev pub IsMended : List (Option ℕ) → List (Option (ℕ × ℕ)) → Type 0
@@ -30,4 +32,5 @@ IsMended deadlines firsts = (i : ℕ) → 1 ≤ i → i < length deadlines → I
 
 -- each does, but for the one above a node that has changed
 abbrev pub IsMendedBut : List (Option ℕ) → List (Option (ℕ × ℕ)) → ℕ → Type 0
-IsMendedBut deadlines firsts changed = (i : ℕ) → 1 ≤ i → i < length deadlines → i ≢ changed / 2 → IsNode deadlines firsts i
+IsMendedBut deadlines firsts changed =
+    (i : ℕ) → 1 ≤ i → i < length deadlines → i ≢ changed / 2 → IsNode deadlines firsts i

@@ -29,7 +29,9 @@ impl Model for Due {
 
     ghost view = { λ due. due.deadlines.items };
 
-    ghost invariant = { λ due. (length due.deadlines.items < 2 ^ 32) × (length due.firsts.items ≡ length due.deadlines.items) × IsMended due.deadlines.items due.firsts.items };
+    ghost invariant = { λ due. (length due.deadlines.items < 2 ^ 32)
+        × (length due.firsts.items ≡ length due.deadlines.items)
+        × IsMended due.deadlines.items due.firsts.items };
 }
 
 impl Due {

@@ -13,5 +13,6 @@ pub fn meets()
     // Before any call no environment has a deadline.
     ensures opened { (config : Config) → replicate (length (owners config)) None ≡ deadlines config [] }
     // The environment that is due first is the first that the definitions let expire.
-    ensures first { (config : Config) (h : List Entry) (now : ℕ) → first_due now (deadlines config h) ≡ first (due config h now) }
+    ensures first { (config : Config) (h : List Entry) (now : ℕ)
+        → first_due now (deadlines config h) ≡ first (due config h now) }
 {}

@@ -1,5 +1,5 @@
 use Rattle.std.proofs.Common.{◌≡◌, ◌≤◌, ◌+◌, ◌-◌, ℕ, arith, sym, ap, ap₂, ◌∙◌, length, reverse, List, All, [], ◌∷◌, Option, set}
-use Rattle.std.proofs.lemmas.List.{length-reverse}
+use Rattle.std.proofs.lemmas.List.{length-map, length-reverse}
 use Rattle.arn_ids.specs.declared.config.Config.{Config}
 use Rattle.arn_ids.specs.Environments.{owners}
 use Rattle.call_types.specs.declared.call.Call.{Call}
@@ -10,6 +10,7 @@ use Rattle.concurrency_pool.specs.Meets.{numbers}
 use Rattle.concurrency_pool.specs.Numbers.{Numbers}
 use Rattle.concurrency_pool.specs.Pools.{throttle}
 use Rattle.account_book.specs.Answering.{most_answers}
+use Rattle.account_book.specs.Arriving.{IsReady}
 use Rattle.account_book.specs.declared.reach.Reach.TheVariants.{At}
 use Rattle.account_book.specs.declared.site.Site.{Site}
 use Rattle.account_book.specs.Fleets.{no_site, site_at, moved, moves_at, put_all}
@@ -24,103 +25,103 @@ use Rattle.account_book.proofs.Visits.{site_is_at}
 use Rattle.std.proofs.lemmas.List.Elements.{All-get_or}
 use Rattle.account_book.proofs.answering.visit_environments.Goals as goal
 
--- what a history is before a call is taken
-record IsReady (config : Config) (h : List Entry) (now : ℕ) (call : Call) (place : Option ℕ) (all : List Site) (pool : Numbers) (requests : List ℕ) : Type 0 where
-  legal : IsLegal config h
-  all_known : AllKnown config h
-  follows : Follows config h (entry_of config h now call)
-  known : IsKnown config call
-  placed : place ≡ place_for config h call
-  is : all ≡ sites config h
-  pool_is : pool ≡ numbers config h
+-- and what requests were counted
+record IsCounted (config : Config) (h : List Entry) (now : ℕ) (call : Call) (place : Option ℕ) (all : List Site) (pool : Numbers) (requests : List ℕ) : Type 0 where
+  ready : IsReady config h now call place all pool
   counts : requests ≡ request_counts config (entry_of config h now call ∷ h)
 
 -- the environment that is reached, in the account's list
-found : (config : Config) (h : List Entry) (now : ℕ) (call : Call) (place : Option ℕ) (all : List Site) (pool : Numbers) (requests : List ℕ) (e : ℕ) → IsReady config h now call place all pool requests → reach h place call ≡ At e → (1 ≤ e) × (e ≤ length (owners config)) × (e ≤ length all) × (site_at all e ≡ site config h e)
+found : (config : Config) (h : List Entry) (now : ℕ) (call : Call) (place : Option ℕ) (all : List Site) (pool : Numbers) (requests : List ℕ) (e : ℕ) → IsCounted config h now call place all pool requests → reach h place call ≡ At e → (1 ≤ e) × (e ≤ length (owners config)) × (e ≤ length all) × (site_at all e ≡ site config h e)
 found config h now call place all pool requests e k r =
-    let w = reach_within config h call place e k.all_known k.known k.placed r in
-    (w.0, w.1, rw (k.is, sites_length config h) w.1, rw k.is (site_of config h e w.0 w.1))
+    let w = reach_within config h call place e k.ready.all_known k.ready.known k.ready.placed r in
+    (w.0, w.1, rw (k.ready.is, sites_length config h) w.1, rw k.ready.is (site_of config h e w.0 w.1))
 
-sites_then : (config : Config) (h : List Entry) (now : ℕ) (call : Call) (place : Option ℕ) (all : List Site) (pool : Numbers) (requests : List ℕ) (e : ℕ) (after : List Site) → IsReady config h now call place all pool requests → reach h place call ≡ At e
+sites_then : (config : Config) (h : List Entry) (now : ℕ) (call : Call) (place : Option ℕ) (all : List Site) (pool : Numbers) (requests : List ℕ) (e : ℕ) (after : List Site) → IsCounted config h now call place all pool requests → reach h place call ≡ At e
     → after ≡ set all (e - 1) (moved (length h) now requests call (site_at all e)) → after ≡ sites config (entry_of config h now call ∷ h)
 sites_then config h now call place all pool requests e after k r became =
     let f = found config h now call place all pool requests e k r in
-    became ∙ rw (k.counts, f.3, k.is) (sym (sites_at config h (entry_of config h now call) e k.legal k.follows (ap (λ (p : Option ℕ). reach h p call) (sym k.placed) ∙ r) f.0 f.1))
+    became ∙ rw (k.counts, f.3, k.ready.is) (sym (sites_at config h (entry_of config h now call) e k.ready.legal k.ready.follows (ap (λ (p : Option ℕ). reach h p call) (sym k.ready.placed) ∙ r) f.0 f.1))
 
-answers_then : (config : Config) (h : List Entry) (now : ℕ) (call : Call) (place : Option ℕ) (all : List Site) (pool : Numbers) (requests : List ℕ) (e : ℕ) → IsReady config h now call place all pool requests → reach h place call ≡ At e
+answers_then : (config : Config) (h : List Entry) (now : ℕ) (call : Call) (place : Option ℕ) (all : List Site) (pool : Numbers) (requests : List ℕ) (e : ℕ) → IsCounted config h now call place all pool requests → reach h place call ≡ At e
     → put_all (moves_at (length h) now requests call (site_at all e)) [] ≡ homed h (entry_of config h now call)
 answers_then config h now call place all pool requests e k r =
     let f = found config h now call place all pool requests e k r in
-    rw (k.counts, f.3) (sym (homed_at config h (entry_of config h now call) e k.legal k.follows (ap (λ (p : Option ℕ). reach h p call) (sym k.placed) ∙ r) f.0 f.1))
+    rw (k.counts, f.3) (sym (homed_at config h (entry_of config h now call) e k.ready.legal k.ready.follows (ap (λ (p : Option ℕ). reach h p call) (sym k.ready.placed) ∙ r) f.0 f.1))
 
-room_then : (config : Config) (h : List Entry) (now : ℕ) (call : Call) (place : Option ℕ) (all : List Site) (pool : Numbers) (requests : List ℕ) (e widest : ℕ) → IsReady config h now call place all pool requests → reach h place call ≡ At e
+room_then : (config : Config) (h : List Entry) (now : ℕ) (call : Call) (place : Option ℕ) (all : List Site) (pool : Numbers) (requests : List ℕ) (e widest : ℕ) → IsCounted config h now call place all pool requests → reach h place call ≡ At e
     → All (λ s. length s.environment.stand.members ≤ widest) all → length (moves_at (length h) now requests call (site_at all e)) + 1 ≤ most_answers widest (length (owners config)) call
 room_then config h now call place all pool requests e widest k r narrow =
     let f = found config h now call place all pool requests e k r in
     room_there h place call e widest (length (owners config)) (length (moves_at (length h) now requests call (site_at all e))) (length (site_at all e).environment.stand.members) r
-    (rw (f.3, k.counts) (few_there config h (entry_of config h now call) e k.legal k.follows (ap (λ (p : Option ℕ). reach h p call) (sym k.placed) ∙ r) f.0 f.1))
+    (rw (f.3, k.counts) (few_there config h (entry_of config h now call) e k.ready.legal k.ready.follows (ap (λ (p : Option ℕ). reach h p call) (sym k.ready.placed) ∙ r) f.0 f.1))
     (rw (site_is_at all e no_site f.0 f.2) (All-get_or (λ (s : Site). length s.environment.stand.members ≤ widest) all (e - 1) no_site (omega (arith, f.0, f.2)) narrow))
 
 pub take_at-requires-clause-from_one : goal.take_at-requires-clause-from_one
-take_at-requires-clause-from_one c = (found c.args.config.now (reverse c.args.entries.now.0) c.args.arrival.moment c.args.arrival.call.now c.args.place c.args.fleet.now.sites c.args.fleet.now.pool c.args.arrival.requests.now c.in-At.env (record { legal = c.requires.legal; all_known = c.requires.all_known; follows = c.requires.follows; known = c.requires.known; placed = c.requires.placed; is = c.requires.sites; pool_is = c.requires.pool; counts = c.requires.counts }) (sym c.of.ensures ∙ c.in-At.is)).0
+take_at-requires-clause-from_one c = (found c.args.config.now (reverse c.args.entries.now.0) c.args.arrival.moment c.args.arrival.call.now c.args.place c.args.fleet.now.sites c.args.fleet.now.pool c.args.arrival.requests.now c.in-At.env (record { ready = c.requires.ready; counts = c.requires.counts }) (sym c.of.ensures ∙ c.in-At.is)).0
 
 pub take_at-requires-clause-there : goal.take_at-requires-clause-there
-take_at-requires-clause-there c = (found c.args.config.now (reverse c.args.entries.now.0) c.args.arrival.moment c.args.arrival.call.now c.args.place c.args.fleet.now.sites c.args.fleet.now.pool c.args.arrival.requests.now c.in-At.env (record { legal = c.requires.legal; all_known = c.requires.all_known; follows = c.requires.follows; known = c.requires.known; placed = c.requires.placed; is = c.requires.sites; pool_is = c.requires.pool; counts = c.requires.counts }) (sym c.of.ensures ∙ c.in-At.is)).2
+take_at-requires-clause-there c = (found c.args.config.now (reverse c.args.entries.now.0) c.args.arrival.moment c.args.arrival.call.now c.args.place c.args.fleet.now.sites c.args.fleet.now.pool c.args.arrival.requests.now c.in-At.env (record { ready = c.requires.ready; counts = c.requires.counts }) (sym c.of.ensures ∙ c.in-At.is)).2
+
+pub take_at-requires-clause-counted : goal.take_at-requires-clause-counted
+take_at-requires-clause-counted c = rw (c.requires.counts, c.requires.ready.pool_is) (length-map _ _ ∙ sym (length-map _ _))
 
 pub take_at-requires-clause-short : goal.take_at-requires-clause-short
-take_at-requires-clause-short c = known_short c.args.config.now c.args.arrival.call.now c.requires.known
+take_at-requires-clause-short c = known_short c.args.config.now c.args.arrival.call.now c.requires.ready.known
 
 pub take_at-requires-clause-few : goal.take_at-requires-clause-few
-take_at-requires-clause-few c = rw ((found c.args.config.now (reverse c.args.entries.now.0) c.args.arrival.moment c.args.arrival.call.now c.args.place c.args.fleet.now.sites c.args.fleet.now.pool c.args.arrival.requests.now c.in-At.env (record { legal = c.requires.legal; all_known = c.requires.all_known; follows = c.requires.follows; known = c.requires.known; placed = c.requires.placed; is = c.requires.sites; pool_is = c.requires.pool; counts = c.requires.counts }) (sym c.of.ensures ∙ c.in-At.is)).3) (few_site c.args.config.now (reverse c.args.entries.now.0) c.in-At.env c.requires.legal (rw (length-reverse c.args.entries.now.0) c.requires.short))
+take_at-requires-clause-few c = rw ((found c.args.config.now (reverse c.args.entries.now.0) c.args.arrival.moment c.args.arrival.call.now c.args.place c.args.fleet.now.sites c.args.fleet.now.pool c.args.arrival.requests.now c.in-At.env (record { ready = c.requires.ready; counts = c.requires.counts }) (sym c.of.ensures ∙ c.in-At.is)).3) (few_site c.args.config.now (reverse c.args.entries.now.0) c.in-At.env c.requires.ready.legal (rw (length-reverse c.args.entries.now.0) c.requires.short))
 
 pub take_at-requires-clause-room : goal.take_at-requires-clause-room
-take_at-requires-clause-room c = rw (c.requires.ticket ∙ sym (length-reverse c.args.entries.now.0)) (omega (arith, room_then c.args.config.now (reverse c.args.entries.now.0) c.args.arrival.moment c.args.arrival.call.now c.args.place c.args.fleet.now.sites c.args.fleet.now.pool c.args.arrival.requests.now c.in-At.env c.args.fleet.now.widest (record { legal = c.requires.legal; all_known = c.requires.all_known; follows = c.requires.follows; known = c.requires.known; placed = c.requires.placed; is = c.requires.sites; pool_is = c.requires.pool; counts = c.requires.counts }) (sym c.of.ensures ∙ c.in-At.is) c.facts.ensures.narrow, c.requires.room))
+take_at-requires-clause-room c = rw (c.requires.ticket ∙ sym (length-reverse c.args.entries.now.0)) (omega (arith, room_then c.args.config.now (reverse c.args.entries.now.0) c.args.arrival.moment c.args.arrival.call.now c.args.place c.args.fleet.now.sites c.args.fleet.now.pool c.args.arrival.requests.now c.in-At.env c.args.fleet.now.widest (record { ready = c.requires.ready; counts = c.requires.counts }) (sym c.of.ensures ∙ c.in-At.is) c.facts.ensures.narrow, c.requires.room))
 
 pub take_at-requires-clause-admitted : goal.take_at-requires-clause-admitted
 take_at-requires-clause-admitted c = λ invoke.
-    ap₂ throttle c.requires.pool (ap (λ (s : Site). s.function) ((found c.args.config.now (reverse c.args.entries.now.0) c.args.arrival.moment c.args.arrival.call.now c.args.place c.args.fleet.now.sites c.args.fleet.now.pool c.args.arrival.requests.now c.in-At.env (record { legal = c.requires.legal; all_known = c.requires.all_known; follows = c.requires.follows; known = c.requires.known; placed = c.requires.placed; is = c.requires.sites; pool_is = c.requires.pool; counts = c.requires.counts }) (sym c.of.ensures ∙ c.in-At.is)).3)) ∙ admitted_there c.args.config.now (reverse c.args.entries.now.0) c.args.arrival.call.now c.args.place c.in-At.env c.requires.known c.requires.placed (sym c.of.ensures ∙ c.in-At.is) invoke
+    ap₂ throttle c.requires.ready.pool_is (ap (λ (s : Site). s.function) ((found c.args.config.now (reverse c.args.entries.now.0) c.args.arrival.moment c.args.arrival.call.now c.args.place c.args.fleet.now.sites c.args.fleet.now.pool c.args.arrival.requests.now c.in-At.env (record { ready = c.requires.ready; counts = c.requires.counts }) (sym c.of.ensures ∙ c.in-At.is)).3)) ∙ admitted_there c.args.config.now (reverse c.args.entries.now.0) c.args.arrival.call.now c.args.place c.in-At.env c.requires.ready.known c.requires.ready.placed (sym c.of.ensures ∙ c.in-At.is) invoke
+
+pub take_all-requires-clause-counted : goal.take_all-requires-clause-counted
+take_all-requires-clause-counted c = rw (c.requires.counts, c.requires.ready.pool_is) (length-map _ _ ∙ sym (length-map _ _))
 
 pub take_all-requires-clause-few : goal.take_all-requires-clause-few
-take_all-requires-clause-few c = rw c.requires.sites (few_sites c.args.config.now (reverse c.args.entries.now.0) c.requires.legal (rw (length-reverse c.args.entries.now.0) c.requires.short))
+take_all-requires-clause-few c = rw c.requires.ready.is (few_sites c.args.config.now (reverse c.args.entries.now.0) c.requires.ready.legal (rw (length-reverse c.args.entries.now.0) c.requires.short))
 
 pub take_all-requires-clause-gives_few : goal.take_all-requires-clause-gives_few
 take_all-requires-clause-gives_few c =
-    rw ((c.requires.ticket ∙ sym (length-reverse c.args.entries.now.0)), c.requires.sites, c.requires.counts)
-    (few_everywhere c.args.config.now (reverse c.args.entries.now.0) (entry_of c.args.config.now (reverse c.args.entries.now.0) c.args.arrival.moment c.args.arrival.call.now) c.requires.legal c.requires.follows (ap (λ (p : Option ℕ). reach (reverse c.args.entries.now.0) p c.args.arrival.call.now) (sym c.requires.placed) ∙ sym c.of.ensures ∙ c.in-Everywhere.is))
+    rw ((c.requires.ticket ∙ sym (length-reverse c.args.entries.now.0)), c.requires.ready.is, c.requires.counts)
+    (few_everywhere c.args.config.now (reverse c.args.entries.now.0) (entry_of c.args.config.now (reverse c.args.entries.now.0) c.args.arrival.moment c.args.arrival.call.now) c.requires.ready.legal c.requires.ready.follows (ap (λ (p : Option ℕ). reach (reverse c.args.entries.now.0) p c.args.arrival.call.now) (sym c.requires.ready.placed) ∙ sym c.of.ensures ∙ c.in-Everywhere.is))
 
 pub take_all-requires-clause-room : goal.take_all-requires-clause-room
 take_all-requires-clause-room c =
     let room = rw (all_stop (reverse c.args.entries.now.0) c.args.place c.args.arrival.call.now (sym c.of.ensures ∙ c.in-Everywhere.is)) at c.requires.room in
-    rw (c.requires.sites, sites_length c.args.config.now (reverse c.args.entries.now.0)) (omega (arith, room))
+    rw (c.requires.ready.is, sites_length c.args.config.now (reverse c.args.entries.now.0)) (omega (arith, room))
 
 pub returns-in-Nowhere-clause-sites : goal.returns-in-Nowhere-clause-sites
-returns-in-Nowhere-clause-sites c = c.requires.sites ∙ sym (sites_nowhere c.args.config.now (reverse c.args.entries.now.0) (entry_of c.args.config.now (reverse c.args.entries.now.0) c.args.arrival.moment c.args.arrival.call.now) c.requires.legal c.requires.follows (ap (λ (p : Option ℕ). reach (reverse c.args.entries.now.0) p c.args.arrival.call.now) (sym c.requires.placed) ∙ sym c.of.ensures ∙ c.in-Nowhere.is))
+returns-in-Nowhere-clause-sites c = c.requires.ready.is ∙ sym (sites_nowhere c.args.config.now (reverse c.args.entries.now.0) (entry_of c.args.config.now (reverse c.args.entries.now.0) c.args.arrival.moment c.args.arrival.call.now) c.requires.ready.legal c.requires.ready.follows (ap (λ (p : Option ℕ). reach (reverse c.args.entries.now.0) p c.args.arrival.call.now) (sym c.requires.ready.placed) ∙ sym c.of.ensures ∙ c.in-Nowhere.is))
 
 pub returns-in-Nowhere-clause-pool : goal.returns-in-Nowhere-clause-pool
-returns-in-Nowhere-clause-pool c = rw (c.requires.sites, c.requires.pool) (numbers_flown c.args.config.now (reverse c.args.entries.now.0) c.requires.legal)
+returns-in-Nowhere-clause-pool c = rw (c.requires.ready.is, c.requires.ready.pool_is) (numbers_flown c.args.config.now (reverse c.args.entries.now.0) c.requires.ready.legal)
 
 pub returns-in-Nowhere-clause-answers : goal.returns-in-Nowhere-clause-answers
-returns-in-Nowhere-clause-answers c = c.requires.empty ∙ sym (homed_nowhere c.args.config.now (reverse c.args.entries.now.0) (entry_of c.args.config.now (reverse c.args.entries.now.0) c.args.arrival.moment c.args.arrival.call.now) c.requires.follows (ap (λ (p : Option ℕ). reach (reverse c.args.entries.now.0) p c.args.arrival.call.now) (sym c.requires.placed) ∙ sym c.of.ensures ∙ c.in-Nowhere.is))
+returns-in-Nowhere-clause-answers c = c.requires.empty ∙ sym (homed_nowhere c.args.config.now (reverse c.args.entries.now.0) (entry_of c.args.config.now (reverse c.args.entries.now.0) c.args.arrival.moment c.args.arrival.call.now) c.requires.ready.follows (ap (λ (p : Option ℕ). reach (reverse c.args.entries.now.0) p c.args.arrival.call.now) (sym c.requires.ready.placed) ∙ sym c.of.ensures ∙ c.in-Nowhere.is))
 
 pub returns-in-At-clause-sites : goal.returns-in-At-clause-sites
-returns-in-At-clause-sites c = sites_then c.args.config.now (reverse c.args.entries.now.0) c.args.arrival.moment c.args.arrival.call.now c.args.place c.args.fleet.now.sites c.args.fleet.now.pool c.args.arrival.requests.now c.in-At.env c.take_at.new.self.sites (record { legal = c.requires.legal; all_known = c.requires.all_known; follows = c.requires.follows; known = c.requires.known; placed = c.requires.placed; is = c.requires.sites; pool_is = c.requires.pool; counts = c.requires.counts }) (sym c.of.ensures ∙ c.in-At.is) (rw (sym (c.requires.ticket ∙ sym (length-reverse c.args.entries.now.0))) c.take_at.ensures.sites)
+returns-in-At-clause-sites c = sites_then c.args.config.now (reverse c.args.entries.now.0) c.args.arrival.moment c.args.arrival.call.now c.args.place c.args.fleet.now.sites c.args.fleet.now.pool c.args.arrival.requests.now c.in-At.env c.take_at.new.self.sites (record { ready = c.requires.ready; counts = c.requires.counts }) (sym c.of.ensures ∙ c.in-At.is) (rw (sym (c.requires.ticket ∙ sym (length-reverse c.args.entries.now.0))) c.take_at.ensures.sites)
 
 pub returns-in-At-clause-answers : goal.returns-in-At-clause-answers
-returns-in-At-clause-answers c = rw ((c.requires.ticket ∙ sym (length-reverse c.args.entries.now.0)), c.requires.empty) at c.take_at.ensures.answers ∙ answers_then c.args.config.now (reverse c.args.entries.now.0) c.args.arrival.moment c.args.arrival.call.now c.args.place c.args.fleet.now.sites c.args.fleet.now.pool c.args.arrival.requests.now c.in-At.env (record { legal = c.requires.legal; all_known = c.requires.all_known; follows = c.requires.follows; known = c.requires.known; placed = c.requires.placed; is = c.requires.sites; pool_is = c.requires.pool; counts = c.requires.counts }) (sym c.of.ensures ∙ c.in-At.is)
+returns-in-At-clause-answers c = rw ((c.requires.ticket ∙ sym (length-reverse c.args.entries.now.0)), c.requires.empty) at c.take_at.ensures.answers ∙ answers_then c.args.config.now (reverse c.args.entries.now.0) c.args.arrival.moment c.args.arrival.call.now c.args.place c.args.fleet.now.sites c.args.fleet.now.pool c.args.arrival.requests.now c.in-At.env (record { ready = c.requires.ready; counts = c.requires.counts }) (sym c.of.ensures ∙ c.in-At.is)
 
 pub returns-in-At-clause-room : goal.returns-in-At-clause-room
 returns-in-At-clause-room c =
     let room = rw (c.requires.ticket ∙ sym (length-reverse c.args.entries.now.0)) at c.take_at.ensures.room in
-    omega (arith, room_then c.args.config.now (reverse c.args.entries.now.0) c.args.arrival.moment c.args.arrival.call.now c.args.place c.args.fleet.now.sites c.args.fleet.now.pool c.args.arrival.requests.now c.in-At.env c.args.fleet.now.widest (record { legal = c.requires.legal; all_known = c.requires.all_known; follows = c.requires.follows; known = c.requires.known; placed = c.requires.placed; is = c.requires.sites; pool_is = c.requires.pool; counts = c.requires.counts }) (sym c.of.ensures ∙ c.in-At.is) c.facts.ensures.narrow, c.requires.room, room)
+    omega (arith, room_then c.args.config.now (reverse c.args.entries.now.0) c.args.arrival.moment c.args.arrival.call.now c.args.place c.args.fleet.now.sites c.args.fleet.now.pool c.args.arrival.requests.now c.in-At.env c.args.fleet.now.widest (record { ready = c.requires.ready; counts = c.requires.counts }) (sym c.of.ensures ∙ c.in-At.is) c.facts.ensures.narrow, c.requires.room, room)
 
 pub returns-in-Everywhere-clause-sites : goal.returns-in-Everywhere-clause-sites
-returns-in-Everywhere-clause-sites c = rw ((c.requires.ticket ∙ sym (length-reverse c.args.entries.now.0)), c.requires.sites, c.requires.counts) at c.take_all.ensures.sites ∙ sym (sites_everywhere c.args.config.now (reverse c.args.entries.now.0) (entry_of c.args.config.now (reverse c.args.entries.now.0) c.args.arrival.moment c.args.arrival.call.now) c.requires.legal c.requires.follows (ap (λ (p : Option ℕ). reach (reverse c.args.entries.now.0) p c.args.arrival.call.now) (sym c.requires.placed) ∙ sym c.of.ensures ∙ c.in-Everywhere.is))
+returns-in-Everywhere-clause-sites c = rw ((c.requires.ticket ∙ sym (length-reverse c.args.entries.now.0)), c.requires.ready.is, c.requires.counts) at c.take_all.ensures.sites ∙ sym (sites_everywhere c.args.config.now (reverse c.args.entries.now.0) (entry_of c.args.config.now (reverse c.args.entries.now.0) c.args.arrival.moment c.args.arrival.call.now) c.requires.ready.legal c.requires.ready.follows (ap (λ (p : Option ℕ). reach (reverse c.args.entries.now.0) p c.args.arrival.call.now) (sym c.requires.ready.placed) ∙ sym c.of.ensures ∙ c.in-Everywhere.is))
 
 pub returns-in-Everywhere-clause-answers : goal.returns-in-Everywhere-clause-answers
-returns-in-Everywhere-clause-answers c = rw ((c.requires.ticket ∙ sym (length-reverse c.args.entries.now.0)), c.requires.sites, c.requires.counts, c.requires.empty) at c.take_all.ensures.answers ∙ sym (homed_everywhere c.args.config.now (reverse c.args.entries.now.0) (entry_of c.args.config.now (reverse c.args.entries.now.0) c.args.arrival.moment c.args.arrival.call.now) c.requires.legal c.requires.follows c.requires.all_known c.requires.known (ap (λ (p : Option ℕ). reach (reverse c.args.entries.now.0) p c.args.arrival.call.now) (sym c.requires.placed) ∙ sym c.of.ensures ∙ c.in-Everywhere.is))
+returns-in-Everywhere-clause-answers c = rw ((c.requires.ticket ∙ sym (length-reverse c.args.entries.now.0)), c.requires.ready.is, c.requires.counts, c.requires.empty) at c.take_all.ensures.answers ∙ sym (homed_everywhere c.args.config.now (reverse c.args.entries.now.0) (entry_of c.args.config.now (reverse c.args.entries.now.0) c.args.arrival.moment c.args.arrival.call.now) c.requires.ready.legal c.requires.ready.follows c.requires.ready.all_known c.requires.ready.known (ap (λ (p : Option ℕ). reach (reverse c.args.entries.now.0) p c.args.arrival.call.now) (sym c.requires.ready.placed) ∙ sym c.of.ensures ∙ c.in-Everywhere.is))
 
 pub returns-in-Everywhere-clause-room : goal.returns-in-Everywhere-clause-room
 returns-in-Everywhere-clause-room c =
     let room = rw (all_stop (reverse c.args.entries.now.0) c.args.place c.args.arrival.call.now (sym c.of.ensures ∙ c.in-Everywhere.is)) at c.requires.room in
-    let many : length c.args.fleet.now.sites ≡ length (owners c.args.config.now) = ap length c.requires.sites ∙ sites_length c.args.config.now (reverse c.args.entries.now.0) in
+    let many : length c.args.fleet.now.sites ≡ length (owners c.args.config.now) = ap length c.requires.ready.is ∙ sites_length c.args.config.now (reverse c.args.entries.now.0) in
     omega (arith, room, many, c.take_all.ensures.room)

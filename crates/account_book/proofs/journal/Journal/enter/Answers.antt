@@ -8,29 +8,19 @@ use Rattle.call_model.proofs.Once.{fresh}
 use Rattle.account_book.proofs.EntryExtent.{tickets_within, few_answers}
 use Rattle.account_book.proofs.journal.Journal.enter.Goals as goal
 
-pub answer_call-requires-clause-legal : goal.answer_call-requires-clause-legal
-answer_call-requires-clause-legal c = rw (c.deref-3.ensures, ap reverse c.entries-entries.ensures.value ∙ reverse-reverse c.self.inside.ledger.history) c.self.invariant.legal
-
-pub answer_call-requires-clause-all_known : goal.answer_call-requires-clause-all_known
-answer_call-requires-clause-all_known c = rw (c.deref-3.ensures, ap reverse c.entries-entries.ensures.value ∙ reverse-reverse c.self.inside.ledger.history) c.self.invariant.all_known
-
-pub answer_call-requires-clause-follows : goal.answer_call-requires-clause-follows
-answer_call-requires-clause-follows c = rw (c.deref-3.ensures, ap reverse c.entries-entries.ensures.value ∙ reverse-reverse c.self.inside.ledger.history) (rw (sym c.self.view_is) at c.requires.follows)
-
-pub answer_call-requires-clause-known : goal.answer_call-requires-clause-known
-answer_call-requires-clause-known c = rw c.deref-3.ensures (rw (sym c.self.view_is) at c.requires.known)
-
-pub answer_call-requires-clause-placed : goal.answer_call-requires-clause-placed
-answer_call-requires-clause-placed c = rw (c.deref-3.ensures, ap reverse c.entries-entries.ensures.value ∙ reverse-reverse c.self.inside.ledger.history) (rw (sym c.self.view_is) at c.requires.placed)
+pub answer_call-requires-clause-ready : goal.answer_call-requires-clause-ready
+answer_call-requires-clause-ready c = record {
+  legal = rw (c.deref-3.ensures, ap reverse c.entries-entries.ensures.value ∙ reverse-reverse c.self.inside.ledger.history) c.self.invariant.legal;
+  all_known = rw (c.deref-3.ensures, ap reverse c.entries-entries.ensures.value ∙ reverse-reverse c.self.inside.ledger.history) c.self.invariant.all_known;
+  follows = rw (c.deref-3.ensures, ap reverse c.entries-entries.ensures.value ∙ reverse-reverse c.self.inside.ledger.history) (rw (sym c.self.view_is) at c.requires.follows);
+  known = rw c.deref-3.ensures (rw (sym c.self.view_is) at c.requires.known);
+  placed = rw (c.deref-3.ensures, ap reverse c.entries-entries.ensures.value ∙ reverse-reverse c.self.inside.ledger.history) (rw (sym c.self.view_is) at c.requires.placed);
+  is = rw (c.deref-3.ensures, ap reverse c.entries-entries.ensures.value ∙ reverse-reverse c.self.inside.ledger.history) c.self.invariant.sites_are;
+  pool_is = rw (c.deref-3.ensures, ap reverse c.entries-entries.ensures.value ∙ reverse-reverse c.self.inside.ledger.history) c.self.invariant.pool_is;
+}
 
 pub answer_call-requires-clause-own : goal.answer_call-requires-clause-own
 answer_call-requires-clause-own c = rw (c.deref-3.ensures, ap reverse c.entries-entries.ensures.value ∙ reverse-reverse c.self.inside.ledger.history) (rw (sym c.self.view_is) at c.requires.own)
-
-pub answer_call-requires-clause-sites : goal.answer_call-requires-clause-sites
-answer_call-requires-clause-sites c = rw (c.deref-3.ensures, ap reverse c.entries-entries.ensures.value ∙ reverse-reverse c.self.inside.ledger.history) c.self.invariant.sites_are
-
-pub answer_call-requires-clause-pool : goal.answer_call-requires-clause-pool
-answer_call-requires-clause-pool c = rw (c.deref-3.ensures, ap reverse c.entries-entries.ensures.value ∙ reverse-reverse c.self.inside.ledger.history) c.self.invariant.pool_is
 
 pub add-requires-clause-fresh : goal.add-requires-clause-fresh
 add-requires-clause-fresh c = fresh (arc_value c.self.inside.config) c.self.inside.ledger.history (length c.self.inside.ledger.history) c.self.invariant.legal (le_refl (length c.self.inside.ledger.history))
