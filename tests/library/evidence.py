@@ -41,7 +41,7 @@ def edits_of(root):
     """Each edit of the repository with the folder of its crate."""
     for edit in sorted(glob.glob(f"{root}/crates/*/must-fail/*.edit")):
         yield edit, os.path.dirname(os.path.dirname(edit))
-    for edit in sorted(glob.glob(f"{root}/tests/edits/*/*.edit")):
+    for edit in sorted(glob.glob(f"{root}/tests/must_fail/*/*.edit")):
         yield edit, f"{root}/crates/{os.path.basename(os.path.dirname(edit))}"
     for edit in sorted(glob.glob(f"{root}/tests/definitions/*.edit")):
         yield edit, f"{root}/crates/call_model"
@@ -100,12 +100,12 @@ def age(root, commit):
 
 def age_of_edits(root):
     """When the further edits were last refused, and how many of them have changed since, or their crates have."""
-    commit = text_of(root, "tests", "edits", "LAST_REFUSED").split(" ")[0].removesuffix("-dirty")
+    commit = text_of(root, "tests", "must_fail", "LAST_REFUSED").split(" ")[0].removesuffix("-dirty")
     if not is_known(root, commit):
         return f"LAST_REFUSED names {commit or 'no commit'}, which git does not know"
     changed = git(root, "diff", "--name-only", commit).split("\n")
     of_crates = {it.split("/")[1] for it in changed if re.match(rf"crates/\w+/({'|'.join(SOURCES)})/", it)}
-    edits = [os.path.relpath(it, root) for it in glob.glob(f"{root}/tests/edits/*/*.edit")]
+    edits = [os.path.relpath(it, root) for it in glob.glob(f"{root}/tests/must_fail/*/*.edit")]
     stale = [it for it in edits if it in changed or it.split("/")[2] in of_crates]
     return f"last refused at {age(root, commit)}; {len(stale)} of {len(edits)} are new, or of a crate that changed"
 

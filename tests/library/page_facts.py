@@ -15,7 +15,7 @@ FENCED = re.compile(r"(?:^<!-- (\w[\w ]*) -->\n)?^```(\w*)\n(.*?)^```$", re.M | 
 NUMBERS = {word: number for number, word in enumerate(
     "one two three four five six seven eight nine ten eleven twelve thirteen fourteen fifteen sixteen seventeen "
     "eighteen nineteen twenty twenty-one twenty-two twenty-three twenty-four twenty-five twenty-six".split(), 1)}
-COMMAND = re.compile(r"(tools/conformance (?:runtime|extension|service)|tools/\w+|tests/(?:tools|definitions)/run"
+COMMAND = re.compile(r"(tools/conformance (?:runtime|extension|service)|tools/\w+|tests/(?:tools|definitions|must_fail)/run"
                      r"|tests/\w+|bench/serve/\w+|bench/replay|\./lambda_local)\b(.*)")
 
 
@@ -104,7 +104,6 @@ def numbers(root, page, text):
     count = {
         "crates": len(uses(root)),
         "must-fail edits": len(glob.glob(f"{root}/crates/*/must-fail/*.edit")),
-        "further edits": len(glob.glob(f"{root}/tests/edits/*/*.edit")),
         "wrong definitions": len(glob.glob(f"{root}/tests/definitions/*.edit")),
     }
     for said, what in re.findall(rf"\b(\d[\d,]*|{'|'.join(NUMBERS)}) ({'|'.join(count)})\b", text):
