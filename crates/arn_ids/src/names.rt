@@ -18,6 +18,9 @@ const LONGEST_QUALIFIER: usize = 128;
 
 const LONGEST_FUNCTION_NAME: usize = 170;
 
+/// The length of an ARN with the longest region, account, name and qualifier.
+const LONGEST_ARN: usize = 142;
+
 /// A function that a text names, whether it is configured or not.
 #[derive(Debug, Drop)]
 pub struct Named {
@@ -100,7 +103,12 @@ pub fn arn_text(
     let region = home.region.as_str();
     let account = home.account.as_str();
     let qualifier = qualifier_text(qualified);
-    format!(in alloc; "arn:aws:lambda:{region}:{account}:function:{name}{qualifier}")
+    let mut text = String::with_capacity(alloc, LONGEST_ARN)?;
+    write!(
+        text,
+        "arn:aws:lambda:{region}:{account}:function:{name}{qualifier}"
+    )?;
+    Ok(text)
 }
 
 fn qualifier_text(qualified: bool) -> &'static str

@@ -4,3 +4,4 @@ pub mod HeadLemmas
 pub mod Within
 pub mod Allowed
 pub mod TooLong
+pub mod ParamRoutes

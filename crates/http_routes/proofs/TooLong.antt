@@ -11,14 +11,14 @@ use Rattle.lambda_wire.specs.Requests.{read_payload, read_count, read_events}
 use Rattle.lambda_wire.specs.declared.fault.WireFault.TheVariants.{TooLong}
 use Rattle.decisions.specs.Decisions.{IsForTooLong}
 use Rattle.decisions.specs.declared.decide.Decision.{Decision}
-use Rattle.http_routes.specs.Routes.{environment_rows, account_rows, route_in, is_environment_method, environment_methods, is_account_method, account_methods, is_put}
-use Rattle.http_routes.specs.Refusals.{too_large, wrong_method}
+use Rattle.http_routes.specs.Routes.{environment_rows, account_rows, route_in, is_put}
+use Rattle.http_routes.specs.Refusals.{too_large}
 use Rattle.http_routes.specs.Paths.{name_of, qualifier_of}
-use Rattle.http_routes.specs.Heads.{asks_for_account, extension_name, is_synchronous, trace_of}
+use Rattle.http_routes.specs.Heads.{asks_for_account, extension_name}
 use Rattle.http_routes.specs.Names.{invoked, reserved}
 use Rattle.http_routes.specs.Identifiers.{request_of, extension_of}
-use Rattle.http_routes.specs.EnvironmentDecisions.{is_too_long, submitted, response, failure, register, ext_next, ext_report, has_error_type, on_environment_route, at_environment, environment_decision}
-use Rattle.http_routes.specs.AccountDecisions.{about, invoke, by_payload, reserve, set_reservation, at_account, with_method, account_decision}
+use Rattle.http_routes.specs.EnvironmentDecisions.{submitted, response, failure, register, ext_next, ext_report, has_error_type, on_environment_route, at_environment, environment_decision}
+use Rattle.http_routes.specs.AccountDecisions.{about, invoke, set_reservation, at_account, account_decision}
 use Rattle.http_routes.specs.Decisions.{Served, decision_on, decision}
 use Rattle.http_routes.specs.declared.names.Target.{Target}
 use Rattle.http_routes.specs.declared.names.Target.TheVariants as target

@@ -5,7 +5,8 @@ ghost use Rattle.uuid.specs.Text.{parsed};
 ghost use Rattle.http_routes.specs.Identifiers as spec;
 
 use crate::heads::extension_identifier;
-use crate::path::path_part;
+use crate::path::path_part_behind;
+use crate::routes::INVOCATION;
 use arn_ids::{EnvNo, FnNo, IdKind, IdParts, id_parts, salt_word};
 use http::request::Parts;
 use uuid::Uuid;
@@ -65,7 +66,11 @@ fn extension_count(salt: u64, env: EnvNo, text: &str) -> Option<u64>
 pub(crate) fn request_of(salt: u64, function: FnNo, parts: &Parts) -> Option<u64>
     ensures { result ≡ spec.request_of salt function parts.now }
 {
-    request_count(salt, function, path_part(parts.uri.path(), 4)?)
+    request_count(
+        salt,
+        function,
+        path_part_behind(parts.uri.path(), INVOCATION, 4)?,
+    )
 }
 
 /// The extension of an environment that a head names (Extensions API:

@@ -1,11 +1,12 @@
 //! Parts of a path and of a query.
 
-ghost use Rattle.std.specs.Prelude.{◌≡◌, ◌==◌, ◌∷◌, [], option_map, IfOk, MatchOption};
+ghost use Rattle.std.specs.Prelude.{ℕ, List, ◌≡◌, ◌==◌, ◌∷◌, ◌++◌, [], option_map, IfOk, MatchOption};
 ghost use Rattle.std.specs.List.{slice_split};
 ghost use Rattle.std.specs.Cow.{cow_str_bytes};
 ghost use Rattle.form_urlencoded.specs.Form.{raw_pairs};
 ghost use Rattle.http_routes.specs.Paths as spec;
 
+use crate::routes::FUNCTIONS;
 use form_urlencoded::{decode, raw_pairs};
 use http::request::Parts;
 use percent_encoding::{DecodeError, percent_decode};
@@ -36,6 +37,17 @@ pub(crate) fn path_part(path: &str, n: usize) -> Option<&str>
     Some(front)
 }
 
+/// The part of a path behind this many slashes, which is found at once if the path begins with this front.
+pub(crate) fn path_part_behind<'p>(path: &'p str, front: &str, n: usize) -> Option<&'p str>
+    requires { (rest : List ℕ) → spec.path_part n (front.now ++ rest) ≡ spec.path_part 0 rest }
+    ensures { option_map (λ t. t.now) result ≡ spec.path_part n path.now }
+{
+    match path.strip_prefix(front) {
+        Some(rest) => path_part(rest, 0),
+        None => path_part(path, n),
+    }
+}
+
 /// The text that a part of a path stands for, where it is UTF-8 (RFC 3986, section 2.1).
 fn path_text(alloc: Global, part: &str) -> Result<Option<CowStr<'_>>, AllocError>
     ensures { IfOk result (λ text. option_map cow_str_bytes text ≡ spec.path_text part.now) }
@@ -51,7 +63,7 @@ fn path_text(alloc: Global, part: &str) -> Result<Option<CowStr<'_>>, AllocError
 pub(crate) fn name_of(alloc: Global, parts: &Parts) -> Result<Option<CowStr<'_>>, AllocError>
     ensures { IfOk result (λ text. option_map cow_str_bytes text ≡ spec.name_of parts.now) }
 {
-    match path_part(parts.uri.path(), 3) {
+    match path_part_behind(parts.uri.path(), FUNCTIONS, 3) {
         Some(part) => path_text(alloc, part),
         None => Ok(None),
     }

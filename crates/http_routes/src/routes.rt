@@ -1,6 +1,8 @@
 //! The routes of the two kinds of ports.
 
-ghost use Rattle.std.specs.Prelude.{◌≡◌, IfOk, OnOk};
+ghost use Rattle.std.specs.Prelude.{◌≡◌, ◌≢◌, ◌<◌, ◌++◌, ◌∷◌, All, IfOk, IsTrue, MatchOption, OnOk, Some};
+ghost use Rattle.http_routes.specs.declared.routes.AccountRoute.TheVariants.{Invoke};
+ghost use Rattle.http_routes.specs.declared.routes.EnvironmentRoute.TheVariants.{Response};
 ghost use Rattle.http_routes.specs.Routes.{with_route, with_runtime_rows, with_extension_rows, environment_rows, with_lambda_rows, with_local_rows, account_rows, route_in, is_environment_method, environment_methods, is_account_method, account_methods};
 
 use http_header::HeaderValue;
@@ -9,6 +11,12 @@ use std::alloc::Global;
 
 /// The path of a Next, which every second request of a runtime has.
 const NEXT: &str = "/2018-06-01/runtime/invocation/next";
+
+/// What the path of a response begins with, before the invocation's identifier.
+pub(crate) const INVOCATION: &str = "/2018-06-01/runtime/invocation/";
+
+/// What the path of an Invoke begins with, before the function's name.
+pub(crate) const FUNCTIONS: &str = "/2015-03-31/functions/";
 
 /// A route of an environment's port (Runtime API 2018-06-01, Extensions API 2020-01-01).
 #[derive(Clone, Copy, Debug, PartialEq, Eq)]
@@ -217,7 +225,49 @@ pub(crate) fn account_routes(alloc: Global) -> Result<Router<AccountRoute>, Inse
     Ok(router)
 }
 
-/// The route of an environment's port that a path matches. That of a Next is found without the router.
+/// What bytes are: numbers below 256.
+fn bytes_fit(bytes: &[u8])
+    ensures { All (λ b. b < 256) bytes.now }
+{}
+
+/// The first byte and the others of the part of a path between a front and a slash with this back.
+fn part_between<'p>(path: &'p str, front: &str, back: &str) -> Option<(u8, &'p [u8])>
+    ensures { MatchOption result Unit (λ p. (p.0 < 256) × (path.now ≡ front.now ++ (p.0 ∷ (p.1.now ++ (47 ∷ back.now))))
+        × All (λ b. b ≢ 47) (p.0 ∷ p.1.now)) }
+{
+    let rest = path.strip_prefix(front)?;
+    let (part, after) = rest.split_once('/')?;
+    if after == back {
+        let bytes = part.as_bytes();
+        bytes_fit(bytes);
+        let (first, others) = bytes.split_first()?;
+        return Some((*first, others));
+    }
+    None
+}
+
+/// Whether a path is that of a response, unless its identifier begins as that of a Next does.
+fn is_response(path: &str) -> bool
+    ensures { IsTrue result → route_in environment_rows path.now ≡ Some Response }
+{
+    match part_between(path, INVOCATION, "response") {
+        Some((first, _)) => first != b'n',
+        None => false,
+    }
+}
+
+/// Whether a path is that of an Invoke.
+fn is_invoke(path: &str) -> bool
+    ensures { IsTrue result → route_in account_rows path.now ≡ Some Invoke }
+{
+    match part_between(path, FUNCTIONS, "invocations") {
+        Some(_) => true,
+        None => false,
+    }
+}
+
+/// The route of an environment's port that a path matches. Those of a Next and of nearly every response
+/// are found without the router.
 pub(crate) fn environment_route(
     router: &Router<EnvironmentRoute>,
     path: &str,
@@ -228,16 +278,23 @@ pub(crate) fn environment_route(
     if path == NEXT {
         return Some(EnvironmentRoute::Next);
     }
+    if is_response(path) {
+        return Some(EnvironmentRoute::Response);
+    }
     match router.at(path) {
         Ok(found) => Some(*found.value),
         Err(_) => None,
     }
 }
 
-/// The route of the account's port that a path matches.
+/// The route of the account's port that a path matches. That of an Invoke is found without the router.
 pub(crate) fn account_route(router: &Router<AccountRoute>, path: &str) -> Option<AccountRoute>
-    ensures { result ≡ route_in router.now path.now }
+    requires { router.now ≡ account_rows }
+    ensures { result ≡ route_in account_rows path.now }
 {
+    if is_invoke(path) {
+        return Some(AccountRoute::Invoke);
+    }
     match router.at(path) {
         Ok(found) => Some(*found.value),
         Err(_) => None,

@@ -10,6 +10,10 @@ header name text = (name, plain_value text)
 abbrev pub json_headers : List (List ℕ × FieldValue)
 json_headers = header (codes "content-type") (codes "application/json") ∷ []
 
+-- what stands for the trace of a caller that gave none
+abbrev pub no_trace : List ℕ
+no_trace = codes "Root=1-00000000-000000000000000000000000;Sampled=0"
+
 -- Of an invocation's delivery to a runtime (Runtime API, Next invocation).
 unfoldable pub next_headers : List ℕ → ℕ → List ℕ → List ℕ → List (List ℕ × FieldValue)
 next_headers request deadline arn trace = json_headers

@@ -1,13 +1,14 @@
 //! The headers of a reply are written one after the other.
 
-ghost use Rattle.std.specs.Prelude.{ℕ, ◌≡◌, List, [], ◌∷◌, ◌++◌, decimal, IfOk, IsTrue, MatchOption, option_map, string_bytes};
+ghost use Rattle.std.specs.Prelude.{ℕ, ◌≡◌, List, [], ◌∷◌, ◌++◌, decimal, IfOk, IsTrue, MatchOption, option_map, unwrap_or, string_bytes};
 ghost use Rattle.http_header.specs.FieldName.{is_header_name};
 ghost use Rattle.http_header.specs.FieldValue.{FieldValue, plain_value, IsFieldValue, is_visible_text};
 ghost use Rattle.lambda_wire.specs.Headers as spec;
 ghost use Rattle.lambda_wire.specs.HeaderLists.{Lists};
 
 use arn_ids::Row;
-use http_header::{HeaderName, HeaderValue, HeaderValueError};
+use bytes::Bytes;
+use http_header::{CONTENT_TYPE, HeaderName, HeaderValue};
 use std::alloc::{AllocError, Global};
 
 /// A text that is a header's value.
@@ -15,10 +16,9 @@ fn value(alloc: Global, text: &str) -> Result<HeaderValue, AllocError>
     requires { IsFieldValue text.now }
     ensures { IfOk result (λ v. v ≡ plain_value text.now) }
 {
-    match HeaderValue::from_str(alloc, text) {
-        Ok(value) => Ok(value),
-        Err(HeaderValueError::OutOfMemory) => Err(AllocError),
-        Err(HeaderValueError::Invalid) => unreachable!(),
+    match Bytes::copy_from_slice(alloc, text.as_bytes()) {
+        Ok(bytes) => Ok(HeaderValue::from_known_valid(bytes)),
+        Err(_) => Err(AllocError),
     }
 }
 
@@ -27,10 +27,9 @@ fn value_of(text: String) -> Result<HeaderValue, AllocError>
     requires { IsFieldValue (string_bytes text) }
     ensures { IfOk result (λ v. v ≡ plain_value (string_bytes text)) }
 {
-    match HeaderValue::from_string(text) {
-        Ok(value) => Ok(value),
-        Err(HeaderValueError::OutOfMemory) => Err(AllocError),
-        Err(HeaderValueError::Invalid) => unreachable!(),
+    match Bytes::from_string(text) {
+        Ok(bytes) => Ok(HeaderValue::from_known_valid(bytes)),
+        Err(_) => Err(AllocError),
     }
 }
 
@@ -54,22 +53,33 @@ impl HeaderList {
             is_cut: false,
         };
         match Vec::with_capacity(alloc, room) {
-            Ok(headers) => HeaderList { headers, ..none }.fixed("content-type", "application/json"),
+            Ok(headers) => HeaderList { headers, ..none }.named(
+                CONTENT_TYPE,
+                HeaderValue::from_static("application/json"),
+            ),
             Err(_) => none.cut(),
         }
     }
 
     /// Adds a header.
+    #[inline(always)]
     fn header(self, name: &'static str, value: HeaderValue) -> HeaderList
         requires { IsTrue (is_header_name name.now) }
         ensures { (before : List (List ℕ × FieldValue)) → Lists self before → Lists result (before ++ (name.now, value) ∷ []) }
+    {
+        self.named(HeaderName::from_static(name), value)
+    }
+
+    /// Adds a header, whose name is made.
+    #[inline(always)]
+    fn named(self, name: HeaderName, value: HeaderValue) -> HeaderList
+        ensures { (before : List (List ℕ × FieldValue)) → Lists self before → Lists result (before ++ (name, value) ∷ []) }
     {
         let HeaderList {
             alloc,
             mut headers,
             is_cut,
         } = self;
-        let name = HeaderName::from_static(name);
         let is_cut = headers.push((name, value)).is_err() || is_cut;
         HeaderList {
             alloc,
@@ -96,6 +106,25 @@ impl HeaderList {
         match value(self.alloc, text) {
             Ok(value) => self.header(name, value),
             Err(_) => self.cut(),
+        }
+    }
+
+    /// Adds a header with a text, or with another that is always the same if there is none.
+    pub(crate) fn text_or(
+        self,
+        name: &'static str,
+        text: Option<&str>,
+        otherwise: &'static str,
+    ) -> HeaderList
+        requires name { IsTrue (is_header_name name.now) }
+        requires text { MatchOption text Unit (λ t. IsFieldValue t.now) }
+        requires otherwise { IsTrue (is_visible_text otherwise.now) }
+        ensures { (before : List (List ℕ × FieldValue)) → Lists self before
+            → Lists result (before ++ spec.header name.now (unwrap_or (option_map (λ t. t.now) text.entry) otherwise.now) ∷ []) }
+    {
+        match text {
+            Some(text) => self.text(name, text),
+            None => self.fixed(name, otherwise),
         }
     }
 

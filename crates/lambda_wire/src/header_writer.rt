@@ -1,6 +1,6 @@
 //! The headers of replies.
 
-ghost use Rattle.std.specs.Prelude.{◌≡◌, IfOk, MatchOption, option_map, string_bytes};
+ghost use Rattle.std.specs.Prelude.{◌≡◌, IfOk, MatchOption, option_map, unwrap_or, string_bytes};
 ghost use Rattle.http_header.specs.FieldValue.{IsFieldValue};
 ghost use Rattle.lambda_wire.specs.Headers as spec;
 
@@ -21,25 +21,30 @@ pub fn json_headers(alloc: Global) -> Result<Headers, AllocError>
     HeaderList::new(alloc, 1).done()
 }
 
+/// What stands for the trace of a caller that gave none.
+pub const NO_TRACE: &str = "Root=1-00000000-000000000000000000000000;Sampled=0";
+
 /// The headers of a delivery: the request identifier, when the invocation times out, in
-/// milliseconds, the invoked ARN, whose memory it keeps, and the trace (Runtime API, Next invocation).
+/// milliseconds, the invoked ARN, whose memory it keeps, and the trace, or what stands for it
+/// (Runtime API, Next invocation).
 pub fn next_headers(
     alloc: Global,
     request: &str,
     deadline: u64,
     arn: String,
-    trace: &str,
+    trace: Option<&str>,
 ) -> Result<Headers, AllocError>
     requires request { IsFieldValue request.now }
     requires arn { IsFieldValue (string_bytes arn) }
-    requires trace { IsFieldValue trace.now }
-    ensures { IfOk result (λ h. h ≡ spec.next_headers request.now deadline (string_bytes arn) trace.now) }
+    requires trace { MatchOption trace Unit (λ t. IsFieldValue t.now) }
+    ensures { IfOk result (λ h. h ≡ spec.next_headers request.now deadline (string_bytes arn)
+        (unwrap_or (option_map (λ t. t.now) trace.entry) spec.no_trace)) }
 {
     HeaderList::new(alloc, 5)
         .text("lambda-runtime-aws-request-id", request)
         .number("lambda-runtime-deadline-ms", deadline)
         .string("lambda-runtime-invoked-function-arn", arn)
-        .text("lambda-runtime-trace-id", trace)
+        .text_or("lambda-runtime-trace-id", trace, NO_TRACE)
         .done()
 }
 

@@ -23,7 +23,7 @@ pub use config_reader::read_config;
 pub use config_writer::write_config;
 pub use fault::WireFault;
 pub use header_writer::{
-    Headers, error_headers, event_headers, invoke_headers, json_headers, next_headers,
+    Headers, NO_TRACE, error_headers, event_headers, invoke_headers, json_headers, next_headers,
     registered_headers,
 };
 pub use payload_scratch::PayloadScratch;

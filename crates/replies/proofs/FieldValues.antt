@@ -23,7 +23,7 @@ use Rattle.arn_ids.proofs.Bounds.{name_is, account_is, region_is}
 use Rattle.call_types.specs.declared.call.Call.{Call}
 use Rattle.call_types.specs.declared.answer.Rejection.{Rejection}
 use Rattle.call_types.specs.declared.answer.Rejection.TheVariants.{State, Replaced, BadId, Unknown, TooLarge, Container, NameInUse, TooMany, NotIdle, BadReservation}
-use Rattle.replies.specs.Words.{function_number, invoked_function, is_qualified, arn_text, no_trace}
+use Rattle.replies.specs.Words.{function_number, invoked_function, is_qualified, arn_text}
 use Rattle.replies.specs.Refusals.{refusal_words}
 use Rattle.replies.proofs.NoFunction.{beyond}
 
@@ -60,9 +60,6 @@ word_passes p most text h = go (nat_le 1 (length text)) (nat_le (length text) mo
 
 pub trace_fits : (trace : List ℕ) → is_trace trace ≡ true → IsFieldValue trace
 trace_fits trace h = from_test is_printable (λ b e. grind (arith, nat_tests)) trace (word_passes is_printable 256 trace h)
-
-pub no_trace_fits : IsFieldValue no_trace
-no_trace_fits = AllPass-from_test is_value_byte no_trace refl
 
 name_fits : (config : Config) (f : ℕ) → first_fault config ≡ None → IsFieldValue (function_at config f).name
 name_fits config zero sound = All-nil (λ b. IsTrue (is_value_byte b))

@@ -1,5 +1,5 @@
 -- What a reply says of the invocation, the environment and the extension that it is about.
-use Rattle.std.specs.Prelude.{ℕ, Bool, false, if◌then◌else◌, List, codes, Option, Some, None, unwrap_or}
+use Rattle.std.specs.Prelude.{ℕ, Bool, false, if◌then◌else◌, List, Option, Some, None, unwrap_or}
 use Rattle.arn_ids.specs.Environments.{function_of, function_at}
 use Rattle.arn_ids.specs.Grammar.{arn}
 use Rattle.arn_ids.specs.declared.config.Config.{Config}
@@ -10,6 +10,7 @@ use Rattle.call_types.specs.declared.call.Call.{Call}
 use Rattle.call_types.specs.declared.call.Call.TheVariants.{Invoke, Register}
 use Rattle.call_types.specs.Calls.{env_of, invoked}
 use Rattle.arn_ids.specs.Identifiers.{id_word}
+use Rattle.lambda_wire.specs.Headers.{no_trace}
 
 -- the number of the function that a call invokes; 0 for a call that is no Invoke
 abbrev pub function_number : Call → ℕ
@@ -43,10 +44,6 @@ is_qualified _ = false
 -- the ARN under which an Invoke names its function (Runtime API: Lambda-Runtime-Invoked-Function-Arn)
 abbrev pub arn_text : Config → Call → List ℕ
 arn_text config call = arn config.home (invoked_function config call).name (is_qualified call)
-
--- what stands for the trace of a caller that gave none
-abbrev pub no_trace : List ℕ
-no_trace = codes "Root=1-00000000-000000000000000000000000;Sampled=0"
 
 -- the trace of an Invoke (Runtime API: Lambda-Runtime-Trace-Id)
 abbrev pub trace_text : Call → List ℕ

@@ -1,17 +1,16 @@
 //! What a call says of itself.
 
-ghost use Rattle.std.specs.Prelude.{◌≡◌, IfOk};
+ghost use Rattle.std.specs.Prelude.{◌≡◌, IfOk, MatchOption, option_map, unwrap_or};
 ghost use Rattle.http_header.specs.FieldValue.{IsFieldValue};
 ghost use Rattle.call_types.specs.Calls.{body_of};
+ghost use Rattle.lambda_wire.specs.Headers.{no_trace};
 ghost use Rattle.replies.specs.Gists.{IsTraced};
 ghost use Rattle.replies.specs.Words as spec;
 
 use bytes::Bytes;
 use call_model::Call;
+use lambda_wire::NO_TRACE;
 use std::alloc::AllocError;
-
-/// What stands for the trace of a caller that gave none.
-const NO_TRACE: &str = "Root=1-00000000-000000000000000000000000;Sampled=0";
 
 /// Whether a call is an Invoke that names the version `$LATEST`.
 pub(crate) fn is_qualified(call: &Call) -> bool
@@ -23,18 +22,29 @@ pub(crate) fn is_qualified(call: &Call) -> bool
     }
 }
 
-/// The trace of an Invoke.
-pub(crate) fn trace_of(call: &Call) -> &str
+/// The trace of an Invoke whose caller gave one.
+pub(crate) fn given_trace(call: &Call) -> Option<&str>
     requires { IsTraced call.now }
-    ensures value { result.now ≡ spec.trace_text call.now }
-    ensures fits { IsFieldValue result.now }
+    ensures value { unwrap_or (option_map (λ t. t.now) result) no_trace ≡ spec.trace_text call.now }
+    ensures fits { MatchOption result Unit (λ t. IsFieldValue t.now) }
 {
     match call {
         Call::Invoke {
             trace: Some(trace),
             ..
-        } => trace.as_str(),
-        _ => NO_TRACE,
+        } => Some(trace.as_str()),
+        _ => None,
+    }
+}
+
+/// The trace of an Invoke, or what stands for it.
+pub(crate) fn trace_of(call: &Call) -> &str
+    requires { IsTraced call.now }
+    ensures { result.now ≡ spec.trace_text call.now }
+{
+    match given_trace(call) {
+        Some(trace) => trace,
+        None => NO_TRACE,
     }
 }
 

@@ -5,7 +5,7 @@ ghost use Rattle.replies.specs.Gists.{gist_of, IsTraced};
 ghost use Rattle.replies.specs.Polls as spec;
 
 use crate::Gist;
-use crate::calls::{shared_body, trace_of, wants_account};
+use crate::calls::{given_trace, shared_body, trace_of, wants_account};
 use crate::functions::{arn_text, env_function};
 use crate::words::{env_text, request_text};
 use arn_ids::{Checked, IdKind};
@@ -32,7 +32,7 @@ pub(crate) fn delivery(
     let mut buffer = Uuid::encode_buffer();
     let request = request_text(&mut buffer, salt, gist.source, gist.source_count);
     let arn = arn_text(alloc, config, gist.source)?;
-    let trace = trace_of(gist.source);
+    let trace = given_trace(gist.source);
     Ok(Reply {
         status: 200,
         headers: next_headers(alloc, request, deadline, arn, trace)?,

@@ -50,7 +50,7 @@ fn next(alloc: Global, arguments: &Arguments) -> Result<Headers, CaseFault> {
     let trace = field(alloc, arguments, "trace")?;
     let deadline = arguments.number("deadline");
     let arn = String::from_str(alloc, arn)?;
-    made(next_headers(alloc, request, deadline, arn, trace))
+    made(next_headers(alloc, request, deadline, arn, Some(trace)))
 }
 
 fn event(alloc: Global, arguments: &Arguments) -> Result<Headers, CaseFault> {
