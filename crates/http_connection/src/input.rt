@@ -80,8 +80,8 @@ impl Input {
         is_head_end
     }
 
-    /// Takes bytes of a line, without its end. Of a line that is no length the rest is passed over.
-    fn take_bytes(&mut self, bytes: &[u8]) {
+    /// Takes bytes of a line, one by one, without its end. Of a line that is no length the rest is passed over.
+    fn take_each(&mut self, bytes: &[u8]) {
         for byte in bytes {
             if matches!(self.line, Line::Other) {
                 return;
@@ -89,6 +89,22 @@ impl Input {
             if *byte != b'\r' {
                 self.take_byte(*byte);
             }
+        }
+    }
+
+    /// Takes bytes of a line, without its end. A name that is there as a whole is compared at once.
+    fn take_bytes(&mut self, bytes: &[u8]) {
+        if !matches!(self.line, Line::Name(0)) || bytes.len() < NAME.len() {
+            self.take_each(bytes);
+            return;
+        }
+        self.is_empty = false;
+        let (name, value) = bytes.split_at(NAME.len());
+        if name.eq_ignore_ascii_case(NAME) {
+            self.line = Line::Length;
+            self.take_each(value);
+        } else {
+            self.line = Line::Other;
         }
     }
 

@@ -1,1 +1,2 @@
+pub mod PageFields
 pub mod Passed

@@ -14,6 +14,10 @@ are_some (value ∷ values) = true
 abbrev pub is_own_site : List ℕ → Bool
 is_own_site site = bytes_eq site (codes "none") || bytes_eq site (codes "same-origin")
 
+-- the name of a field that a browser adds to what a page sends
+abbrev pub is_of_page : List ℕ → Bool
+is_of_page name = bytes_eq name (codes "origin") || bytes_eq name (codes "sec-fetch-site")
+
 -- Whether a page sent it: with an `Origin`, whatever it says (RFC 6454, section 7), or with a `Sec-Fetch-Site` of
 -- another site (W3C, Fetch Metadata Request Headers).
 abbrev pub is_from_page : Parts → Bool

@@ -1,12 +1,13 @@
 //! What a browser says of a request that a web page sends.
 
 ghost use Rattle.std.specs.Prelude.{◌≡◌, codes};
-ghost use Rattle.std.specs.List.{list_all};
-ghost use Rattle.http.specs.HeaderMap.{get_all};
+ghost use Rattle.std.specs.List.{list_all, list_any};
+ghost use Rattle.http.specs.HeaderMap.{get_all, keys};
 ghost use Rattle.request_guard.specs.Pages as spec;
 
 use http::header;
 use http::request::Parts;
+use http_header::HeaderName;
 
 /// Whether it was the user's own doing, as an address that is typed, or a page of this very service.
 fn is_own_site(site: &[u8]) -> bool
@@ -39,9 +40,28 @@ fn is_of_own_site(parts: &Parts) -> bool
         .all(|site| is_own_site(site.as_bytes()))
 }
 
+/// Whether a field is one that a browser adds to what a page sends.
+fn is_of_page(name: &HeaderName) -> bool
+    ensures { result ≡ spec.is_of_page name.now }
+{
+    let name = name.as_bytes();
+    name == b"origin".as_slice() || name == b"sec-fetch-site".as_slice()
+}
+
+/// Whether a request has such a field. (Few requests have, and to look at all names takes less than to find one.)
+fn has_field_of_page(parts: &Parts) -> bool
+    ensures { result ≡ list_any spec.is_of_page (keys parts.now.headers) }
+{
+    parts.headers.keys().any(|name| is_of_page(name))
+}
+
 /// Whether a web page sent it.
+#[tactic(auto, using(crate::proofs::PageFields::none_is_of_page))]
 pub(crate) fn is_from_page(parts: &Parts) -> bool
     ensures { result ≡ spec.is_from_page parts.now }
 {
+    if !has_field_of_page(parts) {
+        return false;
+    }
     has_origin(parts) || !is_of_own_site(parts)
 }
