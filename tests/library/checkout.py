@@ -13,8 +13,9 @@ def files_of(root):
     return [it for it in sorted(set(listed.split("\0"))) if it and os.path.isfile(os.path.join(root, it))]
 
 
-def copy_to(folder):
-    """Puts the files there as they stand."""
+def copy_to(folder, without_release=False):
+    """Puts the files there as they stand, with or without release/."""
     for name in files_of(ROOT):
-        os.makedirs(os.path.dirname(os.path.join(folder, name)), exist_ok=True)
-        shutil.copy2(os.path.join(ROOT, name), os.path.join(folder, name))
+        if not (without_release and name.startswith("release/")):
+            os.makedirs(os.path.dirname(os.path.join(folder, name)), exist_ok=True)
+            shutil.copy2(os.path.join(ROOT, name), os.path.join(folder, name))

@@ -14,6 +14,19 @@ def check(name, seen, wanted=True):
         print("FAIL", name, "\n     seen  ", seen, "\n     wanted", wanted, flush=True)
 
 
+def check_sound(name, fault):
+    """Tells what is wrong, if anything, and counts it."""
+    global passed, failed
+    passed, failed = passed + (not fault), failed + bool(fault)
+    print("FAIL" if fault else "ok  ", name + (f"\n     {fault}" if fault else ""), flush=True)
+
+
+def end():
+    """Tells how many checks passed and failed. The exit status."""
+    print(f"{passed} passed, {failed} failed")
+    return failed != 0
+
+
 def run(*parts):
     """Runs parts one after the other; one that raises has failed, and the next begins. The exit status."""
     for part in parts:
@@ -21,5 +34,4 @@ def run(*parts):
             part()
         except Exception as fault:
             check(f"{part.__name__} runs to its end", repr(fault), None)
-    print(f"{passed} passed, {failed} failed")
-    return failed != 0
+    return end()

@@ -15,8 +15,8 @@ FENCED = re.compile(r"(?:^<!-- (\w[\w ]*) -->\n)?^```(\w*)\n(.*?)^```$", re.M | 
 NUMBERS = {word: number for number, word in enumerate(
     "one two three four five six seven eight nine ten eleven twelve thirteen fourteen fifteen sixteen seventeen "
     "eighteen nineteen twenty twenty-one twenty-two twenty-three twenty-four twenty-five twenty-six".split(), 1)}
-COMMAND = re.compile(r"(tools/conformance (?:runtime|extension|service)|tools/\w+|tests/(?:tools|definitions|must_fail)/run"
-                     r"|tests/\w+|bench/serve/\w+|bench/replay|\./lambda_local)\b(.*)")
+COMMAND = re.compile(r"(tools/conformance (?:runtime|extension|service)|tools/\w+|tests/\w+/run|tests/\w+"
+                     r"|bench/serve/\w+|bench/\w+|\./lambda_local)\b(.*)")
 
 
 def text_of(*parts):
@@ -186,11 +186,17 @@ def of_checks(root, page, text):
 
 
 def of_architecture(root, page, text):
-    for it in uses(root):
+    crates, listed = uses(root), set()
+    for it, needs in crates.items():
+        for need in needs:
+            if need in crates and need not in listed:
+                yield f"crates.txt lists {it} before {need}, which it uses"
+        listed.add(it)
+    for it in crates:
         if f"**`{it}`**" not in text and not re.search(rf"\*\*.*`{it}`.*\*\*", text):
             yield f"has no paragraph on {it}"
     for it in re.findall(r"^- \*\*`(\w+)`\*\*", text, re.M):
-        if it not in uses(root):
+        if it not in crates:
             yield f"tells of the crate {it}, which is not in crates.txt"
 
 

@@ -3,17 +3,18 @@ import contextlib
 import gzip
 import hashlib
 import os
-import shutil
 import subprocess
 import tempfile
 
-ROOT = os.path.dirname(os.path.dirname(os.path.dirname(os.path.realpath(__file__))))
+from checkout import ROOT, copy_to
+
 RELEASED = "crates/lambda_local/out/lambda_local"  # where a released program is unpacked to
 
 
 def plain(**more):
     """This environment, in which no program is named and no kit is on the path."""
-    kept = {name: value for name, value in os.environ.items() if name not in ("LAMBDA_LOCAL_PROGRAM", "XDG_CACHE_HOME", "PYTHONPATH")}
+    kept = {name: value for name, value in os.environ.items()
+            if name not in ("LAMBDA_LOCAL_PROGRAM", "XDG_CACHE_HOME", "PYTHONPATH")}
     return {**kept, "PATH": "/usr/bin:/bin", **more}
 
 
@@ -63,12 +64,7 @@ def copied():
 def copy_tree(folder, released=None):
     """Puts the files of this checkout there as they stand, but for release/. With the path of a program, that is
     released for these sources."""
-    listed = subprocess.run(["git", "ls-files", "-co", "--exclude-standard", "-z"], cwd=ROOT, stdout=subprocess.PIPE,
-                            check=True).stdout
-    for name in filter(None, listed.decode().split("\0")):
-        if os.path.isfile(os.path.join(ROOT, name)) and not name.startswith("release/"):
-            os.makedirs(os.path.dirname(os.path.join(folder, name)), exist_ok=True)
-            shutil.copy2(os.path.join(ROOT, name), os.path.join(folder, name))
+    copy_to(folder, without_release=True)
     if released:
         release(folder, released)
     return folder
