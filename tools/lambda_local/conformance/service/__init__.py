@@ -51,11 +51,11 @@ class Run:
         status = self.course.ask(Call("init-failure", "", ("={}",)), {}, ANSWER_SECONDS)
         place = ":".join(map(str, self.tested.runtime))
         if not status:
-            raise Fault(
-                2, f"{place}: POST /2018-06-01/runtime/init/error is not answered within {ANSWER_SECONDS:.0f} s")
+            raise Fault(2, f"{place}: POST /2018-06-01/runtime/init/error is not answered "
+                           f"within {ANSWER_SECONDS:.0f} s")
         if status not in (202, 403):
-            raise Fault(
-                2, f"{place}: POST /2018-06-01/runtime/init/error is answered {status}: no Runtime API listens there")
+            raise Fault(2, f"{place}: POST /2018-06-01/runtime/init/error is answered {status}: "
+                           "no Runtime API listens there")
         self.course.restore()
         found = self.course.learn_timeout()
         if found:
@@ -164,8 +164,8 @@ def main(words):
     options = parser.parse_args(words)
     for name in ("invoke", "runtime"):
         if not getattr(options, name):
-            raise Fault(
-                2, f"write --{name} {'URL' if name == 'invoke' else 'HOST:PORT'}, where the tested service listens")
+            raise Fault(2, f"write --{name} {'URL' if name == 'invoke' else 'HOST:PORT'}, "
+                           "where the tested service listens")
     for number in (signal.SIGTERM, signal.SIGINT, signal.SIGHUP):
         signal.signal(number, ended_by_signal)
     try:

@@ -72,7 +72,8 @@ class Course:
             found, parted = self._compare(plan, step, exchanges, judge)
             if found:
                 exchange = exchanges[found[0]]
-                difference = Difference(plan, step, *found, tuple(moments), exchange.answered and since(begun, exchange.answered))
+                difference = Difference(plan, step, *found, tuple(moments),
+                                        exchange.answered and since(begun, exchange.answered))
             if found or parted:
                 whole = False
                 break
@@ -107,7 +108,8 @@ class Course:
         two have parted with one that is."""
         here = {given.call: given for given in plan.steps[step]}
         before = [given for earlier in plan.steps[:step] for given in earlier]
-        answered_before = open_invocation(plan, step) is None and any(given.answer.kind == "deliver" for given in before)
+        answered_before = (open_invocation(plan, step) is None
+                           and any(given.answer.kind == "deliver" for given in before))
         over = {given.call for given in before}
         parted = False
         # (a delivery first, which makes an identifier known, and then the call itself)
