@@ -101,7 +101,7 @@ class Run:
     def _look_into(self, plan, played):
         """Reports a difference with as few calls as show it. One that does not show again with more time between the
         calls was a matter of their order, and is none."""
-        difference = played.difference
+        difference = None
         try:
             difference = confirmed(self.course, self.oracle, plan)
             if not difference or difference.words in self.reported:
@@ -110,8 +110,8 @@ class Run:
         except Undecided:
             self.report.undecided += 1
             return
-        except (OSError, Unrecoverable):  # (what the service does not survive is reported as it was seen)
-            self._tell(difference or played.difference, plan, played)
+        except (OSError, Unrecoverable):  # (what the service does not survive is reported as it was seen last)
+            self._tell(difference or self.course.found, plan, played)
             raise
         self._tell(difference, plan, played)
 
