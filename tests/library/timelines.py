@@ -15,8 +15,9 @@ ENVIRONMENT = dict(os.environ, LAMBDA_LOCAL_PROGRAM=PROGRAM)
 NOWHERE = dict(os.environ, LAMBDA_LOCAL_PROGRAM="/nowhere/program")
 ONE = '{"account":"123456789012","region":"us-east-2","functions":[{"name":"f","ports":[9001]}]}'
 # the configuration as a history has it, with all its members
-WHOLE = ('{"account":"123456789012","accountLimit":1000,"functions":[{"extensions":[],"handler":"index.handler","name":"f",'
-         '"ports":[9001],"timeout":3}],"invokePort":9000,"leastRemainder":100,"maxEntries":%d,"region":"us-east-2","salt":0}')
+WHOLE = ('{"account":"123456789012","accountLimit":1000,'
+         '"functions":[{"extensions":[],"handler":"index.handler","name":"f","ports":[9001],"timeout":3}],'
+         '"invokePort":9000,"leastRemainder":100,"maxEntries":%d,"region":"us-east-2","salt":0}')
 
 
 def check(name, good, more=""):

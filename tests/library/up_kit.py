@@ -74,9 +74,9 @@ class Up:
         function = {"name": "f", "command": BREAKABLE, "variables": {"GREETING": "hello"}, "timeout": 1, **members}
         self.write("up.json", json.dumps({"functions": functions or [function], **whole}))
         self.lines, self.endpoint = [], None
-        self.process = subprocess.Popen([os.path.join(TOOLS, "up"), *options, "up.json", *command], cwd=self.at, env=environ,
-                                        stdin=subprocess.DEVNULL, stderr=subprocess.PIPE, stdout=subprocess.PIPE, text=True,
-                                        start_new_session=True)
+        self.process = subprocess.Popen([os.path.join(TOOLS, "up"), *options, "up.json", *command], cwd=self.at,
+                                        env=environ, stdin=subprocess.DEVNULL, stderr=subprocess.PIPE,
+                                        stdout=subprocess.PIPE, text=True, start_new_session=True)
         atexit.register(self.process.kill)  # (if a check fails on the way; what it has started goes with it)
         self.reader = threading.Thread(target=self.read, daemon=True)
         self.reader.start()
@@ -117,8 +117,10 @@ class Up:
         begun = time.monotonic()
         while True:
             try:
-                answer = json.loads(self.get(f"/2015-03-31/functions/{function}/invocations", json.dumps(event).encode()))
-                return answer["errorType"] if isinstance(answer, dict) and "errorType" in answer else answer, time.monotonic() - begun
+                answer = json.loads(self.get(f"/2015-03-31/functions/{function}/invocations",
+                                             json.dumps(event).encode()))
+                return (answer["errorType"] if isinstance(answer, dict) and "errorType" in answer else answer,
+                        time.monotonic() - begun)
             except urllib.error.HTTPError as fault:
                 fault.close()
                 if fault.code != 429 or time.monotonic() - begun > patience:

@@ -14,12 +14,12 @@ import sys
 import tempfile
 import time
 import xml.etree.ElementTree as xml
+from typing import Callable, NamedTuple
 
 ROOT = os.path.dirname(os.path.dirname(os.path.dirname(os.path.realpath(__file__))))
 EXAMPLES = os.path.join(ROOT, "examples")
 HANDLERS = os.path.join(EXAMPLES, "conformance")
 PROGRAMS = os.path.join(ROOT, "tests", "tools", "wrong_programs")
-TOOL = os.path.join(ROOT, "tools", "conformance")
 sys.path[:0] = [PROGRAMS, os.path.join(ROOT, "tools"), os.path.join(ROOT, "tests", "library")]
 import counted  # noqa: E402
 import wrong_extensions  # noqa: E402
@@ -27,26 +27,33 @@ import wrong_runtimes  # noqa: E402
 from counted import check  # noqa: E402
 from lambda_local.conformance import extension, runtime  # noqa: E402
 
-AT_ONCE = os.cpu_count() or 2  # runs of the kit
+AT_ONCE = 3 * (os.cpu_count() or 2)  # runs of the kit, which wait most of the time
 PYTHON = [sys.executable, "-S"]  # (it starts in half the time)
-QUICK = ["--idle-seconds", "1"]
-FEW = [*QUICK, "--invocations", "20"]
-LATE = [*QUICK, "--init-seconds", "2"]
-# A mistake that shows only after a while, or against another limit.
-RUNTIMES = {"GivesNextUp": ["--invocations", "20"], "KeepsEveryEvent": [*QUICK, "--invocations", "800"],
-            "LeavesFilesOpen": [*QUICK, "--invocations", "100"],
-            "StartsSlowly": [*FEW, "--init-seconds", "1"]}
-EXTENSIONS = {"GivesNextUp": [], "RegistersLate": LATE, "AsksForEventsLate": LATE,
-              "AsksForOneMoreEvent": [*QUICK, "--events", "INVOKE"], "IsForInvokeAlone": [*QUICK, "--events", "INVOKE"],
-              "IsForShutdownAlone": [*QUICK, "--events", "SHUTDOWN"]}
+TOOL = [*PYTHON, os.path.join(ROOT, "tools", "conformance")]
+
+
+class Kind(NamedTuple):
+    """A subcommand that tests programs: its checks, the wrong programs, and the options with which they run."""
+    name: str
+    checks: tuple
+    mistakes: dict  # classes by their names
+    settings: dict  # that any of them may have otherwise
+
+
+def checks_of(part):
+    return tuple(check for scenario in part.SCENARIOS for check in scenario.checks)
+
+
+KINDS = (Kind("runtime", checks_of(runtime), wrong_runtimes.MISTAKES, {"idle-seconds": 1, "invocations": 20}),
+         Kind("extension", checks_of(extension), wrong_extensions.MISTAKES, {"idle-seconds": 1, "name": "sound"}))
 
 
 class Run:
     """A finished run of the kit."""
 
-    def __init__(self, *words, temporary=None):
-        variables = {**os.environ, "TMPDIR": temporary} if temporary else None
-        done = subprocess.run([TOOL, *words], cwd=HANDLERS, env=variables, capture_output=True, text=True, timeout=3600)
+    def __init__(self, *words, **variables):
+        done = subprocess.run([*TOOL, *words], cwd=HANDLERS, env={**os.environ, **variables}, capture_output=True,
+                              text=True, timeout=3600)
         self.words, self.status, self.output, self.errors = words, done.returncode, done.stdout, done.stderr
 
     def verdicts(self, outcome):
@@ -61,14 +68,13 @@ def program(name):
     return os.path.join(PROGRAMS, name)
 
 
-# ---- those that pass
-# ---------------------------------------------------------------------------------------------------
+# ---- those that pass -------------------------------------------------------------------------------------------------
 
-def passes(name, run, noted=None):
+def passes(run, name, noted=None):
     """A program without a FAIL; `noted` are the checks that may be noted, none for any."""
-    seen = (run.status, run.verdicts("FAIL"), run.verdicts("NOTE") - (run.verdicts("NOTE") if noted is None else noted))
-    check(f"{name} passes, with notes on {' '.join(sorted(run.verdicts('NOTE'))) or 'nothing'}", seen,
-          (0, set(), set()))
+    notes = run.verdicts("NOTE")
+    seen = (run.status, run.verdicts("FAIL"), notes - (notes if noted is None else noted))
+    check(f"{name} passes, with notes on {' '.join(sorted(notes)) or 'nothing'}", seen, (0, set(), set()))
     run.told(seen == (0, set(), set()))
 
 
@@ -78,6 +84,10 @@ def sound_runtime():
 
 def sound_extension():
     return Run("extension", "--name", "sound", "--", *PYTHON, program("sound_extension.py"))
+
+
+def shipped_runtime(*command):
+    return Run("runtime", "--", *command)
 
 
 def shipped():
@@ -96,72 +106,79 @@ def shipped_extension():
 
 
 def in_go():
-    """The kit's runtime in Go; None if there is no Go."""
-    if not shutil.which("go"):
-        return None
+    """The kit's runtime in Go."""
     with tempfile.TemporaryDirectory() as folder:
         built = os.path.join(folder, "bootstrap")
         subprocess.run(["go", "build", "-o", built, "conformance.go"], cwd=HANDLERS, check=True, timeout=300,
-                       env={**os.environ, "GOCACHE": os.environ.get("GOCACHE", os.path.join(folder, "cache"))})
+                       env={"GOCACHE": os.path.join(folder, "cache"), **os.environ})
         return Run("runtime", "--", built)
 
 
-# ---- those that are caught
-# ---------------------------------------------------------------------------------------------
+# ---- those that are caught -------------------------------------------------------------------------------------------
 
-def wrong_runtime(name):
+def wrong(kind, mistake):
+    settings = {**kind.settings, **getattr(mistake, "settings", {})}
+    options = [word for name, value in settings.items() for word in (f"--{name}", str(value))]
     with tempfile.TemporaryDirectory() as temporary:
-        return Run("runtime", *RUNTIMES.get(name, FEW), "--", *PYTHON, program("wrong_runtimes.py"), name,
-                   temporary=temporary)
+        return Run(kind.name, *options, "--", *PYTHON, program(f"wrong_{kind.name}s.py"), mistake.__name__,
+                   TMPDIR=temporary)
 
 
-def wrong_extension(name):
-    with tempfile.TemporaryDirectory() as temporary:
-        return Run("extension", "--name", "sound", *EXTENSIONS.get(name, QUICK), "--", *PYTHON,
-                   program("wrong_extensions.py"), name, temporary=temporary)
-
-
-def caught(kind, mistake, run):
+def caught(run, kind, mistake):
     """A wrong one is caught by its own check alone."""
     noted = getattr(mistake, "noted", False)
     seen = (run.status, run.verdicts("FAIL"), not noted or mistake.check in run.verdicts("NOTE"))
     wanted = (0 if noted else 1, set() if noted else {mistake.check}, True)
-    check(f"{kind} {mistake.__name__} is {'noted' if noted else 'caught'} by {mistake.check}, and by no other", seen,
-          wanted)
+    how = "noted" if noted else "caught"
+    check(f"{kind.name} {mistake.__name__} is {how} by {mistake.check}, and by no other", seen, wanted)
     run.told(seen == wanted)
 
 
 def each_check_can_fail():
-    for name, part, mistakes in (("runtime", runtime, wrong_runtimes.MISTAKES),
-                                 ("extension", extension, wrong_extensions.MISTAKES)):
-        all_checks = {check.name for scenario in part.SCENARIOS for check in scenario.checks}
-        failed = {mistake.check for mistake in mistakes.values() if not getattr(mistake, "noted", False)}
-        only_notes = {"keep_alive"} if part is runtime else set()
-        check(f"{name}: each check has a wrong one, but for those that only note", all_checks - failed, only_notes)
+    for kind in KINDS:
+        failed = {mistake.check for mistake in kind.mistakes.values() if not getattr(mistake, "noted", False)}
+        only_notes = {"keep_alive"} if kind.name == "runtime" else set()
+        check(f"{kind.name}: each check has a wrong one, but for those that only note",
+              {one.name for one in kind.checks} - failed, only_notes)
+
+
+# ---- all of them, beside one another ---------------------------------------------------------------------------------
+
+class Job(NamedTuple):
+    """A run of the kit, and what judges it."""
+    name: str  # by which it is chosen
+    start: Callable
+    arguments: tuple
+    judge: Callable  # takes the finished run, and these
+    by: tuple
+
+    def begun_in(self, pool):
+        return self, pool.submit(self.start, *self.arguments)
+
+
+def jobs():
+    """All of them. First come those that take longest: so none of them is the last one to begin."""
+    if shutil.which("go"):
+        yield Job("shipped", in_go, (), passes, ("conformance.go",))
+    for name, command in shipped():
+        yield Job("shipped", shipped_runtime, command, passes, (name,))
+    yield Job("shipped", shipped_extension, (), passes, ("extension.py",))
+    yield Job("sound", sound_runtime, (), passes, ("the sound runtime", {"numbers", "memory", "descriptors"}))
+    yield Job("sound", sound_extension, (), passes, ("the sound extension", set()))
+    mistakes = [(kind, mistake) for kind in KINDS for mistake in kind.mistakes.values()]
+    for kind, mistake in sorted(mistakes, key=lambda each: not hasattr(each[1], "settings")):
+        yield Job(mistake.__name__, wrong, (kind, mistake), caught, (kind, mistake))
+
+
+RUNNING = []  # pairs of jobs and their runs, begun before all other parts
 
 
 def programs():
-    """All of them, some at once."""
-    jobs = [("sound", passes, ("the sound runtime", ), sound_runtime, ({"numbers", "memory", "descriptors"},)),
-            ("sound", passes, ("the sound extension", ), sound_extension, (set(),)),
-            ("shipped", passes, ("extension.py", ), shipped_extension, ())]
-    for name, command in shipped():
-        jobs.append(("shipped", passes, (name, ), lambda command=command: Run("runtime", "--", *command), ()))
-    if shutil.which("go"):
-        jobs.append(("shipped", passes, ("conformance.go", ), in_go, ()))
-    for name, mistake in wrong_runtimes.MISTAKES.items():
-        jobs.append((name, caught, ("runtime", mistake), lambda name=name: wrong_runtime(name), ()))
-    for name, mistake in wrong_extensions.MISTAKES.items():
-        jobs.append((name, caught, ("extension", mistake), lambda name=name: wrong_extension(name), ()))
-    jobs = [job for job in jobs if job[0] in (sys.argv[1:] or [job[0]])]
-    with concurrent.futures.ThreadPoolExecutor(AT_ONCE) as pool:
-        running = [pool.submit(job[3]) for job in jobs]
-        for (_, judge, before, _, behind), future in zip(jobs, running):
-            judge(*before, future.result(), *behind)
+    for job, run in RUNNING:
+        job.judge(run.result(), *job.by)
 
 
-# ---- what a run says and leaves
-# ----------------------------------------------------------------------------------------
+# ---- what a run says and leaves --------------------------------------------------------------------------------------
 
 def a_failure_is_explained():
     with tempfile.TemporaryDirectory() as folder:
@@ -204,10 +221,7 @@ def wrong_usage():
             (["extension", "--name", "x", "--", "true"], "it ended with status 0 before it asked for anything")):
         run = Run(*words)
         refused(" ".join(words) or "no word", run, told)
-    os.environ["LAMBDA_LOCAL_PORTS"] = "1-1"
-    run = Run("runtime", "--", "true")
-    del os.environ["LAMBDA_LOCAL_PORTS"]
-    refused("no free port", run, "LAMBDA_LOCAL_PORTS=1-1")
+    refused("no free port", Run("runtime", "--", "true", LAMBDA_LOCAL_PORTS="1-1"), "LAMBDA_LOCAL_PORTS=1-1")
 
 
 def refused(name, run, told):
@@ -233,11 +247,9 @@ def processes_of(mark):
 def nothing_is_left():
     for number, wanted in ((signal.SIGINT, 130), (signal.SIGTERM, 143), (signal.SIGKILL, -9)):
         with tempfile.TemporaryDirectory() as temporary:
-            variables = {**os.environ, "TMPDIR": temporary}
-            process = subprocess.Popen([TOOL, "runtime", "--", *PYTHON, program("sound_runtime.py")], cwd=HANDLERS,
-                                       env=variables,
-                                       stdout=subprocess.PIPE, stderr=subprocess.DEVNULL, text=True,
-                                       start_new_session=True)
+            process = subprocess.Popen([*TOOL, "runtime", "--", *PYTHON, program("sound_runtime.py")], cwd=HANDLERS,
+                                       env={**os.environ, "TMPDIR": temporary}, stdout=subprocess.PIPE,
+                                       stderr=subprocess.DEVNULL, text=True, start_new_session=True)
             process.stdout.readline()
             process.stdout.readline()  # (the first verdict: the scenarios run)
             begun = len(processes_of(temporary)) > 3
@@ -254,14 +266,15 @@ def nothing_is_left():
 def the_page_has_each_check():
     with open(os.path.join(ROOT, "docs", "conformance.md"), encoding="utf-8") as file:
         page = file.read()
-    for name, part in (("runtime", runtime), ("extension", extension)):
-        checks = [one for scenario in part.SCENARIOS for one in scenario.checks]
-        rows = [f"| `{one.name}` | {one.expected} | [{one.page.part}]({one.page.address}) |" for one in checks]
-        check(f"{name}: docs/conformance.md has each check as --list has it", [row for row in rows if row not in page],
-              [])
+    for kind in KINDS:
+        rows = [f"| `{one.name}` | {one.expected} | [{one.page.part}]({one.page.address}) |" for one in kind.checks]
+        check(f"{kind.name}: docs/conformance.md has each check as --list has it",
+              [row for row in rows if row not in page], [])
 
 
 if __name__ == "__main__":
-    parts = (programs,) if sys.argv[1:] else (each_check_can_fail, the_page_has_each_check, wrong_usage, a_failure_is_explained,
-                                              nothing_is_left, programs)
-    sys.exit(counted.run(*parts))
+    others = () if sys.argv[1:] else (each_check_can_fail, the_page_has_each_check, wrong_usage, a_failure_is_explained,
+                                      nothing_is_left)
+    with concurrent.futures.ThreadPoolExecutor(AT_ONCE) as pool:
+        RUNNING += [job.begun_in(pool) for job in jobs() if job.name in (sys.argv[1:] or [job.name])]
+        sys.exit(counted.run(*others, programs))

@@ -24,7 +24,8 @@ SECONDS = 60  # after which a side that waits has failed
 
 
 def response(body):
-    return b"POST /2018-06-01/runtime/invocation/1/response HTTP/1.1\r\nHost: x\r\nContent-Length: %d\r\n\r\n" % len(body) + body
+    return (b"POST /2018-06-01/runtime/invocation/1/response HTTP/1.1\r\nHost: x\r\n"
+            b"Content-Length: %d\r\n\r\n" % len(body) + body)
 
 
 class Side:

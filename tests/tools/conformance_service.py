@@ -15,7 +15,7 @@ import xml.etree.ElementTree as xml
 
 ROOT = os.path.dirname(os.path.dirname(os.path.dirname(os.path.realpath(__file__))))
 EMULATOR = os.path.join(ROOT, "tests", "tools", "emulator")
-TOOL = os.path.join(ROOT, "tools", "conformance")
+TOOL = [sys.executable, "-S", os.path.join(ROOT, "tools", "conformance"), "service"]
 sys.path[:0] = [EMULATOR, os.path.join(ROOT, "tools"), os.path.join(ROOT, "tests", "library")]
 import counted  # noqa: E402
 from counted import check  # noqa: E402
@@ -23,8 +23,8 @@ from life import FAULTS  # noqa: E402
 from lambda_local.conformance.service import known, oracle, sequences  # noqa: E402
 from lambda_local.service import Service, free_ports, program_path  # noqa: E402
 
-POOL = concurrent.futures.ThreadPoolExecutor(12)  # of runs; they wait most of the time
-PARTS, IN_PART = 8, 125  # of the random sequences for lambda_local, each part with a service and a seed of its own
+POOL = concurrent.futures.ThreadPoolExecutor(64)  # of runs: they do little but wait, and all run at once
+PARTS, IN_PART = 20, 50  # of the random sequences for lambda_local, each part with a service and a seed of its own
 IN_EMULATOR = 60  # random sequences
 SERVICE_TIMEOUT, EMULATOR_TIMEOUT = 4, 2  # of the functions, in seconds
 
@@ -52,7 +52,7 @@ class Run:
     """A finished run of the tool."""
 
     def __init__(self, *words):
-        done = subprocess.run([TOOL, "service", *words], capture_output=True, text=True, timeout=1500)
+        done = subprocess.run([*TOOL, *words], capture_output=True, text=True, timeout=1500)
         self.status, self.output, self.errors = done.returncode, done.stdout, done.stderr
 
     @property
@@ -78,10 +78,9 @@ class Run:
 def against_emulator(faults, *words):
     """A run against an emulator with these faults."""
     invoke_port, runtime_port = free_ports(2, set())
-    emulator = subprocess.Popen([sys.executable, "-S", os.path.join(EMULATOR, "emulator.py"), str(invoke_port),
-                                 str(runtime_port),
-                                 str(EMULATOR_TIMEOUT), *faults], stdout=subprocess.PIPE, text=True,
-                                start_new_session=True)
+    numbers = map(str, (invoke_port, runtime_port, EMULATOR_TIMEOUT))
+    emulator = subprocess.Popen([sys.executable, "-S", os.path.join(EMULATOR, "emulator.py"), *numbers, *faults],
+                                stdout=subprocess.PIPE, text=True, start_new_session=True)
     try:
         emulator.stdout.readline()
         return Run("--invoke", f"http://127.0.0.1:{invoke_port}", "--runtime", f"127.0.0.1:{runtime_port}", *words)
@@ -101,8 +100,7 @@ def against_lambda_local(*words):
         service.kill()
 
 
-# ---- what is found, and what is not
-# ------------------------------------------------------------------------------------
+# ---- what is found, and what is not ----------------------------------------------------------------------------------
 
 def started(name, start, *words):
     """A run that has begun, if this name is chosen."""
@@ -159,8 +157,7 @@ def each_worked_sequence_is_played():
         check(f"each of {len(texts)} worked sequences ({start}) is played", {one.name for one in texts} - played, set())
 
 
-# ---- what a run takes and leaves
-# ---------------------------------------------------------------------------------------
+# ---- what a run takes and leaves -------------------------------------------------------------------------------------
 
 def differences_can_be_known():
     with tempfile.TemporaryDirectory() as folder:
@@ -180,9 +177,8 @@ def differences_can_be_known():
         check("the report has the page", "API_Invoke.html" in run.output)
         script = run.output.partition("      script\n")[2].splitlines()
         lines = [line.strip() for line in script if line.startswith("        ")]
-        replayed = subprocess.run([os.environ.get("LAMBDA_LOCAL_PROGRAM", os.path.join(ROOT, "lambda_local")),
-                                   "replay"],
-                                  input="\n".join(lines) + "\n", capture_output=True, text=True)
+        replayed = subprocess.run([program_path(), "replay"], input="\n".join(lines) + "\n", capture_output=True,
+                                  text=True)
         check("its script can be replayed, and has the error", (replayed.returncode, " error =" in replayed.stdout),
               (0, True))
 
@@ -233,6 +229,6 @@ def wrong_usage():
 
 
 if __name__ == "__main__":
-    parts = (nothing_in_lambda_local, nothing_in_a_sound_emulator, each_fault_is_found)
     others = (each_worked_sequence_is_played, differences_can_be_known, built_in_points_stand_in_the_page, wrong_usage)
-    sys.exit(counted.run(*parts, *(() if sys.argv[1:] else others)))
+    parts = (nothing_in_lambda_local, nothing_in_a_sound_emulator, each_fault_is_found)
+    sys.exit(counted.run(*(() if sys.argv[1:] else others), *parts))

@@ -290,7 +290,8 @@ def peers_that_go():
 def alike(answer):
     """An answer without what differs from call to call."""
     status, headers, body = answer
-    headers = {name: value for name, value in headers.items() if name not in ("x-amzn-requestid", "connection", "content-length")}
+    headers = {name: value for name, value in headers.items()
+               if name not in ("x-amzn-requestid", "connection", "content-length")}
     return status, headers, re.sub(rb"[0-9a-f]{8}-[0-9a-f-]{27}", b"ID", body)
 
 
@@ -329,5 +330,5 @@ def mistakes():
 if __name__ == "__main__":
     parts = {part.__name__: part
              for part in (by_boto3, refusals, fan_out, failures, bounds, ends, unchanged, refused_alike, peers_that_go,
-                                              samples, mistakes)}
+                          samples, mistakes)}
     sys.exit(counted.run(*(parts[name] for name in sys.argv[1:] or parts)))

@@ -130,7 +130,8 @@ class Story:
         self.records = text_of(load.up.at, "records", str(number))
 
     def __repr__(self):
-        return f"{self.number}: told {self.told}, runs {self.runs}, {self.ends}, answered {self.answers}, records {self.records!r}"
+        return (f"{self.number}: told {self.told}, runs {self.runs}, {self.ends}, answered {self.answers}, "
+                f"records {self.records!r}")
 
     @property
     def has_ended(self):
@@ -149,8 +150,8 @@ class Story:
     def differs(self):
         """The service's own answer to a run is not what was told of it."""
         told = {invocation: "ok" if status == "ok" else "failed" for status, invocation in self.told}
-        return any(told.get(invocation) != ("ok" if answer == "ok" else "failed") for invocation,
-                   answer in self.answers.items())
+        return any(told.get(invocation) != ("ok" if answer == "ok" else "failed")
+                   for invocation, answer in self.answers.items())
 
     def is_lost(self):
         """It has neither done its work nor come to its destination."""
@@ -193,12 +194,11 @@ def mixed_load():
     check("no other answer came", load.wrong, [])
     check("it was a load", (len(load.sent) > SECONDS, load.invoked > SECONDS / 10, load.spun_down > SECONDS / 100),
           (True, True, True))
-    runs = Counter(f"{story.ends.get(invocation, 'begun')}, {answer}" for story in stories for invocation,
-                   answer in story.answers.items())
+    runs = Counter(f"{story.ends.get(invocation, 'begun')}, {answer}"
+                   for story in stories for invocation, answer in story.answers.items())
     print(f"     {len(stories)} events in {SECONDS:g} s, {sum(bool(story.records) for story in stories)} of them given "
-          f"up; "
-          f"runs with their answers {json.dumps(dict(runs))}; {load.invoked} invocations; {load.spun_down} spindowns",
-          flush=True)
+          f"up; runs with their answers {json.dumps(dict(runs))}; {load.invoked} invocations; "
+          f"{load.spun_down} spindowns", flush=True)
     check("it ends in order, and leaves nothing", up.end(), (0, []))
 
 

@@ -67,8 +67,8 @@ def made_function(**members):
 
 
 SAM = """Globals: {Function: {Runtime: python3.12, Timeout: 5, Environment: {Variables: {A: 1, LIVE: true}}}}
-Parameters: {Name: {Type: String, Default: given}, Stage: {Type: String, Default: dev}, Seconds: {Type: Number, Default: 7},
-             Open: {Type: String}}
+Parameters: {Name: {Type: String, Default: given}, Stage: {Type: String, Default: dev},
+             Seconds: {Type: Number, Default: 7}, Open: {Type: String}}
 Resources:
   Table: {Type: AWS::DynamoDB::Table}
   One: {Type: AWS::Serverless::Function, Properties: {
@@ -77,8 +77,9 @@ Resources:
     FunctionName: !Ref Name, Runtime: provided.al2023, Handler: i.h, ReservedConcurrentExecutions: 3}}
   Three: {Type: AWS::Serverless::Function, Properties: {
     FunctionName: !Sub "orders-${Stage}-${AWS::Region}", Handler: a.b, Timeout: !Ref Seconds}}
-  Four: {Type: AWS::Serverless::Function, Properties: {FunctionName: !Sub "orders-${Open}", Handler: a.b, Environment: {Variables: {
-    OTHER: !Ref Three, ARN: !GetAtt Three.Arn, QUEUE: !GetAtt Queue.Arn, MODE: !Ref Open, WHO: !Sub "${AWS::AccountId}/${!Raw}"}}}}
+  Four: {Type: AWS::Serverless::Function, Properties: {FunctionName: !Sub "orders-${Open}", Handler: a.b,
+    Environment: {Variables: {OTHER: !Ref Three, ARN: !GetAtt Three.Arn, QUEUE: !GetAtt Queue.Arn, MODE: !Ref Open,
+      WHO: !Sub "${AWS::AccountId}/${!Raw}"}}}}
 """
 
 
@@ -335,10 +336,13 @@ def code():
          function_of(Code={"ZipFile": "exports.x = 1"}, Handler="index.x", Runtime="nodejs20.x"),
          {"F": {"name": "F", "handler": "index.x", "environments": 1}},
          "F: has no command, since its code stands in the template")
-    sam_inline = {"Resources": {"F": {"Type": "AWS::Serverless::Function",
-                                      "Properties": {"InlineCode": "x", "Runtime": "python3.12", "Handler": "index.x"}}}}
-    case("InlineCode", sam_inline, {"F": {"name": "F", "handler": "index.x", "environments": 1}}, "its code stands in the template")
-    case("code far away", function_of(CodeUri="s3://far/away"), made_function(), "leaves out CodeUri, which is no folder here")
+    sam_inline = {"Resources": {"F": {
+        "Type": "AWS::Serverless::Function",
+        "Properties": {"InlineCode": "x", "Runtime": "python3.12", "Handler": "index.x"}}}}
+    case("InlineCode", sam_inline, {"F": {"name": "F", "handler": "index.x", "environments": 1}},
+         "its code stands in the template")
+    case("code far away", function_of(CodeUri="s3://far/away"), made_function(),
+         "leaves out CodeUri, which is no folder here")
     case("code of CloudFormation's package", function_of(Code="src"), made_function(directory="src"))
     case("Node without its client", function_of(Runtime="nodejs20.x", Handler="a.b"),
          {"F": {"name": "F", "environments": 1, "handler": "a.b", "runtime": "node"}})
@@ -374,9 +378,9 @@ def numbers():
     many = {"Resources": {f"F{number}": function_of(ReservedConcurrentExecutions=20)["Resources"]["F"]
                           for number in range(70)}}
     made, said = made_of(many)
-    check("seventy functions of twenty", (len(made), sum(function["environments"] for function in made.values()),
-                                          all(function["reserved"] <= function["environments"] for function in made.values())),
-                                          (64, 256, True))
+    check("seventy functions of twenty",
+          (len(made), sum(function["environments"] for function in made.values()),
+           all(function["reserved"] <= function["environments"] for function in made.values())), (64, 256, True))
     check("and what is said",
           ("leaves out the function F69: 64 are the most" in said, "256 are the most in all" in said), (True, True))
 
@@ -447,7 +451,8 @@ def other_types():
                                       "D": {"Fn::Select": [0, {"Fn::Split": [",", "x,y"]}]}}}},
            "Metadata": {"aws:asset:path": "x"},
                                       "Condition": "C"}
-    one["Properties"]["Events"] = {"Get": {"Type": "HttpApi", "Properties": {"Path": "/", "Method": "GET", "ApiId": {"Ref": "Api"}}}}
+    one["Properties"]["Events"] = {"Get": {
+        "Type": "HttpApi", "Properties": {"Path": "/", "Method": "GET", "ApiId": {"Ref": "Api"}}}}
     whole = {"Parameters": {"Stage": {"Type": "String", "Default": "dev"}}, "Mappings": {"M": {"a": {"b": 3}}},
              "Conditions": {"C": {"Fn::Not": [{"Fn::Equals": ["a", {"Ref": "Stage"}]}]}},
              "Globals": {"Function": {"Environment": {"Variables": {"E": 1}}}},
@@ -475,8 +480,8 @@ def other_types():
                     with contextlib.redirect_stderr(io.StringIO()):
                         try:
                             whole_up = json.loads(json.dumps(up_of(path)))
-                            found = [*mistakes(whole_up, {**OF_SERVICE, **settings.AT_THE_TOP}, MEMBERS, ["functions"], ["name"]),
-                                     *settings.mistakes(whole_up)]
+                            found = [*mistakes(whole_up, {**OF_SERVICE, **settings.AT_THE_TOP}, MEMBERS, ["functions"],
+                                               ["name"]), *settings.mistakes(whole_up)]
                             refused += [(mistake, changed) for mistake in found]
                         except Fault as fault:
                             if changed[needed] == template[needed]:

@@ -80,8 +80,8 @@ def events():
         check("its context", sorted(context),
               ["accountId", "apiId", "domainName", "domainPrefix", "http", "requestId", "routeKey", "stage",
                                                "time", "timeEpoch"])
-        check("its times", (re.fullmatch(r"\d\d/[A-Z][a-z]{2}/\d{4}:\d\d:\d\d:\d\d \+0000", context["time"]) is not None,
-                            isinstance(context["timeEpoch"], int)), (True, True))
+        is_time = re.fullmatch(r"\d\d/[A-Z][a-z]{2}/\d{4}:\d\d:\d\d:\d\d \+0000", context["time"]) is not None
+        check("its times", (is_time, isinstance(context["timeEpoch"], int)), (True, True))
         event = json.loads(caller.ask("GET", "/")[2])
         check("a request with nothing",
               [name in event for name in ("body", "cookies", "queryStringParameters", "pathParameters")], [False] * 4)
@@ -153,7 +153,8 @@ def cross_origin():
         asked = {"Origin": "http://shop.example", "Access-Control-Request-Method": "POST",
                  "Access-Control-Request-Headers": "x-one"}
         status, headers, body = caller.ask("OPTIONS", "/", None, asked)
-        check("a preflight", (status, body, {name: value for name, value in headers.items() if name.startswith("access")}), (200, b"", {
+        of_cors = {name: value for name, value in headers.items() if name.startswith("access")}
+        check("a preflight", (status, body, of_cors), (200, b"", {
             "access-control-allow-origin": "http://shop.example", "access-control-allow-methods": "GET,POST",
             "access-control-allow-headers": "x-one", "access-control-allow-credentials": "true",
             "access-control-max-age": "60", "access-control-expose-headers": "x-two"}))
@@ -182,7 +183,8 @@ TEMPLATE = {"Globals": {"HttpApi": OF_API}, "Resources": {
 
 
 def cors_in(headers):
-    return {name[len("access-control-"):]: value for name, value in headers.items() if name.startswith("access-control-")}
+    return {name[len("access-control-"):]: value for name, value in headers.items()
+            if name.startswith("access-control-")}
 
 
 def of_a_template():
@@ -231,8 +233,9 @@ def of_a_template():
 PAGE = '''def run(event, context):
     url = event.get("queryStringParameters", {}).get("to")
     return {"statusCode": 200, "headers": {"content-type": "text/html"}, "body": """<p id=x>waits</p><script>
-fetch("%s/there", {method: "POST", headers: {"content-type": "application/json", "x-one": "1"}, body: "{}"}).then(answer => answer.json())
- .then(event => "got " + event.rawPath, fault => fault).then(text => { document.getElementById("x").textContent = text })
+fetch("%s/there", {method: "POST", headers: {"content-type": "application/json", "x-one": "1"}, body: "{}"})
+ .then(answer => answer.json()).then(event => "got " + event.rawPath, fault => fault)
+ .then(text => { document.getElementById("x").textContent = text })
 </script>""" % url}
 '''
 
@@ -277,7 +280,8 @@ def routes():
             check("any site may read it", headers["access-control-allow-origin"], "*")
         check("no route", caller.ask("GET", "/orders")[::2], (404, b'{"message": "Not Found"}'))
         check("no rest", caller.ask("GET", "/files")[0], 404)
-        check("a preflight", caller.ask("OPTIONS", "/orders", None, {"Origin": "http://a", "Access-Control-Request-Method": "GET"})[0], 204)
+        preflight = {"Origin": "http://a", "Access-Control-Request-Method": "GET"}
+        check("a preflight", caller.ask("OPTIONS", "/orders", None, preflight)[0], 204)
         check("what is no answer", caller.ask("GET", "/orders/7?gives=" + urllib.parse.quote('{"statusCode":1}'))[::2],
               (502, b'{"message": "Internal Server Error"}'))
 
@@ -351,5 +355,6 @@ def mistakes():
 
 
 if __name__ == "__main__":
-    parts = {part.__name__: part for part in (events, results, by_curl, cross_origin, of_a_template, in_a_browser, routes, malformed, mistakes)}
+    parts = {part.__name__: part for part in (events, results, by_curl, cross_origin, of_a_template, in_a_browser,
+                                              routes, malformed, mistakes)}
     sys.exit(counted.run(*(parts[name] for name in sys.argv[1:] or parts)))

@@ -95,7 +95,8 @@ def says():
             check("has no other name for a tool", re.findall(rf"lambda_local (?:{'|'.join(TOOLS)})\b", output), [])
         for words in (["nothing"], ["serve"], ["replay", "file"], ["serve", "a", "b"], ["path", "x"], ["--quick"]):
             status, output, said = run(root, *words)
-            fine = status == 2 and not output and said.count("\n") == 1 and "'" + " ".join(words) + "'" in said and "--help" in said
+            fine = (status == 2 and not output and said.count("\n") == 1 and "'" + " ".join(words) + "'" in said
+                    and "--help" in said)
             check(f"'{' '.join(words)}' is refused with a line", fine or (status, output, said))
         check("nothing was unpacked for that", os.path.exists(os.path.join(root, RELEASED)), False)
         status, output, said = run(root, "--version")

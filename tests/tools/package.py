@@ -78,8 +78,9 @@ def made():
         again = os.path.join(root, "again")
         os.mkdir(again)
         package(root, "--archive", "--wheel", "--deb", "again")
-        check("the same commit gives the same bytes", [os.path.basename(path) for path in paths
-                                                       if bytes_of(path) != bytes_of(os.path.join(again, os.path.basename(path)))], [])
+        check("the same commit gives the same bytes",
+              [os.path.basename(path) for path in paths
+               if bytes_of(path) != bytes_of(os.path.join(again, os.path.basename(path)))], [])
         check("nothing else is left there", sorted(os.listdir(again)), sorted(map(os.path.basename, paths)))
         check("an archive is the default", package(root)[1], os.path.join(root, os.path.basename(paths[0])) + "\n")
 

@@ -25,18 +25,21 @@ import pytest
 WORD = "plain"
 
 def greet(event, context):
-    return {"hello": event["name"], "word": WORD, "process": os.getpid(), "has": 0 < context.get_remaining_time_in_millis() <= 3000}
+    return {"hello": event["name"], "word": WORD, "process": os.getpid(),
+            "has": 0 < context.get_remaining_time_in_millis() <= 3000}
 
 def test_in_this_process(lambda_local, monkeypatch):
     monkeypatch.setattr(f"{__name__}.WORD", "patched")
     lambda_local.start(greet=greet)
-    assert lambda_local.invoke("greet", {"name": "Ada"}) == {"hello": "Ada", "word": "patched", "process": os.getpid(), "has": True}
+    assert lambda_local.invoke("greet", {"name": "Ada"}) == {
+        "hello": "Ada", "word": "patched", "process": os.getpid(), "has": True}
 
 def test_client(lambda_local):
     pytest.importorskip("boto3")
     lambda_local.start(double=lambda event: event * 2)
     client = lambda_local.client()
-    assert [client.invoke(FunctionName="double", Payload=str(n))["Payload"].read() for n in range(3)] == [b"0", b"2", b"4"]
+    seen = [client.invoke(FunctionName="double", Payload=str(n))["Payload"].read() for n in range(3)]
+    assert seen == [b"0", b"2", b"4"]
 
 def test_timeout(lambda_local):
     lambda_local.start({"slow": {"timeout": 1}}, slow=lambda event: time.sleep(1.5))
@@ -228,7 +231,8 @@ def launcher():
         return print("skip there is no launcher here")
     with tempfile.TemporaryDirectory() as folder:
         # (as the repository's: one that notes each start, and says the program)
-        program = os.environ.get("LAMBDA_LOCAL_PROGRAM") or subprocess.run([own, "path"], stdout=subprocess.PIPE, text=True).stdout.strip()
+        program = os.environ.get("LAMBDA_LOCAL_PROGRAM") or subprocess.run(
+            [own, "path"], stdout=subprocess.PIPE, text=True).stdout.strip()
         fake = os.path.join(folder, "lambda_local")
         with open(fake, "w") as file:
             file.write(f'#!/bin/sh\necho "$1" >> "$0.started"\n[ "$1" = path ] && echo {program} && exit\nexec '
@@ -278,8 +282,8 @@ def pytest_over(python, folder):
                           cwd=folder, env={**os.environ, "PYTHONPATH": os.pathsep.join([TOOLS, *lent])},
                           stdin=subprocess.DEVNULL,
                           stdout=subprocess.PIPE, stderr=subprocess.STDOUT, text=True, timeout=300)
-    counts = {word: int(number) for number,
-              word in re.findall(r"(\d+) (passed|failed|error|skipped)", done.stdout.splitlines()[-1])}
+    counts = {word: int(number)
+              for number, word in re.findall(r"(\d+) (passed|failed|error|skipped)", done.stdout.splitlines()[-1])}
     return done.returncode, done.stdout, counts
 
 

@@ -23,18 +23,29 @@ from lambda_local.rerun import compare, play, record, report  # noqa: E402
 from lambda_local.service import Fault, Service, ask  # noqa: E402
 
 TOOL = os.path.join(ROOT, "tools", "rerun")
-WHOLE = ('form 2\n{"account":"123456789012","accountLimit":1000,"functions":[{"extensions":[],"handler":"index.handler","name":"f",'
-         '"ports":[9001,9002],"timeout":3}],"invokePort":9000,"leastRemainder":100,"maxEntries":1000000,"region":"us-east-2","salt":7}\n')
+WHOLE = ('form 2\n{"account":"123456789012","accountLimit":1000,'
+         '"functions":[{"extensions":[],"handler":"index.handler","name":"f","ports":[9001,9002],"timeout":3}],'
+         '"invokePort":9000,"leastRemainder":100,"maxEntries":1000000,"region":"us-east-2","salt":7}\n')
 REQUEST = "00000000-0000-8007-8001-00000000000"
 # Two at once, a throttle between them, one that fails, one that has no answer: worked by docs/formats.md.
-HISTORY = (WHOLE + "0 next 1\n0 next 2\n10 invoke f q =Root=1 ={\"n\":1}\n"
-           + f"# 2 0 deliver {REQUEST}1 3010 ={{\"n\":1}}\n"
-           + "20 invoke f - - =2\n" + f"# 3 1 deliver {REQUEST}2 3020 =2\n" + "25 invoke f - - =3\n"
-           + "# 4 4 throttled LocalEnvironmentLimitExceeded\n30 response 1 1 =%22one%22\n# 5 2 output =%22one%22\n# 5 "
-           "5 accepted\n"
-           + "40 next 1\n50 failure 2 2 ={\"errorType\":\"E\"}\n# 7 3 error ={\"errorType\":\"E\"}\n# 7 7 accepted\n60 "
-           "invoke f - - =4\n"
-           + f"# 8 6 deliver {REQUEST}4 3060 =4\n")
+HISTORY = WHOLE + f"""0 next 1
+0 next 2
+10 invoke f q =Root=1 ={{"n":1}}
+# 2 0 deliver {REQUEST}1 3010 ={{"n":1}}
+20 invoke f - - =2
+# 3 1 deliver {REQUEST}2 3020 =2
+25 invoke f - - =3
+# 4 4 throttled LocalEnvironmentLimitExceeded
+30 response 1 1 =%22one%22
+# 5 2 output =%22one%22
+# 5 5 accepted
+40 next 1
+50 failure 2 2 ={{"errorType":"E"}}
+# 7 3 error ={{"errorType":"E"}}
+# 7 7 accepted
+60 invoke f - - =4
+# 8 6 deliver {REQUEST}4 3060 =4
+"""
 RUNTIME = '''import http.client, json, os, urllib.request
 path, mode = "/2018-06-01/runtime/invocation/", os.environ["MODE"]
 assert mode != "exit"
@@ -48,7 +59,9 @@ while True:
     if mode == "stop":
         urllib.request.urlopen(os.environ["AWS_ENDPOINT_URL_LAMBDA"] + "/_local/stop", b"")
     fails = event["fails"] == mode
-    body = {"errorType": "E", "errorMessage": mode} if fails else {"n": event["n"], "mode": mode, "parts": [{"id": os.getpid()}]}
+    body = {"n": event["n"], "mode": mode, "parts": [{"id": os.getpid()}]}
+    if fails:
+        body = {"errorType": "E", "errorMessage": mode}
     identifier = answer.headers["Lambda-Runtime-Aws-Request-Id"]
     connection.request("POST", path + identifier + ("/error" if fails else "/response"), json.dumps(body))
     connection.getresponse().read()
@@ -107,7 +120,8 @@ def compares():
     check("a long value", len(told(b'"' + b"x" * 999 + b'"', b"1")[0]) < 150)
     deep = b"[" * 120 + b"1" + b"]" * 120
     check("deep ones", told(deep, deep.replace(b"1", b"2")), ["/0" * 120 + ": 1 -> 2"])
-    then, now = b'{"time":1,"items":[{"id":1,"n":1},{"id":2,"n":2}],"a/b":1}', b'{"time":2,"items":[{"id":3,"n":1},{"id":4,"n":3}],"a/b":2}'
+    then, now = (b'{"time":1,"items":[{"id":1,"n":1},{"id":2,"n":2}],"a/b":1}',
+                 b'{"time":2,"items":[{"id":3,"n":1},{"id":4,"n":3}],"a/b":2}')
     check("ignored members", told(then, now, "/time", "/items/*/id", "/a~1b"), ["/items/1/n: 2 -> 3"])
     check("all below an ignored one", told(then, now, "/time", "/items", "/*"), [])
     check("an ignored member that is absent", told(b'{"time":1}', b"{}", "/time"), [])
@@ -205,8 +219,10 @@ def recorded_history():
             _, headers, body = ask(port, "GET", path + "next", timeout=600)
             event = json.loads(body)
             fails = event["fails"] == "old"
-            answer = {"errorType": "E", "errorMessage": "old"} if fails else {"n": event["n"], "mode": "old", "parts": [{"id": 0}]}
-            ask(port, "POST", f"{path}{headers['lambda-runtime-aws-request-id']}/{'error' if fails else 'response'}", json.dumps(answer))
+            answer = {"errorType": "E", "errorMessage": "old"} if fails else {
+                "n": event["n"], "mode": "old", "parts": [{"id": 0}]}
+            ask(port, "POST", f"{path}{headers['lambda-runtime-aws-request-id']}/{'error' if fails else 'response'}",
+                json.dumps(answer))
     try:
         thread = threading.Thread(target=serve)
         thread.start()

@@ -26,14 +26,16 @@ NODE = ["node", os.path.join(EXAMPLES, "runtime.mjs")]
 SHELL = [os.path.join(EXAMPLES, "runtime.sh")]
 TRACE = "Root=1-5759e988-bd862e3fe1be46a994272793;Sampled=1"
 OWN_NAMES = ("_HANDLER", "LAMBDA_TASK_ROOT", "_X_AMZN_TRACE_ID", "AWS_EXECUTION_ENV", "PYTHONPATH", "NODE_OPTIONS")
-BARE = {name: value for name, value in os.environ.items() if name not in OWN_NAMES and not name.startswith("AWS_LAMBDA_")}
+BARE = {name: value for name, value in os.environ.items()
+        if name not in OWN_NAMES and not name.startswith("AWS_LAMBDA_")}
 
 
 class Running:
     """A service of one function with one environment, and a runtime over files of its own."""
 
     def __init__(self, command, files=(), timeout=60, run_from=None, **variables):
-        self.command, self.files, self.timeout, self.run_from, self.variables = command, dict(files), timeout, run_from, variables
+        self.command, self.files, self.timeout = command, dict(files), timeout
+        self.run_from, self.variables = run_from, variables
 
     def __enter__(self):
         self.folder = tempfile.mkdtemp()
@@ -52,8 +54,9 @@ class Running:
     def start(self):
         self.printed = tempfile.TemporaryFile("w+")
         variables = {**BARE, "AWS_LAMBDA_RUNTIME_API": f"127.0.0.1:{self.port}", **self.variables}
-        self.runtime = subprocess.Popen(self.command, cwd=self.run_from or self.folder, env=variables, stdin=subprocess.DEVNULL,
-                                        stdout=self.printed, stderr=subprocess.STDOUT, start_new_session=True)
+        self.runtime = subprocess.Popen(self.command, cwd=self.run_from or self.folder, env=variables,
+                                        stdin=subprocess.DEVNULL, stdout=self.printed, stderr=subprocess.STDOUT,
+                                        start_new_session=True)
         self.runtimes.append(self.runtime)
 
     def __exit__(self, *_):
@@ -69,7 +72,8 @@ class Running:
         is busy: a throttle is tried again."""
         end = time.monotonic() + 10
         while True:
-            status, replied, body = ask(self.service.port, "POST", "/2015-03-31/functions/f/invocations", json.dumps(event), headers)
+            status, replied, body = ask(self.service.port, "POST", "/2015-03-31/functions/f/invocations",
+                                        json.dumps(event), headers)
             if status != 429 or time.monotonic() > end:
                 return "x-amz-function-error" in replied if status == 200 else status, json.loads(body)
             time.sleep(0.02)
@@ -130,8 +134,8 @@ def handler(event, context):
     if do == "variables":
         return [os.environ.get("_X_AMZN_TRACE_ID"), os.environ["AWS_EXECUTION_ENV"], os.getpid()]
     if do == "context":
-        names = ("aws_request_id", "invoked_function_arn", "function_name", "function_version", "memory_limit_in_mb", "log_group_name",
-                 "log_stream_name", "client_context")
+        names = ("aws_request_id", "invoked_function_arn", "function_name", "function_version", "memory_limit_in_mb",
+                 "log_group_name", "log_stream_name", "client_context")
         left = context.get_remaining_time_in_millis()
         return {**{name: getattr(context, name) for name in names}, "left": 0 < left <= 60000,
                 "identity": context.identity.cognito_identity_id}

@@ -116,7 +116,8 @@ def worked():
                 *parts, (_, answers) = zip(rest[::2], rest[1::2])
                 script = written(parts)
                 answers = answers.removesuffix("\n\n") + "\n" if answers.endswith("\n\n") else answers
-                if script and len(script) < 100_000 and re.fullmatch(r"(\d+ \d+ [a-z-]+.*\n|refused JournalFull\n)*", answers):
+                if (script and len(script) < 100_000
+                        and re.fullmatch(r"(\d+ \d+ [a-z-]+.*\n|refused JournalFull\n)*", answers)):
                     drawn += 1
                     with open(wanted, "w") as file:
                         file.write(answers)

@@ -24,7 +24,8 @@ HISTORY = ("form 2\n" + WHOLE % 1000000
 
 def history():
     """A history has its answers in it; it is drawn as its replay is."""
-    replayed = ONE + "\n0 next 1\n10 invoke f - - =1\n5000 tick\n5000 next 1\n5001 invoke f - - =2\n5002 response 1 2 =3\n"
+    replayed = (ONE + "\n0 next 1\n10 invoke f - - =1\n5000 tick\n5000 next 1\n"
+                "5001 invoke f - - =2\n5002 response 1 2 =3\n")
     text = HISTORY
     for form in ("text", "trace", "svg"):
         ours, theirs = run(f"--{form}", script=text, environment=NOWHERE), run(f"--{form}", script=replayed)
@@ -97,8 +98,10 @@ def relative_axis(text):
     """In a history of the clock, seconds from the start and the clock's milliseconds choose the same."""
     first = int(text.split("\n")[2].split(" ")[0])
     for form in ("text", "trace", "svg"):
-        ours, theirs = run(f"--{form}", "--from", "+1", script=text), run(f"--{form}", "--from", str(first + 1000), script=text)
-        check(f"a second after the start, as {form}", ours == theirs and ours[0] == 0 and ours != run(f"--{form}", script=text), ours[2])
+        ours, theirs = (run(f"--{form}", "--from", "+1", script=text),
+                        run(f"--{form}", "--from", str(first + 1000), script=text))
+        check(f"a second after the start, as {form}",
+              ours == theirs and ours[0] == 0 and ours != run(f"--{form}", script=text), ours[2])
     axis = re.findall(r'text-anchor="middle">([0-9.]+)<', run("--svg", "--from", "+1", script=text)[1])
     check("the axis counts from the start of the history", axis and min(map(float, axis)) >= 1, str(axis[:3]))
     check("both axes in one", run("--from", "+0", "--to", str(first), script=text)[0] == 0)

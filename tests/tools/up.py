@@ -79,7 +79,8 @@ def extension_that(seconds):
             "c.request('POST','/2020-01-01/extension/register','{\"events\":[]}',{'Lambda-Extension-Name':'x'})\n"
             "a=c.getresponse();a.read();i=a.headers['Lambda-Extension-Identifier']\n"
             f"import threading;threading.Timer({seconds},os._exit,[5]).start()\n"
-            "c.request('GET','/2020-01-01/extension/event/next',headers={'Lambda-Extension-Identifier':i})\nc.getresponse().read()"]
+            "c.request('GET','/2020-01-01/extension/event/next',headers={'Lambda-Extension-Identifier':i})\n"
+            "c.getresponse().read()"]
 
 
 def extensions():

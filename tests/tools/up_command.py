@@ -29,7 +29,8 @@ except KeyboardInterrupt:
     open("torn_down", "w").close()
     sys.exit(2)
 '''
-STUBBORN = "import signal, time\nsignal.signal(signal.SIGINT, signal.SIG_IGN)\nopen('running', 'w').close()\ntime.sleep(60)\n"
+STUBBORN = ("import signal, time\nsignal.signal(signal.SIGINT, signal.SIG_IGN)\n"
+            "open('running', 'w').close()\ntime.sleep(60)\n")
 PRINTS = "import json, os; print(json.dumps(dict(os.environ)))"
 
 

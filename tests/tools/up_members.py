@@ -28,8 +28,9 @@ def told(text, folder, *options):
 # Members of the function greet, whose command is `true`, and what is said behind "up: up.json: function greet: ".
 OF_FUNCTION = {
     "a member that nobody knows": ({"timeuot": 5}, "unknown member timeuot, did you mean timeout?"),
-    "one that is like no other": ({"zzz": 1}, "unknown member zzz; there are command, directory, environments, extensions, handler, "
-                                              "memory, name, ports, reserved, runtime, timeout, url, variables, watch"),
+    "one that is like no other": ({"zzz": 1}, "unknown member zzz; there are command, directory, environments, "
+                                              "extensions, handler, memory, name, ports, reserved, runtime, timeout, "
+                                              "url, variables, watch"),
     "a text for a number": ({"timeout": "5"}, 'timeout must be a whole number of seconds, from 1 to 900, not "5"'),
     "a broken number": ({"memory": 1.5}, "memory must be a whole number of MB, not 1.5"),
     "true for a number": ({"reserved": True}, "reserved must be a whole number, not true"),
@@ -60,7 +61,7 @@ OF_FUNCTION = {
                        "timeout must be from 1 to 900 seconds, not 1000 (the service says BadTimeout)"),
     "a reservation": ({"reserved": 5, "environments": 4},
                       "it reserves 5 and has 4 environments: reserve at most as many, or give it more "
-                                                          "(the service says ReservationAboveEnvironments)"),
+                      "(the service says ReservationAboveEnvironments)"),
     "a handler": ({"handler": ""},
                   'handler must have 1 to 128 printable ASCII characters, not "" (the service says BadHandler)'),
 }
@@ -79,7 +80,7 @@ OF_SERVICE = {
     "a region": ({"region": "EU"}, 'region must have 1 to 32 of a-z, 0-9 and -, not "EU" (the service says BadRegion)'),
     "a small account": ({"accountLimit": 50},
                         "leastRemainder must be at most accountLimit, which is 50, not 100, the default "
-                                              "(the service says BadLeastRemainder)"),
+                        "(the service says BadLeastRemainder)"),
     "a small history": ({"maxEntries": 1},
                         "maxEntries must be from 2, one more than there are environments, to 4294967296, not 1 "
                                            "(the service says EntriesOutOfRange)"),
@@ -142,7 +143,8 @@ FAULTS = {
     "BadTimeout": ({"functions": [{"name": "a", "ports": [1]}, {"name": "b", "ports": [2], "timeout": 901}]},
                    "function b: timeout"),
     "NoEnvironment": ({"functions": [{"name": "a", "ports": []}]}, "function a: it has no environment"),
-    "TooManyEnvironments": ({"functions": [{"name": "a", "ports": list(range(1, 256))}, {"name": "b", "ports": [300, 301]}]},
+    "TooManyEnvironments": ({"functions": [{"name": "a", "ports": list(range(1, 256))},
+                                           {"name": "b", "ports": [300, 301]}]},
                             "257 environments in all, 255 of them of function a"),
     "BadPort": ({"functions": [{"name": "a", "ports": [0]}]}, "function a: 0 is no port"),
     "DuplicatePort": ({"functions": [{"name": "a", "ports": [7]}], "invokePort": 7},

@@ -52,7 +52,8 @@ def mistakes_of(members, kinds, where, required=()):
     for name, value in members.items():
         if name not in kinds:
             near = difflib.get_close_matches(name, kinds, 1, 0.6)
-            yield f"{where}unknown member {name}" + (f", did you mean {near[0]}?" if near else f"; there are {', '.join(sorted(kinds))}")
+            yield f"{where}unknown member {name}" + (
+                f", did you mean {near[0]}?" if near else f"; there are {', '.join(sorted(kinds))}")
         elif not kinds[name].accepts(value):
             yield f"{where}{name} must be {kinds[name].expected}, not {shown(value)}"
     for name in required:
@@ -169,20 +170,21 @@ def duplicate_extension(whole, functions):
 
 def reservation_above_environments(whole, functions):
     found, where = first(functions, lambda member: member.get("reserved", 0) > len(member["ports"]))
-    return f"{where}it reserves {found['reserved']} and has {len(found['ports'])} environments: reserve at most as many, or give it more"
+    return (f"{where}it reserves {found['reserved']} and has {len(found['ports'])} environments: "
+            "reserve at most as many, or give it more")
 
 
 def remainder_too_small(whole, functions):
     reserved = sum(member.get("reserved", 0) for member in functions)
     limit, least = whole.get("accountLimit", 1000), whole.get("leastRemainder", 100)
     return (f"the functions reserve {reserved} of accountLimit {limit}: leastRemainder {least} must stay unreserved; "
-            f"reserve less, "
-            "or write another accountLimit or leastRemainder")
+            "reserve less, or write another accountLimit or leastRemainder")
 
 
 def entries_out_of_range(whole, functions):
     least = environments_of(functions) + 1
-    return f"maxEntries must be from {least}, one more than there are environments, to {1 << 32}, not {whole.get('maxEntries')}"
+    return (f"maxEntries must be from {least}, one more than there are environments, to {1 << 32}, "
+            f"not {whole.get('maxEntries')}")
 
 
 SENTENCES = {

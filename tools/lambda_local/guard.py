@@ -56,8 +56,9 @@ class Guard:
             ours, self.pipe = os.pipe()  # (neither is inherited)
             try:
                 # In a session of its own, since a terminal's signals are not for it.
-                self.process = subprocess.Popen([sys.executable or "python3", "-I", "-S", os.path.realpath(__file__)], stdin=ours, cwd="/",
-                                                stdout=subprocess.DEVNULL, stderr=subprocess.DEVNULL, start_new_session=True)
+                self.process = subprocess.Popen(
+                    [sys.executable or "python3", "-I", "-S", os.path.realpath(__file__)], stdin=ours, cwd="/",
+                    stdout=subprocess.DEVNULL, stderr=subprocess.DEVNULL, start_new_session=True)
             finally:
                 os.close(ours)
             atexit.register(self.end)

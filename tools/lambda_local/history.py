@@ -59,8 +59,8 @@ class Entry(NamedTuple):
     @property
     def count(self) -> Optional[int]:
         """The count in the identifier that the call names: of a request, or of an extension."""
-        return int(self.fields[1]) if self.kind in ("response", "failure", "response-too-large", "ext-next", "ext-init-failure",
-                                                    "ext-exit-failure") else None
+        return int(self.fields[1]) if self.kind in (
+            "response", "failure", "response-too-large", "ext-next", "ext-init-failure", "ext-exit-failure") else None
 
     @property
     def body(self) -> Optional[bytes]:

@@ -76,9 +76,8 @@ def context_of(headers, memory):
     name = arn.split(":")[6]
     return types.SimpleNamespace(
         headers=headers, aws_request_id=headers["Lambda-Runtime-Aws-Request-Id"], invoked_function_arn=arn,
-        function_name=name,
-        function_version="$LATEST", memory_limit_in_mb=memory, log_group_name=f"/aws/lambda/{name}",
-        log_stream_name="local/[$LATEST]1",
+        function_name=name, function_version="$LATEST", memory_limit_in_mb=memory,
+        log_group_name=f"/aws/lambda/{name}", log_stream_name="local/[$LATEST]1",
         identity=types.SimpleNamespace(cognito_identity_id=None, cognito_identity_pool_id=None), client_context=None,
         get_remaining_time_in_millis=lambda: max(0, deadline - int(1000 * time.time())),
         log=lambda text: sys.stdout.write(str(text)))
@@ -208,8 +207,8 @@ class LambdaLocal:
             self.started()
         end = time.monotonic() + patience
         while True:
-            request = urllib.request.Request(f"{self.endpoint_url}/2015-03-31/functions/{name}/invocations", json.dumps(event).encode(),
-                                             method="POST")
+            request = urllib.request.Request(f"{self.endpoint_url}/2015-03-31/functions/{name}/invocations",
+                                             json.dumps(event).encode(), method="POST")
             try:
                 with urllib.request.urlopen(request, timeout=1000) as answer:
                     body = json.loads(answer.read() or b"null")
@@ -236,8 +235,9 @@ class LambdaLocal:
             import boto3
         except ImportError:
             raise RuntimeError("boto3 is not installed: `pip install boto3`, or use .invoke()") from None
-        return boto3.client("lambda", **{"endpoint_url": self.endpoint_url, "region_name": "us-east-1", "aws_access_key_id": "local",
-                                         "aws_secret_access_key": "local", **words})
+        return boto3.client("lambda", **{
+            "endpoint_url": self.endpoint_url, "region_name": "us-east-1", "aws_access_key_id": "local",
+            "aws_secret_access_key": "local", **words})
 
     def stats(self):
         return self.started().stats()
@@ -272,7 +272,8 @@ class LambdaLocal:
         told = [int(word) for word in words[1::2]]
         assert status == 0, f"the service ended with {status}: {self.service.lines[-1:]}"
         # (what is in flight at the stop fails)
-        assert words[::2] == ["admitted", "throttled", "failed"] and told[:2] == [stats["admitted"], stats["throttled"]], (counts, stats)
+        assert (words[::2] == ["admitted", "throttled", "failed"]
+                and told[:2] == [stats["admitted"], stats["throttled"]]), (counts, stats)
         assert told[2] >= stats["failed"], (counts, stats)
         assert self.service.replays(self.log), "the history does not replay to its own answers"
 

@@ -26,8 +26,7 @@ class Suite:
         skipped = sum(reason is not None for _, _, _, _, _, reason, _ in self.cases)
         total = sum(case[2] for case in self.cases) if self.seconds is None else self.seconds
         head = (f"<testsuite name={attribute(self.name)} tests=\"{len(self.cases)}\" failures=\"{failed}\" "
-                f"errors=\"0\" "
-                f"skipped=\"{skipped}\" time=\"{total:.3f}\">")
+                f"errors=\"0\" skipped=\"{skipped}\" time=\"{total:.3f}\">")
         return "\n".join(['<?xml version="1.0" encoding="UTF-8"?>', "<testsuites>", head, *map(self._case, self.cases),
                           "</testsuite>", "</testsuites>", ""])
 

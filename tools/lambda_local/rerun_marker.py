@@ -15,8 +15,8 @@ FIXTURES = ("lambda_local", "lambda_local_session")
 
 def pytest_configure(config):
     config.addinivalue_line("markers", f"{NAME}(history, ignore=(), one_by_one=False): after the test, sends the "
-                                       f"invocations of this "
-                                       "history again to the functions that it started, and compares their outputs")
+                                       "invocations of this history again to the functions that it started, and "
+                                       "compares their outputs")
 
 
 @pytest.hookimpl(trylast=True)

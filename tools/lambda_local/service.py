@@ -179,8 +179,8 @@ class Service:
         # (in a session of its own, so that a terminal's Ctrl-C does not end it out of order)
         with undisturbed():
             command, pipe = GUARD.announcing([self.program, "serve", path])
-            self.process = subprocess.Popen(command, stdin=pipe, stdout=subprocess.PIPE, stderr=subprocess.PIPE, text=True,
-                                            errors="replace", start_new_session=True)
+            self.process = subprocess.Popen(command, stdin=pipe, stdout=subprocess.PIPE, stderr=subprocess.PIPE,
+                                            text=True, errors="replace", start_new_session=True)
             self.listening = threading.Event()
             self.reader = threading.Thread(target=self._read, daemon=True)
             self.reader.start()
@@ -206,7 +206,8 @@ class Service:
                 if line.split(" ")[-1] == "listening":
                     self.listening_line = True
                     self.listening.set()
-                elif line.split(" ")[-1] != "stopped" and (self.listening_line or not line.startswith((NO_NETWORK, "configuration: "))):
+                elif line.split(" ")[-1] != "stopped" and (
+                        self.listening_line or not line.startswith((NO_NETWORK, "configuration: "))):
                     self.say(line)
         self.listening.set()
 
@@ -258,4 +259,5 @@ class Service:
     def replays(self, history):
         """Whether the history's replay gives its own answers."""
         done = subprocess.run([self.program, "replay"], input=history, capture_output=True, text=True)
-        return done.returncode == 0 and done.stdout.splitlines() == [line[2:] for line in history.splitlines() if line.startswith("# ")]
+        return done.returncode == 0 and done.stdout.splitlines() == [
+            line[2:] for line in history.splitlines() if line.startswith("# ")]

@@ -113,8 +113,7 @@ def make(source, folder):
         describe(source, root)
         os.umask(before)
         done = subprocess.run(["dpkg-deb", "--build", "--root-owner-group", "-Zxz", root, built],
-                              stdout=subprocess.PIPE,
-                              stderr=subprocess.STDOUT, text=True,
+                              stdout=subprocess.PIPE, stderr=subprocess.STDOUT, text=True,
                               env={**os.environ, "SOURCE_DATE_EPOCH": str(source.moment)})
         if done.returncode:
             raise Fault(4, f"dpkg-deb ended with status {done.returncode}: {done.stdout.strip().splitlines()[-1:]}")

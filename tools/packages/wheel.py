@@ -42,8 +42,8 @@ def contents(source):
     info = f"lambda_local-{source.version}.dist-info"
     readme = source.files["README.md"][1].decode()
     files = {f"lambda_local/{name}": file for name, file in source.below("tools/lambda_local").items()}
-    files.update({f"lambda_local/examples/{name}": file for name,
-                  file in source.below("examples").items() if name.startswith("runtime.")})
+    files.update({f"lambda_local/examples/{name}": file for name, file in source.below("examples").items()
+                  if name.startswith("runtime.")})
     files["lambda_local/bin/lambda_local"] = (0o755, source.program)
     files["lambda_local/bin/lambda_local.proved"] = (0o644, source.proved)
     files[f"{info}/METADATA"] = (0o644, METADATA.format(version=source.version, readme=readme).encode())
@@ -67,6 +67,7 @@ def make(source, folder):
         for name in sorted(files, key=lambda name: (name.endswith("/RECORD"), name)):
             mode, data = files[name]
             member = zipfile.ZipInfo(name, time.gmtime(source.moment)[:6])
-            member.create_system, member.external_attr, member.compress_type = 3, (0o100000 | mode) << 16, zipfile.ZIP_DEFLATED
+            member.create_system, member.external_attr = 3, (0o100000 | mode) << 16
+            member.compress_type = zipfile.ZIP_DEFLATED
             wheel.writestr(member, data)
     return put(os.path.join(folder, f"lambda_local-{source.version}-{TAG}.whl"), room.getvalue())

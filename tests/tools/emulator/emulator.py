@@ -43,7 +43,8 @@ async def serve(life, routes, reader, writer):
         while True:
             head = (await reader.readuntil(b"\r\n\r\n")).decode("latin-1").split("\r\n")
             method, path, _ = head[0].split(" ")
-            headers = {name.lower(): value.strip() for name, _, value in (line.partition(":") for line in head[1:] if line)}
+            headers = {name.lower(): value.strip()
+                       for name, _, value in (line.partition(":") for line in head[1:] if line)}
             body = await reader.readexactly(int(headers.get("content-length", 0)))
             reply = routes(life, method, path, headers, body)
             reply = await reply if asyncio.isfuture(reply) else reply
@@ -61,7 +62,8 @@ async def main(invoke_port, runtime_port, timeout, *faults):
     if unknown := set(faults) - set(FAULTS):
         sys.exit(f"no such fault: {' '.join(unknown)}")
     life = Life(float(timeout), faults)
-    servers = [await asyncio.start_server(lambda reader, writer, routes=routes: serve(life, routes, reader, writer), "127.0.0.1", int(port))
+    servers = [await asyncio.start_server(lambda reader, writer, routes=routes: serve(life, routes, reader, writer),
+                                          "127.0.0.1", int(port))
                for port, routes in ((invoke_port, of_caller), (runtime_port, of_environment))]
     print("listening", flush=True)
     await asyncio.gather(*(server.serve_forever() for server in servers))

@@ -99,8 +99,9 @@ class Life:
         self._answer_poll(Reply(200, invocation.payload, **headers))
         for one in self.extensions.values():
             if "INVOKE" in one.events and one.poll:
-                self._answer_extension(one, {"eventType": "INVOKE", "deadlineMs": self.deadline, "requestId": invocation.id,
-                                             "invokedFunctionArn": ARN, "tracing": {"type": "X-Amzn-Trace-Id", "value": ""}})
+                self._answer_extension(one, {
+                    "eventType": "INVOKE", "deadlineMs": self.deadline, "requestId": invocation.id,
+                    "invokedFunctionArn": ARN, "tracing": {"type": "X-Amzn-Trace-Id", "value": ""}})
 
     def _timed_out(self):
         self.late = self.invocation.id

@@ -1,10 +1,12 @@
 """Mistakes that both a runtime and an extension can make: classes to be put before Runtime or Extension."""
-import http.client
 import os
 import select
 import socket
 import sys
 
+from connection import Connection
+
+TEMPORARY = os.environ.get("TMPDIR", "/tmp")  # (importing `tempfile` takes longer than all else)
 TOO_LONG = 25  # seconds, for an Init of which the kit has stretched the test's limit of two seconds tenfold
 
 
@@ -12,14 +14,13 @@ class PollsTwice:
     """Asks on a second connection too, if nothing comes at once."""
 
     def next(self):
-        older = http.client.HTTPConnection(self.address)
+        older = Connection(self.address)
         older.request("GET", self.next_path, headers=self.headers())
         if select.select([older.sock], [], [], 0.5)[0]:
             self.connection.close()  # (what it does not ask on may end meanwhile)
-            answer = older.getresponse()
-            return answer, answer.read()
-        newer, first = super().next(), older.getresponse()
-        return newer if first.status == 403 else (first, first.read())
+            return older.answer()
+        newer, first = super().next(), older.answer()
+        return newer if first.status == 403 else first
 
 
 class DiesWithItsConnection:
@@ -37,7 +38,7 @@ def is_scenario(name):
 
 class GivesNextUp:
     """Has a timeout of three seconds on all requests."""
-    check = "next_without_timeout"
+    check, settings = "next_without_timeout", {"idle-seconds": 5}
 
     def begin(self):
         if is_scenario("idle_for_long"):

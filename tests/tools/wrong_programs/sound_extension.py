@@ -46,8 +46,7 @@ class Extension(Client):
         return ["INVOKE", "SHUTDOWN"]
 
     def register(self):
-        answer, _ = self.ask("POST", PATH + "register", {"events": self.events()},
-                             {"Lambda-Extension-Name": self.name()})
+        answer = self.ask("POST", PATH + "register", {"events": self.events()}, {"Lambda-Extension-Name": self.name()})
         self.identifier = answer.headers["Lambda-Extension-Identifier"]
 
     def initialize(self):
@@ -57,17 +56,17 @@ class Extension(Client):
 
     def subscribe(self):
         """To telemetry, if there is any."""
-        answer, _ = self.ask("PUT", "/2022-07-01/telemetry", {"schemaVersion": "2022-12-13", "types": ["platform"]})
-        self.subscribed(answer)
+        wanted = {"schemaVersion": "2022-12-13", "types": ["platform"]}
+        self.subscribed(self.ask("PUT", "/2022-07-01/telemetry", wanted))
 
     def subscribed(self, answer):
         pass
 
     def one_event(self):
-        answer, body = self.next()
+        answer = self.next()
         if answer.status == 500:
             return self.at_500()
-        event = json.loads(body) if answer.status == 200 else {}
+        event = json.loads(answer.body) if answer.status == 200 else {}
         kind = event.get("eventType")
         if kind == "INVOKE":
             return self.invoked(event)
@@ -105,7 +104,7 @@ class Extension(Client):
         return {"Lambda-Extension-Identifier": self.identifier} if self.identifier else {}
 
     def ask(self, method, path, body=None, headers=None):
-        return super().ask(method, path, body and json.dumps(body), headers)
+        return super().ask(method, path, body and json.dumps(body).encode(), headers)
 
 
 if __name__ == "__main__":

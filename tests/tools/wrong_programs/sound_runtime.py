@@ -5,7 +5,6 @@ import json
 import os
 import sys
 import time
-import traceback
 from types import SimpleNamespace
 
 from connection import Client
@@ -50,12 +49,12 @@ class Runtime(Client):
     # -- an invocation
 
     def one_invocation(self):
-        answer, payload = self.next()
+        answer = self.next()
         if answer.status != 200:
             return self.next_refused(answer)
         request = answer.headers["Lambda-Runtime-Aws-Request-Id"]
         try:
-            output = self.call(self.read(payload), answer.headers)
+            output = self.call(self.read(answer.body), answer.headers)
         except Exception as fault:
             return self.fails(request, fault)
         return self.respond(request, output)
@@ -78,9 +77,10 @@ class Runtime(Client):
         return self.handler(event, self.context(headers))
 
     def context(self, headers):
+        deadline = int(headers["Lambda-Runtime-Deadline-Ms"])
         return SimpleNamespace(aws_request_id=headers["Lambda-Runtime-Aws-Request-Id"],
                                invoked_function_arn=headers["Lambda-Runtime-Invoked-Function-Arn"],
-                               get_remaining_time_in_millis=lambda: self.remaining(int(headers["Lambda-Runtime-Deadline-Ms"])))
+                               get_remaining_time_in_millis=lambda: self.remaining(deadline))
 
     def remaining(self, deadline):
         return max(0, deadline - int(1000 * time.time()))
@@ -88,12 +88,11 @@ class Runtime(Client):
     def respond(self, request, output):
         if isinstance(output, Parts):
             return self.stream(request, output)
-        return self.sent(self.ask("POST", f"invocation/{request}/response", self.dump(output))[0], request, output)
+        return self.sent(self.ask("POST", f"invocation/{request}/response", self.dump(output)), request, output)
 
     def stream(self, request, parts):
-        answer, _ = self.ask("POST", f"invocation/{request}/response", (part.encode() for part in parts),
-                             {"Lambda-Runtime-Function-Response-Mode": "streaming", "Transfer-Encoding": "chunked"},
-                             chunked=True)
+        answer = self.ask("POST", f"invocation/{request}/response", [part.encode() for part in parts],
+                          {"Lambda-Runtime-Function-Response-Mode": "streaming"})
         self.sent(answer, request, parts)
 
     def sent(self, answer, request, output):
@@ -105,19 +104,20 @@ class Runtime(Client):
         return json.dumps(output, ensure_ascii=False).encode()
 
     def fails(self, request, fault):
-        answer, _ = self.ask("POST", f"invocation/{request}/error", self.dump(self.report(fault)),
-                             self.error_headers(fault))
+        answer = self.ask("POST", f"invocation/{request}/error", self.dump(self.report(fault)),
+                          self.error_headers(fault))
         self.sent(answer, request, fault)
 
     def report(self, fault):
+        import traceback  # (few invocations fail, and it takes long to import)
         return {"errorMessage": str(fault), "errorType": type(fault).__name__,
                 "stackTrace": traceback.format_tb(fault.__traceback__)}
 
     def error_headers(self, fault):
         return {"Lambda-Runtime-Function-Error-Type": f"Runtime.{type(fault).__name__}"}
 
-    def ask(self, method, path, body=None, headers=None, chunked=False):
-        return super().ask(method, PATH + path, body, headers, chunked)
+    def ask(self, method, path, body=None, headers=None):
+        return super().ask(method, PATH + path, body, headers)
 
 
 if __name__ == "__main__":

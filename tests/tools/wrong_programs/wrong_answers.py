@@ -132,8 +132,8 @@ class StreamsWithoutChunks(Runtime):
     check = "stream"
 
     def stream(self, request, parts):
-        answer, _ = self.ask("POST", f"invocation/{request}/response", "".join(parts).encode(),
-                             {"Lambda-Runtime-Function-Response-Mode": "streaming"})
+        answer = self.ask("POST", f"invocation/{request}/response", "".join(parts).encode(),
+                          {"Lambda-Runtime-Function-Response-Mode": "streaming"})
         self.sent(answer, request, parts)
 
 
@@ -181,7 +181,7 @@ class SetsNoTraceId(Runtime):
     check = "trace_id"
 
     def call(self, event, headers):
-        headers.replace_header("Lambda-Runtime-Trace-Id", "")
+        headers["Lambda-Runtime-Trace-Id"] = ""
         return super().call(event, headers)
 
 
@@ -189,8 +189,8 @@ class NeverRenewsTheTraceId(Runtime):
     check = "trace_renewed"
 
     def call(self, event, headers):
-        headers.replace_header("Lambda-Runtime-Trace-Id",
-                               os.environ.get("_X_AMZN_TRACE_ID") or headers["Lambda-Runtime-Trace-Id"])
+        kept = os.environ.get("_X_AMZN_TRACE_ID")
+        headers["Lambda-Runtime-Trace-Id"] = kept or headers["Lambda-Runtime-Trace-Id"]
         return super().call(event, headers)
 
 
@@ -299,5 +299,5 @@ class RepeatsWhatIsLate(Runtime):
     def sent(self, answer, request, output):
         while answer.status == 403:
             time.sleep(0.05)
-            answer, _ = self.ask("POST", f"invocation/{request}/response", self.dump(output))
+            answer = self.ask("POST", f"invocation/{request}/response", self.dump(output))
         super().sent(answer, request, output)

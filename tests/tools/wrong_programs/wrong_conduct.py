@@ -1,23 +1,23 @@
 """Runtimes with one mistake each in when they begin, ask, respond or end. A class is named after its mistake, and
-`check` is the check that catches it, or that notes it if `noted`."""
+`check` is the check that catches it, or that notes it if `noted`. `settings` are the kit's options by which it shows,
+if those of the test do not do."""
 import atexit
-import http.client
 import json
 import os
 import signal
 import sys
-import tempfile
 import time
 
 import shared_mistakes
-from shared_mistakes import TOO_LONG, is_scenario
+from connection import Connection
+from shared_mistakes import TEMPORARY, TOO_LONG, is_scenario
 from sound_runtime import Parts, Runtime
 
 
 # ---- the life of the process -----------------------------------------------------------------------------------------
 
 class StartsSlowly(Runtime):
-    check = "init_in_time"
+    check, settings = "init_in_time", {"init-seconds": 1}
 
     def begin(self):
         if is_scenario("first_next"):
@@ -51,7 +51,7 @@ class LeavesALockBehind(Runtime):
 
     def begin(self):
         names = (os.environ["AWS_LAMBDA_FUNCTION_NAME"], os.environ["AWS_LAMBDA_RUNTIME_API"].rpartition(":")[2])
-        path = os.path.join(tempfile.gettempdir(), "wrong_runtime.{}.{}.lock".format(*names))
+        path = os.path.join(TEMPORARY, "wrong_runtime.{}.{}.lock".format(*names))
         with open(path, "x"):
             atexit.register(os.remove, path)
 
@@ -80,9 +80,9 @@ class AsksBeforeItResponds(Runtime):
     check = "next_after_response"
 
     def call(self, event, headers):
-        connection = http.client.HTTPConnection(self.address)
-        connection.request("GET", "/2018-06-01/runtime/invocation/next")
-        connection.getresponse().read()  # (403: the environment is busy)
+        connection = Connection(self.address)
+        connection.request("GET", self.next_path)
+        connection.answer()  # (403: the environment is busy)
         connection.close()
         return super().call(event, headers)
 
@@ -107,7 +107,7 @@ class GivesNextUp(shared_mistakes.GivesNextUp, Runtime):
 # ---- many invocations ------------------------------------------------------------------------------------------------
 
 class KeepsEveryEvent(Runtime):
-    check = "memory"
+    check, settings = "memory", {"invocations": 800}
     events = []
 
     def read(self, payload):
@@ -116,7 +116,7 @@ class KeepsEveryEvent(Runtime):
 
 
 class LeavesFilesOpen(Runtime):
-    check = "descriptors"
+    check, settings = "descriptors", {"invocations": 100}
     files = []
 
     def read(self, payload):
@@ -129,7 +129,7 @@ class SharesAFile(Runtime):
     check = "environments_apart"
 
     def respond(self, request, output):
-        path = os.path.join(tempfile.gettempdir(), f"wrong_runtime.{os.environ['AWS_LAMBDA_FUNCTION_NAME']}.output")
+        path = os.path.join(TEMPORARY, f"wrong_runtime.{os.environ['AWS_LAMBDA_FUNCTION_NAME']}.output")
         if is_scenario("several_at_once"):
             with open(path, "a+") as file:
                 file.write(f"{output}\n")

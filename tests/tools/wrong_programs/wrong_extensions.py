@@ -1,23 +1,22 @@
 #!/usr/bin/env python3
-"""Extensions with one mistake each. A class is named after its mistake, and `check` is the check that catches it.
+"""Extensions with one mistake each. A class is named after its mistake, and `check` is the check that catches it, or
+that notes it if `noted`. `settings` are the kit's options by which it shows, if those of the test do not do.
 
 usage: wrong_extensions.py MISTAKE"""
 import os
 import signal
-import subprocess
 import sys
-import tempfile
 import time
 
 import shared_mistakes
-from shared_mistakes import TOO_LONG, is_scenario
+from shared_mistakes import TEMPORARY, TOO_LONG, is_scenario
 from sound_extension import Extension
 
 
 # ---- registration ----------------------------------------------------------------------------------------------------
 
 class RegistersLate(Extension):
-    check = "registers"
+    check, settings = "registers", {"init-seconds": 2}
 
     def begin(self):
         if is_scenario("registration"):
@@ -25,7 +24,7 @@ class RegistersLate(Extension):
 
 
 class AsksForEventsLate(Extension):
-    check = "asks_for_events"
+    check, settings = "asks_for_events", {"init-seconds": 2}
 
     def initialize(self):
         super().initialize()
@@ -42,7 +41,7 @@ class HasAnotherName(Extension):
 
 class AsksForOneMoreEvent(Extension):
     """Is to register for INVOKE and SHUTDOWN; the test says that it is for INVOKE alone."""
-    check = "events"
+    check, settings = "events", {"events": "INVOKE"}
 
 
 class AsksWithoutItsIdentifier(Extension):
@@ -95,6 +94,12 @@ class PollsTwice(shared_mistakes.PollsTwice, Extension):
 
 # ---- the end ---------------------------------------------------------------------------------------------------------
 
+def file_for(purpose):
+    """The file in which the processes of one scenario keep something."""
+    return os.path.join(TEMPORARY, f"wrong_extension.{os.environ.get('AWS_LAMBDA_FUNCTION_NAME')}.{purpose}")
+
+
+
 class GoesOnAtSpindown(Extension):
     check, reason = "ends_at_spindown", "SPINDOWN"
 
@@ -115,7 +120,7 @@ class GoesOnAtFailure(GoesOnAtSpindown):
 class KeepsItsIdentifier(Extension):
     """In a file, from one process to the next, and so does not register again."""
     check = "registers_anew"
-    path = os.path.join(tempfile.gettempdir(), "wrong_extension.{}.identifier".format(os.environ.get("AWS_LAMBDA_FUNCTION_NAME")))
+    path = file_for("identifier")
 
     def register(self):
         if os.path.exists(self.path):
@@ -137,7 +142,7 @@ class HidesItsCrash(Extension):
     def run(self):
         if len(sys.argv) > 2:
             return super().run()
-        while subprocess.run([sys.executable, "-S", *sys.argv, "works"]).returncode < 0:
+        while os.spawnv(os.P_WAIT, sys.executable, [sys.executable, "-S", *sys.argv, "works"]) < 0:
             time.sleep(0.1)
         return None
 
@@ -151,7 +156,7 @@ class HidesItsCrash(Extension):
 class LeavesALockBehind(Extension):
     """Ends at once if another one was killed before it."""
     check = "works_after_crash"
-    path = os.path.join(tempfile.gettempdir(), "wrong_extension.{}.lock".format(os.environ.get("AWS_LAMBDA_FUNCTION_NAME")))
+    path = file_for("lock")
 
     def begin(self):
         with open(self.path, "x"):
@@ -242,14 +247,14 @@ class ReportsNoExitError(ReportsNoInitError):
 
 
 class IsForShutdownAlone(Extension):
-    check, noted = "asks_after_invoke", True
+    check, noted, settings = "asks_after_invoke", True, {"events": "SHUTDOWN"}
 
     def events(self):
         return ["SHUTDOWN"]
 
 
 class IsForInvokeAlone(Extension):
-    check, noted = "ends_at_spindown", True
+    check, noted, settings = "ends_at_spindown", True, {"events": "INVOKE"}
 
     def events(self):
         return ["INVOKE"]

@@ -13,7 +13,8 @@ class Clock:
     """Looks, in a thread of its own, how long a little work takes. Without that thread it is `time.monotonic`."""
 
     def __init__(self):
-        self._lock, self._begun, self._counted, self._at, self._slowness = threading.Lock(), None, 0.0, time.monotonic(), 1.0
+        self._lock, self._begun = threading.Lock(), None
+        self._counted, self._at, self._slowness = 0.0, time.monotonic(), 1.0
 
     def start(self):
         self._begun = self._at = time.monotonic()

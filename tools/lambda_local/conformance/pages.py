@@ -15,24 +15,21 @@ class Page(NamedTuple):
         return f"{self.title}, \"{self.part}\" ({self.address})"
 
 
-def _runtime_api(part):
-    return Page("Lambda Developer Guide, Using the Lambda runtime API for custom runtimes", part,
-                f"{GUIDE}runtimes-api.html")
+def _guide(title, name):
+    """Makes the pages that are the parts of a page of the Developer Guide."""
+    return lambda part: Page(f"Lambda Developer Guide, {title}", part, f"{GUIDE}{name}.html")
 
 
-def _custom(part):
-    return Page("Lambda Developer Guide, Building a custom runtime for AWS Lambda", part,
-                f"{GUIDE}runtimes-custom.html")
+_runtime_api = _guide("Using the Lambda runtime API for custom runtimes", "runtimes-api")
+_custom = _guide("Building a custom runtime for AWS Lambda", "runtimes-custom")
+_life = _guide("Understanding the Lambda execution environment lifecycle", "lambda-runtime-environment")
+_quotas = _guide("Lambda quotas", "gettingstarted-limits")
+_extensions = _guide("Using the Lambda Extensions API to create extensions", "runtimes-extensions-api")
+_telemetry = _guide("Accessing real-time telemetry data for extensions using the Telemetry API", "telemetry-api")
 
 
-def _life(part):
-    return Page("Lambda Developer Guide, Understanding the Lambda execution environment lifecycle", part,
-                f"{GUIDE}lambda-runtime-environment.html")
-
-
-def _extensions(part):
-    return Page("Lambda Developer Guide, Using the Lambda Extensions API to create extensions", part,
-                f"{GUIDE}runtimes-extensions-api.html")
+def _rfc(number, section, title):
+    return Page(f"RFC {number}", f"{section}. {title}", f"{RFC}rfc{number}#section-{section}")
 
 
 NEXT = _runtime_api("Next invocation")
@@ -46,8 +43,7 @@ INIT_PHASE = _life("Init phase")
 INVOKE_FAILURES = _life("Failures during the invoke phase")
 SHUTDOWN_PHASE = _life("Shutdown phase")
 REUSE = _life("Lambda execution environment lifecycle")
-QUOTAS = Page("Lambda Developer Guide, Lambda quotas", "Function configuration, deployment, and execution",
-              f"{GUIDE}gettingstarted-limits.html")
+QUOTAS = _quotas("Function configuration, deployment, and execution")
 
 REGISTER = _extensions("Register")
 EXTENSION_NEXT = _extensions("Next")
@@ -56,12 +52,11 @@ EXTENSION_EXIT_ERROR = _extensions("Exit error")
 EXTENSION_INVOKE = _extensions("Invoke phase")
 EXTENSION_SHUTDOWN = _extensions("Shutdown phase")
 EXTENSION_INIT = _extensions("Init phase")
-TELEMETRY = Page("Lambda Developer Guide, Accessing real-time telemetry data for extensions using the Telemetry API",
-                 "Creating extensions using the Telemetry API", f"{GUIDE}telemetry-api.html")
+TELEMETRY = _telemetry("Creating extensions using the Telemetry API")
 
-JSON_NUMBERS = Page("RFC 8259", "6. Numbers", f"{RFC}rfc8259#section-6")
-JSON_TEXTS = Page("RFC 8259", "8.1. Character Encoding", f"{RFC}rfc8259#section-8.1")
-JSON_STRINGS = Page("RFC 8259", "7. Strings", f"{RFC}rfc8259#section-7")
-JSON_NESTING = Page("RFC 8259", "9. Parsers", f"{RFC}rfc8259#section-9")
-PERSISTENCE = Page("RFC 9112", "9.3. Persistence", f"{RFC}rfc9112#section-9.3")
-RETRYING = Page("RFC 9112", "9.3.1. Retrying Requests", f"{RFC}rfc9112#section-9.3.1")
+JSON_NUMBERS = _rfc(8259, "6", "Numbers")
+JSON_STRINGS = _rfc(8259, "7", "Strings")
+JSON_TEXTS = _rfc(8259, "8.1", "Character Encoding")
+JSON_NESTING = _rfc(8259, "9", "Parsers")
+PERSISTENCE = _rfc(9112, "9.3", "Persistence")
+RETRYING = _rfc(9112, "9.3.1", "Retrying Requests")

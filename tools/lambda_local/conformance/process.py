@@ -68,8 +68,8 @@ class Process:
         self.output = tempfile.TemporaryFile()
         try:
             words, pipe = GUARD.announcing([program_of(command), *command[1:]])
-            self._child = subprocess.Popen(words, env=variables, stdin=pipe, stdout=self.output, stderr=subprocess.STDOUT,
-                                           start_new_session=True)
+            self._child = subprocess.Popen(words, env=variables, stdin=pipe, stdout=self.output,
+                                           stderr=subprocess.STDOUT, start_new_session=True)
         except OSError as fault:
             self.output.close()
             raise Fault(2, f"{command[0]} could not be started: {fault.strerror}") from None

@@ -48,7 +48,8 @@ class Exchange:
         if (self.method, self.path) in KINDS:
             return KINDS[self.method, self.path], None
         words = self.path.split("/")
-        if self.method == "POST" and self.path.startswith(RUNTIME + "invocation/") and words[-1] in ("response", "error"):
+        if (self.method == "POST" and self.path.startswith(RUNTIME + "invocation/")
+                and words[-1] in ("response", "error")):
             return words[-1], words[-2].lower()
         return "other", None
 
@@ -60,7 +61,8 @@ class Exchange:
     @property
     def delivered(self):
         """The request identifier of the invocation that this poll was answered with; None if it was not."""
-        return self.reply.headers.get("lambda-runtime-aws-request-id") if self.kind == "next" and self.status == 200 else None
+        return (self.reply.headers.get("lambda-runtime-aws-request-id")
+                if self.kind == "next" and self.status == 200 else None)
 
     @property
     def ended(self):

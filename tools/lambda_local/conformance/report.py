@@ -41,7 +41,8 @@ class Report:
 
     def add(self, verdict):
         self.counts[verdict.outcome] += 1
-        said = verdict.came if verdict.outcome != PASS else verdict.check.expected + (f": {verdict.came}" if verdict.came else "")
+        said = verdict.came if verdict.outcome != PASS else (
+            verdict.check.expected + (f": {verdict.came}" if verdict.came else ""))
         self.write(f"{verdict.outcome}  {verdict.check.name:<22}{said}")
         details = self._details(verdict) if verdict.outcome == FAIL else []
         for line in details:

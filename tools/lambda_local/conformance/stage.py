@@ -62,7 +62,8 @@ def shown(value):
     text = value.decode(errors="replace") if isinstance(value, (bytes, bytearray)) else value
     text = text if isinstance(text, str) else json.dumps(text, ensure_ascii=False)
     text = "".join(letter if letter.isprintable() else repr(letter)[1:-1] for letter in text[:SHOWN + 1])
-    return text if len(text) <= SHOWN else f"{text[:SHOWN]}.. ({len(value) if not isinstance(value, (dict, list)) else 'more'} in all)"
+    return text if len(text) <= SHOWN else (
+        f"{text[:SHOWN]}.. ({len(value) if not isinstance(value, (dict, list)) else 'more'} in all)")
 
 
 def compact(event):
@@ -89,12 +90,12 @@ class Environment:
         if self.process:
             self.process.kill()
 
-    def asked(self, count=1, seconds=None, kind="next", real_seconds=0):
+    def asked(self, count=1, seconds=None, kind="next", real_seconds=0, in_vain=lambda: False):
         """Whether it has made its count-th request of a kind before so many seconds (by default those of the Init) are
-        over, by the kit's clock and by the real one, or its process has ended."""
+        over, by the kit's clock and by the real one, or its process has ended, or it is waited for in vain."""
         process, real_end = self.process, time.monotonic() + real_seconds
         end = CLOCK.now() + (self.stage.patience if seconds is None else seconds)
-        while len(self.proxy.of(kind)) < count and not (process and process.ended):
+        while len(self.proxy.of(kind)) < count and not (process and process.ended) and not in_vain():
             if CLOCK.now() >= end and time.monotonic() >= real_end:
                 break
             self.proxy.wait(lambda: sum(one.kind == kind for one in self.proxy.exchanges) >= count, 0.1)
@@ -139,8 +140,8 @@ class Stage:
         self.arn = f"arn:aws:lambda:{REGION}:{ACCOUNT}:function:{self.name}"
         self.environments = [Environment(self, number, port) for number, port in enumerate(self.function["ports"], 1)]
         self.environment = self.environments[0]
-        self._callers, self._asking = concurrent.futures.ThreadPoolExecutor(16), concurrent.futures.ThreadPoolExecutor(
-            16)
+        self._callers, self._asking = (concurrent.futures.ThreadPoolExecutor(16),
+                                       concurrent.futures.ThreadPoolExecutor(16))
         try:
             if start:
                 for environment in self.environments:
@@ -254,7 +255,8 @@ class Stage:
         """Waits until each environment's runtime waits for an invocation."""
         end = CLOCK.now() + self.patience
         while len(parked(self.service.history())[0]) < len(self.environments):
-            if CLOCK.now() > end or any(environment.process and environment.process.ended for environment in self.environments):
+            if CLOCK.now() > end or any(environment.process and environment.process.ended
+                                        for environment in self.environments):
                 raise Missing(f"it does not wait for an invocation ({self.environment.process.how_it_ended()})")
             time.sleep(0.02)
 
@@ -263,7 +265,8 @@ class Stage:
         for environment in self.environments:
             for exchange in environment.proxy.exchanges:
                 if exchange.by_rule:
-                    did = f"answered it {exchange.by_rule.reply[0]}" if exchange.by_rule.reply else "ended the connection after the answer"
+                    did = (f"answered it {exchange.by_rule.reply[0]}" if exchange.by_rule.reply
+                           else "ended the connection after the answer")
                     yield f"{exchange.method} {exchange.path}: the kit {did}"
 
     def history(self):

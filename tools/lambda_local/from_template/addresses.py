@@ -50,10 +50,7 @@ class Addresses:
     def value(self, name):
         if name not in self.properties:
             return None
-        try:
-            value, placeholders = self.scope.known(self.properties[name])
-        except Unknown as reason:
-            value, placeholders = None, (str(reason),)
+        value, placeholders = self.scope.known_or_why(self.properties[name])
         if placeholders:
             what = f"leaves out {name}: it needs" if value is None else f"{name} has a placeholder for"
             self.tell(f"{what} {' and '.join(placeholders)}{'' if value is None else ': write its value into UP.json'}")
@@ -67,8 +64,9 @@ class Addresses:
         if isinstance(given, dict):
             return self.url_of(given)
         given = self.value("url")
-        return url_with(cors_of(given.get("cors"), "its URL", self.scope,
-                                self.tell)) if isinstance(given, dict) else given is True or None
+        if isinstance(given, dict):
+            return url_with(cors_of(given.get("cors"), "its URL", self.scope, self.tell))
+        return given is True or None
 
     def url_of(self, given):
         """By the members that FunctionUrlConfig and AWS::Lambda::Url have in common."""
@@ -122,12 +120,10 @@ class Addresses:
 
     def route(self, where, method, path):
         """One route, or none if it cannot be known, which is told. One without a method and a path takes all else."""
-        try:
-            (method, path), placeholders = self.scope.known([method, path])
-        except Unknown as reason:
-            method, path, placeholders = None, None, (str(reason),)
+        both, placeholders = self.scope.known_or_why([method, path])
         if placeholders:
             return self.tell(f"leaves out its {where}: it needs {' and '.join(placeholders)}") or ()
+        method, path = both
         key = DEFAULT
         if method is not None or path is not None:
             method = str(method or "ANY").upper().replace("*", "ANY").replace("X-AMAZON-APIGATEWAY-ANY-METHOD", "ANY")

@@ -1,25 +1,26 @@
-"""Reads the functions of a template and writes an UP.json for tools/up. On standard error it names what it leaves out.
+"""Reads the functions of a template and writes an UP.json for lambda_local up. On standard error it names what it
+leaves out.
 
-  tools/from_template template.yaml -o up.json                  SAM, or CloudFormation
-  tools/from_template cdk.out/Stack.template.json -o up.json    what `cdk synth` writes
-  tools/from_template serverless.yml -o up.json
+  lambda_local from_template template.yaml -o up.json                  SAM, or CloudFormation
+  lambda_local from_template cdk.out/Stack.template.json -o up.json    what `cdk synth` writes
+  lambda_local from_template serverless.yml -o up.json
 
 Each function has one environment, or as many as it reserves, up to ten. What runs it is the client of its Runtime if
-that is installed, else for Python and Node the runtime that comes with tools/up. Parameters count by their defaults; a
-reference to a resource is a placeholder, which is told: so functions run, and you write into UP.json what they need.
-`directory` is the function's code, or the template's own folder if there is none, as it is seen from UP.json: so
-UP.json may stand anywhere, and tools/up be started from anywhere, as long as both stay where they are. Without -o it
-goes to standard output; if that is no file, folders are written from the root.
+that is installed, else for Python and Node the runtime that comes with lambda_local up. Parameters count by their
+defaults; a reference to a resource is a placeholder, which is told: so functions run, and you write into UP.json what
+they need. `directory` is the function's code, or the template's own folder if there is none, as it is seen from
+UP.json: so UP.json may stand anywhere, and lambda_local up be started from anywhere, as long as both stay where they
+are. Without -o it goes to standard output; if that is no file, folders are written from the root.
 YAML needs a reader: pip install pyyaml.
 Exit statuses: 0; 2 for a template that cannot be read, or has no function; 4 without the reader, or if UP.json cannot
 be written."""
-import argparse
 import json
 import os
 import re
 import stat
 import sys
 
+from ..usage import parser_of
 from . import cloudformation, serverless
 from .addresses import routes_of
 from .functions import functions_of
@@ -68,8 +69,11 @@ def place(functions, template, folder):
     for made in functions:
         code = os.path.join(base, made.pop("directory", ""))
         if not os.path.isdir(code):
-            tell(f"{made['name']}: {code} is no folder (yet): tools/up needs it")
-        code = os.path.normpath(code) if folder is None else os.path.relpath(os.path.realpath(code), os.path.realpath(folder))
+            tell(f"{made['name']}: {code} is no folder (yet): lambda_local up needs it")
+        if folder is None:
+            code = os.path.normpath(code)
+        else:
+            code = os.path.relpath(os.path.realpath(code), os.path.realpath(folder))
         if code != ".":
             made["directory"] = code
 
@@ -94,8 +98,7 @@ def write(text, output):
 
 
 def main():
-    parser = argparse.ArgumentParser(prog="tools/from_template", description=__doc__,
-                                     formatter_class=argparse.RawDescriptionHelpFormatter)
+    parser = parser_of("from_template", __doc__)
     parser.add_argument("template", metavar="TEMPLATE")
     parser.add_argument("-o", metavar="UP.json", dest="output", help="write there (standard output)")
     options = parser.parse_args()

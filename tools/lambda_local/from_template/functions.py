@@ -10,8 +10,7 @@ from .telling import shown, tell
 from .values import NO_VALUE, Unknown, is_scalar, text_of
 
 READ = {"FunctionName", "Handler", "Timeout", "ReservedConcurrentExecutions", "Environment", "Runtime", "CodeUri",
-        "Code", "InlineCode", "MemorySize",
-        "PackageType", "ImageUri", "ImageConfig", *addresses.READ}
+        "Code", "InlineCode", "MemorySize", "PackageType", "ImageUri", "ImageConfig", *addresses.READ}
 MOST_ENVIRONMENTS = 10  # of a function that reserves more: each is a process
 MOST_IN_ALL, MOST_FUNCTIONS = 256, 64  # of a service
 NAME = re.compile(r"[A-Za-z0-9_-]{1,64}")
@@ -28,16 +27,15 @@ def name_of(key, properties, scope):
     """The function's own name if it is known here, else its logical id."""
     if "FunctionName" not in properties:
         return cleaned(key)
-    given = properties["FunctionName"]
-    try:
-        name, placeholders = scope.known(given)
-    except Unknown as reason:
-        name, placeholders = None, (str(reason),)
+    name, placeholders = scope.known_or_why(properties["FunctionName"])
     if name is NO_VALUE:
         return cleaned(key)
     if not placeholders and is_scalar(name) and NAME.fullmatch(text_of(name)):
         return text_of(name)
-    why = f"it needs {' and '.join(placeholders)}" if placeholders else f"{shown(name)} is no name of 1 to 64 letters, digits, - and _"
+    if placeholders:
+        why = f"it needs {' and '.join(placeholders)}"
+    else:
+        why = f"{shown(name)} is no name of 1 to 64 letters, digits, - and _"
     tell(f"{key}: it is called {cleaned(key)}, since its FunctionName is not known here: {why}")
     return cleaned(key)
 
@@ -68,10 +66,7 @@ class Maker:
         """A property's value; None if it is not there or not known, which is told. A placeholder will not do."""
         if name not in self.properties:
             return None
-        try:
-            value, placeholders = self.scope.known(self.properties[name])
-        except Unknown as reason:
-            value, placeholders = None, (str(reason),)
+        value, placeholders = self.scope.known_or_why(self.properties[name])
         if placeholders:
             self.tell(f"leaves out {name}: it needs {' and '.join(placeholders)}")
             return None
@@ -115,8 +110,7 @@ class Maker:
         self.made["environments"] = max(1, reserved or 0)
         if self.made["environments"] > MOST_ENVIRONMENTS:
             self.tell(f"has {MOST_ENVIRONMENTS} environments, each a process, and reserves as many: its reservation is "
-                      f"{reserved} "
-                      "(write more \"environments\" if your tests need them)")
+                      f"{reserved} (write more \"environments\" if your tests need them)")
             self.made["environments"] = self.made["reserved"] = MOST_ENVIRONMENTS
 
     def variables(self):
@@ -142,8 +136,7 @@ class Maker:
                 continue
             if placeholders:
                 self.tell(f"the variable {name} is {shown(found[str(name)])}, a placeholder for "
-                          f"{' and '.join(placeholders)}: "
-                          "write its value into UP.json if the handler needs it")
+                          f"{' and '.join(placeholders)}: write its value into UP.json if the handler needs it")
         if found:
             self.made["variables"] = found
 
@@ -183,8 +176,7 @@ class Maker:
                              "(docs/your_function.md has it)")
         if self.is_inline():
             return self.tell("has no command, since its code stands in the template: write it into a file of its "
-                             "folder, and give it a "
-                             "\"command\" or a \"runtime\"")
+                             "folder, and give it a \"command\" or a \"runtime\"")
         runtime, handler = self.known("Runtime"), self.made.get("handler", "index.handler")
         runtime = runtime if isinstance(runtime, str) else ""
         if runtime.startswith("python"):
@@ -202,7 +194,7 @@ class Maker:
             at = os.path.join(self.base, self.made.get("directory", ""))
             if os.path.isdir(at) and not os.path.isfile(os.path.join(at, "bootstrap")):
                 self.tell(f"there is no {os.path.normpath(os.path.join(at, 'bootstrap'))} yet: build it before "
-                          f"tools/up is started")
+                          f"lambda_local up is started")
         else:
             self.tell(f"has no command, since none is known for the runtime {runtime or '(none)'}: write one, or start "
                       f"it yourself")
@@ -213,7 +205,8 @@ class Maker:
         folders = [at]
         while os.path.dirname(folders[-1]) != folders[-1]:
             folders.append(os.path.dirname(folders[-1]))
-        return bool(shutil.which(name)) or any(os.path.exists(os.path.join(folder, "node_modules", ".bin", name)) for folder in folders)
+        installed = (os.path.join(folder, "node_modules", ".bin", name) for folder in folders)
+        return bool(shutil.which(name)) or any(map(os.path.exists, installed))
 
 
 def functions_of(listed, scope, base):

@@ -130,7 +130,9 @@ def object_of(part, name, where, scope):
 def http_apis(scope):
     """What `provider` says of its HTTP API, by the names of SAM."""
     given = object_of(scope.provider, "httpApi", "provider", scope)
-    return {OF_SERVERLESS: {"CorsConfiguration" if name == "cors" else name: value for name, value in given.items()}} if given else {}
+    if not given:
+        return {}
+    return {OF_SERVERLESS: {"CorsConfiguration" if name == "cors" else name: value for name, value in given.items()}}
 
 
 def properties_of(key, member, scope):

@@ -1,13 +1,15 @@
 """What the tool says on standard error."""
 import sys
 
+from ..usage import called
+
 
 class Fault(Exception):
     """A message that says what to do; the status is 2."""
 
 
 def tell(line):
-    print(f"from_template: {line}", file=sys.stderr)
+    print(f"from_template: {called(str(line))}", file=sys.stderr)
 
 
 def shown(value):

@@ -55,15 +55,23 @@ class Scope:
         self.functions, self.placeholders, self.depth, self.steps = {}, [], 0, 0
         self.pseudo = {
             "AWS::AccountId": ACCOUNT, "AWS::Region": region, "AWS::Partition": "aws",
-            "AWS::URLSuffix": "amazonaws.com",
-            "AWS::StackName": stack, "AWS::NotificationARNs": [], "AWS::NoValue": NO_VALUE,
-            "AWS::StackId": f"arn:aws:cloudformation:{region}:{ACCOUNT}:stack/{stack}/00000000-0000-0000-0000-000000000000"}
+            "AWS::URLSuffix": "amazonaws.com", "AWS::StackName": stack, "AWS::NotificationARNs": [],
+            "AWS::NoValue": NO_VALUE,
+            "AWS::StackId": f"arn:aws:cloudformation:{region}:{ACCOUNT}:stack/{stack}/"
+                            "00000000-0000-0000-0000-000000000000"}
 
     def known(self, expression):
         """Its value with its placeholders; Unknown if it has none."""
         self.placeholders, self.steps = [], 0
         value = self.value(expression)
         return Known(value, tuple(dict.fromkeys(self.placeholders)))
+
+    def known_or_why(self, expression):
+        """The same; None, with the reason in the place of placeholders, if it has none."""
+        try:
+            return self.known(expression)
+        except Unknown as reason:
+            return Known(None, (str(reason),))
 
     def text(self, text):
         """A text outside of Fn::Sub."""

@@ -28,8 +28,7 @@ def listener_at(port, owner, path):
             made.close()
             if port or not left:
                 raise Fault(4, f"{path}: port {wanted} ({owner}): another program listens there: leave the port out, "
-                               f"and a free "
-                               "one is used") from None
+                               "and a free one is used") from None
 
 
 def url_of(listener):

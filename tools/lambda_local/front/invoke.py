@@ -43,7 +43,8 @@ class InvokePort:
             return None
         status, headers, body = await self.client.ask("POST", request.target, [("X-Amz-Invocation-Type", "Event")])
         if not (status == 400 and KNOWN in body):
-            kept = [(name, value) for name, value in headers if name.lower() in ("content-type", "x-amzn-errortype", "x-amzn-requestid")]
+            kept = [(name, value) for name, value in headers
+                    if name.lower() in ("content-type", "x-amzn-errortype", "x-amzn-requestid")]
             return Reply(status, kept, body)
         if len(self.known) < MOST_TARGETS:
             self.known.add(request.target)

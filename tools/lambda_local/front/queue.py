@@ -106,7 +106,8 @@ class Queue:
         if status == 429:
             return self.postpone(lane, event)
         if status is not None and status >= 500:  # (which may come after the function has run)
-            return self.postpone(lane, event, f"has no outcome, since the service answers {status} {body[:200].decode(errors='replace')}")
+            return self.postpone(lane, event, "has no outcome, since the service answers "
+                                              f"{status} {body[:200].decode(errors='replace')}")
         lane.taken()
         self.ended(event, status, headers, body)
         self.release(lane)

@@ -26,7 +26,8 @@ class Route:
             self.method, self.parts = "ANY", None
             return
         method, _, path = key.partition(" ")
-        if not path.startswith("/") or not TOKEN.fullmatch(method) or method != method.upper() or re.search(r"\s|\?", path):
+        if (not path.startswith("/") or not TOKEN.fullmatch(method) or method != method.upper()
+                or re.search(r"\s|\?", path)):
             raise WrongRoute('write it as METHOD /path, such as "GET /orders/{id}", or $default')
         self.method, self.parts = method, [self.part_of(part) for part in parts_of(path)]
         if any(kind == "rest" for kind, _ in self.parts[:-1]):
@@ -42,7 +43,8 @@ class Route:
     @property
     def shape(self):
         """What it takes, whatever its parameters are called."""
-        return self.method, None if self.parts is None else tuple((kind, name if kind == "text" else "") for kind, name in self.parts)
+        return self.method, None if self.parts is None else tuple(
+            (kind, name if kind == "text" else "") for kind, name in self.parts)
 
     @property
     def rank(self):

@@ -23,7 +23,8 @@ class Difference(NamedTuple):
 
 
 def shown(value):
-    text = value.decode("utf-8", "backslashreplace") if isinstance(value, bytes) else json.dumps(value, ensure_ascii=False)
+    text = (value.decode("utf-8", "backslashreplace") if isinstance(value, bytes)
+            else json.dumps(value, ensure_ascii=False))
     return text if len(text) <= SHOWN else text[:SHOWN] + ".."
 
 

@@ -43,8 +43,8 @@ def moment(word):
     """A MOMENT of the command line."""
     found = re.fullmatch(r"(\+?)(\d+)(?:\.(\d{1,3}))?", word)
     if not found or (found[3] and not found[1]):
-        raise argparse.ArgumentTypeError(f"{word!r} is no moment: write milliseconds as in the history, such as 1795556558434, or "
-                                         "+SECONDS from its first entry, such as +1.5")
+        raise argparse.ArgumentTypeError(f"{word!r} is no moment: write milliseconds as in the history, such as "
+                                         "1795556558434, or +SECONDS from its first entry, such as +1.5")
     if found[1]:
         return Moment(1000 * int(found[2]) + int((found[3] or "0").ljust(3, "0")), True)
     return Moment(int(found[2]), False)
@@ -60,8 +60,8 @@ def arguments():
     parser.add_argument("-o", metavar="FILE", dest="output", help="write there; .html, .json and .svg choose the form")
     given = parser.add_mutually_exclusive_group()
     given.add_argument("--program", metavar="P",
-                       help="replay the calls with this program (else LAMBDA_LOCAL_PROGRAM, else "
-                                                      "the one that comes with the tools)")
+                       help="replay the calls with this program (else LAMBDA_LOCAL_PROGRAM, else the one that comes "
+                            "with the tools)")
     given.add_argument("--answers", metavar="FILE", help="take the answers from what a replay wrote")
     parser.add_argument("--script", action="store_true",
                         help="read the input as a script, though it looks like a history")
@@ -175,7 +175,8 @@ def compared(given, closing):
     words = difference(given.path(), replay)
     if words is None:
         return "", "Its replay gives the same answers."
-    return DIFFERS, f"This history differs from its replay: {words}. Its own answers are shown; --script shows those of the replay."
+    return DIFFERS, (f"This history differs from its replay: {words}. "
+                     "Its own answers are shown; --script shows those of the replay.")
 
 
 def follow(chosen, given, sink, closing):

@@ -147,7 +147,8 @@ class Drawing(Kept):
         if x is None:
             right = self.width - 10
             return f'<path class="deadline" stroke-dasharray="2 3" d="M{left:.1f} {y}H{right:.1f}m-5 -3l5 3l-5 3"/>'
-        return f'<path class="deadline" stroke-dasharray="2 3" d="M{left:.1f} {y}H{x:.1f}"/><path class="deadline" d="M{x:.1f} {y - 4}v7"/>'
+        return (f'<path class="deadline" stroke-dasharray="2 3" d="M{left:.1f} {y}H{x:.1f}"/>'
+                f'<path class="deadline" d="M{x:.1f} {y - 4}v7"/>')
 
     def draw_steps(self):
         """A function's reservation, from one change to the next."""
@@ -163,7 +164,8 @@ class Drawing(Kept):
                 if right <= left or count is None:
                     continue
                 words = str(count)
-                text = f'<text x="{left + 4:.1f}" y="{top + 15}">{words}</text>' if width_of(words) <= right - left else ""
+                text = (f'<text x="{left + 4:.1f}" y="{top + 15}">{words}</text>'
+                        if width_of(words) <= right - left else "")
                 self.put("step", f"{self.configuration.names[f]}: {count} reserved from {self.moment(moment)} on",
                          f'<rect class="ended" x="{left:.1f}" y="{top + 4}" width="{right - left:.1f}" height="15" '
                          f'rx="3"/>', text)
@@ -244,12 +246,14 @@ class Drawing(Kept):
             if not ends[e]:
                 continue
             (top, bottom), x = ends[e], self.x(entry)
-            cause = next((f"\nthe deadline of {phase} had come" for at, number,
-                          phase in self.expiries if at == entry and number == e), "")
-            title = f"{self.configuration.place(e)} closes: {reason}{cause}\n{self.moment(moment)}, the end of generation {generation}"
+            cause = next((f"\nthe deadline of {phase} had come" for at, number, phase in self.expiries
+                          if at == entry and number == e), "")
+            title = (f"{self.configuration.place(e)} closes: {reason}{cause}\n"
+                     f"{self.moment(moment)}, the end of generation {generation}")
             words = f"reset: {reason}"
             room = min((place - x for place in places[e] if place > x), default=self.width - x)
-            text = f'<text class="why" x="{x + 4:.1f}" y="{top + 14}">{words}</text>' if width_of(words) + 10 <= room else ""
+            text = (f'<text class="why" x="{x + 4:.1f}" y="{top + 14}">{words}</text>'
+                    if width_of(words) + 10 <= room else "")
             self.put("resets", title, f'<path class="reset" d="M{x:.1f} {top + 4}V{bottom}"/>', text)
 
 
@@ -258,8 +262,7 @@ def svg(drawing):
     drawing.draw()
     width, height = drawing.width + LABELS, drawing.height
     return (f'<svg xmlns="http://www.w3.org/2000/svg" viewBox="0 0 {width:.0f} {height:.0f}" width="{width:.0f}" '
-            f'height="{height:.0f}" '
-            'role="img">\n'
+            f'height="{height:.0f}" role="img">\n'
             f'<title>{escape(drawing.name)}</title>\n<style>{COLOURS}{DRAWING}</style>\n'
             f'<rect width="{width:.0f}" height="{height:.0f}" fill="var(--page)"/>\n' + "\n".join(drawing.labels)
             + f'\n<g transform="translate({LABELS} 0)">\n' + "\n".join(drawing.chart) + "\n</g>\n</svg>\n")

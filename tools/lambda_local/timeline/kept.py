@@ -14,8 +14,10 @@ class Kept(Sink):
 
     def __init__(self, configuration, scale="entries"):
         self.configuration, self.scale = configuration, scale
-        self.zero = self.first = None  # the moment at which the axis begins, and the number of the first entry that is drawn
-        self.moments, self.calls, self.bands, self.resets, self.works, self.steps, self.expiries, self.refused = ([] for _ in LISTS)
+        # The moment at which the axis begins, and the number of the first entry that is drawn.
+        self.zero = self.first = None
+        (self.moments, self.calls, self.bands, self.resets, self.works, self.steps, self.expiries,
+         self.refused) = ([] for _ in LISTS)
 
     def begin(self, moment):
         self.zero = moment

@@ -23,7 +23,8 @@ def port_of(url):
     """The port of a service's address."""
     try:
         parts = urlsplit(url)
-        if parts.scheme == "http" and parts.hostname in ("127.0.0.1", "localhost") and parts.port and parts.path in ("", "/"):
+        if (parts.scheme == "http" and parts.hostname in ("127.0.0.1", "localhost") and parts.port
+                and parts.path in ("", "/")):
             return parts.port
     except ValueError:
         pass
@@ -65,7 +66,8 @@ class Live:
         configuration = configuration_of(self.port)
         self.follower = Follower(self.port, timeout=SILENCE)
         with self.lock:
-            self.recent, self.gone, self.version = Recent(configuration, self.limit, self.shows_all), None, self.version + 1
+            self.recent = Recent(configuration, self.limit, self.shows_all)
+            self.gone, self.version = None, self.version + 1
 
     def follow(self):
         while not self.ended.wait(PAUSE if self.gone is None else 4 * PAUSE):

@@ -4,7 +4,8 @@ from xml.sax.saxutils import escape
 from .page import count_rows, document, failures, figure, legend, summary
 
 SCRIPT = """"use strict";
-const drawn = document.querySelector("#drawn"), pause = document.querySelector("#pause"), lost = document.querySelector("#lost");
+const drawn = document.querySelector("#drawn"), pause = document.querySelector("#pause");
+const lost = document.querySelector("#lost");
 let version = drawn.dataset.version, paused = false;
 
 function box() { return drawn.querySelector(".scroll"); }
@@ -12,7 +13,8 @@ function box() { return drawn.querySelector(".scroll"); }
 // What is new is in sight if the newest was; else the place that is looked at stays.
 function show(news) {
   const before = box(), list = drawn.querySelector(".failed");
-  const left = before.scrollLeft, atEnd = left + before.clientWidth >= before.scrollWidth - 60, top = list ? list.scrollTop : 0;
+  const left = before.scrollLeft, atEnd = left + before.clientWidth >= before.scrollWidth - 60;
+  const top = list ? list.scrollTop : 0;
   drawn.innerHTML = news.drawn;
   version = String(news.version);
   box().scrollLeft = atEnd ? box().scrollWidth : left;
@@ -41,7 +43,8 @@ box().scrollLeft = box().scrollWidth;
 look();
 """
 STYLE = """
-button{font:inherit;padding:.15rem .8rem;border:1px solid var(--line);border-radius:6px;background:var(--stripe);color:inherit}
+button{font:inherit;padding:.15rem .8rem;border:1px solid var(--line);border-radius:6px;background:var(--stripe);
+color:inherit}
 header{display:flex;align-items:center;gap:1rem;flex-wrap:wrap}
 """
 
@@ -51,10 +54,10 @@ def fragment(drawing, world, limit, gone):
     said = ""
     if gone:
         said = (f'<p class="differs">The service has gone at {escape(gone)}. Its last calls stay here; if one answers '
-                f'there again, it is '
-                "shown.</p>\n")
+                "there again, it is shown.</p>\n")
     words = "No call yet." if world.entry < 0 else f"{summary(drawing, world)} The last {limit:,} calls are shown."
-    return f"{said}<p>{words}</p>\n{failures(drawing, newest_first=True)}{figure(drawing)}<h2>Counts</h2>\n{count_rows(world)}\n"
+    return (f"{said}<p>{words}</p>\n{failures(drawing, newest_first=True)}{figure(drawing)}"
+            f"<h2>Counts</h2>\n{count_rows(world)}\n")
 
 
 def page(url, version, drawn):

@@ -31,7 +31,8 @@ a{color:inherit}
 h2{font-size:1rem;margin:1rem 0 0}
 pre{overflow-x:auto;font-size:.8rem;line-height:1.5;padding:.7rem;background:var(--stripe);border-radius:6px}
 summary{cursor:pointer;margin-top:1rem}
-@media (max-width:40rem){body{padding:.6rem .75rem 2rem}.legend{flex-wrap:nowrap;overflow-x:auto}.scroll{scroll-padding-left:9rem}
+@media (max-width:40rem){body{padding:.6rem .75rem 2rem}.legend{flex-wrap:nowrap;overflow-x:auto}
+.scroll{scroll-padding-left:9rem}
 .scroll .names{width:116px}.scroll .names text{font-size:10px}.scroll .names .head{font-size:9px}}
 """
 
@@ -52,14 +53,11 @@ def legend():
     items.append('<li><svg width="22" height="16" aria-hidden="true"><path class="reset" d="M11 0V16"/></svg>a reset, '
                  'with its reason</li>')
     items.append('<li><svg width="22" height="16" aria-hidden="true"><path class="deadline" stroke-dasharray="2 3" '
-                 'd="M0 9H18"/>'
-                 '<path class="deadline" d="M18 4v9"/></svg>a deadline</li>')
+                 'd="M0 9H18"/><path class="deadline" d="M18 4v9"/></svg>a deadline</li>')
     items.append('<li><svg width="22" height="16" aria-hidden="true"><rect class="handed" x="1" y="5" width="20" '
-                 'height="6" rx="3"/></svg>'
-                 'a thin bar: a poll waits</li>')
+                 'height="6" rx="3"/></svg>a thin bar: a poll waits</li>')
     items.append('<li><svg width="22" height="16" aria-hidden="true"><path class="mark good" d="M11 2l6 6l-6 6l-6 '
-                 '-6z"/></svg>'
-                 'a call that is answered at once</li>')
+                 '-6z"/></svg>a call that is answered at once</li>')
     return '<ul class="legend">' + "".join(items) + "</ul>"
 
 
@@ -75,25 +73,24 @@ def failures(drawing, newest_first=False):
     """The failed calls that are drawn, each with a link to its place."""
     failed = [(call.end, f"call-{call.ticket}", outcome(call), what(drawing.configuration, call), call.said)
               for call in drawing.calls if outcome(call) in FAILED]
-    failed += [(moment, f"full-{i}", "refused", words, "the journal is full") for i,
-               (moment, words) in enumerate(drawing.refused)]
+    failed += [(moment, f"full-{i}", "refused", words, "the journal is full")
+               for i, (moment, words) in enumerate(drawing.refused)]
     if not failed:
         return ""
     items = "".join(f'<li>{sign(kind, 2)}<a href="#{place}">{axis_words(moment, drawing.zero)}: {escape(words)}: '
                     f'{escape(said)}</a></li>'
-                    for moment, place, kind, words,
-                    said in sorted(failed, key=lambda each: each[0], reverse=newest_first))
+                    for moment, place, kind, words, said in sorted(failed, key=lambda each: each[0],
+                                                                   reverse=newest_first))
     return f"<h2>Failed: {len(failed):,}</h2>\n<ul class=\"failed\">{items}</ul>\n"
 
 
 def figure(drawing):
     """The drawing, with its labels in a column that stays while the rest is scrolled."""
     return (f'<figure><div class="scroll" tabindex="0">\n<svg class="names" xmlns="http://www.w3.org/2000/svg" '
-            f'width="{LABELS}" '
-            f'height="{drawing.height:.0f}">\n' + "\n".join(drawing.labels)
+            f'width="{LABELS}" height="{drawing.height:.0f}">\n' + "\n".join(drawing.labels)
             + f'\n</svg>\n<svg xmlns="http://www.w3.org/2000/svg" width="{drawing.width:.0f}" '
-            f'height="{drawing.height:.0f}" role="img" '
-            'aria-label="the calls as spans over time">\n' + "\n".join(drawing.chart) + "\n</svg>\n</div></figure>\n")
+            f'height="{drawing.height:.0f}" role="img" aria-label="the calls as spans over time">\n'
+            + "\n".join(drawing.chart) + "\n</svg>\n</div></figure>\n")
 
 
 def summary(drawing, world):
@@ -103,22 +100,23 @@ def summary(drawing, world):
     words = f"{world.calls:,} calls, {invokes:,} of them invocations, in {world.entry + 1:,} entries."
     if drawing.moments:
         words += (f" Drawn: {length_words(drawing.moments[-1] - drawing.moments[0])}, from "
-                  f"{moment_words(drawing.moments[0])} "
-                  f"to {moment_words(drawing.moments[-1])}.")
+                  f"{moment_words(drawing.moments[0])} to {moment_words(drawing.moments[-1])}.")
     return words
 
 
 def scale_words(drawing):
     if drawing.scale == "time":
         return "The axis is true to scale."
-    return "The axis is not to scale: each entry has a place of its own, and a longer wait is drawn wider, but not in proportion."
+    return ("The axis is not to scale: each entry has a place of its own, and a longer wait is drawn wider, "
+            "but not in proportion.")
 
 
 def document(title, body):
     return ('<!DOCTYPE html>\n<html xmlns="http://www.w3.org/1999/xhtml" lang="en">\n<head>\n<meta charset="utf-8"/>\n'
             '<meta name="viewport" content="width=device-width, initial-scale=1"/>\n<meta name="color-scheme" '
             'content="light dark"/>\n'
-            f"<title>{escape(title)}</title>\n<style>{COLOURS}{DRAWING}{PAGE}</style>\n</head>\n<body>\n{body}</body>\n</html>\n")
+            f"<title>{escape(title)}</title>\n<style>{COLOURS}{DRAWING}{PAGE}</style>\n</head>\n"
+            f"<body>\n{body}</body>\n</html>\n")
 
 
 def html(drawing, world, notes, log):
@@ -129,7 +127,6 @@ def html(drawing, world, notes, log):
     told = "".join(f'<p class="{kind}">{escape(words)}</p>\n' for kind, words in notes if kind)
     return document(drawing.name, (
         f"<h1>{escape(drawing.name)}</h1>\n<p>{summary(drawing, world)} {escape(remarks)} {scale_words(drawing)} Rest "
-        f"the pointer on a "
-        f"thing to read more of "
-        f"it.</p>\n{told}{legend()}\n{failures(drawing)}{figure(drawing)}<h2>Counts</h2>\n{count_rows(world)}\n"
+        f"the pointer on a thing to read more of it.</p>\n{told}{legend()}\n{failures(drawing)}{figure(drawing)}"
+        f"<h2>Counts</h2>\n{count_rows(world)}\n"
         f"<details><summary>The same as text</summary><pre>{escape(''.join(log))}</pre></details>\n"))

@@ -18,7 +18,8 @@ class Replay:
         self.process = None
         try:
             with open(path, "rb") as file:
-                self.process = subprocess.Popen([program, "replay"], stdin=file, stdout=subprocess.PIPE, stderr=self.notes)
+                self.process = subprocess.Popen([program, "replay"], stdin=file, stdout=subprocess.PIPE,
+                                                stderr=self.notes)
         except OSError as fault:
             raise Fault(4, f"{program} could not be run: {fault.strerror}; name the program by --program or "
                            "LAMBDA_LOCAL_PROGRAM, or give the answers of a replay by --answers") from None
@@ -78,7 +79,8 @@ def difference(path, replay):
                 continue
             replayed = replay.process.stdout.readline().rstrip(b"\n")
             if not replayed:
-                return ended(replay) or f"line {number}: the history has {words(line[2:])}, and the replay has no more answers"
+                return ended(replay) or (f"line {number}: the history has {words(line[2:])}, "
+                                         "and the replay has no more answers")
             if replayed != line[2:]:
                 return f"line {number}: the history has {words(line[2:])}, and the replay answers {words(replayed)}"
     replayed = replay.process.stdout.readline().rstrip(b"\n")

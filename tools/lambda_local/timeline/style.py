@@ -2,12 +2,14 @@
 
 LABELS, LANE, LETTER = 176, 24, 6.6  # the width of the labels, the height of a row, the width of a letter
 COLOURS = """
-:root{--page:#fff;--ink:#1f2328;--muted:#59636e;--line:#d1d9e0;--stripe:#f6f8fa;--good:#8ddb9f;--error:#ffb871;--timeout:#ff9a90;
---throttled:#d0b3fa;--refused:#cf222e;--ended:#c3cad2;--handed:#a9cdf7;--ending:#f0d264;--mark:#1a7f37;--deadline:#a40e26;
+:root{--page:#fff;--ink:#1f2328;--muted:#59636e;--line:#d1d9e0;--stripe:#f6f8fa;
+--good:#8ddb9f;--error:#ffb871;--timeout:#ff9a90;--throttled:#d0b3fa;--refused:#cf222e;--ended:#c3cad2;
+--handed:#a9cdf7;--ending:#f0d264;--mark:#1a7f37;--deadline:#a40e26;
 --Starting:#fdf0cf;--Idle:#e3f4e5;--Busy:#d5e6fc;--Closing:#fbd9d6;--Off:#dfe3e8}
-@media (prefers-color-scheme:dark){:root{--page:#0d1117;--ink:#f0f6fc;--muted:#9ea7b1;--line:#3d444d;--stripe:#151b23;--good:#237a37;
---error:#9c5510;--timeout:#ad3029;--throttled:#6f42ad;--refused:#ff7b72;--ended:#59626c;--handed:#2b5f9e;--ending:#86690b;
---mark:#4cc36a;--deadline:#ff8f87;--Starting:#4a3c12;--Idle:#173a20;--Busy:#163a66;--Closing:#5c221f;--Off:#30363d}}
+@media (prefers-color-scheme:dark){:root{--page:#0d1117;--ink:#f0f6fc;--muted:#9ea7b1;--line:#3d444d;--stripe:#151b23;
+--good:#237a37;--error:#9c5510;--timeout:#ad3029;--throttled:#6f42ad;--refused:#ff7b72;--ended:#59626c;
+--handed:#2b5f9e;--ending:#86690b;--mark:#4cc36a;--deadline:#ff8f87;
+--Starting:#4a3c12;--Idle:#173a20;--Busy:#163a66;--Closing:#5c221f;--Off:#30363d}}
 """
 DRAWING = """
 svg{font:11px system-ui,"Segoe UI",Helvetica,Arial,sans-serif}

@@ -38,7 +38,8 @@ class Trace(Sink):
                 process = 10 + lane[1]
                 others = sum(1 for other in self.lanes if other[0] == "extension" and other[1] == lane[1])
                 thread = {"environment": 1, "runtime": 2}.get(lane[0], 3 + others)
-                place, name = (process, thread), {"environment": "phase", "runtime": "runtime"}.get(lane[0]) or extension_words(lane[2])
+                place, name = (process, thread), (
+                    {"environment": "phase", "runtime": "runtime"}.get(lane[0]) or extension_words(lane[2]))
             process_name = {1: "callers", 2: "account"}.get(place[0]) or self.configuration.place(lane[1])
             self.name(*place, process_name, name)
             self.lanes[lane] = place

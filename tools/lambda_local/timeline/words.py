@@ -36,7 +36,8 @@ def who(configuration, call):
     if lane[0] == "account":
         return "account"
     place = configuration.place(lane[1])
-    return place if lane[0] == "environment" else f"{place}, " + ("runtime" if lane[0] == "runtime" else extension_words(lane[2]))
+    return place if lane[0] == "environment" else f"{place}, " + (
+        "runtime" if lane[0] == "runtime" else extension_words(lane[2]))
 
 
 def extension_words(name):

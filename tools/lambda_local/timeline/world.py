@@ -80,7 +80,8 @@ class Work:
     __slots__ = ("lane", "name", "moment", "entry", "until", "request", "outcome")
 
     def __init__(self, lane, name, moment, entry, until, request):
-        self.lane, self.name, self.moment, self.entry, self.until, self.request = lane, name, moment, entry, until, request
+        self.lane, self.name, self.moment = lane, name, moment
+        self.entry, self.until, self.request = entry, until, request
         self.outcome = "open"
 
 
@@ -288,8 +289,7 @@ class World:
         call = self.open.pop(ticket, None)
         if call is None:
             raise Fault(3, f"entry {self.entry} answers call {ticket}, which is not open: these answers are not those "
-                           f"of "
-                           "the calls, or the history has gaps")
+                           "of the calls, or the history has gaps")
         call.end, call.end_entry, call.answer, call.said = self.moment, self.entry, answer, told
         word = answer[0]
         if call.kind == "invoke":

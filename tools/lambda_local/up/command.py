@@ -65,8 +65,7 @@ def parser():
     made.add_argument("--ready", metavar="SECONDS", type=float, default=60,
                       help="wait at most so long for all environments (60)")
     made.add_argument("--drain", metavar="SECONDS", type=seconds_of, default=5,
-                      help="at the end wait at most so long for asynchronous "
-                                                                                      "invocations (5)")
+                      help="at the end wait at most so long for asynchronous invocations (5)")
     made.add_argument("--salt", metavar="N", type=salt_of,
                       help="the salt of all identifiers (that of UP.json, else the time)")
     made.add_argument("--keep-credentials", action="store_true",

@@ -199,7 +199,8 @@ class Environment(threading.Thread):
             self.last_report = generation.report
         elif generation and not generation.is_ready:
             self.remember("Init timed out", "Init.Timeout")
-        is_early = lived < SOON if generation is None else not generation.deliveries and (not generation.is_ready or lived < SOON)
+        is_early = lived < SOON if generation is None else (
+            not generation.deliveries and (not generation.is_ready or lived < SOON))
         self.restarts.note(is_early and not spins_down)
         return True
 

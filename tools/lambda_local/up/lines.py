@@ -80,8 +80,8 @@ class Lines:
             if at_the_end or time.monotonic() - since >= SUMMED_SECONDS:
                 del self.throttled[name]
                 count = sum(reasons.values())
-                why = ", ".join(REASONS[reason] + (f" {times}" if len(reasons) > 1 else "") for reason,
-                                times in reasons.most_common())
+                why = ", ".join(REASONS[reason] + (f" {times}" if len(reasons) > 1 else "")
+                                for reason, times in reasons.most_common())
                 times = "" if count == 1 else f" {count} times"
                 self.log(name, f"throttled{times}: {why}", level="warning", kind="throttled", function=name,
                          count=count, reasons=dict(reasons))

@@ -95,8 +95,8 @@ class Function:
     def _extensions(self, given):
         """The words of each extension's command by its name; none for one that is started by hand."""
         commands = dict.fromkeys(given) if isinstance(given, list) else given
-        return {name: words_of(command, f"{self.where}: extension {name}") if command else None for name,
-                command in commands.items()}
+        return {name: words_of(command, f"{self.where}: extension {name}") if command else None
+                for name, command in commands.items()}
 
     def _look(self):
         """Whether its extensions can be, and the programs of its commands are there."""

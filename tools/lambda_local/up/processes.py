@@ -70,4 +70,5 @@ def reason_of(status, who="Runtime"):
     """How Lambda tells a caller that a process has ended."""
     if status == 0:
         return f"{who} exited without providing a reason"
-    return f"{who} exited with error: signal {-status}" if status < 0 else f"{who} exited with error: exit status {status}"
+    return (f"{who} exited with error: signal {-status}" if status < 0
+            else f"{who} exited with error: exit status {status}")

@@ -59,7 +59,8 @@ class Reload(threading.Thread):
             for name, function in functions.items():
                 now = times(function.watch)
                 if now != seen[name]:
-                    self.changed(function, sorted(path for path in now.keys() | seen[name].keys() if now.get(path) != seen[name].get(path)))
+                    self.changed(function, sorted(path for path in now.keys() | seen[name].keys()
+                                                  if now.get(path) != seen[name].get(path)))
                     seen[name] = now
             try:
                 self.spin_down()

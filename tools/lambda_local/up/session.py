@@ -59,7 +59,8 @@ class Session:
                 self.say(f"{here.name}: 127.0.0.1:{port}{'' if function.command else ', start its runtime yourself'}",
                          kind="address", function=function.name, environment=here.place, port=port)
                 if function.command:
-                    variables = surroundings.of_environment(self.service, function, number, port, self.options.keep_credentials)
+                    variables = surroundings.of_environment(self.service, function, number, port,
+                                                            self.options.keep_credentials)
                     restarts = Restarts(self.options.reload)
                     yield Environment(self.service, self.watch, function, number, port, variables, restarts,
                                       self.stopping, self.log)
@@ -144,7 +145,8 @@ class Session:
     def lateness(self, environment):
         """Why an environment is not ready."""
         if environment.restarts.early:
-            return f"{environment.name}, whose Init fails: {Report(environment.last_report, environment.function.directory)}"
+            return (f"{environment.name}, whose Init fails: "
+                    f"{Report(environment.last_report, environment.function.directory)}")
         here = self.watch.environment(environment.number)
         return f"{environment.name}, {Lines.waited_for(here, here.generation)}"
 

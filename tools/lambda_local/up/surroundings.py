@@ -48,8 +48,7 @@ def written(version):
 
 def warning(client, version, newer, otherwise):
     return (f"{client} {written(version)} ignores AWS_ENDPOINT_URL_LAMBDA and would call AWS itself: take {newer} or "
-            f"newer, "
-            f"or give it {otherwise}")
+            f"newer, or give it {otherwise}")
 
 
 def old_clients(version_of):

@@ -67,8 +67,7 @@ class Watch(threading.Thread):
                                "stop, or write a higher maxEntries into UP.json", "error")
         elif count >= NEARLY_FULL * self.most:
             self._warn("nearly", f"the history has {count} of its {self.most} entries: once it is full every call is "
-                                 f"answered 500; "
-                                 "write a higher maxEntries into UP.json", "warning")
+                                 "answered 500; write a higher maxEntries into UP.json", "warning")
 
     def _warn(self, name, text, level):
         if name not in self.warnings:

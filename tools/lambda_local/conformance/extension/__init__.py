@@ -43,7 +43,7 @@ def main(words):
     words, command = split(words)
     parser = parser_of("extension", __doc__,
                        "--name NAME [--events INVOKE,SHUTDOWN] [--init-seconds S] [--only NAME] [--junit FILE] "
-                                             "[--pictures DIR] [--program P]")
+                       "[--pictures DIR] [--program P]")
     parser.add_argument("--name", metavar="NAME", help="the name under which it registers")
     parser.add_argument("--events", metavar="EVENTS", type=events, default=list(EVENTS),
                         help="what it registers for (INVOKE,SHUTDOWN)")

@@ -20,7 +20,8 @@ ENDS = 3  # seconds in which a process that has to end promptly has ended
 ASKS = 5  # seconds in which a request has come that follows from what came before
 SETTLES = 1  # seconds in which a poll too many is seen
 CONTAINER_ERROR = b'{"errorMessage":"Environment is shutting down","errorType":"ContainerError"}'
-UNKNOWN_EVENT = b'{"eventType":"CONFORMANCE","deadlineMs":4102444800000,"requestId":"00000000-0000-8000-8001-000000000000"}'
+UNKNOWN_EVENT = (b'{"eventType":"CONFORMANCE","deadlineMs":4102444800000,'
+                 b'"requestId":"00000000-0000-8000-8001-000000000000"}')
 
 
 @scenario(
@@ -60,8 +61,8 @@ def registration(stage):
     ("asks_after_invoke", pages.EXTENSION_INVOKE, "after each INVOKE it asks for the next event"),
     ("invoke_in_time", pages.EXTENSION_INVOKE,
      "it does so before the function's timeout, which is for all of the Invoke phase"),
-    ("one_poll", pages.EXTENSION_NEXT, "there is one Next at a time: no second one while one waits"), timeout=TIMEOUT,
-    lasts=3)
+    ("one_poll", pages.EXTENSION_NEXT, "there is one Next at a time: no second one while one waits"),
+    timeout=TIMEOUT, lasts=3)
 def invocations(stage):
     stage.begin()
     if not stage.registered_for("INVOKE"):
@@ -119,7 +120,7 @@ def shutdown_for_a_spindown(stage):
 @scenario(
     ("ends_at_timeout", pages.EXTENSION_SHUTDOWN, f"at a SHUTDOWN for TIMEOUT it ends within {SHUTDOWN_SECONDS} s"),
     ("registers_anew", pages.EXTENSION_INIT,
-     "after a reset its new process registers anew and works as the first one"), timeout=3, lasts=4)
+     "after a reset its new process registers anew and works as the first one"), timeout=2, lasts=3)
 def shutdown_for_a_timeout(stage):
     stage.begin()
     stage.idle()
@@ -195,9 +196,8 @@ def reports(stage, name, kind):
 
 @scenario(
     ("init_error", pages.EXTENSION_INIT_ERROR,
-     f"if it fails after its registration (CONFORMANCE_FAILS=init asks for that) it sends init/error, with "
-     f"{FAILURE_TYPE}, "
-     "\"errorMessage\" and \"errorType\", and exits; one that never does so is a NOTE"),
+     "if it fails after its registration (CONFORMANCE_FAILS=init asks for that) it sends init/error, with "
+     f"{FAILURE_TYPE}, \"errorMessage\" and \"errorType\", and exits; one that never does so is a NOTE"),
     variables={"CONFORMANCE_FAILS": "init"})
 def failing_init(stage):
     stage.start()
@@ -209,8 +209,7 @@ def failing_init(stage):
 @scenario(
     ("exit_error", pages.EXTENSION_EXIT_ERROR,
      "if it fails later (CONFORMANCE_FAILS=exit asks for that at its first event) it sends exit/error in the same way, "
-     "and exits; one "
-     "that never does so is a NOTE"),
+     "and exits; one that never does so is a NOTE"),
     variables={"CONFORMANCE_FAILS": "exit"})
 def failing_later(stage):
     stage.begin()

@@ -83,10 +83,15 @@ class ExtensionStage(Stage):
     def begin(self):
         """A generation: the extension registers and asks for its first event, then come the kit's companion and
         runtime."""
-        before, polls = len(self.environment.proxy.of("register")), len(self.environment.proxy.of("event"))
-        self.start()
         environment = self.environment
-        if not environment.asked(before + 1, kind="register") or environment.saw("register", 5, before + 1) is None:
+        before, polls = len(environment.proxy.of("register")), len(environment.proxy.of("event"))
+
+        def goes_on_without():
+            """(A single poll may be the last one of the process before.)"""
+            return len(environment.proxy.of("event")) > polls + 1
+        self.start()
+        if (not environment.asked(before + 1, kind="register", in_vain=goes_on_without)
+                or environment.saw("register", 5, before + 1) is None):
             raise Missing(f"it did not register: {self.said()}")
         registered = environment.proxy.of("register")[before]
         if registered.status != 200:

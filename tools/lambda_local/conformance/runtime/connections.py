@@ -24,8 +24,8 @@ def one_after_the_other(stage):
     CLOCK.sleep(SETTLES)
     proxy = stage.environment.proxy
     polls = proxy.of("next")
-    overlap = next(
-        ((one, other) for one, other in zip(polls, polls[1:]) if one.ended is None or other.begun < one.ended), None)
+    overlap = next(((one, other) for one, other in zip(polls, polls[1:])
+                    if one.ended is None or other.begun < one.ended), None)
     stage.check("one_next", overlap is None,
                 "a second Next while one waited" if overlap else f"{len(polls)} one after the other")
     judge_responses(stage, polls, proxy.of("response", "error"))

@@ -149,8 +149,7 @@ def response_too_large(stage):
 
 @scenario(
     ("late_response", pages.INVOKE_FAILURES,
-     "after a response that is too late (403) it asks for the next invocation; an end instead is a "
-                                             "NOTE"),
+     "after a response that is too late (403) it asks for the next invocation; an end instead is a NOTE"),
     timeout=1, lasts=3)
 def response_too_late(stage):
     stage.idle()

@@ -69,7 +69,7 @@ def terminated(stage):
 @scenario(
     ("cold_start", pages.INVOKE_FAILURES,
      "after a timeout, at which the process is killed, a new one serves the next invocation"),
-    timeout=3, lasts=4)
+    timeout=2, lasts=3)
 def killed_at_a_timeout(stage):
     environment = stage.environment
     stage.idle()

@@ -43,7 +43,8 @@ def a_thousand(stage):
     looks, done = invoke_often(stage, wanted, float("inf") if given else SECONDS)
     memory, descriptors = looks.growth()
     came_by = done * PAYLOAD // 2  # between the second quarter and the last one
-    grown, opened = f"{memory / 1e6:+.1f} MB while {came_by / 1e6:.0f} MB came by", f"{descriptors:+d} in {done} invocations"
+    grown, opened = (f"{memory / 1e6:+.1f} MB while {came_by / 1e6:.0f} MB came by",
+                     f"{descriptors:+d} in {done} invocations")
     too_few = "" if done == wanted else f"no more than {done} invocations within {SECONDS} s: "
     if descriptors >= LEAKED or not too_few:
         stage.check("descriptors", descriptors < LEAKED, opened, opened)

@@ -124,7 +124,7 @@ def events_one_after_the_other(stage):
 @scenario(
     ("stream", pages.STREAMING,
      "a streamed response has Lambda-Runtime-Function-Response-Mode: streaming and is sent in chunks; "
-                                "a runtime that streams nothing sends the texts as one (a NOTE)"))
+     "a runtime that streams nothing sends the texts as one (a NOTE)"))
 def streamed(stage):
     texts = ["first ", "second ", "third"]
     answer = stage.invoke({"do": "stream", "value": texts})
@@ -140,4 +140,4 @@ def streamed(stage):
     right = mode.lower() == "streaming" and exchange.request.chunked and answer.body in (whole.encode(), compact(whole))
     return stage.check("stream", right,
                        f"mode {shown(mode)}, {'in chunks' if exchange.request.chunked else 'not in chunks'}, "
-                                        f"and the caller received {shown(answer.body)}")
+                       f"and the caller received {shown(answer.body)}")

@@ -51,11 +51,11 @@ class Run:
         status = self.course.ask(Call("init-failure", "", ("={}",)), {}, ANSWER_SECONDS)
         place = ":".join(map(str, self.tested.runtime))
         if not status:
-            raise Fault(
-                2, f"{place}: POST /2018-06-01/runtime/init/error is not answered within {ANSWER_SECONDS:.0f} s")
+            raise Fault(2, f"{place}: POST /2018-06-01/runtime/init/error is not answered "
+                           f"within {ANSWER_SECONDS:.0f} s")
         if status not in (202, 403):
-            raise Fault(
-                2, f"{place}: POST /2018-06-01/runtime/init/error is answered {status}: no Runtime API listens there")
+            raise Fault(2, f"{place}: POST /2018-06-01/runtime/init/error is answered {status}: "
+                           "no Runtime API listens there")
         self.course.restore()
         found = self.course.learn_timeout()
         if found:
@@ -101,7 +101,7 @@ class Run:
     def _look_into(self, plan, played):
         """Reports a difference with as few calls as show it. One that does not show again with more time between the
         calls was a matter of their order, and is none."""
-        difference = played.difference
+        difference = None
         try:
             difference = confirmed(self.course, self.oracle, plan)
             if not difference or difference.words in self.reported:
@@ -110,8 +110,8 @@ class Run:
         except Undecided:
             self.report.undecided += 1
             return
-        except (OSError, Unrecoverable):  # (what the service does not survive is reported as it was seen)
-            self._tell(difference or played.difference, plan, played)
+        except (OSError, Unrecoverable):  # (what the service does not survive is reported as it was seen last)
+            self._tell(difference or self.course.found, plan, played)
             raise
         self._tell(difference, plan, played)
 
@@ -164,8 +164,8 @@ def main(words):
     options = parser.parse_args(words)
     for name in ("invoke", "runtime"):
         if not getattr(options, name):
-            raise Fault(
-                2, f"write --{name} {'URL' if name == 'invoke' else 'HOST:PORT'}, where the tested service listens")
+            raise Fault(2, f"write --{name} {'URL' if name == 'invoke' else 'HOST:PORT'}, "
+                           "where the tested service listens")
     for number in (signal.SIGTERM, signal.SIGINT, signal.SIGHUP):
         signal.signal(number, ended_by_signal)
     try:

@@ -48,6 +48,7 @@ class Course:
         self.tested, self.known, self.timeout, self.wire = tested, known, timeout, Wire()
         self.state, self.poll = None, None  # fresh, warm or not known; the Next that waits in warm
         self.ids = {}  # that the last sequence learned
+        self.found = None  # the last difference
         self.calls = 0
 
     # ---- one sequence ----
@@ -72,7 +73,8 @@ class Course:
             found, parted = self._compare(plan, step, exchanges, judge)
             if found:
                 exchange = exchanges[found[0]]
-                difference = Difference(plan, step, *found, tuple(moments), exchange.answered and since(begun, exchange.answered))
+                self.found = difference = Difference(plan, step, *found, tuple(moments),
+                                                     exchange.answered and since(begun, exchange.answered))
             if found or parted:
                 whole = False
                 break
@@ -107,7 +109,8 @@ class Course:
         two have parted with one that is."""
         here = {given.call: given for given in plan.steps[step]}
         before = [given for earlier in plan.steps[:step] for given in earlier]
-        answered_before = open_invocation(plan, step) is None and any(given.answer.kind == "deliver" for given in before)
+        answered_before = (open_invocation(plan, step) is None
+                           and any(given.answer.kind == "deliver" for given in before))
         over = {given.call for given in before}
         parted = False
         # (a delivery first, which makes an identifier known, and then the call itself)

@@ -12,10 +12,9 @@ PAGES = {"invoke": INVOKE, "next": NEXT, "response": RESPONSE, "response-too-lar
          "ext-init-failure": EXTENSION_INIT_ERROR, "ext-exit-failure": EXTENSION_EXIT_ERROR}
 TOLERANCE = 1500  # milliseconds that a deadline may differ by
 STATUSES = {"deliver": 200, "tell": 200, "shutdown": 200, "registered": 200, "accepted": 202, "output": 200,
-            "error": 200,
-            "timeout": 200, "init-timeout": 200, "too-large-output": 200, "throttled": 429, "State": 403,
-            "Replaced": 403,
-            "BadId": 400, "Unknown": 403, "TooLarge": 413, "Container": 500, "NameInUse": 403, "TooMany": 403}
+            "error": 200, "timeout": 200, "init-timeout": 200, "too-large-output": 200, "throttled": 429, "State": 403,
+            "Replaced": 403, "BadId": 400, "Unknown": 403, "TooLarge": 413, "Container": 500, "NameInUse": 403,
+            "TooMany": 403}
 FUNCTION_ERRORS = ("error", "timeout", "init-timeout", "too-large-output")
 TEXT = "a text of the service's own"
 

@@ -59,7 +59,6 @@ def read(path):
             continue
         if len(words) != 3:
             raise Fault(2, f"--known {path}: line {number} has {len(words)} words: write three, CALL ANSWER RESPECT, "
-                           f"as a report "
-                           "names the difference")
+                           "as a report names the difference")
         found.append(Known(words, f"{path}, line {number}"))
     return found

@@ -40,7 +40,8 @@ def by_its_moments(oracle, difference):
     if difference.ended is not None:
         made, moments = (*made, Call("wait")), (*moments, max(difference.ended, moments[-1]))
     steps = oracle.plan(plan.sequence._replace(calls=made), moments).steps
-    return [kinds(step) for step in steps[:length]] == [kinds(step) for step in plan.steps[:length]] and not any(steps[length:])
+    return ([kinds(step) for step in steps[:length]] == [kinds(step) for step in plan.steps[:length]]
+            and not any(steps[length:]))
 
 
 def kinds(step):

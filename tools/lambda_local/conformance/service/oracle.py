@@ -44,14 +44,14 @@ class Plan(NamedTuple):
         return next((given.answer for given in self.steps[place] if given.call == place), None)
 
     def label_of(self, identifier_count, of_extension=False):
-        return next((label for (kind, label),
-                     count in self.counts.items() if kind == of_extension and count == identifier_count), None)
+        return next((label for (kind, label), count in self.counts.items()
+                     if kind == of_extension and count == identifier_count), None)
 
     def waiting(self):
         """The places of the calls that are not answered."""
         answered = {given.call for step in self.steps for given in step}
-        return [place for place,
-                call in enumerate(self.sequence.calls) if call.kind != "wait" and place not in answered]
+        return [place for place, call in enumerate(self.sequence.calls)
+                if call.kind != "wait" and place not in answered]
 
 
 class Oracle:

@@ -25,7 +25,8 @@ class Report:
     def differs(self, difference, name, seconds, script):
         """A difference that was found in the sequence of this name."""
         self.differences += 1
-        title = f"{' '.join(difference.words)}: {cut(difference.aspect.theirs)} instead of {cut(difference.aspect.ours)}"
+        title = (f"{' '.join(difference.words)}: {cut(difference.aspect.theirs)} "
+                 f"instead of {cut(difference.aspect.ours)}")
         details = details_of(difference, script)
         for line in (f"DIFFERENCE  {title}", f"      found in  {name}", *(f"      {line}" for line in details)):
             self.write(line)
@@ -42,8 +43,7 @@ class Report:
         self.suite.case("conformance service", f"{self.random} random sequences", seconds)
         self.suite.seconds = seconds
         self.write(f"{self.sequences} sequences ({self.random} random), {course.calls} calls, {self.differences} "
-                   f"differences "
-                   f"in {seconds:.1f} s")
+                   f"differences in {seconds:.1f} s")
         if self.path:
             self.suite.write(self.path)
         return 1 if self.differences else 0

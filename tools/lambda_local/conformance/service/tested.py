@@ -37,7 +37,8 @@ def from_environment(call, ids):
     if call.kind == "response-too-large":
         return "POST", f"{RUNTIME}invocation/{request}/response", [], b'"' + b"x" * (TOO_LARGE - 2) + b'"'
     if call.kind == "failure":
-        return "POST", f"{RUNTIME}invocation/{request}/error", [("Lambda-Runtime-Function-Error-Type", ERROR_TYPE)], call.body
+        return ("POST", f"{RUNTIME}invocation/{request}/error", [("Lambda-Runtime-Function-Error-Type", ERROR_TYPE)],
+                call.body)
     if call.kind == "init-failure":
         return "POST", RUNTIME + "init/error", [("Lambda-Runtime-Function-Error-Type", ERROR_TYPE)], call.body
     if call.kind == "register":
@@ -62,5 +63,6 @@ def tested_by(invoke, runtime, function):
     host, _, number = runtime.rpartition(":")
     if not host or not number.isdigit() or not 0 < int(number) < 65536:
         raise Fault(2, f"--runtime {runtime}: write HOST:PORT, for example 127.0.0.1:9001")
-    path = found.path if found.path.endswith("/invocations") else f"{found.path.rstrip('/')}/2015-03-31/functions/{function}/invocations"
+    path = found.path if found.path.endswith("/invocations") else (
+        f"{found.path.rstrip('/')}/2015-03-31/functions/{function}/invocations")
     return Tested((found.hostname, port), path, (host, int(number)))
