@@ -1,0 +1,128 @@
+//! The calls that `bench/requests` and `bench/submits` time. `benches PART BESIDE COUNT` makes those of a part
+//! COUNT times, and prints how many were answered as they should be, and how many nanoseconds that took.
+//! `benches` makes those of each part a few times, and prints how many were answered so.
+#![tactic(auto)]
+
+mod made;
+mod requests;
+mod submits;
+
+use crate::made::Made;
+use crate::requests::{decide_invoke, decide_response, render_delivery, render_output};
+use crate::submits::{apply, submit};
+use std::alloc::Global;
+use std::env::{self, Env};
+use std::io;
+use std::process::{Abort, ExitCode};
+use std::sync::Wait;
+use std::thread::Threads;
+use std::time::Clock;
+
+/// What is made again and again.
+#[derive(Clone, Copy)]
+enum Part {
+    /// `Side::decide` on an Invoke with a body of BESIDE bytes.
+    DecideInvoke,
+    /// The same on a response.
+    DecideResponse,
+    /// `Book::render` of a delivery with a body of BESIDE bytes.
+    RenderDelivery,
+    /// The same of an output.
+    RenderOutput,
+    /// `Account::submit` from BESIDE threads, in turns of three calls.
+    Submit,
+    /// `Desk::apply` beside BESIDE polls that are parked, in the same turns.
+    Apply,
+}
+
+/// The parts by their words, with what stands beside each in a run of a few times.
+const PARTS: [(&str, Part, u64); 6] = [
+    ("decide_invoke", Part::DecideInvoke, 100),
+    ("decide_response", Part::DecideResponse, 100),
+    ("render_delivery", Part::RenderDelivery, 100),
+    ("render_output", Part::RenderOutput, 100),
+    ("submit", Part::Submit, 8),
+    ("apply", Part::Apply, 248),
+];
+
+/// How often each part is made where none is named.
+const FEW: u64 = 24;
+
+/// The part of this word, if it is one.
+fn part_named(word: &str) -> Option<Part> {
+    for (name, part, _) in PARTS {
+        if name == word {
+            return Some(part);
+        }
+    }
+    None
+}
+
+/// Makes a part so many times.
+fn make<R: Wait + Threads + Abort + Clock + Sync>(
+    rt: &R,
+    alloc: Global,
+    part: Part,
+    beside: u64,
+    count: u64,
+) -> Made {
+    match part {
+        Part::DecideInvoke => decide_invoke(rt, alloc, beside, count),
+        Part::DecideResponse => decide_response(rt, alloc, beside, count),
+        Part::RenderDelivery => render_delivery(rt, alloc, beside, count),
+        Part::RenderOutput => render_output(rt, alloc, beside, count),
+        Part::Submit => submit(rt, alloc, beside, count),
+        Part::Apply => apply(rt, alloc, beside, count),
+    }
+}
+
+/// Makes each part a few times.
+fn make_all<R: Wait + Threads + Abort + Clock + Print + Sync>(
+    rt: &R,
+    alloc: Global,
+) -> io::Result<()> {
+    for (name, part, beside) in PARTS {
+        let made = make(rt, alloc, part, beside, FEW);
+        println!(rt; "{name}: {} of {FEW}", made.count)?;
+    }
+    Ok(())
+}
+
+/// The number that a word stands for.
+fn number(word: Option<String>) -> Option<u64> {
+    match word?.as_str().parse::<u64>() {
+        Ok(number) => Some(number),
+        Err(_) => None,
+    }
+}
+
+/// Does what the arguments ask for, if they ask for anything.
+fn run<R: Wait + Threads + Abort + Clock + Env + Print + AllocGlobal + Sync>(
+    rt: &R,
+) -> io::Result<bool> {
+    let alloc = rt.alloc();
+    let mut words = env::args(rt)?.skip(1);
+    let Some(word) = words.next() else {
+        make_all(rt, alloc)?;
+        return Ok(true);
+    };
+    let beside = number(words.next());
+    let count = number(words.next());
+    let (Some(part), Some(beside), Some(count)) = (part_named(word.as_str()), beside, count) else {
+        return Ok(false);
+    };
+    let made = make(rt, alloc, part, beside, count);
+    println!(rt; "{} {}", made.count, made.nanoseconds)?;
+    Ok(true)
+}
+
+fn main(rt: HostRuntime) -> ExitCode {
+    match run(&rt) {
+        Ok(true) => ExitCode::SUCCESS,
+        _ => {
+            // Where standard error takes nothing either, the status alone tells.
+            let _told = eprintln!(rt; "usage: benches [PART BESIDE COUNT]");
+            ExitCode::from(2)
+        }
+    }
+}

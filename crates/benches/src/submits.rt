@@ -1,0 +1,305 @@
+//! Calls on one account, from threads that share it, and through its desk.
+
+ghost use Rattle.std.specs.Prelude.{◌≡◌, ◌<◌, ◌≤◌, ◌^◌, length, true};
+ghost use Rattle.std.specs.Arc.{arc_value};
+ghost use Rattle.arn_ids.specs.Environments.{owners};
+ghost use Rattle.arn_ids.specs.declared.config.Config.{Config};
+ghost use Rattle.call_types.specs.Within.{IsWithin, is_body};
+
+use crate::made::{Made, made_since, now};
+use account_lock::{Account, Bell, Desk, Identity};
+use arn_ids::Checked;
+use bytes::Bytes;
+use call_model::Call;
+use lambda_wire::read_config;
+use std::alloc::{AllocError, Global};
+use std::marker::Brand;
+use std::process::Abort;
+use std::sync::{Arc, Wait};
+use std::thread::{self, Threads};
+use std::time::Clock;
+use usage_ledger::{Blanks, KeepNone, Ledgers, Tally};
+
+/// How many functions have an environment of their own; one more has the others.
+const OWN: u32 = 8;
+
+/// How many environments that one has.
+const OTHERS: u32 = 248;
+
+/// A bell that no one hears.
+#[derive(Drop)]
+struct Quiet;
+
+impl Bell for Quiet {
+    fn ring(self) {}
+}
+
+/// What a thread works with.
+#[derive(Drop)]
+struct Job<L: Ledgers> {
+    tally: Tally<KeepNone, L>,
+    env: u32,
+}
+
+/// The configuration's text.
+fn config_text(alloc: Global) -> Result<String, AllocError> {
+    let mut text = String::new(alloc);
+    text.push_str(r#"{"account":"123456789012","region":"us-east-2","functions":["#)?;
+    for own in 1..OWN + 1 {
+        let function = format!(in alloc; "{{\"name\":\"f{own}\",\"ports\":[{}]}},", 9000 + own)?;
+        text.push_str(function.as_str())?;
+    }
+    text.push_str(r#"{"name":"g","ports":[9100"#)?;
+    for other in 1..OTHERS {
+        let port = format!(in alloc; ",{}", 9100 + other)?;
+        text.push_str(port.as_str())?;
+    }
+    text.push_str("]}]}")?;
+    Ok(text)
+}
+
+fn config(rt: &impl Abort, alloc: Global) -> Arc<Checked> {
+    let text = config_text(alloc).expect(rt, "memory");
+    let setup = read_config(alloc, text.as_str().as_bytes()).expect(rt, "the configuration");
+    let checked = setup.config.check().expect(rt, "the configuration");
+    Arc::new(alloc, checked).expect(rt, "memory")
+}
+
+fn body(rt: &impl Abort, alloc: Global) -> Bytes
+    ensures { is_body result ≡ true }
+{
+    let body = Bytes::copy_from_slice(alloc, b"{}").expect(rt, "memory");
+    assert!(rt; body.len() < 100);
+    body
+}
+
+/// The first, second or third call of a turn, at the environment and the function of this number: a
+/// poll, an invocation and its response.
+fn call(rt: &impl Abort, alloc: Global, env: u32, part: u32, turn: u64) -> Call
+    requires from_one { 1 ≤ env }
+    requires own { env ≤ 8 }
+    requires few { turn < 2 ^ 32 }
+    ensures { (config : Config) → 8 ≤ length config.functions → 8 ≤ length (owners config) → IsWithin config result }
+{
+    if part == 0 {
+        return Call::RuntimeNext { env };
+    }
+    if part == 1 {
+        return Call::Invoke {
+            function: env,
+            qualified: false,
+            trace: None,
+            body: body(rt, alloc),
+        };
+    }
+    Call::Response {
+        env,
+        id: turn + 1,
+        body: body(rt, alloc),
+    }
+}
+
+/// The turns of one thread.
+fn work<S: Identity>(
+    rt: &(impl Wait + Abort),
+    alloc: Global,
+    account: &Account<S, Quiet>,
+    job: Job<S>,
+    turns: u64,
+) -> u64
+    requires functions { 8 ≤ length S.config.functions }
+    requires environments { 8 ≤ length (owners S.config) }
+    requires few { turns < 2 ^ 32 }
+{
+    let Job { tally, env } = job;
+    let mut tally = tally;
+    assert!(rt; 1 <= env && env <= OWN);
+    let mut taken: u64 = 0;
+    for turn in 0..turns {
+        for part in 0..3 {
+            let call = call(rt, alloc, env, part, turn);
+            if account.submit(rt, &mut tally, 0, call, Some(Quiet)).is_ok() {
+                taken = taken.saturating_add(1);
+            }
+        }
+    }
+    taken
+}
+
+/// A job for each thread, with a part of the tally.
+fn jobs<L: Ledgers>(
+    rt: &impl Abort,
+    alloc: Global,
+    tally: Tally<KeepNone, L>,
+    threads: u64,
+) -> Vec<Job<L>> {
+    let mut root = tally;
+    let mut jobs = Vec::new(alloc);
+    assert!(rt; threads <= OWN as u64);
+    for thread in 0..threads as u32 {
+        assert!(rt; root.parts() >= 2);
+        let job = Job {
+            tally: root.split(),
+            env: thread + 1,
+        };
+        jobs.push(job).expect(rt, "memory");
+    }
+    jobs
+}
+
+/// As many threads make as many turns.
+fn submits<R: Wait + Threads + Abort + Clock + Sync, S: Identity + Send + Sync>(
+    rt: &R,
+    alloc: Global,
+    account: Account<S, Quiet>,
+    jobs: Vec<Job<S>>,
+    turns: u64,
+) -> Made
+    requires functions { 8 ≤ length S.config.functions }
+    requires environments { 8 ≤ length (owners S.config) }
+    requires few { turns < 2 ^ 32 }
+{
+    let shared = &account;
+    let begun = now(rt);
+    let done = thread::map_vec(
+        rt,
+        jobs,
+        &|job| -> u64
+            requires functions { 8 ≤ length S.config.functions }
+            requires environments { 8 ≤ length (owners S.config) }
+            requires few { turns < 2 ^ 32 }
+        { work(rt, alloc, shared, job, turns) },
+    );
+    let mut taken: u64 = 0;
+    for some in done.expect(rt, "memory") {
+        taken = taken.saturating_add(some);
+    }
+    made_since(rt, begun, taken)
+}
+
+/// One call through the desk.
+fn apply_once<L: Ledgers>(
+    desk: &mut Desk<Quiet, L>,
+    tally: &mut Tally<KeepNone, L>,
+    call: Call,
+) -> bool
+    requires within { IsWithin desk.old.book.config call }
+    ensures config { desk.new.book.config ≡ desk.old.book.config }
+{
+    desk.apply(tally, 0, call, Some(Quiet)).is_ok()
+}
+
+/// Parks so many polls at the environments that have no function of their own.
+fn park<L: Ledgers>(
+    rt: &impl Abort,
+    desk: &mut Desk<Quiet, L>,
+    tally: &mut Tally<KeepNone, L>,
+    parked: u64,
+) {
+    assert!(rt; parked <= OTHERS as u64);
+    for other in 0..parked as u32 {
+        let env = OWN + other + 1;
+        assert!(rt; env <= desk.config().environments());
+        assert!(rt; apply_once(desk, tally, Call::RuntimeNext { env }));
+    }
+}
+
+/// Makes turns through the desk, at the first environment.
+fn applies<R: Abort + Clock, L: Ledgers>(
+    rt: &R,
+    alloc: Global,
+    desk: &mut Desk<Quiet, L>,
+    tally: &mut Tally<KeepNone, L>,
+    turns: u64,
+) -> Made
+    requires functions { 8 ≤ length desk.old.book.config.functions }
+    requires environments { 8 ≤ length (owners desk.old.book.config) }
+    requires few { turns < 2 ^ 32 }
+{
+    let begun = now(rt);
+    let mut taken: u64 = 0;
+    for turn in 0..turns {
+        for part in 0..3 {
+            let call = call(rt, alloc, 1, part, turn);
+            if apply_once(desk, tally, call) {
+                taken = taken.saturating_add(1);
+            }
+        }
+    }
+    made_since(rt, begun, taken)
+}
+
+/// How the calls come to the account.
+#[derive(Clone, Copy)]
+enum Way {
+    /// From so many threads.
+    Threads(u64),
+    /// Through its desk, beside so many parked polls.
+    Desk(u64),
+}
+
+/// Opens an account, and makes as many calls.
+fn run<R: Wait + Threads + Abort + Clock + Sync, S: Identity + Send + Sync>(
+    rt: &R,
+    alloc: Global,
+    config: Arc<Checked>,
+    blanks: Blanks,
+    way: Way,
+    count: u64,
+) -> Made
+    requires configured { arc_value config ≡ S.config }
+    requires salted { S.salt ≡ 0 }
+    requires named { blanks ≡ S.names }
+{
+    assert!(rt; config.functions().len() >= 8 && config.environments() >= 8);
+    let opened = Account::<S, Quiet>::open::<KeepNone>(alloc, config, 0, 1 << 32, blanks);
+    let (account, tally) = opened.expect(rt, "memory");
+    match way {
+        Way::Threads(threads) => {
+            let turns = count / 3 / threads.max(1);
+            assert!(rt; turns < 1 << 32);
+            submits(rt, alloc, account, jobs(rt, alloc, tally, threads), turns)
+        }
+        Way::Desk(parked) => {
+            let turns = count / 3;
+            assert!(rt; turns < 1 << 32);
+            let mut desk = account.into_desk();
+            let mut tally = tally;
+            park(rt, &mut desk, &mut tally, parked);
+            assert!(rt; desk.config().functions().len() >= 8 && desk.config().environments() >= 8);
+            applies(rt, alloc, &mut desk, &mut tally, turns)
+        }
+    }
+}
+
+/// Names the configuration, the salt, the ledgers and the history of the account.
+fn run_by_brand<R: Wait + Threads + Abort + Clock + Sync>(
+    rt: &R,
+    alloc: Global,
+    way: Way,
+    count: u64,
+) -> Made {
+    let config = config(rt, alloc);
+    let blanks = Blanks::new(alloc).expect(rt, "memory");
+    run::<R, Brand>(rt, alloc, config, blanks, way, count)
+}
+
+/// Submits as many calls, in turns of three, from so many threads, at most eight.
+pub fn submit<R: Wait + Threads + Abort + Clock + Sync>(
+    rt: &R,
+    alloc: Global,
+    threads: u64,
+    count: u64,
+) -> Made {
+    run_by_brand(rt, alloc, Way::Threads(threads), count)
+}
+
+/// Applies as many calls to a desk, in turns of three, beside so many parked polls, at most 248.
+pub fn apply<R: Wait + Threads + Abort + Clock + Sync>(
+    rt: &R,
+    alloc: Global,
+    parked: u64,
+    count: u64,
+) -> Made {
+    run_by_brand(rt, alloc, Way::Desk(parked), count)
+}
