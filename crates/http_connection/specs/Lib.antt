@@ -1,3 +1,4 @@
+pub mod Ahead
 pub mod Limits
 pub mod Pulses
 pub mod Standing

@@ -10,6 +10,7 @@ mod machine;
 mod noting;
 mod park;
 mod pulse;
+mod socket;
 mod stand;
 mod wire;
 

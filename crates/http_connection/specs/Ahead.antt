@@ -1,0 +1,39 @@
+-- What passes through a socket that is read ahead, with the proofs of the laws.
+use Rattle.std.proofs.Common.{◌≡◌, ℕ, List, [], ◌++◌, refl, sym, ap, ◌∙◌, append_assoc, append-nil}
+use Rattle.tokio.specs.Io.Moved.{Passes, PassesNothing, PassesInOrder}
+use Rattle.http_connection.specs.declared.socket.Socket.{Socket}
+
+-- What came out is what was read ahead and then what the stream gave, less what is read ahead now.
+abbrev pub ReadsBehind : {T : Type 0} → Passes T → Passes (Socket T)
+ReadsBehind reads a xs b =
+    (more : List ℕ) × reads a.stream more b.stream × (a.ahead.items ++ more ≡ xs ++ b.ahead.items)
+
+-- The end comes once nothing is read ahead.
+abbrev pub IsAtEndBehind : {T : Type 0} → (T → Type 0) → Socket T → Type 0
+IsAtEndBehind is_at_end s = (s.ahead.items ≡ []) × is_at_end s.stream
+
+-- The stream took the bytes, and what was read ahead is still there.
+abbrev pub WritesPast : {T : Type 0} → Passes T → Passes (Socket T)
+WritesPast writes a xs b = writes a.stream xs b.stream × (b.ahead.items ≡ a.ahead.items)
+
+-- What the stream gave is thrown away, and what was read ahead is still there.
+abbrev pub ThrowsAway : {T : Type 0} → Passes T → Socket T → Socket T → Type 0
+ThrowsAway reads a b = (gone : List ℕ) × reads a.stream gone b.stream × (b.ahead.items ≡ a.ahead.items)
+
+pub ReadsBehind_nothing : {T : Type 0} (reads : Passes T) → PassesNothing reads → PassesNothing (ReadsBehind reads)
+ReadsBehind_nothing reads nothing a = ([], nothing a.stream, append-nil a.ahead.items)
+
+pub ReadsBehind_in_order : {T : Type 0} (reads : Passes T) → PassesInOrder reads → PassesInOrder (ReadsBehind reads)
+ReadsBehind_in_order reads in_order a xs b ys c p q = (
+  p.0 ++ q.0,
+  in_order a.stream p.0 b.stream q.0 c.stream p.1 q.1,
+  sym (append_assoc a.ahead.items p.0 q.0) ∙ ap (λ ws. ws ++ q.0) p.2 ∙ append_assoc xs b.ahead.items q.0
+      ∙ ap (λ ws. xs ++ ws) q.2 ∙ sym (append_assoc xs ys c.ahead.items),
+)
+
+pub WritesPast_nothing : {T : Type 0} (writes : Passes T) → PassesNothing writes → PassesNothing (WritesPast writes)
+WritesPast_nothing writes nothing a = (nothing a.stream, refl)
+
+pub WritesPast_in_order : {T : Type 0} (writes : Passes T) → PassesInOrder writes → PassesInOrder (WritesPast writes)
+WritesPast_in_order writes in_order a xs b ys c p q =
+    (in_order a.stream xs b.stream ys c.stream p.0 q.0, q.1 ∙ p.1)

@@ -1,0 +1,197 @@
+//! A stream of bytes that can be read ahead of its reader, who still gets each byte once and in order. It
+//! notes how its connection stands.
+
+ghost use Rattle.std.specs.Prelude.{◌≡◌, [], ◌++◌, ◌<◌, ◌≤◌, length, take, drop};
+ghost use Rattle.futures.specs.Poll.{OnPending};
+ghost use Rattle.futures.specs.Task.{Covers, Keeps};
+ghost use Rattle.http_connection.specs.Ahead.{ReadsBehind, ThrowsAway};
+
+use crate::input::Input;
+use crate::stand::Stand;
+use bytes::BytesMut;
+use futures::task::{Context, Poll};
+use std::alloc::Global;
+use std::io;
+use tokio::io::{AsyncRead, AsyncWrite, poll_read_buf};
+
+/// How many bytes are read ahead of the reader.
+const MOST_AHEAD: usize = 65_536;
+
+/// How many bytes are read and thrown away behind an answer that ends the connection, and in one go.
+const MOST_DRAINED: u64 = 67_108_864;
+
+const DRAINED_AT_ONCE: usize = 16_384;
+
+/// A stream, what was read of it and not handed on yet, and how its connection stands.
+#[derive(Drop)]
+pub(crate) struct Socket<T> {
+    stream: T,
+    ahead: BytesMut,
+    input: Input,
+    drained: u64,
+    pub(crate) stand: Stand,
+    // Whether the last request was a poll that was refused.
+    pub(crate) is_refused: bool,
+}
+
+impl<T: Drop> Socket<T> {
+    /// One over which nothing has come or gone yet.
+    pub(crate) fn new(alloc: Global, stream: T) -> Socket<T>
+        ensures stream { result.stream ≡ stream }
+        ensures nothing { result.ahead.items ≡ [] }
+    {
+        Socket {
+            stream,
+            ahead: BytesMut::new(alloc),
+            input: Input::new(),
+            drained: 0,
+            stand: Stand::new(),
+            is_refused: false,
+        }
+    }
+
+    /// Hands on what was read ahead, up to the end of a request. Returns how many bytes these are.
+    fn read_ahead(&mut self, buf: &mut [u8]) -> usize
+        ensures bound { result ≤ length buf.new }
+        ensures bytes { self.old.ahead.items ≡ take result buf.new ++ self.new.ahead.items }
+        ensures some { 0 < length self.old.ahead.items → 0 < length buf.old → 0 < result }
+        ensures same { self.new.stream ≡ self.old.stream }
+    {
+        let most = self.ahead.len().min(buf.len());
+        let count = self.input.take(&self.ahead.as_slice()[..most]);
+        buf[..count].copy_from_slice(&self.ahead.as_slice()[..count]);
+        self.ahead.advance(count);
+        count
+    }
+
+    /// Keeps what is behind the end of a request of what was read. Returns how many bytes are left to hand
+    /// on: all of them if there is no memory to keep any, since a stream gives them only once.
+    fn keep_behind(&mut self, bytes: &[u8]) -> usize
+        ensures bound { result ≤ length bytes.now }
+        ensures kept { self.new.ahead.items ≡ self.old.ahead.items ++ drop result bytes.now }
+        ensures some { 0 < length bytes.now → 0 < result }
+        ensures same { self.new.stream ≡ self.old.stream }
+    {
+        let count = self.input.take(bytes);
+        match self.ahead.extend_from_slice(&bytes[count..]) {
+            Ok(()) => count,
+            Err(_) => bytes.len(),
+        }
+    }
+}
+
+impl<T: AsyncRead> Socket<T> {
+    /// Ready once the stream has ended or failed. What comes before is kept for the reader. One that has
+    /// given `MOST_AHEAD` bytes is taken to have ended, since its end would not be seen behind them.
+    pub(crate) fn poll_ended(&mut self, cx: &mut Context<'_>) -> Poll<()>
+        ensures bytes { ReadsBehind T.reads self.old [] self.new }
+        ensures registered { OnPending result (Covers cx.new (T.needs self.new.stream)) }
+        ensures kept { Keeps cx.old cx.new }
+    {
+        if self.ahead.len() >= MOST_AHEAD {
+            return Poll::Ready(());
+        }
+        match poll_read_buf(&mut self.stream, cx, &mut self.ahead) {
+            Poll::Ready(Ok(count)) if count > 0 => cx.yield_now(),
+            Poll::Ready(_) => Poll::Ready(()),
+            Poll::Pending => Poll::Pending,
+        }
+    }
+
+    /// Ready once the stream has ended or failed, or `MOST_DRAINED` bytes came, which are thrown away.
+    /// (Not inlined, so that no other turn of a connection takes stack for the buffer.)
+    #[inline(never)]
+    pub(crate) fn poll_drained(&mut self, cx: &mut Context<'_>) -> Poll<()>
+        ensures bytes { ThrowsAway T.reads self.old self.new }
+        ensures registered { OnPending result (Covers cx.new (T.needs self.new.stream)) }
+        ensures kept { Keeps cx.old cx.new }
+    {
+        if self.drained >= MOST_DRAINED {
+            return Poll::Ready(());
+        }
+        let mut thrown_away = [0; DRAINED_AT_ONCE];
+        match self.stream.poll_read(cx, &mut thrown_away) {
+            Poll::Ready(Ok(count)) if count > 0 => {
+                self.stand.note_read(small(count));
+                self.drained = self.drained.saturating_add(count as u64);
+                cx.yield_now()
+            }
+            Poll::Ready(_) => Poll::Ready(()),
+            Poll::Pending => Poll::Pending,
+        }
+    }
+}
+
+impl<T: AsyncRead> AsyncRead for Socket<T> {
+    ghost use Rattle.http_connection.specs.Ahead.{IsAtEndBehind, ReadsBehind_in_order, ReadsBehind_nothing};
+
+    ghost needs = { λ s. T.needs s.stream };
+
+    ghost reads = { ReadsBehind T.reads };
+
+    ghost is_at_end = { IsAtEndBehind T.is_at_end };
+
+    ghost fails = { λ s. T.fails s.stream };
+
+    ghost reads_nothing = { ReadsBehind_nothing T.reads T.reads_nothing };
+
+    ghost reads_in_order = { ReadsBehind_in_order T.reads T.reads_in_order };
+
+    /// Reads what was read ahead, or else what comes, up to the end of a request, and notes it.
+    fn poll_read(&mut self, cx: &mut Context<'_>, buf: &mut [u8]) -> Poll<io::Result<usize>> {
+        if !self.ahead.is_empty() {
+            let count = self.read_ahead(buf);
+            self.stand.note_read(small(count));
+            return Poll::Ready(Ok(count));
+        }
+        match self.stream.poll_read(cx, buf) {
+            Poll::Pending => {
+                self.stand.note_short();
+                Poll::Pending
+            }
+            Poll::Ready(Err(fault)) => Poll::Ready(Err(fault)),
+            Poll::Ready(Ok(read)) => {
+                let count = self.keep_behind(&buf[..read]);
+                self.stand.note_read(small(count));
+                Poll::Ready(Ok(count))
+            }
+        }
+    }
+}
+
+impl<T: AsyncWrite> AsyncWrite for Socket<T> {
+    ghost use Rattle.http_connection.specs.Ahead.{WritesPast, WritesPast_in_order, WritesPast_nothing};
+
+    ghost needs = { λ s. T.needs s.stream };
+
+    ghost writes = { WritesPast T.writes };
+
+    ghost is_flushed = { λ s. T.is_flushed s.stream };
+
+    ghost is_shut_down = { λ s. T.is_shut_down s.stream };
+
+    ghost is_full = { λ s. T.is_full s.stream };
+
+    ghost fails = { λ s. T.fails s.stream };
+
+    ghost writes_nothing = { WritesPast_nothing T.writes T.writes_nothing };
+
+    ghost writes_in_order = { WritesPast_in_order T.writes T.writes_in_order };
+
+    fn poll_write(&mut self, cx: &mut Context<'_>, buf: &[u8]) -> Poll<io::Result<usize>> {
+        self.stream.poll_write(cx, buf)
+    }
+
+    fn poll_flush(&mut self, cx: &mut Context<'_>) -> Poll<io::Result<()>> {
+        self.stream.poll_flush(cx)
+    }
+
+    fn poll_shutdown(&mut self, cx: &mut Context<'_>) -> Poll<io::Result<()>> {
+        self.stream.poll_shutdown(cx)
+    }
+}
+
+/// So many bytes, up to the greatest number.
+fn small(count: usize) -> u32 {
+    u32::try_from(count).unwrap_or(u32::MAX)
+}
