@@ -1,6 +1,7 @@
 -- What a front gives answers the request that it was asked.
-use Rattle.std.proofs.Common.{◌≡◌, ◌⊎◌, ℕ, Bool, List, [], Option, Some, None, Result, Ok, Err, IfOk, MatchOption, IsSomeAnd, subst, sym, inl, inr}
+use Rattle.std.proofs.Common.{◌≡◌, ◌⊎◌, ℕ, Bool, Box, List, [], Option, Some, None, Result, Ok, Err, IfOk, MatchOption, IsSomeAnd, subst, sym, inl, inr}
 use Rattle.std.specs.Arc.{arc_value}
+use Rattle.std.specs.declared.alloc.Global.{Global}
 use Rattle.decisions.specs.declared.decide.Decide as Decide
 use Rattle.futures.specs.Runs.{Runs}
 use Rattle.http.specs.Request.{head_of, body_of}
@@ -41,6 +42,9 @@ module _ {R S D N K L B P E : Type 0} {service : Service.Ghosts S K L} {decider 
   abbrev Ex : Type 0
   Ex = Exchange R S D N B K L service decider keep
 
+  abbrev Boxed : Type 0
+  Boxed = Box Ex Global
+
   abbrev Answers : Api × Bool → Type 0
   Answers how =
       (made : Result (Outcome (HistoryBody R S K L)) ExchangeFault) × ComesTo clock yields has port head made
@@ -65,21 +69,21 @@ module _ {R S D N K L B P E : Type 0} {service : Service.Ghosts S K L} {decider 
       )
 
   -- of what the front took up and its future gave
-  pub answer_of : (guard : Option Refusal) (how given_how : Api × Bool) (refusal : Option Refusal) (exchange : Option Ex)
+  pub answer_of : (guard : Option Refusal) (how given_how : Api × Bool) (refusal : Option Refusal) (exchange : Option Boxed)
       → given_how ≡ how
       → MatchOption guard
-      (MatchOption exchange (refusal ≡ Some OutOfMemory) (λ e. (refusal ≡ None) × IsExchangeOf port head body e))
+      (MatchOption exchange (refusal ≡ Some OutOfMemory) (λ e. (refusal ≡ None) × IsExchangeOf port head body e.value))
       (λ r. (refusal ≡ Some r) × (exchange ≡ None))
       → MatchOption refusal
       (IsSomeAnd exchange (λ e. (made : Result (Outcome (HistoryBody R S K L)) ExchangeFault)
-      × Gives clock yields has e made × IsAnswerTo given_how.0 given_how.1 made response))
+      × Gives clock yields has e.value made × IsAnswerTo given_how.0 given_how.1 made response))
       (λ r. IsRefusal given_how.0 given_how.1 r response)
       → MatchOption guard (IsRefusal how.0 how.1 OutOfMemory response ⊎ Answers how) (λ r. IsRefusal how.0 how.1 r response)
   answer_of (Some r) how given_how refusal exchange same took gave =
       subst (λ (a : Api × Bool). IsRefusal a.0 a.1 r response) same
       (subst (λ (o : Option Refusal). MatchOption o
       (IsSomeAnd exchange (λ e. (made : Result (Outcome (HistoryBody R S K L)) ExchangeFault)
-      × Gives clock yields has e made × IsAnswerTo given_how.0 given_how.1 made response))
+      × Gives clock yields has e.value made × IsAnswerTo given_how.0 given_how.1 made response))
       (λ r. IsRefusal given_how.0 given_how.1 r response)) took.0 gave)
   answer_of None how given_how refusal None same took gave =
       inl (subst (λ (a : Api × Bool). IsRefusal a.0 a.1 OutOfMemory response) same
@@ -87,9 +91,9 @@ module _ {R S D N K L B P E : Type 0} {service : Service.Ghosts S K L} {decider 
   answer_of None how given_how refusal (Some exchange) same took gave =
       let given = subst (λ (o : Option Refusal). MatchOption o
       ((made : Result (Outcome (HistoryBody R S K L)) ExchangeFault)
-      × Gives clock yields has exchange made × IsAnswerTo given_how.0 given_how.1 made response)
+      × Gives clock yields has exchange.value made × IsAnswerTo given_how.0 given_how.1 made response)
       (λ r. IsRefusal given_how.0 given_how.1 r response)) took.0 gave in
-      inr (subst Answers same (of_exchange given_how exchange given.0 took.1 given.1 given.2))
+      inr (subst Answers same (of_exchange given_how exchange.value given.0 took.1 given.1 given.2))
 
 -- The responses that a front's futures give.
 module _ {R S D N K L B P E : Type 0} {service : Service.Ghosts S K L} {decider : Decide.Ghosts D}
@@ -99,7 +103,7 @@ module _ {R S D N K L B P E : Type 0} {service : Service.Ghosts S K L} {decider 
       → Result (Response (Either (Full (List ℕ)) (HistoryBody R S K L))) X → Type 0
   Given future answer = IfOk answer (λ response. MatchOption future.refusal
       (IsSomeAnd future.exchange (λ exchange. (made : Result (Outcome (HistoryBody R S K L)) ExchangeFault)
-      × Gives clock yields has exchange made × IsAnswerTo future.api future.is_unread made response))
+      × Gives clock yields has exchange.value made × IsAnswerTo future.api future.is_unread made response))
       (λ refusal. IsRefusal future.api future.is_unread refusal response))
 
   pub answers : (head : Parts) (response : Response (Either (Full (List ℕ)) (HistoryBody R S K L)))

@@ -30,5 +30,5 @@ module _ {R S D N B K L : Type 0} {service : Service.Ghosts S K L} {decider : De
       (future.api ≡ port.api) × (future.is_unread ≡ declares_too_long head)
       × MatchOption (refusal_of (arc_value port.hosts) head)
       (MatchOption future.exchange (future.refusal ≡ Some OutOfMemory)
-      (λ exchange. (future.refusal ≡ None) × IsExchangeOf exchange))
+      (λ exchange. (future.refusal ≡ None) × IsExchangeOf exchange.value))
       (λ refusal. (future.refusal ≡ Some refusal) × (future.exchange ≡ None))

@@ -61,14 +61,22 @@ impl<
         }
     }
 
-    /// The exchange of a request of this head and body; none where there is no memory for it.
-    fn exchange<B: Body>(&self, parts: Parts, body: B) -> Option<Exchange<R, S, D, N, B, K, L>>
+    /// The exchange of a request of this head and body, on the heap: it is large, and `hyper` moves the
+    /// response that holds it several times. None where there is no memory for it.
+    fn exchange<B: Body>(
+        &self,
+        parts: Parts,
+        body: B,
+    ) -> Option<Box<Exchange<R, S, D, N, B, K, L>>>
     where
         B::Data: Into<Bytes>,
-        ensures { IfSome result (λ e. (arc_value e.connection ≡ arc_value self.now.connection) × (e.stage ≡ Collecting parts (record { alloc = (arc_value self.now.connection).alloc; body = body; held = [] }))) }
+        ensures { IfSome result (λ e. (arc_value e.value.connection ≡ arc_value self.now.connection) × (e.value.stage ≡ Collecting parts (record { alloc = (arc_value self.now.connection).alloc; body = body; held = [] }))) }
     {
-        match Arc::try_clone(&self.connection) {
-            Ok(connection) => Some(Exchange::new(connection, parts, body)),
+        let Ok(connection) = Arc::try_clone(&self.connection) else {
+            return None;
+        };
+        match Box::new(self.alloc, Exchange::new(connection, parts, body)) {
+            Ok(exchange) => Some(exchange),
             Err(_refused) => None,
         }
     }
@@ -79,7 +87,7 @@ impl<
     where
         B::Data: Into<Bytes>,
         ensures takes { Takes self.now parts body result }
-        ensures begins { IfSome result.exchange (λ e. e.stage ≡ Collecting parts
+        ensures begins { IfSome result.exchange (λ e. e.value.stage ≡ Collecting parts
             (record { alloc = (arc_value self.now.connection).alloc; body = body; held = [] })) }
     {
         let is_unread = declares_too_long(&parts);

@@ -28,7 +28,7 @@ pub struct Responding<R, S: Service<K, L>, D: Decide, N, B, K: Keep, L: Ledgers>
     // Whether the request's body is left unread, so that the connection ends.
     is_unread: bool,
     // None where it is refused.
-    exchange: Option<Exchange<R, S, D, N, B, K, L>>,
+    exchange: Option<Box<Exchange<R, S, D, N, B, K, L>>>,
     // Why it never becomes a call.
     refusal: Option<Refusal>,
 }
@@ -58,7 +58,7 @@ impl<R, S: Service<K, L>, D: Decide, N, B, K: Keep, L: Ledgers> Responding<R, S,
         alloc: Global,
         api: Api,
         is_unread: bool,
-        exchange: Exchange<R, S, D, N, B, K, L>,
+        exchange: Box<Exchange<R, S, D, N, B, K, L>>,
     ) -> Responding<R, S, D, N, B, K, L>
         ensures at { (result.api ≡ api) × (result.is_unread ≡ is_unread) }
         ensures exchanging { (result.refusal ≡ None) × (result.exchange ≡ Some exchange) }
@@ -90,11 +90,11 @@ where
 
     type Output = Result<Response<Either<Full<Bytes>, HistoryBody<R, S, K, L>>>, ResponseFault>;
 
-    ghost can_poll = { λ r. IfSome r.exchange (⟦<Exchange<R, S, D, N, B, K, L> as Future>⟧.can_poll) };
+    ghost can_poll = { λ r. IfSome r.exchange (λ e. ⟦<Exchange<R, S, D, N, B, K, L> as Future>⟧.can_poll e.value) };
 
     ghost gives = { λ r answer. IfOk answer (λ response. MatchOption r.refusal
         (IsSomeAnd r.exchange (λ exchange. (made : _)
-        × ⟦<Exchange<R, S, D, N, B, K, L> as Future>⟧.gives exchange made × IsAnswerTo r.api r.is_unread made response))
+        × ⟦<Exchange<R, S, D, N, B, K, L> as Future>⟧.gives exchange.value made × IsAnswerTo r.api r.is_unread made response))
         (λ refusal. IsRefusal r.api r.is_unread refusal response)) };
 
     fn poll(&mut self, cx: &mut Context<'_>) -> Poll<Self::Output> {

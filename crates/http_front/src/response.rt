@@ -9,7 +9,7 @@ use bytes::Bytes;
 use http::response::Parts;
 use http::{Response, StatusCode};
 use http_body_util::{Either, Full};
-use http_header::{HeaderMap, HeaderName, HeaderValue};
+use http_header::{HeaderMap, HeaderValue};
 use lambda_wire::{Headers, Reply};
 use long_poll::{Outcome, history_headers};
 use std::alloc::{AllocError, Global};
@@ -27,15 +27,15 @@ fn header_map(alloc: Global, headers: Headers) -> Result<HeaderMap, AllocError>
     Ok(map)
 }
 
-/// Says whether the connection ends behind the response (RFC 9112, section 9.6).
+/// Says whether the connection ends behind the response (RFC 9112, section 9.6). (The name is a text, so that the
+/// other `append`, of every reply's fields, is expanded where it is called.)
 fn say_closing(is_last: bool, map: &mut HeaderMap) -> Result<(), AllocError>
     ensures { OnOk result (map.new ≡ said_closing is_last map.old) }
 {
     if !is_last {
         return Ok(());
     }
-    let name = HeaderName::from_static("connection");
-    match map.append(name, HeaderValue::from_static("close")) {
+    match map.append("connection", HeaderValue::from_static("close")) {
         Ok(_) => Ok(()),
         Err(_) => Err(AllocError),
     }
