@@ -113,12 +113,16 @@ fn work<S: Identity>(
 {
     let Job { tally, env } = job;
     let mut tally = tally;
+    let mut front = account.front(rt);
     assert!(rt; 1 <= env && env <= OWN);
     let mut taken: u64 = 0;
     for turn in 0..turns {
         for part in 0..3 {
             let call = call(rt, alloc, env, part, turn);
-            if account.submit(rt, &mut tally, 0, call, Some(Quiet)).is_ok() {
+            if account
+                .submit(rt, &mut tally, &mut front, 0, call, Some(Quiet))
+                .is_ok()
+            {
                 taken = taken.saturating_add(1);
             }
         }
@@ -243,16 +247,18 @@ fn run<R: Wait + Threads + Abort + Clock + Sync, S: Identity + Send + Sync>(
     rt: &R,
     alloc: Global,
     config: Arc<Checked>,
+    max_entries: u64,
     blanks: Blanks,
     way: Way,
     count: u64,
 ) -> Made
     requires configured { arc_value config ≡ S.config }
     requires salted { S.salt ≡ 0 }
+    requires limited { max_entries ≡ S.most }
     requires named { blanks ≡ S.names }
 {
     assert!(rt; config.functions().len() >= 8 && config.environments() >= 8);
-    let opened = Account::<S, Quiet>::open::<KeepNone>(alloc, config, 0, 1 << 32, blanks);
+    let opened = Account::<S, Quiet>::open::<KeepNone>(alloc, config, 0, max_entries, blanks);
     let (account, tally) = opened.expect(rt, "memory");
     match way {
         Way::Threads(threads) => {
@@ -272,7 +278,7 @@ fn run<R: Wait + Threads + Abort + Clock + Sync, S: Identity + Send + Sync>(
     }
 }
 
-/// Names the configuration, the salt, the ledgers and the history of the account.
+/// Names the configuration, the salt, the limit, the ledgers and the history of the account.
 fn run_by_brand<R: Wait + Threads + Abort + Clock + Sync>(
     rt: &R,
     alloc: Global,
@@ -281,7 +287,7 @@ fn run_by_brand<R: Wait + Threads + Abort + Clock + Sync>(
 ) -> Made {
     let config = config(rt, alloc);
     let blanks = Blanks::new(alloc).expect(rt, "memory");
-    run::<R, Brand>(rt, alloc, config, blanks, way, count)
+    run::<R, Brand>(rt, alloc, config, 1 << 32, blanks, way, count)
 }
 
 /// Submits as many calls, in turns of three, from so many threads, at most eight.
