@@ -104,6 +104,7 @@ fn play<
 ) -> Result<(), CaseFault>
     requires configured { arc_value opening.config ≡ S.config }
     requires salted { opening.salt ≡ S.salt }
+    requires limited { opening.max_entries ≡ S.most }
     requires named { blanks ≡ S.names }
 {
     match open::<R, S, K>(rt, given.alloc(), way, opening, blanks) {

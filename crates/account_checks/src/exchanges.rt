@@ -144,6 +144,7 @@ fn play<
 ) -> Result<(), CaseFault>
     requires configured { arc_value opening.config ≡ S.config }
     requires salted { opening.salt ≡ S.salt }
+    requires limited { opening.max_entries ≡ S.most }
     requires named { blanks ≡ S.names }
 {
     let rows = rows_of::<S>(given.alloc(), case.line(), &opening.config)?;

@@ -1,16 +1,33 @@
 -- What the pen writes at a step, and what is seen of it.
 use Rattle.std.proofs.lemmas.List.{append-nil}
-use Rattle.std.proofs.Common.{◌≡◌, ℕ, ◌+◌, List, [], ◌∷◌, ◌++◌, length, sym, ap, ◌∙◌, subst, arith, refl}
+use Rattle.std.proofs.Common.{◌≡◌, ℕ, ◌+◌, ◌^◌, ◌↔◌, Bool, true, false, List, [], ◌∷◌, ◌++◌, Option, length}
+use Rattle.std.proofs.Common.{sym, ap, ◌∙◌, subst, arith, refl}
+use Rattle.account_book.specs.Premature.{premature}
+use Rattle.account_book.specs.Reached.{IsReached}
+use Rattle.account_book.specs.declared.book.Refusal.{Refusal}
+use Rattle.account_book.specs.declared.book.Refusal.TheVariants.{JournalFull}
 use Rattle.arn_ids.specs.declared.config.Config.{Config}
-use Rattle.call_types.specs.declared.call.Call.{Call}
-use Rattle.call_types.specs.declared.call.Entry.{Entry}
+use Rattle.call_model.specs.Counts.{full, calls}
 use Rattle.call_model.specs.History.{call_of}
 use Rattle.call_model.specs.Next.{added, next, entry_of, moment_at, expiries, due}
 use Rattle.call_model.proofs.AfterEntry.{call_of_new}
-use Rattle.account_book.specs.Reached.{IsReached}
+use Rattle.call_types.specs.Heads.{head_of}
+use Rattle.call_types.specs.Within.{IsWithin}
+use Rattle.call_types.specs.declared.answer.Answer.{Answer}
+use Rattle.call_types.specs.declared.call.Call.{Call}
+use Rattle.call_types.specs.declared.call.Entry.{Entry}
+use Rattle.call_types.specs.declared.head.Head.{Head}
 use Rattle.shared_history.specs.Sharing.{Extends}
+use Rattle.usage_ledger.specs.Keeping.{Kept, Steps}
+use Rattle.usage_ledger.specs.Tallies.{Held}
+use Rattle.account_lock.specs.Bells.{given}
+use Rattle.account_lock.specs.Desks.{held_after}
+use Rattle.account_lock.specs.Offers.{is_premature, IsBack, IfRefused}
 use Rattle.account_lock.specs.Shown.{IsTaken, Sees}
-use Rattle.account_lock.proofs.Stepping.{next_is}
+use Rattle.account_lock.specs.Submits.{IsDeclined, IsTurnedAway, Took}
+use Rattle.account_lock.specs.declared.offering.Declined.{Declined}
+use Rattle.account_lock.specs.declared.offering.Declined.TheVariants.{Premature, Refused}
+use Rattle.account_lock.proofs.Stepping.{next_is, one_call_within}
 
 -- the next history goes on where the one before it ends, which the pen wrote
 pub goes_on : (config : Config) (h written now_there : List Entry) (now : ℕ) (call : Call) → h ≡ written → now_there ≡ next config h now call → Extends written now_there
@@ -29,30 +46,74 @@ stands config h now call ticket at =
     let entry = entry_of config (es ++ h) m call in
     newest entry (es ++ h) ticket at
 
--- a step of a desk, by the configuration's other name
-pub is_taken : (config other : Config) (h now_there front : List Entry) (most now : ℕ) (call : Call) (ticket : ℕ) → config ≡ other → IsReached config most h
-    → now_there ≡ next config h now call → ticket + 1 ≡ length now_there → front ≡ now_there → IsTaken other now call ticket front
-is_taken config other h now_there front most now call ticket same reached step at sees =
-    subst (λ (l : List Entry). IsTaken other now call ticket l) (sym (sees ∙ step)) (subst (λ (k : Config). IsTaken k now call ticket (next config h now call)) same taken)
-  where
-    taken : IsTaken config now call ticket (next config h now call)
-    taken = record {
-      before = h;
-      most = most;
-      reached = reached;
-      goes_on = refl;
-      newest = at ∙ ap length step;
-      stands = stands config h now call ticket (at ∙ ap length step);
-    }
+-- what holds of a desk holds by the other names of its configuration, its limit and its history
+pub renamed : (P : Config → ℕ → List Entry → Type 0) {config other : Config} {limit most : ℕ} {h front : List Entry}
+    → config ≡ other → limit ≡ most → h ≡ front → P config limit h → P other most front
+renamed P c m f holds = coe 0 1 (i. P (c i) (m i) (f i)) holds
 
--- what is seen of a desk, by the configuration's other name
-pub sees : (config other : Config) (h written before front : List Entry) (most : ℕ) → config ≡ other → IsReached config most h → h ≡ written → front ≡ written
-    → Extends before written → Sees other before front
-sees config other h written before front most same reached is shown later = record {
+-- what is seen of a desk
+pub sees : {config other : Config} {limit most : ℕ} {h written before front : List Entry} → config ≡ other
+    → limit ≡ most → IsReached config limit h → h ≡ written → front ≡ written → Extends before written → Sees other most before front
+sees {before = before} c m reached is shown later = record {
   later = subst (Extends before) (sym shown) later;
-  most = most;
-  reached = subst (λ (k : Config). IsReached k most front) same (subst (IsReached config most) (is ∙ sym shown) reached);
+  reached = renamed (λ k n l. IsReached k n l) c m (is ∙ sym shown) reached;
 }
+
+-- A step of a desk took its call, by the other names; and what holds of the history before it holds there too.
+module _ {notes : Kept → ℕ → Answer → Kept → Type 0} {makes : Kept → ℕ → Head → Kept → Type 0}
+    (Q : Config → List Entry → Type 0) where
+  pub took : {config other : Config} {limit most : ℕ} {had h written now_there front : List Entry}
+      {before after : Held} (now : ℕ) (call : Call) (ticket : ℕ) → config ≡ other → limit ≡ most
+      → IsReached config limit h → h ≡ written → Extends had written → full config limit h call ≡ false
+      → now_there ≡ next config h now call → ticket + 1 ≡ length now_there → front ≡ now_there → IsWithin other call
+      → after ≡ held_after (added config h now call) before after.kept
+      → (between : Kept) × Steps notes before.kept (given (added config h now call)) between
+      × makes between ticket (head_of call) after.kept
+      → Q config h
+      → (t : Took other most notes makes had before now call ticket front after) × Q other t.taken.before
+  took {config} {other} {limit} {most} {had} {h} {before = before} {after = after} now call ticket c m reached is later
+      room step at shown within counts keeps q =
+      renamed (λ k n l. (t : Took k n notes makes had before now call ticket l after) × Q k t.taken.before)
+      c m (sym (shown ∙ step)) (
+        record {
+          taken = record {
+            before = h;
+            sees = record { later = subst (Extends had) (sym is) later; reached = reached };
+            room = room;
+            goes_on = refl;
+            newest = at ∙ ap length step;
+            stands = stands config h now call ticket (at ∙ ap length step);
+          };
+          counted = ap (λ (t : Held). t.counts.calls) counts ∙ ap (λ (n : ℕ). before.counts.calls + n)
+              (one_call_within config h now call (subst (λ (k : Config). IsWithin k call) (sym c) within));
+          parts = (ap (λ (t : Held). t.parts) counts, ap (λ (t : Held). t.joined) counts);
+          keeps = (given (added config h now call), keeps.0, keeps.1, keeps.2);
+        },
+        q,
+      )
+
+-- a refusal of a desk
+pub turned_away : {config other : Config} {limit most : ℕ} {had h front : List Entry} (call : Call) (refusal : Refusal)
+    → config ≡ other → limit ≡ most → h ≡ front → Sees other most had front
+    → (refusal ≡ JournalFull) ↔ (full config limit h call ≡ true) → IsTurnedAway other most had call refusal front
+turned_away call refusal c m shown seen exactly = record {
+  sees = seen;
+  exactly = renamed (λ k n l. (refusal ≡ JournalFull) ↔ (full k n l call ≡ true)) c m shown exactly;
+}
+
+-- a call that a desk declined
+pub declined : {B : Type 0} {config other : Config} {limit most : ℕ} {had h front : List Entry} (now : ℕ) (call : Call)
+    (bell : Option B) (back : Declined B) → config ≡ other → limit ≡ most → h ≡ front → Sees other most had front → IsBack call bell back
+    → is_premature back ≡ premature config h now call
+    → IfRefused back (λ refusal. (refusal ≡ JournalFull) ↔ (full config limit h call ≡ true))
+    → IsDeclined other most had now call bell back front
+declined now call bell (Premature other its) c m shown seen back early exactly =
+    (back.0, back.1, seen, renamed (λ k n l. premature k l now call ≡ true) c m shown (sym early))
+declined now call bell (Refused refused) c m shown seen back early exactly = (
+  back,
+  turned_away call refused.refusal c m shown seen exactly,
+  renamed (λ k n l. premature k l now call ≡ false) c m shown (sym early),
+)
 
 -- nothing is a beginning of every history
 pub none : (h : List Entry) → Extends [] h

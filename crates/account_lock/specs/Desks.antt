@@ -1,6 +1,7 @@
 -- A desk as contracts see it, what is always true of it, and what one call makes of it.
 use Rattle.std.specs.Prelude.{◌≡◌, ℕ, ◌++◌, Bool, true, not, is_some, List, Option}
 use Rattle.arn_ids.specs.Limits.{greatest_moment}
+use Rattle.arn_ids.specs.declared.config.Config.{Config}
 use Rattle.std.specs.List.{list_all}
 use Rattle.account_book.specs.Book.{Kept as Booked}
 use Rattle.account_book.specs.Premature.{premature}
@@ -63,8 +64,12 @@ abbrev pub is_full : Booked → Call → Bool
 is_full book call = full book.config book.max_entries book.history call
 
 -- whether no deadline is running: none is due at the greatest moment
+abbrev pub at_rest : Config → List Entry → Bool
+at_rest config h = not (is_some (first (due config h greatest_moment)))
+
+-- whether none is in a book
 abbrev pub rests : Booked → Bool
-rests book = not (is_some (first (due book.config book.history greatest_moment)))
+rests book = at_rest book.config book.history
 
 -- whether a call would come too early to it
 abbrev pub comes_early : Booked → ℕ → Call → Bool

@@ -8,4 +8,5 @@ pub mod Marking
 pub mod Offers
 pub mod Shown
 pub mod Settlement
+pub mod Submits
 pub mod Tallying

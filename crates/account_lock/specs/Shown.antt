@@ -1,33 +1,29 @@
 -- What an account shows to those who read it under its lock: what a history says that calls led to.
-use Rattle.std.specs.Prelude.{◌≡◌, ◌+◌, ◌<◌, ◌≤◌, ℕ, List, Option, Some, None, length, reverse}
+use Rattle.std.specs.Prelude.{◌≡◌, ◌+◌, ◌<◌, ◌≤◌, ℕ, false, List, Option, Some, None, length, reverse}
 use Rattle.std.specs.Prelude.{slice_index_or}
 use Rattle.arn_ids.specs.declared.config.Config.{Config}
 use Rattle.call_types.specs.declared.call.Call.{Call}
 use Rattle.call_types.specs.declared.call.Entry.{Entry}
+use Rattle.call_model.specs.Counts.{full}
 use Rattle.call_model.specs.History.{call_of}
 use Rattle.call_model.specs.Next.{next}
 use Rattle.script.specs.AnswerText.{entry_text}
 use Rattle.account_book.specs.Reached.{IsReached}
 use Rattle.shared_history.specs.Sharing.{Extends}
 
--- Some history that calls led to in this configuration, each of which a book takes, says it. (Which one it
--- was can't be said: others may call as soon as the lock is free.)
-abbrev pub Shown : Config → (List Entry → Type 0) → Type 0
-Shown config says = (most : ℕ) × (h : List Entry) × IsReached config most h × says h
-
--- What a thread sees under the lock: a history that calls led to, and that goes on where the one ends that
--- it saw before.
-pub record Sees (config : Config) (before h : List Entry) : Type 0 where
+-- What a thread sees under the lock: a history that calls led to, each of which a book of at most so many entries
+-- takes, and that goes on where the one ends that it saw before.
+pub record Sees (config : Config) (most : ℕ) (before h : List Entry) : Type 0 where
   pub later : Extends before h
-  pub most : ℕ
   pub reached : IsReached config most h
 
--- A call was taken at a moment: it made the next history of one that calls led to, and is its newest call,
--- at its ticket.
-pub record IsTaken (config : Config) (now : ℕ) (call : Call) (ticket : ℕ) (h : List Entry) : Type 0 where
+-- A call was taken at a moment, from who had seen this much of the history: it made the next history of one that goes
+-- on there and has room for it, and is its newest call, at its ticket.
+pub record IsTaken (config : Config) (most : ℕ) (had : List Entry) (now : ℕ) (call : Call) (ticket : ℕ)
+    (h : List Entry) : Type 0 where
   pub before : List Entry
-  pub most : ℕ
-  pub reached : IsReached config most before
+  pub sees : Sees config most had before
+  pub room : full config most before call ≡ false
   pub goes_on : h ≡ next config before now call
   pub newest : ticket + 1 ≡ length h
   pub stands : call_of h ticket ≡ call

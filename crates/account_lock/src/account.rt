@@ -1,8 +1,7 @@
 //! The account: a desk that threads share.
 
-ghost use Rattle.std.specs.Prelude.{◌≡◌, ◌≢◌, ◌⊎◌, [], ◌+◌, ◌<◌, ◌≤◌, ◌^◌, ◌↔◌, ℕ, false, is_some};
-ghost use Rattle.std.specs.Prelude.{true, length, option_map, if◌then◌else◌, IfOk, IfErr, IfSome, IfNone};
-ghost use Rattle.std.specs.Prelude.{OnOk, IsErrOf};
+ghost use Rattle.std.specs.Prelude.{◌≡◌, ◌≢◌, ◌⊎◌, [], ◌+◌, ◌<◌, ◌≤◌, ◌^◌, ◌↔◌, true, false, is_some};
+ghost use Rattle.std.specs.Prelude.{length, option_map, IfOk, IfErr, IfSome, IfNone, IsErrOf};
 ghost use Rattle.std.specs.Arc.{arc_value};
 ghost use Rattle.std.specs.List.{list_all};
 ghost use Rattle.arn_ids.specs.Environments.{owners};
@@ -16,16 +15,17 @@ ghost use Rattle.call_types.specs.Within.{IsWithin};
 ghost use Rattle.call_types.specs.declared.call.Call.TheVariants.{Tick};
 ghost use Rattle.account_book.specs.Books.{life};
 ghost use Rattle.account_book.specs.HistoryText.{opening_text};
+ghost use Rattle.account_book.specs.Premature.{premature};
 ghost use Rattle.account_book.specs.ReplyText.{reply_text};
 ghost use Rattle.shared_history.specs.Sharing.{Extends};
 ghost use Rattle.usage_ledger.specs.Tallies.{fresh};
 ghost use Rattle.account_lock.specs.Counting.{counts_of};
+ghost use Rattle.account_lock.specs.Desks.{at_rest};
 ghost use Rattle.account_lock.specs.Gathered.{counts_in, keeps_nothing};
 ghost use Rattle.account_lock.specs.Looks.{look_of};
-ghost use Rattle.account_lock.specs.Offers.{IsBack};
 ghost use Rattle.account_lock.specs.Settlement.{IsSettled, IsFault};
-ghost use Rattle.account_lock.specs.Shown.{IsTaken, IsTextOf, Sees, Shown};
-ghost use Rattle.account_lock.specs.Tallying.{HasPartsOf, KeepsCall};
+ghost use Rattle.account_lock.specs.Shown.{IsTextOf, Sees};
+ghost use Rattle.account_lock.specs.Submits.{IsDeclined, IsTurnedAway, Took};
 ghost use Rattle.account_lock.specs.declared.fault.SettleFault.TheVariants.{TallyMissing};
 
 use crate::{Bell, Declined, Desk, Look, Refused, Settled, Step, Unsettled};
@@ -40,8 +40,8 @@ use std::marker::{Brand, Model};
 use std::sync::{Arc, Mutex, Wait};
 use usage_ledger::{Blanks, Front, Keep, Ledgers, Line, Pen, Start, Tally, root};
 
-/// Stands for the ledgers, the history, the configuration and the salt of an account in its type, so
-/// that callers know them without the lock.
+/// Stands for the ledgers, the history, the configuration, the salt and the limit of an account in its
+/// type, so that callers know them without the lock.
 pub trait Identity: Ledgers {
     ghost use Rattle.std.specs.Prelude.{ℕ};
     ghost use Rattle.arn_ids.specs.declared.config.Config.{Config};
@@ -51,9 +51,12 @@ pub trait Identity: Ledgers {
 
     /// The salt of its identifiers.
     ghost salt: { ℕ };
+
+    /// How many entries its history may have.
+    ghost most: { ℕ };
 }
 
-/// A caller that names `Brand` picks configuration and salt in its proof; these stand where none are
+/// A caller that names `Brand` picks configuration, salt and limit in its proof; these are used if none are
 /// picked.
 impl Identity for Brand {
     ghost use Rattle.call_model.specs.Sample.{one};
@@ -61,10 +64,12 @@ impl Identity for Brand {
     ghost config = { one };
 
     ghost salt = { 0 };
+
+    ghost most = { 0 };
 }
 
-/// What lies under the lock: a desk whose configuration and salt are those that its type names, and the
-/// pen of the history, which is the desk's. Contracts see the history.
+/// What lies under the lock: a desk whose configuration, salt and limit are those that its type names, and
+/// the pen of the history, which is the desk's. Contracts see the history.
 #[derive(Drop)]
 struct Locked<S: Identity, B> {
     desk: Desk<B, S>,
@@ -80,7 +85,8 @@ impl<S: Identity, B> Model for Locked<S, B> {
     ghost view = { λ l. l.pen };
 
     ghost invariant = { λ l.
-        (l.desk.book.config ≡ S.config) × (l.desk.book.salt ≡ S.salt) × (l.desk.book.history ≡ l.pen) };
+        (l.desk.book.config ≡ S.config) × (l.desk.book.salt ≡ S.salt) × (l.desk.book.history ≡ l.pen)
+        × (l.desk.book.max_entries ≡ S.most) };
 }
 
 /// One account, which threads share: its desk, of which one thread at a time makes a step or reads. What
@@ -120,101 +126,105 @@ fn finish(draft: Option<Draft>) -> Result<Option<Vec<u8>>, AllocError>
 }
 
 impl<S: Identity, B: Bell> Locked<S, B> {
-    /// One step of the desk, which the pen writes; and a token that has seen it.
-    #[tactic(auto, using(crate::proofs::Stepping::one_call_within))]
+    /// One step of the desk, which the pen writes; and another token that has seen it.
     fn apply<K: Keep>(
         &mut self,
         line: &Line<S>,
         tally: &mut Tally<K, S>,
+        front: &mut Front<S>,
         now: u64,
         call: Call,
         bell: Option<B>,
     ) -> Result<(Step<B>, Front<S>), Refused<B>>
         requires moment { now < 2 ^ 53 }
         requires within { IsWithin S.config call }
-        ensures taken { IfOk result (λ step. IsTaken S.config now call step.0.ticket step.1) }
-        ensures counted { OnOk result (tally.new.held.counts.calls ≡ tally.old.held.counts.calls + 1) }
-        ensures parts { HasPartsOf tally.old.held tally.new.held }
-        ensures made { IfOk result (λ step.
-            KeepsCall K.notes K.makes tally.old.held call step.0.ticket tally.new.held) }
-        ensures refused { IfErr result (λ back. (back.bell ≡ bell) × (tally.new.held ≡ tally.old.held)) }
+        ensures taken { IfOk result (λ step. Took S.config S.most K.notes K.makes
+            front.old tally.old.held now call step.0.ticket step.1 tally.new.held) }
+        ensures seen { IfOk result (λ step. front.new ≡ step.1) }
+        ensures refused { IfErr result (λ back. (back.bell ≡ bell) × (tally.new.held ≡ tally.old.held)
+            × IsTurnedAway S.config S.most front.old call back.refusal front.new) }
     {
         self.desk.facts();
+        self.pen.show(line, front);
         let step = match self.desk.apply(tally, now, call, bell) {
             Ok(step) => step,
             Err(refused) => return Err(refused),
         };
         self.pen.write::<Desk<B, S>, OfDesk>(line, &self.desk);
+        *front = self.pen.front(line);
         Ok((step, self.pen.front(line)))
     }
 
     /// The same of a call that is offered.
-    #[tactic(auto, using(crate::proofs::Stepping::one_call_within))]
     fn offer<K: Keep>(
         &mut self,
         line: &Line<S>,
         tally: &mut Tally<K, S>,
+        front: &mut Front<S>,
         now: u64,
         call: Call,
         bell: Option<B>,
     ) -> Result<(Step<B>, Front<S>), Declined<B>>
         requires moment { now < 2 ^ 53 }
         requires within { IsWithin S.config call }
-        ensures taken { IfOk result (λ step. IsTaken S.config now call step.0.ticket step.1) }
-        ensures counted { OnOk result (tally.new.held.counts.calls ≡ tally.old.held.counts.calls + 1) }
-        ensures parts { HasPartsOf tally.old.held tally.new.held }
-        ensures made { IfOk result (λ step.
-            KeepsCall K.notes K.makes tally.old.held call step.0.ticket tally.new.held) }
-        ensures declined { IfErr result (λ back. IsBack call bell back × (tally.new.held ≡ tally.old.held)) }
+        ensures taken { IfOk result (λ step. (took : Took S.config S.most K.notes K.makes
+            front.old tally.old.held now call step.0.ticket step.1 tally.new.held)
+            × (premature S.config took.taken.before now call ≡ false)) }
+        ensures seen { IfOk result (λ step. front.new ≡ step.1) }
+        ensures declined { IfErr result (λ back. (tally.new.held ≡ tally.old.held)
+            × IsDeclined S.config S.most front.old now call bell back front.new) }
     {
         self.desk.facts();
+        self.pen.show(line, front);
         let step = match self.desk.offer(tally, now, call, bell) {
             Ok(step) => step,
             Err(declined) => return Err(declined),
         };
         self.pen.write::<Desk<B, S>, OfDesk>(line, &self.desk);
+        *front = self.pen.front(line);
         Ok((step, self.pen.front(line)))
     }
 
     /// A Tick that is taken only while no deadline is running.
-    #[tactic(auto, using(crate::proofs::Stepping::one_call_within))]
     fn tick_at_rest<K: Keep>(
         &mut self,
         line: &Line<S>,
         tally: &mut Tally<K, S>,
+        front: &mut Front<S>,
         now: u64,
-    ) -> Result<Option<(Step<B>, Front<S>)>, Refused<B>>
+    ) -> Result<Option<Step<B>>, Refused<B>>
         requires moment { now < 2 ^ 53 }
-        ensures taken { IfOk result (λ made. IfSome made (λ step.
-            IsTaken S.config now Tick step.0.ticket step.1)) }
-        ensures counted { IfOk result (λ made. tally.new.held.counts.calls
-            ≡ tally.old.held.counts.calls + (if is_some made then 1 else 0)) }
-        ensures parts { HasPartsOf tally.old.held tally.new.held }
-        ensures made { IfOk result (λ made. IfSome made (λ step.
-            KeepsCall K.notes K.makes tally.old.held Tick step.0.ticket tally.new.held)) }
-        ensures none { IfOk result (λ made. IfNone made (tally.new.held ≡ tally.old.held)) }
-        ensures refused { IfErr result (λ back. tally.new.held ≡ tally.old.held) }
+        ensures taken { IfOk result (λ made. IfSome made (λ step. (took : Took S.config S.most K.notes K.makes
+            front.old tally.old.held now Tick step.ticket front.new tally.new.held)
+            × (at_rest S.config took.taken.before ≡ true))) }
+        ensures none { IfOk result (λ made. IfNone made ((tally.new.held ≡ tally.old.held)
+            × Sees S.config S.most front.old front.new × (at_rest S.config front.new ≡ false))) }
+        ensures refused { IfErr result (λ back. (tally.new.held ≡ tally.old.held)
+            × IsTurnedAway S.config S.most front.old Tick back.refusal front.new
+            × (at_rest S.config front.new ≡ true)) }
     {
         self.desk.facts();
+        self.pen.show(line, front);
         let step = match self.desk.tick_at_rest(tally, now) {
             Ok(Some(step)) => step,
             Ok(None) => return Ok(None),
             Err(refused) => return Err(refused),
         };
         self.pen.write::<Desk<B, S>, OfDesk>(line, &self.desk);
-        Ok(Some((step, self.pen.front(line))))
+        *front = self.pen.front(line);
+        Ok(Some(step))
     }
 
     /// A token that has seen the history as it is.
     fn front(&mut self, line: &Line<S>) -> Front<S>
-        ensures { Sees S.config [] result }
+        ensures { Sees S.config S.most [] result }
     {
         self.desk.facts();
         self.pen.front(line)
     }
 
     fn look(&mut self, line: &Line<S>, front: &mut Front<S>, ticket: Ticket) -> Look
-        ensures seen { Sees S.config front.old front.new }
+        ensures seen { Sees S.config S.most front.old front.new }
         ensures value { result ≡ look_of (answer_of front.new ticket) }
     {
         self.desk.facts();
@@ -222,33 +232,41 @@ impl<S: Identity, B: Bell> Locked<S, B> {
         self.desk.look(ticket)
     }
 
-    fn due(&self, now: u64) -> bool
-        ensures { Shown S.config (λ h. result ≡ is_some (first (due S.config h now))) }
+    fn due(&mut self, line: &Line<S>, front: &mut Front<S>, now: u64) -> bool
+        ensures seen { Sees S.config S.most front.old front.new }
+        ensures value { result ≡ is_some (first (due S.config front.new now)) }
     {
         self.desk.facts();
+        self.pen.show(line, front);
         self.desk.due(now)
     }
 
-    fn stats(&self) -> Stats
-        ensures { Shown S.config (λ h. result ≡ stats S.config h) }
+    fn stats(&mut self, line: &Line<S>, front: &mut Front<S>) -> Stats
+        ensures seen { Sees S.config S.most front.old front.new }
+        ensures value { result ≡ stats S.config front.new }
     {
         self.desk.facts();
+        self.pen.show(line, front);
         self.desk.stats()
     }
 
-    fn life(&self) -> Life
-        ensures { Shown S.config (λ h. result ≡ life S.config h) }
+    fn life(&mut self, line: &Line<S>, front: &mut Front<S>) -> Life
+        ensures seen { Sees S.config S.most front.old front.new }
+        ensures value { result ≡ life S.config front.new }
     {
         self.desk.facts();
+        self.pen.show(line, front);
         self.desk.life()
     }
 
-    fn reservation(&self, function: FnNo) -> Option<u32>
+    fn reservation(&mut self, line: &Line<S>, front: &mut Front<S>, function: FnNo) -> Option<u32>
         requires from_one { 1 ≤ function }
         requires there { function ≤ length S.config.functions }
-        ensures { Shown S.config (λ h. result ≡ reservation S.config h function) }
+        ensures seen { Sees S.config S.most front.old front.new }
+        ensures value { result ≡ reservation S.config front.new function }
     {
         self.desk.facts();
+        self.pen.show(line, front);
         self.desk.reservation(function)
     }
 
@@ -258,18 +276,12 @@ impl<S: Identity, B: Bell> Locked<S, B> {
         front: &mut Front<S>,
         ticket: Ticket,
     ) -> Result<Option<Reply>, AllocError>
-        ensures seen { Sees S.config front.old front.new }
+        ensures seen { Sees S.config S.most front.old front.new }
         ensures text { IfOk result (λ reply. reply ≡ reply_text S.config S.salt front.new ticket) }
     {
         self.desk.facts();
         self.pen.show(line, front);
         self.desk.render(ticket)
-    }
-
-    fn opening(&self) -> Result<Vec<u8>, AllocError>
-        ensures { IfOk result (λ text. (most : ℕ) × (text.items ≡ opening_text S.config S.salt most)) }
-    {
-        self.desk.opening()
     }
 
     fn history(
@@ -278,12 +290,18 @@ impl<S: Identity, B: Bell> Locked<S, B> {
         front: &mut Front<S>,
         ticket: Ticket,
     ) -> Result<Option<Draft>, AllocError>
-        ensures seen { Sees S.config front.old front.new }
+        ensures seen { Sees S.config S.most front.old front.new }
         ensures text { IfOk result (λ draft. IsTextOf S.config S.salt ticket draft front.new) }
     {
         self.desk.facts();
         self.pen.show(line, front);
         self.desk.history(ticket)
+    }
+
+    fn opening(&self) -> Result<Vec<u8>, AllocError>
+        ensures { IfOk result (λ text. text.items ≡ opening_text S.config S.salt S.most) }
+    {
+        self.desk.opening()
     }
 }
 
@@ -304,6 +322,7 @@ impl<S: Identity, B: Bell> Account<S, B> {
     ) -> Result<(Account<S, B>, Tally<K, S>), OpenFault>
         requires configured { arc_value config ≡ S.config }
         requires salted { salt ≡ S.salt }
+        requires limited { max_entries ≡ S.most }
         requires named { blanks ≡ S.names }
         ensures range { IsErrOf result EntriesOutOfRange
             ↔ ((length (owners (arc_value config)) + 1 ≤ max_entries) × (max_entries ≤ 2 ^ 32) → ⊥) }
@@ -327,6 +346,7 @@ impl<S: Identity, B: Bell> Account<S, B> {
     pub fn share(desk: Desk<B, S>, line: Line<S>, pen: Pen<S>) -> Account<S, B>
         requires configured { desk.book.config ≡ S.config }
         requires salted { desk.book.salt ≡ S.salt }
+        requires limited { desk.book.max_entries ≡ S.most }
         requires written { pen ≡ desk.book.history }
     {
         Account {
@@ -336,32 +356,33 @@ impl<S: Identity, B: Bell> Account<S, B> {
     }
 
     /// One step of the desk under the lock; then its bells ring, with the lock free. The tally
-    /// counts the call, and notes its head at the ticket that is given back, with a token that has seen
-    /// the history from its beginning to this call.
+    /// counts the call, and notes its head at the ticket that is given back. The token has then seen the
+    /// history from its beginning to this call, and so has the one that comes with the ticket.
     ///
     /// # Errors
-    /// As `Desk::apply`; the tally is then as it was, and the bell comes back.
+    /// As `Desk::apply`, by the history that the token has then seen; the tally is then as it was, and
+    /// the bell comes back.
     pub fn submit<K: Keep>(
         &self,
         rt: &impl Wait,
         tally: &mut Tally<K, S>,
+        front: &mut Front<S>,
         now: u64,
         call: Call,
         bell: Option<B>,
     ) -> Result<(Ticket, Front<S>), Refused<B>>
         requires moment { now < 2 ^ 53 }
         requires within { IsWithin S.config call }
-        ensures taken { IfOk result (λ taken. IsTaken S.config now call taken.0 taken.1) }
-        ensures counted { OnOk result (tally.new.held.counts.calls ≡ tally.old.held.counts.calls + 1) }
-        ensures parts { HasPartsOf tally.old.held tally.new.held }
-        ensures made { IfOk result (λ taken.
-            KeepsCall K.notes K.makes tally.old.held call taken.0 tally.new.held) }
-        ensures refused { IfErr result (λ back. (back.bell ≡ bell) × (tally.new.held ≡ tally.old.held)) }
+        ensures taken { IfOk result (λ taken. Took S.config S.most K.notes K.makes
+            front.old tally.old.held now call taken.0 taken.1 tally.new.held) }
+        ensures seen { IfOk result (λ taken. front.new ≡ taken.1) }
+        ensures refused { IfErr result (λ back. (back.bell ≡ bell) × (tally.new.held ≡ tally.old.held)
+            × IsTurnedAway S.config S.most front.old call back.refusal front.new) }
     {
         let step = self
             .locked
             .lock(rt)
-            .apply(&self.line, tally, now, call, bell);
+            .apply(&self.line, tally, front, now, call, bell);
         match step {
             Ok((step, front)) => Ok((ring_out(step), front)),
             Err(refused) => Err(refused),
@@ -372,29 +393,30 @@ impl<S: Identity, B: Bell> Account<S, B> {
     /// and taken, under one lock.
     ///
     /// # Errors
-    /// As `Desk::offer`; the tally is then as it was, and the bell comes back, from a premature call
-    /// with the call.
+    /// As `Desk::offer`, by the history that the token has then seen; the tally is then as it was, and
+    /// the bell comes back, from a premature call with the call.
     pub fn offer<K: Keep>(
         &self,
         rt: &impl Wait,
         tally: &mut Tally<K, S>,
+        front: &mut Front<S>,
         now: u64,
         call: Call,
         bell: Option<B>,
     ) -> Result<(Ticket, Front<S>), Declined<B>>
         requires moment { now < 2 ^ 53 }
         requires within { IsWithin S.config call }
-        ensures taken { IfOk result (λ taken. IsTaken S.config now call taken.0 taken.1) }
-        ensures counted { OnOk result (tally.new.held.counts.calls ≡ tally.old.held.counts.calls + 1) }
-        ensures parts { HasPartsOf tally.old.held tally.new.held }
-        ensures made { IfOk result (λ taken.
-            KeepsCall K.notes K.makes tally.old.held call taken.0 tally.new.held) }
-        ensures declined { IfErr result (λ back. IsBack call bell back × (tally.new.held ≡ tally.old.held)) }
+        ensures taken { IfOk result (λ taken. (took : Took S.config S.most K.notes K.makes
+            front.old tally.old.held now call taken.0 taken.1 tally.new.held)
+            × (premature S.config took.taken.before now call ≡ false)) }
+        ensures seen { IfOk result (λ taken. front.new ≡ taken.1) }
+        ensures declined { IfErr result (λ back. (tally.new.held ≡ tally.old.held)
+            × IsDeclined S.config S.most front.old now call bell back front.new) }
     {
         let step = self
             .locked
             .lock(rt)
-            .offer(&self.line, tally, now, call, bell);
+            .offer(&self.line, tally, front, now, call, bell);
         match step {
             Ok((step, front)) => Ok((ring_out(step), front)),
             Err(declined) => Err(declined),
@@ -406,27 +428,30 @@ impl<S: Identity, B: Bell> Account<S, B> {
     /// deadline is running; nothing has changed then.
     ///
     /// # Errors
-    /// As [`Desk::apply`]; the tally is then as it was.
+    /// As [`Desk::apply`], by the history that the token has then seen; the tally is then as it was.
     pub fn tick_at_rest<K: Keep>(
         &self,
         rt: &impl Wait,
         tally: &mut Tally<K, S>,
+        front: &mut Front<S>,
         now: u64,
-    ) -> Result<Option<(Ticket, Front<S>)>, Refused<B>>
+    ) -> Result<Option<Ticket>, Refused<B>>
         requires moment { now < 2 ^ 53 }
-        ensures taken { IfOk result (λ made. IfSome made (λ taken.
-            IsTaken S.config now Tick taken.0 taken.1)) }
-        ensures counted { IfOk result (λ made. tally.new.held.counts.calls
-            ≡ tally.old.held.counts.calls + (if is_some made then 1 else 0)) }
-        ensures parts { HasPartsOf tally.old.held tally.new.held }
-        ensures made { IfOk result (λ made. IfSome made (λ taken.
-            KeepsCall K.notes K.makes tally.old.held Tick taken.0 tally.new.held)) }
-        ensures none { IfOk result (λ made. IfNone made (tally.new.held ≡ tally.old.held)) }
-        ensures refused { IfErr result (λ back. tally.new.held ≡ tally.old.held) }
+        ensures taken { IfOk result (λ made. IfSome made (λ ticket. (took : Took S.config S.most K.notes K.makes
+            front.old tally.old.held now Tick ticket front.new tally.new.held)
+            × (at_rest S.config took.taken.before ≡ true))) }
+        ensures none { IfOk result (λ made. IfNone made ((tally.new.held ≡ tally.old.held)
+            × Sees S.config S.most front.old front.new × (at_rest S.config front.new ≡ false))) }
+        ensures refused { IfErr result (λ back. (tally.new.held ≡ tally.old.held)
+            × IsTurnedAway S.config S.most front.old Tick back.refusal front.new
+            × (at_rest S.config front.new ≡ true)) }
     {
-        let made = self.locked.lock(rt).tick_at_rest(&self.line, tally, now);
+        let made = self
+            .locked
+            .lock(rt)
+            .tick_at_rest(&self.line, tally, front, now);
         match made {
-            Ok(Some((step, front))) => Ok(Some((ring_out(step), front))),
+            Ok(Some(step)) => Ok(Some(ring_out(step))),
             Ok(None) => Ok(None),
             Err(refused) => Err(refused),
         }
@@ -434,9 +459,16 @@ impl<S: Identity, B: Bell> Account<S, B> {
 
     /// A token that has seen the history as it is.
     pub fn front(&self, rt: &impl Wait) -> Front<S>
-        ensures { Sees S.config [] result }
+        ensures { Sees S.config S.most [] result }
     {
         self.locked.lock(rt).front(&self.line)
+    }
+
+    /// Another token that has seen as much. It takes no lock.
+    pub fn again(&self, front: &mut Front<S>) -> Front<S>
+        ensures { (result ≡ front.old) × (front.new ≡ front.old) }
+    {
+        front.again(&self.line)
     }
 
     /// Of what two tokens have seen, one is a beginning of the other: the account has one history.
@@ -449,41 +481,48 @@ impl<S: Identity, B: Bell> Account<S, B> {
 
     /// What a ticket was answered, in the history as it is, which the token then has seen.
     pub fn look(&self, rt: &impl Wait, front: &mut Front<S>, ticket: Ticket) -> Look
-        ensures seen { Sees S.config front.old front.new }
+        ensures seen { Sees S.config S.most front.old front.new }
         ensures value { result ≡ look_of (answer_of front.new ticket) }
     {
         self.locked.lock(rt).look(&self.line, front, ticket)
     }
 
-    /// Whether an environment is due at a moment in milliseconds: a `Tick` then expires it.
-    pub fn due(&self, rt: &impl Wait, now: u64) -> bool
-        ensures { Shown S.config (λ h. result ≡ is_some (first (due S.config h now))) }
+    /// Whether an environment is due at a moment in milliseconds, by the history as it is, which the token
+    /// then has seen: a `Tick` then expires it.
+    pub fn due(&self, rt: &impl Wait, front: &mut Front<S>, now: u64) -> bool
+        ensures seen { Sees S.config S.most front.old front.new }
+        ensures value { result ≡ is_some (first (due S.config front.new now)) }
     {
-        self.locked.lock(rt).due(now)
+        self.locked.lock(rt).due(&self.line, front, now)
     }
 
-    /// The counts of the account.
-    pub fn stats(&self, rt: &impl Wait) -> Stats
-        ensures { Shown S.config (λ h. result ≡ stats S.config h) }
+    /// The counts of the history as it is, which the token then has seen.
+    pub fn stats(&self, rt: &impl Wait, front: &mut Front<S>) -> Stats
+        ensures seen { Sees S.config S.most front.old front.new }
+        ensures value { result ≡ stats S.config front.new }
     {
-        self.locked.lock(rt).stats()
+        self.locked.lock(rt).stats(&self.line, front)
     }
 
-    /// How far the service has come to its end.
-    pub fn life(&self, rt: &impl Wait) -> Life
-        ensures { Shown S.config (λ h. result ≡ life S.config h) }
+    /// How far the service has come to its end, by the history as it is, which the token then has seen.
+    pub fn life(&self, rt: &impl Wait, front: &mut Front<S>) -> Life
+        ensures seen { Sees S.config S.most front.old front.new }
+        ensures value { result ≡ life S.config front.new }
     {
-        self.locked.lock(rt).life()
+        self.locked.lock(rt).life(&self.line, front)
     }
 
-    /// A function's reservation in force, none where it has none.
-    /// (GetFunctionConcurrency)
-    pub fn reservation(&self, rt: &impl Wait, function: FnNo) -> Option<u32>
+    /// A function's reservation in force, none where it has none, by the history as it is, which the token
+    /// then has seen. (GetFunctionConcurrency)
+    pub fn reservation(&self, rt: &impl Wait, front: &mut Front<S>, function: FnNo) -> Option<u32>
         requires from_one { 1 ≤ function }
         requires there { function ≤ length S.config.functions }
-        ensures { Shown S.config (λ h. result ≡ reservation S.config h function) }
+        ensures seen { Sees S.config S.most front.old front.new }
+        ensures value { result ≡ reservation S.config front.new function }
     {
-        self.locked.lock(rt).reservation(function)
+        self.locked
+            .lock(rt)
+            .reservation(&self.line, front, function)
     }
 
     /// What the client of the call with a ticket gets, in the history as it is, which the token then has
@@ -496,7 +535,7 @@ impl<S: Identity, B: Bell> Account<S, B> {
         front: &mut Front<S>,
         ticket: Ticket,
     ) -> Result<Option<Reply>, AllocError>
-        ensures seen { Sees S.config front.old front.new }
+        ensures seen { Sees S.config S.most front.old front.new }
         ensures text { IfOk result (λ reply. reply ≡ reply_text S.config S.salt front.new ticket) }
     {
         self.locked.lock(rt).render(&self.line, front, ticket)
@@ -506,7 +545,7 @@ impl<S: Identity, B: Bell> Account<S, B> {
     ///
     /// The only error is want of memory.
     pub fn opening(&self, rt: &impl Wait) -> Result<Vec<u8>, AllocError>
-        ensures { IfOk result (λ text. (most : ℕ) × (text.items ≡ opening_text S.config S.salt most)) }
+        ensures { IfOk result (λ text. text.items ≡ opening_text S.config S.salt S.most) }
     {
         self.locked.lock(rt).opening()
     }
@@ -521,7 +560,7 @@ impl<S: Identity, B: Bell> Account<S, B> {
         front: &mut Front<S>,
         ticket: Ticket,
     ) -> Result<Option<Vec<u8>>, AllocError>
-        ensures seen { Sees S.config front.old front.new }
+        ensures seen { Sees S.config S.most front.old front.new }
         ensures text { IfOk result (λ text.
             IsTextOf S.config S.salt ticket (option_map (λ bytes. bytes.items) text) front.new) }
     {
@@ -542,7 +581,7 @@ impl<S: Identity, B: Bell> Account<S, B> {
         ensures settled { IfOk result (λ settled. IsSettled K.ALL settled.book.history tallies.items) }
         ensures tally { IfOk result (λ settled. (settled.tally.held.parts ≡ 2 ^ 32)
             × (settled.tally.held.counts ≡ counts_of settled.book.history)) }
-        ensures seen { IfErr result (λ back. Sees S.config [] back.front) }
+        ensures seen { IfErr result (λ back. Sees S.config S.most [] back.front) }
         ensures fault { IfErr result (λ back. IsFault K.ALL back.fault back.front tallies.items) }
         ensures counted { IfErr result
             (λ back. back.fault ≢ TallyMissing → counts_in tallies.items ≡ counts_of back.front) }

@@ -21,8 +21,10 @@ pub fn settled_without_fault()
 
 /// Whoever submitted a call and then sees the history finds the call there, at its own ticket.
 pub fn stands_where_it_was_taken()
-    ensures there { (config : Config) (now : ℕ) (call : Call) (ticket : ℕ) (seen then : List Entry) →
-        IsTaken config now call ticket seen → Sees config seen then → ticket < length then }
-    ensures same { (config : Config) (now : ℕ) (call : Call) (ticket : ℕ) (seen then : List Entry) →
-        IsTaken config now call ticket seen → Sees config seen then → call_of then ticket ≡ call }
+    ensures there { (config : Config) (most : ℕ) (had : List Entry) (now : ℕ) (call : Call) (ticket : ℕ)
+        (seen then : List Entry) →
+        IsTaken config most had now call ticket seen → Sees config most seen then → ticket < length then }
+    ensures same { (config : Config) (most : ℕ) (had : List Entry) (now : ℕ) (call : Call) (ticket : ℕ)
+        (seen then : List Entry) →
+        IsTaken config most had now call ticket seen → Sees config most seen then → call_of then ticket ≡ call }
 {}

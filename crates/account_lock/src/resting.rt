@@ -44,8 +44,8 @@ impl<B: Bell, L: Ledgers> Desk<B, L> {
             × K.makes between step.ticket (head_of Tick) tally.new.held.kept)) }
         ensures refused { IfErr result (λ refused.
             (refused.bell ≡ None) × (self.new ≡ self.old) × (tally.new.held ≡ tally.old.held)) }
-        ensures full { IfErr result (λ refused.
-            (refused.refusal ≡ JournalFull) ↔ (is_full self.old.book Tick ≡ true)) }
+        ensures full { MatchResult result (λ made. IfSome made (λ step. is_full self.old.book Tick ≡ false))
+            (λ refused. (refused.refusal ≡ JournalFull) ↔ (is_full self.old.book Tick ≡ true)) }
     {
         if self.due(GREATEST_MOMENT) {
             return Ok(None);

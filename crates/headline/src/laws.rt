@@ -27,7 +27,8 @@ pub fn headline()
 
 /// The headline holds of whatever a token of a running account has seen.
 pub fn seen()
-    ensures { (config : Config) (before h : List Entry) → Sees config before h → Headline config h (stats config h) }
+    ensures { (config : Config) (most : ℕ) (before h : List Entry) → Sees config most before h
+        → Headline config h (stats config h) }
 {}
 
 /// The headline can fail: an invocation that was answered twice has no fate, an admission past a

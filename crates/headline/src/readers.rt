@@ -2,7 +2,6 @@
 
 ghost use Rattle.std.specs.Prelude.{◌≡◌, ◌≢◌, ◌^◌, [], true, false, IfOk, IfErr};
 ghost use Rattle.std.specs.List.{list_all};
-ghost use Rattle.call_model.specs.Counts.{stats};
 ghost use Rattle.account_lock.specs.Counting.{counts_of};
 ghost use Rattle.account_lock.specs.Gathered.{counts_in, keeps_nothing};
 ghost use Rattle.account_lock.specs.Settlement.{IsSettled, IsFault};
@@ -36,18 +35,18 @@ pub fn of_desk<B: Bell, L: Ledgers>(desk: &Desk<B, L>) -> Stats
     desk.stats()
 }
 
-/// Shows a token the history of a running account as it is, which goes on where the one ends that the token
-/// had seen; and of which the headline holds.
+/// The counts of a running account, by its history as it is, which the token then has seen: it goes on where
+/// the one ends that the token had seen, and the headline holds of it.
 pub fn of_account<S: Identity, B: Bell>(
     account: &Account<S, B>,
     rt: &impl Wait,
     front: &mut Front<S>,
-)
-    ensures seen { Sees S.config front.old front.new }
-    ensures headline { Headline S.config front.new (stats S.config front.new) }
+) -> Stats
+    ensures seen { Sees S.config S.most front.old front.new }
+    ensures headline { Headline S.config front.new result }
 {
-    let _look = account.look(rt, front, 0);
     laws::seen();
+    account.stats(rt, front)
 }
 
 /// Settles an account, once no thread shares it: the headline holds of its history, and what all
@@ -67,7 +66,7 @@ pub fn settle<S: Identity, B: Bell, K: Keep>(
     ensures settled { IfOk result (λ settled. IsSettled K.ALL settled.book.history tallies.items) }
     ensures tally { IfOk result (λ settled. (settled.tally.held.parts ≡ 2 ^ 32)
         × (settled.tally.held.counts ≡ counts_of settled.book.history)) }
-    ensures seen { IfErr result (λ back. Sees S.config [] back.front) }
+    ensures seen { IfErr result (λ back. Sees S.config S.most [] back.front) }
     ensures fault { IfErr result (λ back. IsFault K.ALL back.fault back.front tallies.items) }
     ensures counted { IfErr result
         (λ back. back.fault ≢ TallyMissing → counts_in tallies.items ≡ counts_of back.front) }

@@ -1,10 +1,7 @@
 -- What answers a request on a connection of a door answers it at the door.
-use Rattle.std.proofs.Common.{◌≡◌, ◌<◌, ◌⊎◌, ℕ, List, [], length, Option, Some, None, Result, Ok, Err, MatchOption, subst, sym, ◌∙◌, inl, inr}
+use Rattle.std.proofs.Common.{◌≡◌, ◌<◌, ◌⊎◌, ℕ, List, [], length, Option, Some, None, Result, Ok, Err, MatchOption, subst, sym, ap, ◌∙◌, inl, inr}
 use Rattle.std.specs.Arc.{arc_value}
-use Rattle.account_lock.specs.Shown.{IsTaken, Sees}
 use Rattle.arn_ids.specs.Limits.{longest_body}
-use Rattle.arn_ids.specs.declared.config.Config.{Config}
-use Rattle.call_model.specs.History.{call_of}
 use Rattle.call_types.specs.declared.call.Call.{Call}
 use Rattle.call_types.specs.declared.call.Entry.{Entry}
 use Rattle.call_types.specs.declared.stats.Stats.{Stats as Counted}
@@ -18,19 +15,19 @@ use Rattle.http.specs.declared.response.Response.{Response}
 use Rattle.http_body.specs.declared.frame.Frame.{Frame}
 use Rattle.http_body_util.specs.declared.either.Either.{Either}
 use Rattle.http_body_util.specs.declared.full.Full.{Full}
-use Rattle.http_front.specs.Answered.{IsReplyOf, IsReplyTo, IsOutcomeOf, IsDecided, IsAnswerAt}
+use Rattle.http_front.specs.Answered.{IsReplyTo, IsOutcomeOf, IsDecided, IsAnswerAt}
 use Rattle.http_front.specs.Exchanged.{ComesTo, IsAnswer}
 use Rattle.http_front.specs.Ports.{api_of}
 use Rattle.http_front.specs.Responses.{IsAnswerTo, IsRefusal, IsResponseTo}
 use Rattle.http_front.specs.declared.front.Front.{Front}
 use Rattle.http_routes.specs.Decisions.{Served, decision}
 use Rattle.lambda_wire.specs.declared.reply.Reply.{Reply}
-use Rattle.long_poll.specs.Exchanges.{IsOfBody, ComesOf, IsReply, IsRendered}
+use Rattle.long_poll.specs.Exchanges.{IsOfBody, ComesOf, IsReply}
 use Rattle.long_poll.specs.Lengths.{declares_too_long}
-use Rattle.long_poll.specs.Moments.{moment_of}
 use Rattle.long_poll.specs.Outcomes.{ShowsFrom}
-use Rattle.long_poll.specs.Reads.{Renders, Counts, Reserves}
-use Rattle.long_poll.specs.declared.bell.OneShotBell.{OneShotBell}
+use Rattle.long_poll.specs.Reads.{Counts, Reserves}
+use Rattle.long_poll.specs.Replies.{IsReplyAt}
+use Rattle.long_poll.specs.Views.{stats_reply, reservation_reply}
 use Rattle.long_poll.specs.declared.clock.Clock as Clock
 use Rattle.long_poll.specs.declared.connection.Connection.{Connection}
 use Rattle.long_poll.specs.declared.fault.ExchangeFault.{ExchangeFault}
@@ -43,7 +40,6 @@ use Rattle.request_guard.specs.Guarding.{refusal_of}
 use Rattle.request_guard.specs.declared.refusal.Api.{Api}
 use Rattle.request_guard.specs.declared.refusal.Refusal.{Refusal}
 use Rattle.request_guard.specs.declared.refusal.Refusal.TheVariants as refused
-use Rattle.usage_ledger.specs.Tallies.{Held}
 use Rattle.usage_ledger.specs.declared.keep.Keep as Keep
 
 -- it is so of the same bodies
@@ -57,58 +53,35 @@ of_body has source head held is less weaken (inr x) = inr (x.0, λ body long. we
 module _ {R S D N K L B P E : Type 0} {service : Service.Ghosts S K L} {decider : Decide.Ghosts D}
     {keep : Keep.Ghosts K} (clock : Clock.Ghosts N) (yields : B → Runs (Result (Frame P) E))
     (has : P → List ℕ → Type 0) (port : Front R S D N K L service decider keep) (door : Served)
-    (takes : (before : Held) (now : ℕ) (call : Call) (bell : Option OneShotBell) (ticket : ℕ) (seen : List Entry)
-    (after : Held)
-    → service.submits (arc_value (arc_value port.connection).service) before now call bell (Ok (ticket, seen)) after
-    → IsTaken door.config now call ticket seen)
-    (renders : (seen : List Entry) (ticket : ℕ) (reply : Option Reply) (then : List Entry)
-    → service.renders (arc_value (arc_value port.connection).service) seen ticket reply then
-    → Renders door.config door.salt seen ticket reply then)
-    (counts : (stats : Counted) → service.counts (arc_value (arc_value port.connection).service) stats
-    → Counts door.config stats)
-    (reserves : (f : ℕ) (count : Option ℕ)
-    → service.reserves (arc_value (arc_value port.connection).service) f count → Reserves door.config f count)
+    (most : ℕ)
+    (replies : (call : Call) (reply : Reply) → IsReply (arc_value port.connection) clock (decided.Submit call) reply
+    → IsReplyAt door.config most door.salt call reply)
+    (counts : (seen : List Entry) (stats : Counted) (then : List Entry)
+    → service.counts (arc_value (arc_value port.connection).service) seen stats then
+    → Counts door.config most seen stats then)
+    (reserves : (seen : List Entry) (f : ℕ) (count : Option ℕ) (then : List Entry)
+    → service.reserves (arc_value (arc_value port.connection).service) seen f count then
+    → Reserves door.config most seen f count then)
     (decides : (head : Parts) (body : List ℕ) (made : Decision)
     → decider.decides (arc_value (arc_value port.connection).decider) head body made
-    → made ≡ decision door head body)
-    (there : (config : Config) (now : ℕ) (call : Call) (ticket : ℕ) (seen then : List Entry)
-    → IsTaken config now call ticket seen → Sees config seen then → ticket < length then)
-    (stands : (config : Config) (now : ℕ) (call : Call) (ticket : ℕ) (seen then : List Entry)
-    → IsTaken config now call ticket seen → Sees config seen then → call_of then ticket ≡ call) where
+    → made ≡ decision door head body) where
   abbrev connection : Connection R S D N K L service decider keep
   connection = arc_value port.connection
 
   abbrev H : Type 0
   H = HistoryBody R S K L
 
-  rendered : (call : Call) (reply : Reply) → IsRendered connection clock call (Some reply)
-      → IsReplyOf door.config door.salt call reply
-  rendered call reply x =
-      let ticket = x.0 in
-      let seen = x.1 in
-      let submitted = x.2 in
-      let now = moment_of submitted.reading in
-      let taken = takes submitted.before now call (Some submitted.bell) ticket seen submitted.after submitted.came in
-      let then = x.3.0 in
-      let shown = renders seen ticket (Some reply) then x.3.1 in
-      record {
-        most = shown.0.most;
-        history = then;
-        reached = shown.0.reached;
-        ticket = ticket;
-        there = there door.config now call ticket seen then taken shown.0;
-        stands = stands door.config now call ticket seen then taken shown.0;
-        gives = sym shown.1;
-      }
-
   reply_to : (made : Decision) (reply : Reply) → IsReply connection clock made reply
       → IsReplyTo door.config door.salt made reply
-  reply_to (decided.Submit call) reply (inl x) = inl (rendered call reply x)
-  reply_to (decided.Submit call) reply (inr x) = inr (x.0.refusal, x.2)
+  reply_to (decided.Submit call) reply x = (most, replies call reply x)
   reply_to (decided.Reply own) reply x = x
-  reply_to (decided.Show show.Stats) reply x = (x.0, counts x.0 x.1, x.2)
+  reply_to (decided.Show show.Stats) reply x =
+      let counted = counts x.1.0 x.0 x.1.1 x.1.2 in
+      (most, x.1.1, counted.0.reached, x.2 ∙ ap stats_reply counted.1)
   reply_to (decided.Show (show.History from)) reply x = x
-  reply_to (decided.Show (show.Reservation f)) reply x = (x.0, reserves f x.0 x.1, x.2)
+  reply_to (decided.Show (show.Reservation f)) reply x =
+      let reserved = reserves x.1.0 f x.0 x.1.1 x.1.2 in
+      (most, x.1.1, reserved.0.reached, x.2 ∙ ap reservation_reply reserved.1)
 
   outcome_of : (shows : Option ℕ → H → Type 0) (head : Parts) (body : List ℕ) (given : Outcome H)
       → ComesOf connection clock shows head body (Ok given) → IsOutcomeOf shows door (decision door head body) given

@@ -1,14 +1,10 @@
 -- What answers a request at a door of the service: at a port, in a configuration, with the salt of its identifiers.
-use Rattle.std.specs.Prelude.{◌≡◌, ◌<◌, ◌⊎◌, ℕ, List, [], length, Option, Some, Result, MatchOption}
+use Rattle.std.specs.Prelude.{◌≡◌, ◌⊎◌, ℕ, List, [], Option, Result, MatchOption}
 use Rattle.account_book.specs.Reached.{IsReached}
-use Rattle.account_book.specs.ReplyText.{reply_text}
-use Rattle.account_book.specs.declared.book.Refusal.{Refusal as Refused}
 use Rattle.arn_ids.specs.declared.config.Config.{Config}
-use Rattle.call_model.specs.History.{call_of}
-use Rattle.call_types.specs.Calls.{is_invoke}
-use Rattle.call_types.specs.declared.call.Call.{Call}
+use Rattle.call_model.specs.Counts.{stats}
+use Rattle.call_model.specs.Limits.{reservation}
 use Rattle.call_types.specs.declared.call.Entry.{Entry}
-use Rattle.call_types.specs.declared.stats.Stats.{Stats as Counted}
 use Rattle.decisions.specs.declared.decide.Decision.{Decision}
 use Rattle.decisions.specs.declared.decide.Decision.TheVariants as decided
 use Rattle.decisions.specs.declared.decide.Shown.TheVariants as shown
@@ -24,8 +20,7 @@ use Rattle.http_routes.specs.Decisions.{Served, decision}
 use Rattle.lambda_wire.specs.declared.reply.Reply.{Reply}
 use Rattle.long_poll.specs.Exchanges.{IsOfBody}
 use Rattle.long_poll.specs.Lengths.{declares_too_long}
-use Rattle.long_poll.specs.Reads.{Counts, Reserves}
-use Rattle.long_poll.specs.Refusals.{refusal_reply}
+use Rattle.long_poll.specs.Replies.{IsReplyAt}
 use Rattle.long_poll.specs.Views.{stats_reply, reservation_reply}
 use Rattle.long_poll.specs.declared.outcome.Outcome.{Outcome}
 use Rattle.long_poll.specs.declared.outcome.Outcome.TheVariants as outcome
@@ -33,26 +28,15 @@ use Rattle.request_guard.specs.Guarding.{refusal_of}
 use Rattle.request_guard.specs.declared.refusal.Refusal.TheVariants.{BrokenBody, OutOfMemory}
 
 module _ (config : Config) (salt : ℕ) where
-  -- The reply to a call that was taken: what the definitions give it in a history of the configuration that calls led to,
-  -- in which this very call stands at its ticket.
-  pub record IsReplyOf (call : Call) (reply : Reply) : Type 0 where
-    pub most : ℕ
-    pub history : List Entry
-    pub reached : IsReached config most history
-    pub ticket : ℕ
-    pub there : ticket < length history
-    pub stands : call_of history ticket ≡ call
-    pub gives : reply_text config salt history ticket ≡ Some reply
-
   -- The reply where this was decided: that of the call, or of why it was not taken; what was decided; or what is shown.
   abbrev pub IsReplyTo : Decision → Reply → Type 0
-  IsReplyTo (decided.Submit call) reply =
-      IsReplyOf call reply ⊎ ((refused : Refused) × (reply ≡ refusal_reply (is_invoke call) refused))
+  IsReplyTo (decided.Submit call) reply = (most : ℕ) × IsReplyAt config most salt call reply
   IsReplyTo (decided.Reply own) reply = reply ≡ own
-  IsReplyTo (decided.Show shown.Stats) reply = (stats : Counted) × Counts config stats × (reply ≡ stats_reply stats)
+  IsReplyTo (decided.Show shown.Stats) reply =
+      (most : ℕ) × (h : List Entry) × IsReached config most h × (reply ≡ stats_reply (stats config h))
   IsReplyTo (decided.Show (shown.History from)) reply = ⊥
   IsReplyTo (decided.Show (shown.Reservation f)) reply =
-      (count : Option ℕ) × Reserves config f count × (reply ≡ reservation_reply count)
+      (most : ℕ) × (h : List Entry) × IsReached config most h × (reply ≡ reservation_reply (reservation config h f))
 
 -- These bodies show the account's history, each from where it is asked for.
 module _ {H : Type 0} (shows : Option ℕ → H → Type 0) (door : Served) where

@@ -14,7 +14,7 @@ use crate::front::Front;
 use crate::served::Served;
 use crate::sides::Sides;
 use crate::ticker::moment;
-use account_lock::{Account, Identity, laws};
+use account_lock::{Account, Identity};
 use bytes::Bytes;
 use call_model::Call;
 use connection_places::{Post, Worker};
@@ -23,12 +23,12 @@ use http_body::Body;
 use http_body_util::{Either, Full};
 use http_connection::{EventLoop, Machine, Park, PortKind, Pulse, Signals, Wire};
 use hyper::body::Incoming;
-use long_poll::{Clock, Connection, HistoryBody, OneShotBell, OpenPoll, Service};
+use long_poll::{Clock, Connection, HistoryBody, OneShotBell, OpenPoll, Service, laws};
 use std::alloc::{AllocError, AllocGlobal};
 use std::net::TcpStream;
 use std::sync::{Arc, Mutex, Wait};
 use std::{io, thread, time};
-use usage_ledger::{Keep, Ledgers, Tally};
+use usage_ledger::{Front as Token, Keep, Ledgers, Tally};
 
 /// The stack of a thread, in bytes. The deepest chain of calls takes some 80 KB.
 const STACK: usize = 512 * 1024;
@@ -60,20 +60,23 @@ pub(crate) struct Visit<S: Identity> {
     pub(crate) door: Door<S>,
 }
 
-/// What a thread serves its connections with: its event loop, and who decided the last one's requests.
+/// What a thread serves its connections with: its event loop, who decided the last one's requests, and its
+/// token, which has seen a beginning of the account's history.
 #[derive(Drop)]
 struct Tools<S: Identity> {
     event_loop: EventLoop,
     sides: Sides<S>,
+    token: Token<S>,
 }
 
 impl<S: Identity> Tools<S> {
-    /// Those of the thread that opens them.
-    fn open<R: Machine>(rt: &R) -> io::Result<Tools<S>> {
+    /// Those of the thread that opens them, for connections to this account.
+    fn open<R: Machine>(rt: &R, account: &Account<S, OneShotBell>) -> io::Result<Tools<S>> {
         match EventLoop::open(rt) {
             Ok(event_loop) => Ok(Tools {
                 event_loop,
                 sides: Sides::new(),
+                token: account.front(rt),
             }),
             Err(fault) => Err(fault),
         }
@@ -148,7 +151,7 @@ impl<R: Machine, S: Identity + Drop, N: Clock + Drop, K: Keep> Attendant<R, S, N
 
     /// Serves this connection and those that come. Gives whether none comes any more.
     fn attend_all(&self, first: Visit<S>) -> bool {
-        match Tools::open(&self.rt) {
+        match Tools::open(&self.rt, &*self.served.account) {
             Ok(mut tools) => self.attend_in_turn(&mut tools, first),
             Err(_) => false,
         }
@@ -183,7 +186,7 @@ impl<R: Machine, S: Identity + Drop, N: Clock + Drop, K: Keep> Attendant<R, S, N
     {
         let open = Arc::new(self.rt.alloc(), OpenPoll::new()).map_err(AllocError::from)?;
         let ended = self.serve(tools, visit, &open);
-        self.withdraw(&open);
+        self.withdraw(&mut tools.token, &open);
         ended
     }
 
@@ -204,11 +207,12 @@ impl<R: Machine, S: Identity + Drop, N: Clock + Drop, K: Keep> Attendant<R, S, N
     {
         let Visit { line, door } = visit;
         let kind = door.kind();
-        let front = self.front(&mut tools.sides, door, open)?;
+        let token = self.served.account.again(&mut tools.token);
+        let front = self.front(&mut tools.sides, token, door, open)?;
         let parked = OpenNext {
             open: Arc::try_clone(open)?,
         };
-        laws::stands_where_it_was_taken();
+        laws::replies(&*front.connection);
         serve_by(&mut tools.event_loop, &self.rt, line, kind, front, parked)
     }
 }
@@ -223,6 +227,7 @@ impl<
     fn front(
         &self,
         sides: &mut Sides<S>,
+        token: Token<S>,
         door: Door<S>,
         open: &Arc<OpenPoll>,
     ) -> Result<Front<R, Account<S, OneShotBell>, Side, N, K, S>, AllocError>
@@ -239,16 +244,17 @@ impl<
         let Ok(decider) = sides.of(alloc, door) else {
             return Err(AllocError);
         };
-        match self.connection(decider, open) {
+        match self.connection(decider, token, open) {
             Ok(connection) => Ok(Front::new(alloc, api, hosts, connection)),
             Err(refused) => Err(refused),
         }
     }
 
-    /// What the exchanges of a connection share.
+    /// What the exchanges of a connection share, with a token of its own.
     fn connection(
         &self,
         decider: Arc<Side>,
+        token: Token<S>,
         open: &Arc<OpenPoll>,
     ) -> Result<Arc<Connection<R, Account<S, OneShotBell>, Side, N, K, S>>, AllocError>
         requires { (arc_value decider).config ≡ S.config }
@@ -267,6 +273,7 @@ impl<
             decider,
             clock,
             tally,
+            token,
             open,
             self.patience,
         );
@@ -274,7 +281,7 @@ impl<
     }
 
     /// Withdraws the Next whose ticket is noted as open. Where that is refused it stays pending.
-    fn withdraw(&self, open: &OpenPoll) {
+    fn withdraw(&self, token: &mut Token<S>, open: &OpenPoll) {
         if let Some(ticket) = open.ticket() {
             let now = moment(&*self.served.clock);
             let mut tally = self.post.tally.lock(&self.rt);
@@ -282,7 +289,7 @@ impl<
             let _ = self
                 .served
                 .account
-                .submit(&self.rt, &mut tally, now, withdraw, None);
+                .submit(&self.rt, &mut tally, token, now, withdraw, None);
         }
     }
 }

@@ -31,7 +31,7 @@ pub struct Front<R, S: Service<K, L>, D: Decide, N, K: Keep, L: Ledgers> {
     alloc: Global,
     api: Api,
     hosts: Arc<Hosts>,
-    connection: Arc<Connection<R, S, D, N, K, L>>,
+    pub(crate) connection: Arc<Connection<R, S, D, N, K, L>>,
 }
 
 impl<

@@ -30,7 +30,7 @@ fn has_room_for_one<R: Machine>(rt: &R) -> bool {
 
 /// An account that is served over HTTP/1.1 on 127.0.0.1: on the invoke port for callers, and on a
 /// port of each environment for its runtime and its extensions. `S` names the configuration, the
-/// salt, the ledgers and the history of the account, `N` is the clock, in Unix milliseconds, and `K` what
+/// salt, the limit, the ledgers and the history of the account, `N` is the clock, in Unix milliseconds, and `K` what
 /// each tally keeps.
 #[derive(Drop)]
 pub struct Host<R, S: Identity, N, K: Keep> {
@@ -78,6 +78,7 @@ impl<
     ) -> Result<Host<R, S, N, K>, HostFault>
         requires configured { arc_value plan.config ≡ S.config }
         requires salted { plan.salt ≡ S.salt }
+        requires limited { plan.max_entries ≡ S.most }
         requires named { blanks ≡ S.names }
         ensures range { IsErrOf result (Config BadEntries) ↔ ((length (owners (arc_value plan.config)) + 1 ≤ plan.max_entries) × (plan.max_entries ≤ 2 ^ 32) → ⊥) }
         ensures fault { IfErr result (λ fault. (fault ≡ Config BadEntries) ⊎ IsOfMachine fault) }

@@ -64,7 +64,7 @@ fn settled<S: Identity>(hosted: Hosted<S, KeepNone>) -> Result<Counted<S>, Serve
 
 /// Serves a plan until it is stopped, settles, and gives the account's counts with the shares of all its
 /// threads, which add up to them: shares of the account's ledgers come from nowhere else. `S` names the
-/// configuration, the salt, the ledgers and the history of the account.
+/// configuration, the salt, the limit, the ledgers and the history of the account.
 fn serve_counted<R: Machine + Log, S: Identity + Drop + Send + Sync + 'static>(
     rt: R,
     plan: Plan,
@@ -74,6 +74,7 @@ fn serve_counted<R: Machine + Log, S: Identity + Drop + Send + Sync + 'static>(
 ) -> Result<Counted<S>, ServeFault>
     requires configured { arc_value plan.config ≡ S.config }
     requires salted { plan.salt ≡ S.salt }
+    requires limited { plan.max_entries ≡ S.most }
     requires named { blanks ≡ S.names }
     ensures { IfOk result (λ counted. IsSettled (arc_value plan.config) counted.counts counted.tally) }
 {
@@ -98,6 +99,7 @@ fn serve_plan<R: Machine + Log, S: Identity + Drop + Send + Sync + 'static>(
 ) -> Result<Stats, ServeFault>
     requires configured { arc_value plan.config ≡ S.config }
     requires salted { plan.salt ≡ S.salt }
+    requires limited { plan.max_entries ≡ S.most }
     requires named { blanks ≡ S.names }
     ensures { IfOk result (λ counts. (tally : Tallied) × IsSettled (arc_value plan.config) counts tally) }
 {
@@ -107,7 +109,7 @@ fn serve_plan<R: Machine + Log, S: Identity + Drop + Send + Sync + 'static>(
     }
 }
 
-/// Names the configuration, the salt, the ledgers and the history.
+/// Names the configuration, the salt, the limit, the ledgers and the history.
 fn serve_by_brand<R: Machine + Log>(
     rt: R,
     plan: Plan,

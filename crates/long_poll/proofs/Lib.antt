@@ -4,3 +4,5 @@ pub mod Frames
 pub mod Beginnings
 -- The compact text of the counts' value.
 pub mod StatsText
+-- What the relations of an account say of the reply to a call.
+pub mod Replying

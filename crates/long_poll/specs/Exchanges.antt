@@ -6,6 +6,7 @@ use Rattle.account_lock.specs.declared.desk.Refused.{Refused}
 use Rattle.call_types.specs.Within.{IsWithin}
 use Rattle.call_types.specs.declared.call.Call.{Call}
 use Rattle.call_types.specs.declared.call.Entry.{Entry}
+use Rattle.call_types.specs.declared.stats.Stats.{Stats as Counted}
 use Rattle.futures.specs.Runs.{Runs}
 use Rattle.http.specs.declared.request.Parts.{Parts}
 use Rattle.http_body.specs.declared.frame.Frame.{Frame}
@@ -83,26 +84,35 @@ module _ {R S D N K L : Type 0} {service : Service.Ghosts S K L} {decider : Deci
   abbrev pub Decides : Parts → List ℕ → Decision → Type 0
   Decides head body made = decider.decides (arc_value connection.decider) head body made
 
+  -- The counts that its account shows, to who had seen some of the history.
+  abbrev pub Counts : Counted → Type 0
+  Counts stats =
+      (seen : List Entry) × (then : List Entry) × service.counts (arc_value connection.service) seen stats then
+
+  -- A function's reservation that it shows so.
+  abbrev pub Reserves : ℕ → Option ℕ → Type 0
+  Reserves f count =
+      (seen : List Entry) × (then : List Entry) × service.reserves (arc_value connection.service) seen f count then
+
   -- The reply shows what is asked for, as the account gives it. A history is shown by a body, and by no
   -- reply.
   abbrev pub IsView : Shown → Reply → Type 0
-  IsView Stats reply =
-      (stats : _) × service.counts (arc_value connection.service) stats × (reply ≡ stats_reply stats)
+  IsView Stats reply = (stats : _) × Counts stats × (reply ≡ stats_reply stats)
   IsView (History from) reply = ⊥
-  IsView (Reservation f) reply =
-      (count : Option ℕ) × service.reserves (arc_value connection.service) f count
-      × (reply ≡ reservation_reply count)
+  IsView (Reservation f) reply = (count : Option ℕ) × Reserves f count × (reply ≡ reservation_reply count)
 
   module _ (clock : Clock.Ghosts N) where
     -- A call was submitted at a reading of the clock, with a bell, and this came back.
     pub record Submitted (call : Call) (back : CameBack) : Type 0 where
       pub reading : ℕ
       pub read : clock.reads (arc_value connection.clock) reading
+      pub had : List Entry
       pub before : Held
+      pub then : List Entry
       pub after : Held
       pub bell : OneShotBell
       pub came : service.submits (arc_value connection.service)
-          before (moment_of reading) call (Some bell) back after
+          had before (moment_of reading) call (Some bell) back then after
 
     -- The same with this bell.
     abbrev pub SubmittedWith : OneShotBell → Call → CameBack → Type 0

@@ -9,6 +9,7 @@ pub mod Offers
 pub mod Outcomes
 pub mod Pending
 pub mod Reads
+pub mod Replies
 pub mod Refusals
 pub mod Ringing
 pub mod Stages

@@ -12,12 +12,14 @@ use Rattle.long_poll.specs.declared.bell.OneShotBell.{OneShotBell}
 abbrev pub CameBack : Type 0
 CameBack = Result (ℕ × List Entry) (Refused OneShotBell)
 
--- It is submitted: by what the tally held, the moment, the call and its bell, this came back, and this is
--- what the tally holds then. Or it is premature, comes back with its bell, and the tally is as before.
-abbrev pub Offers : {A B : Type 0} → (Held → ℕ → Call → Option B → Result A (Refused B) → Held → Type 0)
-    → Held → ℕ → Call → Option B → Result A (Declined B) → Held → Type 0
-Offers submits before now call bell (Ok taken) after = submits before now call bell (Ok taken) after
-Offers submits before now call bell (Err (declined.Refused refused)) after =
-    submits before now call bell (Err refused) after
-Offers submits before now call bell (Err (declined.Premature other back)) after =
+-- It is submitted: by what was seen of the history, what the tally held, the moment, the call and its bell, this came
+-- back, and this is what is seen and what the tally holds then. Or it is premature, comes back with its bell, and the
+-- tally is as before.
+abbrev pub Offers : {A B : Type 0}
+    → (List Entry → Held → ℕ → Call → Option B → Result A (Refused B) → List Entry → Held → Type 0)
+    → List Entry → Held → ℕ → Call → Option B → Result A (Declined B) → List Entry → Held → Type 0
+Offers submits had before now call bell (Ok taken) then after = submits had before now call bell (Ok taken) then after
+Offers submits had before now call bell (Err (declined.Refused refused)) then after =
+    submits had before now call bell (Err refused) then after
+Offers submits had before now call bell (Err (declined.Premature other back)) then after =
     (other ≡ call) × (back ≡ bell) × (after ≡ before)

@@ -3,7 +3,7 @@
 ghost use Rattle.std.specs.Prelude.{◌≡◌, ◌≤◌, ◌<◌, ℕ, List, length, IfOk, IfErr};
 ghost use Rattle.std.specs.Arc.{arc_value};
 ghost use Rattle.arn_ids.specs.Limits.{longest_body};
-ghost use Rattle.call_types.specs.Within.{IsWithin};
+ghost use Rattle.call_types.specs.Within.{IsFunction, IsWithin};
 ghost use Rattle.decisions.specs.Decisions.{IsAllowed};
 ghost use Rattle.http.specs.declared.request.Parts.{Parts as Head};
 ghost use Rattle.futures.specs.Task.{Covers, Keeps};
@@ -15,8 +15,9 @@ use crate::refusal::refusal_reply;
 use crate::views::{reservation_reply, stats_reply};
 use crate::{Clock, ExchangeFault, Heard, OneShotBell, OpenPoll, Service};
 use account_lock::{Declined, Refused};
+use arn_ids::FnNo;
 use bytes::Bytes;
-use call_model::{Call, Ticket};
+use call_model::{Call, Stats, Ticket};
 use decisions::{Decide, Decision, Shown};
 use futures::future::Future;
 use futures::task::{Context, Poll};
@@ -37,8 +38,8 @@ const FIRST_PAUSE: u64 = 50;
 const LONGEST_PAUSE: u64 = 8_000;
 
 /// What the exchanges of one connection share: the account and who decides its requests, both of
-/// one configuration, a clock, the connection's tally, the note of its open Next, and its patience:
-/// for how many milliseconds a premature call is held back at most.
+/// one configuration, a clock, the connection's tally, its token, the note of its open Next, and its
+/// patience: for how many milliseconds a premature call is held back at most.
 #[derive(Drop)]
 pub struct Connection<R, S: Service<K, L>, D: Decide, N, K: Keep, L: Ledgers> {
     rt: R,
@@ -49,6 +50,8 @@ pub struct Connection<R, S: Service<K, L>, D: Decide, N, K: Keep, L: Ledgers> {
     tally: Arc<Mutex<Tally<K, L>>>,
     open: Arc<OpenPoll>,
     patience: u32,
+    // The token, which has seen the history as far as the requests before; none while one of them has it.
+    seen: Cell<Option<Front<L>>>,
     // The room in which payloads are read, by one decision at a time.
     scratch: Cell<PayloadScratch>,
     ghost agree: { S.serves (arc_value service) ≡ D.decides_for (arc_value decider) },
@@ -115,13 +118,15 @@ impl<
 > Connection<R, S, D, N, K, L> {
     ghost use Rattle.long_poll.specs.Attempts.{IsAttempt, IsPatient, IsNearer};
     ghost use Rattle.long_poll.specs.Exchanges.{SubmittedWith, IsHeld, IsBegun, HasBegun, Decides};
-    ghost use Rattle.long_poll.specs.Exchanges.{Renders, RendersOnce, shown};
+    ghost use Rattle.long_poll.specs.Exchanges.{Counts, Reserves, Renders, RendersOnce, shown};
     ghost use Rattle.long_poll.specs.Outcomes.{ShowsFrom};
     ghost use Rattle.long_poll.specs.Pending.{KeepsTo};
 
     /// A connection to this account, whose requests are decided for the same configuration. For one
-    /// submit at a time its tally is locked, and then the account. A call that is premature is held
-    /// back for `patience` milliseconds at most, in which the connection's thread sleeps, pause by pause.
+    /// submit at a time its tally is locked, and then the account. Its token is shown the history at each
+    /// submit and each reading, so that what its requests are answered never goes back. A call that is
+    /// premature is held back for `patience` milliseconds at most, in which the connection's thread
+    /// sleeps, pause by pause.
     pub fn new(
         rt: R,
         alloc: Global,
@@ -129,6 +134,7 @@ impl<
         decider: Arc<D>,
         clock: Arc<N>,
         tally: Arc<Mutex<Tally<K, L>>>,
+        front: Front<L>,
         open: Arc<OpenPoll>,
         patience: u32,
     ) -> Connection<R, S, D, N, K, L>
@@ -144,6 +150,7 @@ impl<
             tally,
             open,
             patience,
+            seen: Cell::new(Some(front)),
             scratch: Cell::new(PayloadScratch::new()),
         }
     }
@@ -151,6 +158,14 @@ impl<
     /// Its allocator.
     pub(crate) fn alloc(&self) -> Global {
         self.alloc
+    }
+
+    /// The connection's token, to be put back. If a request has it, another one that has seen the history.
+    fn token(&self) -> Front<L> {
+        match self.seen.take() {
+            Some(front) => front,
+            None => self.service.front(&self.rt),
+        }
     }
 
     /// Submits a call with its bell at the clock's reading.
@@ -162,10 +177,14 @@ impl<
         requires { IsWithin (S.serves (arc_value self.now.service)) call }
         ensures { SubmittedWith self.now N.Clock bell call result }
     {
+        let mut front = self.token();
         let mut tally = self.tally.lock(&self.rt);
         let now = moment(&*self.clock);
-        self.service
-            .submit(&self.rt, &mut tally, now, call, Some(bell))
+        let came = self
+            .service
+            .submit(&self.rt, &mut tally, &mut front, now, call, Some(bell));
+        self.seen.set(Some(front));
+        came
     }
 
     /// Submits a call with its bell at the clock's reading, unless it is premature.
@@ -173,12 +192,14 @@ impl<
         requires { IsWithin (S.serves (arc_value self.now.service)) call }
         ensures { IsAttempt self.now N.Clock bell call result }
     {
+        let mut front = self.token();
         let mut tally = self.tally.lock(&self.rt);
         let now = moment(&*self.clock);
-        match self
+        let came = self
             .service
-            .offer(&self.rt, &mut tally, now, call, Some(bell))
-        {
+            .offer(&self.rt, &mut tally, &mut front, now, call, Some(bell));
+        self.seen.set(Some(front));
+        match came {
             Ok(taken) => Attempt::Made(Ok(taken)),
             Err(Declined::Refused(refused)) => Attempt::Made(Err(refused)),
             Err(Declined::Premature { call, bell }) => match bell {
@@ -285,6 +306,27 @@ impl<
         self.carry_out(decided?)
     }
 
+    /// The counts of its account.
+    fn stats(&self) -> Stats
+        ensures { Counts self.now result }
+    {
+        let mut front = self.token();
+        let stats = self.service.stats(&self.rt, &mut front);
+        self.seen.set(Some(front));
+        stats
+    }
+
+    /// A function's reservation in its account.
+    fn reservation(&self, function: FnNo) -> Option<u32>
+        requires { IsFunction (S.serves (arc_value self.now.service)) function }
+        ensures { Reserves self.now function result }
+    {
+        let mut front = self.token();
+        let count = self.service.reservation(&self.rt, &mut front, function);
+        self.seen.set(Some(front));
+        count
+    }
+
     /// Does what was decided of a request.
     fn carry_out(&self, decision: Decision) -> Result<Begun<L>, ExchangeFault>
         requires { IsAllowed (S.serves (arc_value self.now.service)) decision }
@@ -294,12 +336,12 @@ impl<
         match decision {
             Decision::Reply(reply) => Ok(Begun::Replied(reply)),
             Decision::Show(Shown::Stats) => {
-                let stats = self.service.stats(&self.rt);
+                let stats = self.stats();
                 Ok(Begun::Replied(stats_reply(self.alloc, stats)?))
             }
             Decision::Show(Shown::History { from }) => Ok(Begun::AsksForHistory { from }),
             Decision::Show(Shown::Reservation { function }) => {
-                let count = self.service.reservation(&self.rt, function);
+                let count = self.reservation(function);
                 Ok(Begun::Replied(reservation_reply(self.alloc, count)?))
             }
             Decision::Submit(call) => self.submit(call),

@@ -10,6 +10,7 @@ mod exchange;
 mod fault;
 mod first_bytes;
 mod history_body;
+pub mod laws;
 mod lengths;
 mod of_account;
 mod open_poll;

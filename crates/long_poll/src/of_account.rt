@@ -15,47 +15,48 @@ use std::sync::Wait;
 use usage_ledger::{Front, Keep, Tally};
 
 // A submit gives a front that has seen the history which the call made. What is read with it is of a
-// history that goes on where that one ends; what is read without a front is of some history that calls led
-// to.
+// history that goes on where that one ends.
 impl<S: Identity + Drop, K: Keep> Service<K, S> for Account<S, OneShotBell> {
     ghost serves = { λ _. S.config };
 
-    ghost submits = { λ _. Submits S.config K.notes K.makes };
+    ghost submits = { λ _. Submits S.config S.most K.notes K.makes };
 
-    ghost shows = { λ _. Sees S.config [] };
+    ghost shows = { λ _. Sees S.config S.most [] };
 
-    ghost looks = { λ _. Looks S.config };
+    ghost looks = { λ _. Looks S.config S.most };
 
-    ghost renders = { λ _. Renders S.config S.salt };
+    ghost renders = { λ _. Renders S.config S.most S.salt };
 
-    ghost opens = { λ _. Opens S.config S.salt };
+    ghost opens = { λ _. Opens S.config S.most S.salt };
 
-    ghost tells = { λ _. Tells S.config S.salt };
+    ghost tells = { λ _. Tells S.config S.most S.salt };
 
-    ghost counts = { λ _. Counts S.config };
+    ghost counts = { λ _. Counts S.config S.most };
 
-    ghost reserves = { λ _. Reserves S.config };
+    ghost reserves = { λ _. Reserves S.config S.most };
 
     fn submit<R: Wait>(
         &self,
         rt: &R,
         tally: &mut Tally<K, S>,
+        front: &mut Front<S>,
         now: u64,
         call: Call,
         bell: Option<OneShotBell>,
     ) -> Result<(Ticket, Front<S>), Refused<OneShotBell>> {
-        Account::submit(self, rt, tally, now, call, bell)
+        Account::submit(self, rt, tally, front, now, call, bell)
     }
 
     fn offer<R: Wait>(
         &self,
         rt: &R,
         tally: &mut Tally<K, S>,
+        front: &mut Front<S>,
         now: u64,
         call: Call,
         bell: Option<OneShotBell>,
     ) -> Result<(Ticket, Front<S>), Declined<OneShotBell>> {
-        Account::offer(self, rt, tally, now, call, bell)
+        Account::offer(self, rt, tally, front, now, call, bell)
     }
 
     fn front<R: Wait>(&self, rt: &R) -> Front<S> {
@@ -88,11 +89,11 @@ impl<S: Identity + Drop, K: Keep> Service<K, S> for Account<S, OneShotBell> {
         Account::history(self, rt, front, ticket)
     }
 
-    fn stats<R: Wait>(&self, rt: &R) -> Stats {
-        Account::stats(self, rt)
+    fn stats<R: Wait>(&self, rt: &R, front: &mut Front<S>) -> Stats {
+        Account::stats(self, rt, front)
     }
 
-    fn reservation<R: Wait>(&self, rt: &R, function: FnNo) -> Option<u32> {
-        Account::reservation(self, rt, function)
+    fn reservation<R: Wait>(&self, rt: &R, front: &mut Front<S>, function: FnNo) -> Option<u32> {
+        Account::reservation(self, rt, front, function)
     }
 }

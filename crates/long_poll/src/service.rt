@@ -23,16 +23,16 @@ use usage_ledger::{Front, Keep, Ledgers, Tally};
 
 /// An account that connections share. Each method has a relation of its arguments and its answer,
 /// which the implementer names. The type parameters are a tally's: what it keeps, and its ledgers. A
-/// front is a token that has seen a beginning of the account's history: a submit gives one that has seen
-/// it up to the call, and who reads with one is shown the history as it is, which goes on where the one
-/// ends that the front had seen.
+/// front is a token that has seen a beginning of the account's history. Each submit and each reading takes
+/// one, and shows it the history as it is then, which goes on where the one ends that the front had seen; a
+/// submit gives another one that has seen it up to the call.
 pub trait Service<K: Keep, L: Ledgers>: Drop {
     /// The configuration that it serves.
     ghost serves: { Self → Config };
 
-    /// What the tally held, the moment, the call, its bell, what came back, what the tally held then. A
-    /// ticket comes with the history that its front has seen.
-    ghost submits: { Self → Held → ℕ → Called → Option Rings → CameBack → Held → Type 0 };
+    /// What was seen of the history, what the tally held, the moment, the call, its bell, what came back, and
+    /// what is seen and what the tally holds then. A ticket comes with the history that its front has seen.
+    ghost submits: { Self → List Entry → Held → ℕ → Called → Option Rings → CameBack → List Entry → Held → Type 0 };
 
     /// What is seen of the history.
     ghost shows: { Self → List Entry → Type 0 };
@@ -49,11 +49,11 @@ pub trait Service<K: Keep, L: Ledgers>: Drop {
     /// What was seen of the history, the ticket, the text of its entry, and what is seen then.
     ghost tells: { Self → List Entry → ℕ → Option (List ℕ) → List Entry → Type 0 };
 
-    /// The counts.
-    ghost counts: { Self → Counted → Type 0 };
+    /// What was seen of the history, the counts, and what is seen then.
+    ghost counts: { Self → List Entry → Counted → List Entry → Type 0 };
 
-    /// The function, and its reservation.
-    ghost reserves: { Self → ℕ → Option ℕ → Type 0 };
+    /// What was seen of the history, the function, its reservation, and what is seen then.
+    ghost reserves: { Self → List Entry → ℕ → Option ℕ → List Entry → Type 0 };
 
     /// Submits a call at a moment in milliseconds, below 2^53, with the bell of whoever waits for its
     /// answer. What the step counts moves the tally.
@@ -64,13 +64,14 @@ pub trait Service<K: Keep, L: Ledgers>: Drop {
         &self,
         rt: &R,
         tally: &mut Tally<K, L>,
+        front: &mut Front<L>,
         now: u64,
         call: Call,
         bell: Option<OneShotBell>,
     ) -> Result<(Ticket, Front<L>), Refused<OneShotBell>>
         requires moment { now < 2 ^ 53 }
         requires within { IsWithin (serves self.now) call }
-        ensures { submits self.now tally.old.held now call bell result tally.new.held };
+        ensures { submits self.now front.old tally.old.held now call bell result front.new tally.new.held };
 
     /// Submits a call unless it is premature: an Invoke that would be throttled while an environment
     /// that stands in its way is about to be ready again.
@@ -81,13 +82,14 @@ pub trait Service<K: Keep, L: Ledgers>: Drop {
         &self,
         rt: &R,
         tally: &mut Tally<K, L>,
+        front: &mut Front<L>,
         now: u64,
         call: Call,
         bell: Option<OneShotBell>,
     ) -> Result<(Ticket, Front<L>), Declined<OneShotBell>>
         requires moment { now < 2 ^ 53 }
         requires within { IsWithin (serves self.now) call }
-        ensures { Offers (submits self.now) tally.old.held now call bell result tally.new.held };
+        ensures { Offers (submits self.now) front.old tally.old.held now call bell result front.new tally.new.held };
 
     /// A token that has seen the history as it is.
     fn front<R: Wait>(&self, rt: &R) -> Front<L>
@@ -124,11 +126,11 @@ pub trait Service<K: Keep, L: Ledgers>: Drop {
             tells self.now front.old ticket (option_map (λ bytes. bytes.items) text) front.new) };
 
     /// The counts.
-    fn stats<R: Wait>(&self, rt: &R) -> Stats
-        ensures { counts self.now result };
+    fn stats<R: Wait>(&self, rt: &R, front: &mut Front<L>) -> Stats
+        ensures { counts self.now front.old result front.new };
 
     /// The reservation in force of a function, by its number from 1, none where it has none.
-    fn reservation<R: Wait>(&self, rt: &R, function: FnNo) -> Option<u32>
+    fn reservation<R: Wait>(&self, rt: &R, front: &mut Front<L>, function: FnNo) -> Option<u32>
         requires { IsFunction (serves self.now) function }
-        ensures { reserves self.now function result };
+        ensures { reserves self.now front.old function result front.new };
 }

@@ -158,7 +158,8 @@ fn left_by<R: Machine, S: Identity + Drop>(
         account,
         mut tallies,
     } = hosted;
-    let entries = account.stats(rt).entries;
+    let mut front = account.front(rt);
+    let entries = account.stats(rt, &mut front).entries;
     if holds_back {
         hold_one_back(&mut tallies);
     }
@@ -194,6 +195,7 @@ fn run<R: Machine, S: Identity + Drop + Send + Sync + 'static>(
 ) -> Result<Left, HostFault>
     requires configured { arc_value plan.config ≡ S.config }
     requires salted { plan.salt ≡ S.salt }
+    requires limited { plan.max_entries ≡ S.most }
     requires named { blanks ≡ S.names }
 {
     let opened: Result<Host<R, S, SetClock, KeepAll>, HostFault> = Host::open(

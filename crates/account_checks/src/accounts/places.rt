@@ -79,7 +79,7 @@ fn untaken(refused: &Refused<Numbered>) -> Taken {
 
 impl<R: Wait, S: Identity> Place<R, S> {
     /// Submits the call of a line by a tally, with a bell, which comes back where it is refused. The
-    /// token is then that of the call, where one is taken.
+    /// token has then seen the history.
     fn submit_once<K: Keep>(
         &self,
         tally: &mut Tally<K, S>,
@@ -96,18 +96,15 @@ impl<R: Wait, S: Identity> Place<R, S> {
         let Some((now, call)) = read else {
             return Ok(Taken::NoCall);
         };
-        match self.account.submit(&self.rt, tally, now, call, bell) {
-            Ok((ticket, seen)) => {
-                *front = seen;
-                Ok(Taken::At(ticket))
-            }
+        match self.account.submit(&self.rt, tally, front, now, call, bell) {
+            Ok((ticket, _)) => Ok(Taken::At(ticket)),
             Err(refused) => Err(refused),
         }
     }
 
     /// Submits the call of a line, with a bell, by a tally; once more, with the bell that came back,
-    /// where memory was refused: account and tally are then as they were. The token is then that of the
-    /// call, where one is taken.
+    /// where memory was refused: account and tally are then as they were. The token has then seen the
+    /// history.
     pub fn submit<K: Keep>(
         &self,
         tally: &mut Tally<K, S>,
@@ -140,11 +137,11 @@ impl<R: Wait, S: Identity> Place<R, S> {
     }
 
     /// The reservation of a function.
-    fn reservation(&self, function: FnNo) -> Said {
+    fn reservation(&self, front: &mut Front<S>, function: FnNo) -> Said {
         if function < 1 || function as usize > self.config.functions().len() {
             return Said::NoFunction;
         }
-        Said::Reservation(self.account.reservation(&self.rt, function))
+        Said::Reservation(self.account.reservation(&self.rt, front, function))
     }
 
     /// Asks the account, with a token, which then has seen the history that was read.
@@ -152,10 +149,10 @@ impl<R: Wait, S: Identity> Place<R, S> {
         let (rt, account) = (&self.rt, &self.account);
         match question {
             Question::Look(ticket) => Said::Look(account.look(rt, front, ticket)),
-            Question::Due(now) => Said::Due(account.due(rt, now)),
-            Question::Life => Said::Life(account.life(rt)),
-            Question::Stats => Said::Stats(account.stats(rt)),
-            Question::Reservation(function) => self.reservation(function),
+            Question::Due(now) => Said::Due(account.due(rt, front, now)),
+            Question::Life => Said::Life(account.life(rt, front)),
+            Question::Stats => Said::Stats(account.stats(rt, front)),
+            Question::Reservation(function) => self.reservation(front, function),
             Question::Render(ticket) => Said::Reply(account.render(rt, front, ticket)),
             Question::Opening => Said::Opening(account.opening(rt)),
             Question::History(ticket) => Said::Entry(account.history(rt, front, ticket)),
@@ -190,6 +187,7 @@ fn open_desk<S: Identity, K: Keep>(
 ) -> Result<Begun<S, K>, OpenFault>
     requires configured { arc_value config ≡ S.config }
     requires salted { salt ≡ S.salt }
+    requires limited { max_entries ≡ S.most }
     requires named { blanks ≡ S.names }
 {
     let book = match Book::open(alloc, config, salt, max_entries) {
@@ -211,6 +209,7 @@ pub fn open<R: Drop, S: Identity, K: Keep>(
 ) -> Result<Opened<R, S, K>, OpenFault>
     requires configured { arc_value opening.config ≡ S.config }
     requires salted { opening.salt ≡ S.salt }
+    requires limited { opening.max_entries ≡ S.most }
     requires named { blanks ≡ S.names }
 {
     let Opening {

@@ -86,7 +86,7 @@ impl<S: Identity> Board<S> {
 impl<S: Identity> Service<KeepNone, S> for Board<S> {
     ghost serves = { λ _. S.config };
 
-    ghost submits = { λ _ _ _ _ _ _ _. Unit {0} };
+    ghost submits = { λ _ _ _ _ _ _ _ _ _. Unit {0} };
 
     ghost shows = { λ _ _. Unit {0} };
 
@@ -98,14 +98,15 @@ impl<S: Identity> Service<KeepNone, S> for Board<S> {
 
     ghost tells = { λ _ _ _ _ _. Unit {0} };
 
-    ghost counts = { λ _ _. Unit {0} };
+    ghost counts = { λ _ _ _ _. Unit {0} };
 
-    ghost reserves = { λ _ _ _. Unit {0} };
+    ghost reserves = { λ _ _ _ _ _. Unit {0} };
 
     fn submit<R: Wait>(
         &self,
         rt: &R,
         _tally: &mut Tally<KeepNone, S>,
+        _front: &mut Front<S>,
         now: u64,
         _call: Call,
         bell: Option<OneShotBell>,
@@ -118,6 +119,7 @@ impl<S: Identity> Service<KeepNone, S> for Board<S> {
         &self,
         rt: &R,
         _tally: &mut Tally<KeepNone, S>,
+        _front: &mut Front<S>,
         now: u64,
         call: Call,
         bell: Option<OneShotBell>,
@@ -173,7 +175,7 @@ impl<S: Identity> Service<KeepNone, S> for Board<S> {
         }
     }
 
-    fn stats<R: Wait>(&self, _rt: &R) -> Stats {
+    fn stats<R: Wait>(&self, _rt: &R, _front: &mut Front<S>) -> Stats {
         Stats {
             entries: 1,
             admitted: 2,
@@ -183,7 +185,7 @@ impl<S: Identity> Service<KeepNone, S> for Board<S> {
         }
     }
 
-    fn reservation<R: Wait>(&self, _rt: &R, _function: FnNo) -> Option<u32> {
+    fn reservation<R: Wait>(&self, _rt: &R, _front: &mut Front<S>, _function: FnNo) -> Option<u32> {
         Some(6)
     }
 }

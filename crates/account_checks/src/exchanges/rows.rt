@@ -126,7 +126,8 @@ impl<S: Identity> Rows<S> {
         let _of = &self.of;
         let (bell, heard) = OneShotBell::pair(alloc)?;
         let call = Call::RuntimeNext { env: 1 };
-        match service.submit(rt, tally, 500, call, Some(bell)) {
+        let mut seen = service.front(rt);
+        match service.submit(rt, tally, &mut seen, 500, call, Some(bell)) {
             Ok((ticket, front)) => Ok(Parked {
                 ticket,
                 heard,

@@ -126,6 +126,7 @@ impl<
         open: Arc<OpenPoll>,
     ) -> Result<Arc<Connection<R, X, Rows<S>, At, KeepNone, S>>, AllocError> {
         let own = self.shared.again()?;
+        let front = own.service.front(&self.rt);
         let connection = Connection::new(
             self.rt,
             self.alloc,
@@ -133,6 +134,7 @@ impl<
             own.rows,
             clock,
             own.tally,
+            front,
             open,
             self.patience,
         );

@@ -17,13 +17,15 @@ later (entry ∷ newer) h ticket lt =
     let more : ticket < length (newer ++ h) = omega (arith, lt, length-append newer h) in
     call_of_old entry (newer ++ h) ticket more ∙ later newer h ticket lt
 
-there : (config : Config) (now : ℕ) (call : Call) (ticket : ℕ) (seen then : List Entry) → IsTaken config now call ticket seen → Sees config seen then → ticket < length then
-there config now call ticket seen then taken sees =
+there : (config : Config) (most : ℕ) (had : List Entry) (now : ℕ) (call : Call) (ticket : ℕ)
+    (seen then : List Entry) → IsTaken config most had now call ticket seen → Sees config most seen then → ticket < length then
+there config most had now call ticket seen then taken sees =
     let longer : length then ≡ length sees.later.0 + length seen = ap length sees.later.1 ∙ length-append sees.later.0 seen in
     let last : ticket + 1 ≡ length seen = taken.newest in omega arith
 
-same : (config : Config) (now : ℕ) (call : Call) (ticket : ℕ) (seen then : List Entry) → IsTaken config now call ticket seen → Sees config seen then → call_of then ticket ≡ call
-same config now call ticket seen then taken sees =
+same : (config : Config) (most : ℕ) (had : List Entry) (now : ℕ) (call : Call) (ticket : ℕ)
+    (seen then : List Entry) → IsTaken config most had now call ticket seen → Sees config most seen then → call_of then ticket ≡ call
+same config most had now call ticket seen then taken sees =
     let last : ticket + 1 ≡ length seen = taken.newest in
     let lt : ticket < length seen = omega arith in
     ap (λ (h : List Entry). call_of h ticket) sees.later.1 ∙ (later sees.later.0 seen ticket lt ∙ taken.stands)

@@ -2,6 +2,3 @@ use Rattle.account_lock.proofs.account.Account.submit.Goals as goal
 
 pub returns-in-Ok-clause-taken : goal.returns-in-Ok-clause-taken
 returns-in-Ok-clause-taken g c = rw c.ring_out.ensures c.in-Ok.ensures.taken
-
-pub returns-in-Ok-clause-made : goal.returns-in-Ok-clause-made
-returns-in-Ok-clause-made g c = rw c.ring_out.ensures c.in-Ok.ensures.made

@@ -1,11 +1,26 @@
-use Rattle.std.proofs.Common.{ap, ◌∙◌}
-use Rattle.account_lock.proofs.Written.{goes_on, is_taken}
+use Rattle.std.proofs.Common.{ap, sym, ◌∙◌}
+use Rattle.account_lock.proofs.Written.{goes_on, sees, took, turned_away}
 use Rattle.account_lock.proofs.account.Locked.apply.Goals as goal
 
 pub write-requires : goal.write-requires
 write-requires g c =
-    goes_on _ _ _ _ _ _ c.self.invariant.2 (ap (λ desk. desk.book.history) c.in-Ok.ensures.step)
+    goes_on _ _ _ _ _ _ (c.self.invariant.2 ∙ sym c.show.ensures.same)
+    (ap (λ desk. desk.book.history) c.in-Ok.ensures.step)
 
 pub returns-clause-taken : goal.returns-clause-taken
 returns-clause-taken g c =
-    is_taken _ _ _ _ _ _ _ _ _ c.self.invariant.0 c.facts.ensures.reached (ap (λ desk. desk.book.history) c.in-Ok.ensures.step) c.in-Ok.ensures.ticket (c.front.ensures.all ∙ c.write.ensures)
+    (
+    took (λ k l. Unit {0}) _ _ _ c.self.invariant.0 c.self.invariant.3 c.facts.ensures.reached c.self.invariant.2
+    c.show.ensures.longer c.in-Ok.ensures.full (ap (λ desk. desk.book.history) c.in-Ok.ensures.step)
+    c.in-Ok.ensures.ticket (c.front-2.ensures.all ∙ (c.front.ensures.same ∙ c.write.ensures)) c.requires.within
+    c.in-Ok.ensures.counts c.in-Ok.ensures.kept tt).0
+
+pub returns-in-Err-clause-refused : goal.returns-in-Err-clause-refused
+returns-in-Err-clause-refused g c = (
+  c.in-Err.ensures.refused.0,
+  c.in-Err.ensures.refused.2,
+  turned_away _ _ c.self.invariant.0 c.self.invariant.3 (c.self.invariant.2 ∙ sym c.show.ensures.all)
+      (sees c.self.invariant.0 c.self.invariant.3 c.facts.ensures.reached c.self.invariant.2 c.show.ensures.all
+      c.show.ensures.longer)
+      c.in-Err.ensures.full,
+)

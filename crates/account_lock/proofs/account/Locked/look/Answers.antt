@@ -1,12 +1,15 @@
-use Rattle.std.proofs.Common.{sym, ap, ◌∙◌}
+use Rattle.std.proofs.Common.{◌≡◌, sym, ◌∙◌}
 use Rattle.call_model.specs.History.{answer_of}
 use Rattle.account_lock.specs.Looks.{look_of}
-use Rattle.account_lock.proofs.Written.{sees}
+use Rattle.account_lock.proofs.Written.{renamed, sees}
 use Rattle.account_lock.proofs.account.Locked.look.Goals as goal
 
 pub returns-clause-seen : goal.returns-clause-seen
 returns-clause-seen g c =
-    sees _ _ _ _ _ _ _ c.self.invariant.0 c.facts.ensures.reached c.self.invariant.2 c.show.ensures.all c.show.ensures.longer
+    sees c.self.invariant.0 c.self.invariant.3 c.facts.ensures.reached c.self.invariant.2 c.show.ensures.all
+    c.show.ensures.longer
 
 pub returns-clause-value : goal.returns-clause-value
-returns-clause-value g c = c.look.ensures ∙ ap (λ h. look_of (answer_of h c.args.ticket)) (c.self.invariant.2 ∙ sym c.show.ensures.all)
+returns-clause-value g c =
+    renamed (λ k n h. c.look.result ≡ look_of (answer_of h c.args.ticket)) c.self.invariant.0 c.self.invariant.3
+    (c.self.invariant.2 ∙ sym c.show.ensures.all) c.look.ensures

@@ -6,7 +6,8 @@ use Rattle.account_lock.proofs.account.Locked.render.Goals as goal
 
 pub returns-clause-seen : goal.returns-clause-seen
 returns-clause-seen g c =
-    sees _ _ _ _ _ _ _ c.self.invariant.0 c.facts.ensures.reached c.self.invariant.2 c.show.ensures.all c.show.ensures.longer
+    sees c.self.invariant.0 c.self.invariant.3 c.facts.ensures.reached c.self.invariant.2 c.show.ensures.all
+    c.show.ensures.longer
 
 pub returns-clause-text : goal.returns-clause-text
 returns-clause-text g c =

@@ -3,10 +3,32 @@ use Rattle.long_poll.proofs.connection.Connection.attempt.Goals as goal
 
 pub returns-in-Ok : goal.returns-in-Ok
 returns-in-Ok g c =
-    let at = rw c.deref-2.ensures at c.moment-now.ensures in
-    (record { reading = at.0; read = at.1; before = _; after = _; bell = c.args.bell; came = rw (c.deref-3.ensures, at.2) at c.in-Ok.ensures }, refl)
+    let at = rw c.deref-2.ensures at c.moment-now.ensures in (
+      record {
+        reading = at.0;
+        read = at.1;
+        had = _;
+        before = _;
+        then = _;
+        after = _;
+        bell = c.args.bell;
+        came = rw (c.deref-3.ensures, at.2) at c.in-Ok.ensures;
+      },
+      refl,
+    )
 
 pub returns-in-Err-Refused : goal.returns-in-Err-Refused
 returns-in-Err-Refused g c =
-    let at = rw c.deref-2.ensures at c.moment-now.ensures in
-    (record { reading = at.0; read = at.1; before = _; after = _; bell = c.args.bell; came = rw (c.in-Err-Refused.field-0-is, c.deref-3.ensures, at.2) at c.in-Err-Refused.ensures }, refl)
+    let at = rw c.deref-2.ensures at c.moment-now.ensures in (
+      record {
+        reading = at.0;
+        read = at.1;
+        had = _;
+        before = _;
+        then = _;
+        after = _;
+        bell = c.args.bell;
+        came = rw (c.in-Err-Refused.field-0-is, c.deref-3.ensures, at.2) at c.in-Err-Refused.ensures;
+      },
+      refl,
+    )

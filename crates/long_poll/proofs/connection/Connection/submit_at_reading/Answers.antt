@@ -3,5 +3,16 @@ use Rattle.long_poll.proofs.connection.Connection.submit_at_reading.Goals as goa
 
 pub returns : goal.returns
 returns g c =
-    let at = rw c.deref-2.ensures at c.moment-now.ensures in
-    (record { reading = at.0; read = at.1; before = _; after = _; bell = c.args.bell; came = rw (c.deref-3.ensures, at.2) at c.submit.ensures }, refl)
+    let at = rw c.deref-2.ensures at c.moment-now.ensures in (
+      record {
+        reading = at.0;
+        read = at.1;
+        had = _;
+        before = _;
+        then = _;
+        after = _;
+        bell = c.args.bell;
+        came = rw (c.deref-3.ensures, at.2) at c.submit-came.ensures;
+      },
+      refl,
+    )

@@ -1,0 +1,75 @@
+-- What the relations of an account say of the reply to a call.
+use Rattle.std.proofs.Common.{◌≡◌, ◌<◌, ◌↔◌, ℕ, true, List, length, Option, Some, Result, Ok, Err, inl, inr, sym}
+use Rattle.std.specs.Arc.{arc_value}
+use Rattle.account_lock.specs.Shown.{IsTaken, Sees}
+use Rattle.account_lock.specs.Submits.{IsTurnedAway}
+use Rattle.account_lock.specs.declared.desk.Refused.{Refused}
+use Rattle.arn_ids.specs.declared.config.Config.{Config}
+use Rattle.call_model.specs.History.{call_of}
+use Rattle.call_types.specs.declared.call.Call.{Call}
+use Rattle.call_types.specs.declared.call.Entry.{Entry}
+use Rattle.decisions.specs.declared.decide.Decide as Decide
+use Rattle.decisions.specs.declared.decide.Decision.TheVariants.{Submit}
+use Rattle.lambda_wire.specs.declared.reply.Reply.{Reply}
+use Rattle.long_poll.specs.Exchanges.{IsReply}
+use Rattle.long_poll.specs.Moments.{moment_of}
+use Rattle.long_poll.specs.Reads.{Renders}
+use Rattle.long_poll.specs.Replies.{IsReplyAt}
+use Rattle.long_poll.specs.declared.bell.OneShotBell.{OneShotBell}
+use Rattle.long_poll.specs.declared.clock.Clock as Clock
+use Rattle.long_poll.specs.declared.connection.Connection.{Connection}
+use Rattle.long_poll.specs.declared.service.Service as Service
+use Rattle.usage_ledger.specs.Tallies.{Held}
+use Rattle.usage_ledger.specs.declared.keep.Keep as Keep
+
+-- Over a service whose relations are those of an account.
+module _ {R S D N K L : Type 0} {service : Service.Ghosts S K L} {decider : Decide.Ghosts D}
+    {keep : Keep.Ghosts K} (connection : Connection R S D N K L service decider keep) (clock : Clock.Ghosts N)
+    (config : Config) (most salt : ℕ)
+    (takes : (had : List Entry) (before : Held) (now : ℕ) (call : Call) (bell : Option OneShotBell) (ticket : ℕ)
+    (seen then : List Entry) (after : Held)
+    → service.submits (arc_value connection.service) had before now call bell (Ok (ticket, seen)) then after
+    → IsTaken config most had now call ticket seen)
+    (refuses : (had : List Entry) (before : Held) (now : ℕ) (call : Call) (bell : Option OneShotBell)
+    (refused : Refused OneShotBell) (then : List Entry) (after : Held)
+    → service.submits (arc_value connection.service) had before now call bell (Err refused) then after
+    → IsTurnedAway config most had call refused.refusal then)
+    (renders : (seen : List Entry) (ticket : ℕ) (reply : Option Reply) (then : List Entry)
+    → service.renders (arc_value connection.service) seen ticket reply then
+    → Renders config most salt seen ticket reply then)
+    (there : (config : Config) (most : ℕ) (had : List Entry) (now : ℕ) (call : Call) (ticket : ℕ)
+    (seen then : List Entry)
+    → IsTaken config most had now call ticket seen → Sees config most seen then → ticket < length then)
+    (stands : (config : Config) (most : ℕ) (had : List Entry) (now : ℕ) (call : Call) (ticket : ℕ)
+    (seen then : List Entry)
+    → IsTaken config most had now call ticket seen → Sees config most seen then → call_of then ticket ≡ call) where
+  pub replies : (call : Call) (reply : Reply) → IsReply connection clock (Submit call) reply
+      → IsReplyAt config most salt call reply
+  replies call reply (inl x) =
+      let ticket = x.0 in
+      let seen = x.1 in
+      let submitted = x.2 in
+      let now = moment_of submitted.reading in
+      let taken = takes submitted.had submitted.before now call (Some submitted.bell) ticket seen submitted.then
+      submitted.after submitted.came in
+      let then = x.3.0 in
+      let shown = renders seen ticket (Some reply) then x.3.1 in
+      inl (record {
+        history = then;
+        reached = shown.0.reached;
+        ticket = ticket;
+        there = there config most submitted.had now call ticket seen then taken shown.0;
+        stands = stands config most submitted.had now call ticket seen then taken shown.0;
+        gives = sym shown.1;
+      })
+  replies call reply (inr x) =
+      let submitted = x.1 in
+      let turned = refuses submitted.had submitted.before (moment_of submitted.reading) call (Some submitted.bell) x.0
+      submitted.then submitted.after submitted.came in
+      inr (record {
+        history = submitted.then;
+        reached = turned.sees.reached;
+        refusal = x.0.refusal;
+        exactly = turned.exactly;
+        says = x.2;
+      })

@@ -1,0 +1,37 @@
+-- What an exchange over an account gives to a call.
+use Rattle.std.specs.Prelude.{◌≡◌, ◌<◌, ◌⊎◌, ◌↔◌, ℕ, true, List, length, Some}
+use Rattle.account_book.specs.Reached.{IsReached}
+use Rattle.account_book.specs.ReplyText.{reply_text}
+use Rattle.account_book.specs.declared.book.Refusal.{Refusal}
+use Rattle.account_book.specs.declared.book.Refusal.TheVariants.{JournalFull}
+use Rattle.arn_ids.specs.declared.config.Config.{Config}
+use Rattle.call_model.specs.Counts.{full}
+use Rattle.call_model.specs.History.{call_of}
+use Rattle.call_types.specs.Calls.{is_invoke}
+use Rattle.call_types.specs.declared.call.Call.{Call}
+use Rattle.call_types.specs.declared.call.Entry.{Entry}
+use Rattle.lambda_wire.specs.declared.reply.Reply.{Reply}
+use Rattle.long_poll.specs.Refusals.{refusal_reply}
+
+-- The reply to a call that was taken: what the definitions give it in a history that calls led to, in which this very
+-- call stands at its ticket.
+pub record IsReplyOf (config : Config) (most salt : ℕ) (call : Call) (reply : Reply) : Type 0 where
+  pub history : List Entry
+  pub reached : IsReached config most history
+  pub ticket : ℕ
+  pub there : ticket < length history
+  pub stands : call_of history ticket ≡ call
+  pub gives : reply_text config salt history ticket ≡ Some reply
+
+-- The reply to a call that was not taken says why: as the journal is full exactly if a history that calls led to, which
+-- was then seen, has no room for it.
+pub record IsRefusalOf (config : Config) (most : ℕ) (call : Call) (reply : Reply) : Type 0 where
+  pub history : List Entry
+  pub reached : IsReached config most history
+  pub refusal : Refusal
+  pub exactly : (refusal ≡ JournalFull) ↔ (full config most history call ≡ true)
+  pub says : reply ≡ refusal_reply (is_invoke call) refusal
+
+-- One or the other.
+abbrev pub IsReplyAt : Config → ℕ → ℕ → Call → Reply → Type 0
+IsReplyAt config most salt call reply = IsReplyOf config most salt call reply ⊎ IsRefusalOf config most call reply
