@@ -18,15 +18,13 @@ fn declared_length(parts: &Parts) -> Option<u64>
 }
 
 /// Whether a request declares a body that is too long, of which then nothing is read. A transfer coding
-/// overrides the length (RFC 9112, section 6.3).
+/// overrides the length (RFC 9112, section 6.3); it is looked for only behind such a length, which few have.
 pub fn declares_too_long(parts: &Parts) -> bool
     ensures { result ≡ spec.declares_too_long parts.now }
 {
-    if parts.headers.get(header::TRANSFER_ENCODING).is_some() {
-        return false;
-    }
-    match declared_length(parts) {
+    let is_too_long = match declared_length(parts) {
         Some(length) => length > LONGEST_BODY as u64,
         None => false,
-    }
+    };
+    is_too_long && parts.headers.get(header::TRANSFER_ENCODING).is_none()
 }
