@@ -1,5 +1,5 @@
--- What an exchange makes of a request, from the outside in. `Replies` is the law to read first: what an exchange over an
--- account gives to a call. Public contracts have the words of these.
+-- What an exchange makes of a request, from the outside in. `Replies` is the law to read first: what an exchange over
+-- an account gives to a call. Public contracts have the words of these.
 pub mod Exchanges
 pub mod Replies
 pub mod Outcomes
