@@ -1,7 +1,6 @@
 use Rattle.std.proofs.Common.{◌≡◌, sym, ◌∙◌}
 use Rattle.std.specs.Prelude.{is_some}
-use Rattle.call_model.specs.Next.{due}
-use Rattle.deadlines.specs.Due.{first}
+use Rattle.call_model.specs.Next.{due, first}
 use Rattle.account_lock.proofs.Written.{renamed, sees}
 use Rattle.account_lock.proofs.account.Locked.due.Goals as goal
 
