@@ -63,11 +63,7 @@ impl<
 
     /// The exchange of a request of this head and body, on the heap: it is large, and `hyper` moves the
     /// response that holds it several times. None where there is no memory for it.
-    fn exchange<B: Body>(
-        &self,
-        parts: Parts,
-        body: B,
-    ) -> Option<Box<Exchange<R, S, D, N, B, K, L>>>
+    fn exchange<B: Body>(&self, parts: Parts, body: B) -> Option<Box<Exchange<R, S, D, N, B, K, L>>>
     where
         B::Data: Into<Bytes>,
         ensures { IfSome result (λ e. (arc_value e.value.connection ≡ arc_value self.now.connection) × (e.value.stage ≡ Collecting parts (record { alloc = (arc_value self.now.connection).alloc; body = body; held = [] }))) }
