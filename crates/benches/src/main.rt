@@ -13,7 +13,7 @@ use crate::submits::{apply, submit};
 use std::alloc::Global;
 use std::env::{self, Env};
 use std::io;
-use std::process::{Abort, ExitCode};
+use std::process::ExitCode;
 use std::sync::Wait;
 use std::thread::Threads;
 use std::time::Clock;
@@ -58,14 +58,14 @@ fn part_named(word: &str) -> Option<Part> {
     None
 }
 
-/// Makes a part so many times.
-fn make<R: Wait + Threads + Abort + Clock + Sync>(
+/// Makes a part so many times. None if memory ran out, or the part takes no such number beside it.
+fn make<R: Wait + Threads + Clock + Sync>(
     rt: &R,
     alloc: Global,
     part: Part,
     beside: u64,
     count: u64,
-) -> Made {
+) -> Option<Made> {
     match part {
         Part::DecideInvoke => decide_invoke(rt, alloc, beside, count),
         Part::DecideResponse => decide_response(rt, alloc, beside, count),
@@ -76,16 +76,26 @@ fn make<R: Wait + Threads + Abort + Clock + Sync>(
     }
 }
 
+/// How a run ended.
+#[derive(Clone, Copy)]
+enum Ended {
+    /// All that was asked for was made.
+    Made,
+    /// The arguments ask for nothing that there is.
+    Misused,
+    /// Memory ran out, or a part takes no such number beside it.
+    Unmade,
+}
+
 /// Makes each part a few times.
-fn make_all<R: Wait + Threads + Abort + Clock + Print + Sync>(
-    rt: &R,
-    alloc: Global,
-) -> io::Result<()> {
+fn make_all<R: Wait + Threads + Clock + Print + Sync>(rt: &R, alloc: Global) -> io::Result<Ended> {
     for (name, part, beside) in PARTS {
-        let made = make(rt, alloc, part, beside, FEW);
+        let Some(made) = make(rt, alloc, part, beside, FEW) else {
+            return Ok(Ended::Unmade);
+        };
         println!(rt; "{name}: {} of {FEW}", made.count)?;
     }
-    Ok(())
+    Ok(Ended::Made)
 }
 
 /// The number that a word stands for.
@@ -97,32 +107,35 @@ fn number(word: Option<String>) -> Option<u64> {
 }
 
 /// Does what the arguments ask for, if they ask for anything.
-fn run<R: Wait + Threads + Abort + Clock + Env + Print + AllocGlobal + Sync>(
-    rt: &R,
-) -> io::Result<bool> {
+fn run<R: Wait + Threads + Clock + Env + Print + AllocGlobal + Sync>(rt: &R) -> io::Result<Ended> {
     let alloc = rt.alloc();
     let mut words = env::args(rt)?.skip(1);
     let Some(word) = words.next() else {
-        make_all(rt, alloc)?;
-        return Ok(true);
+        return make_all(rt, alloc);
     };
     let beside = number(words.next());
     let count = number(words.next());
     let (Some(part), Some(beside), Some(count)) = (part_named(word.as_str()), beside, count) else {
-        return Ok(false);
+        return Ok(Ended::Misused);
     };
-    let made = make(rt, alloc, part, beside, count);
+    let Some(made) = make(rt, alloc, part, beside, count) else {
+        return Ok(Ended::Unmade);
+    };
     println!(rt; "{} {}", made.count, made.nanoseconds)?;
-    Ok(true)
+    Ok(Ended::Made)
 }
 
 fn main(rt: HostRuntime) -> ExitCode {
+    // If standard error takes nothing either, only the status tells.
     match run(&rt) {
-        Ok(true) => ExitCode::SUCCESS,
-        _ => {
-            // Where standard error takes nothing either, the status alone tells.
+        Ok(Ended::Made) => ExitCode::SUCCESS,
+        Ok(Ended::Misused) => {
             let _told = eprintln!(rt; "usage: benches [PART BESIDE COUNT]");
             ExitCode::from(2)
+        }
+        _ => {
+            let _told = eprintln!(rt; "benches: out of memory, or BESIDE is out of range");
+            ExitCode::from(1)
         }
     }
 }

@@ -1,6 +1,6 @@
 //! Requests that are decided, and replies that are rendered.
 
-ghost use Rattle.std.specs.Prelude.{◌≡◌, true};
+ghost use Rattle.std.specs.Prelude.{◌≡◌, true, IfSome};
 ghost use Rattle.call_types.specs.Within.{is_body};
 
 use crate::made::{Made, made_since, now};
@@ -13,7 +13,6 @@ use http::{Method, Request, Uri};
 use http_routes::{Decision, Port, Side};
 use lambda_wire::{PayloadScratch, read_config};
 use std::alloc::Global;
-use std::process::Abort;
 use std::sync::Arc;
 use std::time::Clock;
 
@@ -26,46 +25,52 @@ const RESPONSE: &str =
     "/2018-06-01/runtime/invocation/00000000-0000-8000-8001-000000000001/response";
 
 /// A JSON text of so many bytes, from two to the longest body's.
-fn body(rt: &impl Abort, alloc: Global, size: u64) -> Bytes
-    ensures { is_body result ≡ true }
+fn body(alloc: Global, size: u64) -> Option<Bytes>
+    ensures { IfSome result (λ body. is_body body ≡ true) }
 {
-    assert!(rt; 2 <= size && size <= LONGEST_BODY as u64);
-    let mut bytes = Vec::with_capacity(alloc, size as usize).expect(rt, "memory");
-    bytes.push(b'"').expect(rt, "memory");
-    bytes.resize(size as usize - 1, b'a').expect(rt, "memory");
-    bytes.push(b'"').expect(rt, "memory");
-    let body = Bytes::from_vec(bytes).expect(rt, "memory");
-    assert!(rt; body.len() <= LONGEST_BODY);
-    body
+    if size < 2 || size > LONGEST_BODY as u64 {
+        return None;
+    }
+    let mut bytes = Vec::with_capacity(alloc, size as usize).ok()?;
+    bytes.push(b'"').ok()?;
+    bytes.resize(size as usize - 1, b'a').ok()?;
+    bytes.push(b'"').ok()?;
+    let body = Bytes::from_vec(bytes).ok()?;
+    if body.len() > LONGEST_BODY {
+        return None;
+    }
+    Some(body)
 }
 
-fn config(rt: &impl Abort, alloc: Global) -> Arc<Checked> {
-    let setup = read_config(alloc, CONFIG.as_bytes()).expect(rt, "the configuration");
-    let checked = setup.config.check().expect(rt, "the configuration");
-    Arc::new(alloc, checked).expect(rt, "memory")
+/// The configuration.
+fn config(alloc: Global) -> Option<Arc<Checked>> {
+    let setup = read_config(alloc, CONFIG.as_bytes()).ok()?;
+    let checked = setup.config.check().ok()?;
+    Arc::new(alloc, checked).ok()
 }
 
-fn head(rt: &impl Abort, alloc: Global, target: &str) -> Parts {
-    let uri = Uri::from_bytes(alloc, target.as_bytes()).expect(rt, "the target");
+/// The head of a request for this target.
+fn head(alloc: Global, target: &str) -> Option<Parts> {
+    let uri = Uri::from_bytes(alloc, target.as_bytes()).ok()?;
     let request = Request::builder(alloc)
         .method(Method::POST)
         .uri(uri)
         .body(());
-    let (parts, _) = request.expect(rt, "the head").into_parts();
-    parts
+    let (parts, _) = request.ok()?.into_parts();
+    Some(parts)
 }
 
 /// Decides a request for this target.
-fn decide<R: Abort + Clock>(
+fn decide<R: Clock>(
     rt: &R,
     alloc: Global,
     side: &Side,
     target: &str,
     size: u64,
     count: u64,
-) -> Made {
-    let body = body(rt, alloc, size);
-    let parts = head(rt, alloc, target);
+) -> Option<Made> {
+    let body = body(alloc, size)?;
+    let parts = head(alloc, target)?;
     let mut scratch = PayloadScratch::new();
     let begun = now(rt);
     let mut decided: u64 = 0;
@@ -74,50 +79,58 @@ fn decide<R: Abort + Clock>(
             decided = decided.saturating_add(1);
         }
     }
-    made_since(rt, begun, decided)
+    Some(made_since(rt, begun, decided))
 }
 
-/// Decides an Invoke.
-pub fn decide_invoke<R: Abort + Clock>(rt: &R, alloc: Global, size: u64, count: u64) -> Made {
-    let side = Side::open(alloc, config(rt, alloc), 0, Port::Account).expect(rt, "memory");
+/// Decides an Invoke with a body of this size. None if memory ran out, or there is no such body.
+pub fn decide_invoke<R: Clock>(rt: &R, alloc: Global, size: u64, count: u64) -> Option<Made> {
+    let side = Side::open(alloc, config(alloc)?, 0, Port::Account).ok()?;
     decide(rt, alloc, &side, INVOKE, size, count)
 }
 
-/// Decides a response.
-pub fn decide_response<R: Abort + Clock>(rt: &R, alloc: Global, size: u64, count: u64) -> Made {
-    let config = config(rt, alloc);
-    assert!(rt; 1 <= config.environments());
-    let side = Side::open(alloc, config, 0, Port::Environment(1)).expect(rt, "memory");
+/// The same of a response.
+pub fn decide_response<R: Clock>(rt: &R, alloc: Global, size: u64, count: u64) -> Option<Made> {
+    let config = config(alloc)?;
+    if config.environments() < 1 {
+        return None;
+    }
+    let side = Side::open(alloc, config, 0, Port::Environment(1)).ok()?;
     decide(rt, alloc, &side, RESPONSE, size, count)
 }
 
 /// A book of one invocation, which was delivered and answered.
-fn book(rt: &impl Abort, alloc: Global, size: u64) -> Book {
-    let config = config(rt, alloc);
-    let mut book = Book::open(alloc, config, 0, 1_000_000).expect(rt, "memory");
-    assert!(rt; 1 <= book.config().environments() && 1 <= book.config().functions().len());
+fn book(alloc: Global, size: u64) -> Option<Book> {
+    let config = config(alloc)?;
+    let mut book = Book::open(alloc, config, 0, 1_000_000).ok()?;
+    if book.config().environments() < 1 || book.config().functions().len() < 1 {
+        return None;
+    }
     let _next = book.apply(0, Call::RuntimeNext { env: 1 });
     let invoke = Call::Invoke {
         function: 1,
         qualified: false,
         trace: None,
-        body: body(rt, alloc, size),
+        body: body(alloc, size)?,
     };
-    assert!(rt; 1 <= book.config().functions().len());
+    if book.config().functions().len() < 1 {
+        return None;
+    }
     let _invoke = book.apply(0, invoke);
     let response = Call::Response {
         env: 1,
         id: 1,
-        body: body(rt, alloc, size),
+        body: body(alloc, size)?,
     };
-    assert!(rt; 1 <= book.config().environments());
+    if book.config().environments() < 1 {
+        return None;
+    }
     let _response = book.apply(0, response);
-    book
+    Some(book)
 }
 
 /// Renders the answer of a ticket.
-fn render<R: Abort + Clock>(rt: &R, alloc: Global, ticket: Ticket, size: u64, count: u64) -> Made {
-    let book = book(rt, alloc, size);
+fn render<R: Clock>(rt: &R, alloc: Global, ticket: Ticket, size: u64, count: u64) -> Option<Made> {
+    let book = book(alloc, size)?;
     let begun = now(rt);
     let mut rendered: u64 = 0;
     for _ in 0..count {
@@ -125,15 +138,15 @@ fn render<R: Abort + Clock>(rt: &R, alloc: Global, ticket: Ticket, size: u64, co
             rendered = rendered.saturating_add(1);
         }
     }
-    made_since(rt, begun, rendered)
+    Some(made_since(rt, begun, rendered))
 }
 
-/// Renders the delivery, to the runtime that asked first.
-pub fn render_delivery<R: Abort + Clock>(rt: &R, alloc: Global, size: u64, count: u64) -> Made {
+/// Renders the delivery, to the runtime that asked first. None as above.
+pub fn render_delivery<R: Clock>(rt: &R, alloc: Global, size: u64, count: u64) -> Option<Made> {
     render(rt, alloc, 0, size, count)
 }
 
-/// Renders the output, to the caller.
-pub fn render_output<R: Abort + Clock>(rt: &R, alloc: Global, size: u64, count: u64) -> Made {
+/// Renders the output, to the caller. None as above.
+pub fn render_output<R: Clock>(rt: &R, alloc: Global, size: u64, count: u64) -> Option<Made> {
     render(rt, alloc, 1, size, count)
 }

@@ -1,6 +1,6 @@
 //! Calls on one account, from threads that share it, and through its desk.
 
-ghost use Rattle.std.specs.Prelude.{◌≡◌, ◌<◌, ◌≤◌, ◌^◌, length, true};
+ghost use Rattle.std.specs.Prelude.{◌≡◌, ◌<◌, ◌≤◌, ◌^◌, length, true, IfSome};
 ghost use Rattle.std.specs.Arc.{arc_value};
 ghost use Rattle.arn_ids.specs.Environments.{owners};
 ghost use Rattle.arn_ids.specs.declared.config.Config.{Config};
@@ -14,7 +14,6 @@ use call_model::Call;
 use lambda_wire::read_config;
 use std::alloc::{AllocError, Global};
 use std::marker::Brand;
-use std::process::Abort;
 use std::sync::{Arc, Wait};
 use std::thread::{self, Threads};
 use std::time::Clock;
@@ -58,55 +57,60 @@ fn config_text(alloc: Global) -> Result<String, AllocError> {
     Ok(text)
 }
 
-fn config(rt: &impl Abort, alloc: Global) -> Arc<Checked> {
-    let text = config_text(alloc).expect(rt, "memory");
-    let setup = read_config(alloc, text.as_str().as_bytes()).expect(rt, "the configuration");
-    let checked = setup.config.check().expect(rt, "the configuration");
-    Arc::new(alloc, checked).expect(rt, "memory")
+/// The configuration.
+fn config(alloc: Global) -> Option<Arc<Checked>> {
+    let text = config_text(alloc).ok()?;
+    let setup = read_config(alloc, text.as_str().as_bytes()).ok()?;
+    let checked = setup.config.check().ok()?;
+    Arc::new(alloc, checked).ok()
 }
 
-fn body(rt: &impl Abort, alloc: Global) -> Bytes
-    ensures { is_body result ≡ true }
+/// A short body.
+fn body(alloc: Global) -> Option<Bytes>
+    ensures { IfSome result (λ body. is_body body ≡ true) }
 {
-    let body = Bytes::copy_from_slice(alloc, b"{}").expect(rt, "memory");
-    assert!(rt; body.len() < 100);
-    body
+    let body = Bytes::copy_from_slice(alloc, b"{}").ok()?;
+    if body.len() >= 100 {
+        return None;
+    }
+    Some(body)
 }
 
 /// The first, second or third call of a turn, at the environment and the function of this number: a
 /// poll, an invocation and its response.
-fn call(rt: &impl Abort, alloc: Global, env: u32, part: u32, turn: u64) -> Call
+fn call(alloc: Global, env: u32, part: u32, turn: u64) -> Option<Call>
     requires from_one { 1 ≤ env }
     requires own { env ≤ 8 }
     requires few { turn < 2 ^ 32 }
-    ensures { (config : Config) → 8 ≤ length config.functions → 8 ≤ length (owners config) → IsWithin config result }
+    ensures { IfSome result (λ call. (config : Config) → 8 ≤ length config.functions → 8 ≤ length (owners config)
+        → IsWithin config call) }
 {
     if part == 0 {
-        return Call::RuntimeNext { env };
+        return Some(Call::RuntimeNext { env });
     }
     if part == 1 {
-        return Call::Invoke {
+        return Some(Call::Invoke {
             function: env,
             qualified: false,
             trace: None,
-            body: body(rt, alloc),
-        };
+            body: body(alloc)?,
+        });
     }
-    Call::Response {
+    Some(Call::Response {
         env,
         id: turn + 1,
-        body: body(rt, alloc),
-    }
+        body: body(alloc)?,
+    })
 }
 
 /// The turns of one thread.
 fn work<S: Identity>(
-    rt: &(impl Wait + Abort),
+    rt: &impl Wait,
     alloc: Global,
     account: &Account<S, Quiet>,
     job: Job<S>,
     turns: u64,
-) -> u64
+) -> Option<u64>
     requires functions { 8 ≤ length S.config.functions }
     requires environments { 8 ≤ length (owners S.config) }
     requires few { turns < 2 ^ 32 }
@@ -114,11 +118,13 @@ fn work<S: Identity>(
     let Job { tally, env } = job;
     let mut tally = tally;
     let mut front = account.front(rt);
-    assert!(rt; 1 <= env && env <= OWN);
+    if env < 1 || env > OWN {
+        return None;
+    }
     let mut taken: u64 = 0;
     for turn in 0..turns {
         for part in 0..3 {
-            let call = call(rt, alloc, env, part, turn);
+            let call = call(alloc, env, part, turn)?;
             if account
                 .submit(rt, &mut tally, &mut front, 0, call, Some(Quiet))
                 .is_ok()
@@ -127,38 +133,37 @@ fn work<S: Identity>(
             }
         }
     }
-    taken
+    Some(taken)
 }
 
 /// A job for each thread, with a part of the tally.
-fn jobs<L: Ledgers>(
-    rt: &impl Abort,
-    alloc: Global,
-    tally: Tally<KeepNone, L>,
-    threads: u64,
-) -> Vec<Job<L>> {
+fn jobs<L: Ledgers>(alloc: Global, tally: Tally<KeepNone, L>, threads: u64) -> Option<Vec<Job<L>>> {
     let mut root = tally;
     let mut jobs = Vec::new(alloc);
-    assert!(rt; threads <= OWN as u64);
+    if threads > OWN as u64 {
+        return None;
+    }
     for thread in 0..threads as u32 {
-        assert!(rt; root.parts() >= 2);
+        if root.parts() < 2 {
+            return None;
+        }
         let job = Job {
             tally: root.split(),
             env: thread + 1,
         };
-        jobs.push(job).expect(rt, "memory");
+        jobs.push(job).ok()?;
     }
-    jobs
+    Some(jobs)
 }
 
 /// As many threads make as many turns.
-fn submits<R: Wait + Threads + Abort + Clock + Sync, S: Identity + Send + Sync>(
+fn submits<R: Wait + Threads + Clock + Sync, S: Identity + Send + Sync>(
     rt: &R,
     alloc: Global,
     account: Account<S, Quiet>,
     jobs: Vec<Job<S>>,
     turns: u64,
-) -> Made
+) -> Option<Made>
     requires functions { 8 ≤ length S.config.functions }
     requires environments { 8 ≤ length (owners S.config) }
     requires few { turns < 2 ^ 32 }
@@ -168,17 +173,17 @@ fn submits<R: Wait + Threads + Abort + Clock + Sync, S: Identity + Send + Sync>(
     let done = thread::map_vec(
         rt,
         jobs,
-        &|job| -> u64
+        &|job| -> Option<u64>
             requires functions { 8 ≤ length S.config.functions }
             requires environments { 8 ≤ length (owners S.config) }
             requires few { turns < 2 ^ 32 }
         { work(rt, alloc, shared, job, turns) },
     );
     let mut taken: u64 = 0;
-    for some in done.expect(rt, "memory") {
-        taken = taken.saturating_add(some);
+    for some in done.ok()? {
+        taken = taken.saturating_add(some?);
     }
-    made_since(rt, begun, taken)
+    Some(made_since(rt, begun, taken))
 }
 
 /// One call through the desk.
@@ -193,29 +198,35 @@ fn apply_once<L: Ledgers>(
     desk.apply(tally, 0, call, Some(Quiet)).is_ok()
 }
 
-/// Parks so many polls at the environments that have no function of their own.
+/// Parks so many polls at the environments that have no function of their own. Gives whether all were taken.
 fn park<L: Ledgers>(
-    rt: &impl Abort,
     desk: &mut Desk<Quiet, L>,
     tally: &mut Tally<KeepNone, L>,
     parked: u64,
-) {
-    assert!(rt; parked <= OTHERS as u64);
+) -> bool {
+    if parked > OTHERS as u64 {
+        return false;
+    }
     for other in 0..parked as u32 {
         let env = OWN + other + 1;
-        assert!(rt; env <= desk.config().environments());
-        assert!(rt; apply_once(desk, tally, Call::RuntimeNext { env }));
+        if env > desk.config().environments() {
+            return false;
+        }
+        if !apply_once(desk, tally, Call::RuntimeNext { env }) {
+            return false;
+        }
     }
+    true
 }
 
 /// Makes turns through the desk, at the first environment.
-fn applies<R: Abort + Clock, L: Ledgers>(
+fn applies<R: Clock, L: Ledgers>(
     rt: &R,
     alloc: Global,
     desk: &mut Desk<Quiet, L>,
     tally: &mut Tally<KeepNone, L>,
     turns: u64,
-) -> Made
+) -> Option<Made>
     requires functions { 8 ≤ length desk.old.book.config.functions }
     requires environments { 8 ≤ length (owners desk.old.book.config) }
     requires few { turns < 2 ^ 32 }
@@ -224,13 +235,13 @@ fn applies<R: Abort + Clock, L: Ledgers>(
     let mut taken: u64 = 0;
     for turn in 0..turns {
         for part in 0..3 {
-            let call = call(rt, alloc, 1, part, turn);
+            let call = call(alloc, 1, part, turn)?;
             if apply_once(desk, tally, call) {
                 taken = taken.saturating_add(1);
             }
         }
     }
-    made_since(rt, begun, taken)
+    Some(made_since(rt, begun, taken))
 }
 
 /// How the calls come to the account.
@@ -243,7 +254,7 @@ enum Way {
 }
 
 /// Opens an account, and makes as many calls.
-fn run<R: Wait + Threads + Abort + Clock + Sync, S: Identity + Send + Sync>(
+fn run<R: Wait + Threads + Clock + Sync, S: Identity + Send + Sync>(
     rt: &R,
     alloc: Global,
     config: Arc<Checked>,
@@ -251,61 +262,73 @@ fn run<R: Wait + Threads + Abort + Clock + Sync, S: Identity + Send + Sync>(
     blanks: Blanks,
     way: Way,
     count: u64,
-) -> Made
+) -> Option<Made>
     requires configured { arc_value config ≡ S.config }
     requires salted { S.salt ≡ 0 }
     requires limited { max_entries ≡ S.most }
     requires named { blanks ≡ S.names }
 {
-    assert!(rt; config.functions().len() >= 8 && config.environments() >= 8);
+    if config.functions().len() < 8 || config.environments() < 8 {
+        return None;
+    }
     let opened = Account::<S, Quiet>::open::<KeepNone>(alloc, config, 0, max_entries, blanks);
-    let (account, tally) = opened.expect(rt, "memory");
+    let (account, tally) = opened.ok()?;
     match way {
         Way::Threads(threads) => {
             let turns = count / 3 / threads.max(1);
-            assert!(rt; turns < 1 << 32);
-            submits(rt, alloc, account, jobs(rt, alloc, tally, threads), turns)
+            if turns >= 1 << 32 {
+                return None;
+            }
+            submits(rt, alloc, account, jobs(alloc, tally, threads)?, turns)
         }
         Way::Desk(parked) => {
             let turns = count / 3;
-            assert!(rt; turns < 1 << 32);
+            if turns >= 1 << 32 {
+                return None;
+            }
             let mut desk = account.into_desk();
             let mut tally = tally;
-            park(rt, &mut desk, &mut tally, parked);
-            assert!(rt; desk.config().functions().len() >= 8 && desk.config().environments() >= 8);
+            if !park(&mut desk, &mut tally, parked) {
+                return None;
+            }
+            if desk.config().functions().len() < 8 || desk.config().environments() < 8 {
+                return None;
+            }
             applies(rt, alloc, &mut desk, &mut tally, turns)
         }
     }
 }
 
 /// Names the configuration, the salt, the limit, the ledgers and the history of the account.
-fn run_by_brand<R: Wait + Threads + Abort + Clock + Sync>(
+fn run_by_brand<R: Wait + Threads + Clock + Sync>(
     rt: &R,
     alloc: Global,
     way: Way,
     count: u64,
-) -> Made {
-    let config = config(rt, alloc);
-    let blanks = Blanks::new(alloc).expect(rt, "memory");
+) -> Option<Made> {
+    let config = config(alloc)?;
+    let blanks = Blanks::new(alloc).ok()?;
     run::<R, Brand>(rt, alloc, config, 1 << 32, blanks, way, count)
 }
 
-/// Submits as many calls, in turns of three, from so many threads, at most eight.
-pub fn submit<R: Wait + Threads + Abort + Clock + Sync>(
+/// Submits as many calls, in turns of three, from so many threads, at most eight. None if
+/// memory ran out, or there are more threads.
+pub fn submit<R: Wait + Threads + Clock + Sync>(
     rt: &R,
     alloc: Global,
     threads: u64,
     count: u64,
-) -> Made {
+) -> Option<Made> {
     run_by_brand(rt, alloc, Way::Threads(threads), count)
 }
 
 /// Applies as many calls to a desk, in turns of three, beside so many parked polls, at most 248.
-pub fn apply<R: Wait + Threads + Abort + Clock + Sync>(
+/// None if memory ran out, or there are more polls.
+pub fn apply<R: Wait + Threads + Clock + Sync>(
     rt: &R,
     alloc: Global,
     parked: u64,
     count: u64,
-) -> Made {
+) -> Option<Made> {
     run_by_brand(rt, alloc, Way::Desk(parked), count)
 }
