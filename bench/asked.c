@@ -1,8 +1,11 @@
-/* In front of the C library's malloc and realloc: adds up the bytes that are asked for, and says so at the end. */
+/* In front of the C library's malloc and realloc: adds up the bytes that are asked for, and says so at the end. (A
+   program of the kit ends by _exit, which runs no destructor.) */
 #define _GNU_SOURCE
 #include <dlfcn.h>
 #include <stdio.h>
 #include <stdlib.h>
+#include <sys/syscall.h>
+#include <unistd.h>
 
 static unsigned long bytes;
 
@@ -21,3 +24,9 @@ void *realloc(void *old, size_t size) {
 }
 
 __attribute__((destructor)) static void tell(void) { fprintf(stderr, "bytes %lu\n", bytes); }
+
+void _exit(int status) {
+    tell();
+    syscall(SYS_exit_group, status);
+    __builtin_unreachable();
+}
