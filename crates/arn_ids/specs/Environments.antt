@@ -1,6 +1,7 @@
 -- The environments of a configuration, each with the function that it belongs to.
 -- Functions are numbered from 1 in the order of the configuration, environments from 1 over all functions.
-use Rattle.std.specs.Prelude.{ℕ, zero, suc, List, [], ◌∷◌, ◌++◌, length, map, Option, None, option_map, position, bytes_eq}
+use Rattle.std.specs.Prelude.{ℕ, zero, suc, List, [], ◌∷◌, ◌++◌, length, map, position, bytes_eq}
+use Rattle.std.specs.Prelude.{Option, None, option_map}
 use Rattle.arn_ids.specs.declared.config.Config.{Config}
 use Rattle.arn_ids.specs.declared.config.Function.{Function}
 
@@ -15,12 +16,12 @@ at d [] n = d
 at d (x ∷ xs) zero = x
 at d (x ∷ xs) (suc n) = at d xs n
 
--- the one with a number, counted from 1; d where there is none
+-- the one with a number, counted from 1; d if there is none
 abbrev pub numbered : {A : Type 0} → A → List A → ℕ → A
 numbered d xs zero = d
 numbered d xs (suc n) = at d xs n
 
--- what is said of a function that isn't there
+-- the function that stands in for one that isn't there
 abbrev pub no_function : Function
 no_function = record { name = []; handler = []; timeout_s = 0; reserved = None; extensions = []; slots = [] }
 

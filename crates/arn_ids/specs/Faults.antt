@@ -1,19 +1,26 @@
 -- The faults of a configuration, and which of them comes first.
-use Rattle.std.specs.Prelude.{ℕ, ◌+◌, Bool, true, false, not, ◌&&◌, ◌||◌, ◌==◌, nat_eq, nat_le, nat_lt, List, [], ◌∷◌, ◌++◌, length, map, sum_by, bytes_eq, Option, Some, None, unwrap_or}
+use Rattle.std.specs.Prelude.{ℕ, ◌+◌, Bool, true, false, not, ◌&&◌, ◌||◌, ◌==◌, nat_eq, nat_le, nat_lt, List, [], ◌∷◌}
+use Rattle.std.specs.Prelude.{◌++◌, length, map, sum_by, bytes_eq, Option, Some, None, unwrap_or}
 use Rattle.std.specs.List.{list_any, flat_map}
 use Rattle.arn_ids.specs.Words.{is_account, is_region, is_name, is_label}
+use Rattle.arn_ids.specs.Limits.{most_environments, most_extensions}
 use Rattle.arn_ids.specs.Environments.{owners}
 use Rattle.arn_ids.specs.declared.config.Slot.{Slot}
 use Rattle.arn_ids.specs.declared.config.Function.{Function}
 use Rattle.arn_ids.specs.declared.config.Config.{Config}
 use Rattle.arn_ids.specs.declared.faults.ConfigFault.{ConfigFault}
-use Rattle.arn_ids.specs.declared.faults.ConfigFault.TheVariants.{BadAccount, BadRegion, BadAccountLimit, BadLeastRemainder, TooManyFunctions, BadName, DuplicateName, BadHandler, BadTimeout, NoEnvironment, TooManyEnvironments, BadPort, DuplicatePort, TooManyExtensions, BadExtension, DuplicateExtension, ReservationAboveEnvironments, RemainderTooSmall}
+use Rattle.arn_ids.specs.declared.faults.ConfigFault.TheVariants.{BadAccount, BadRegion, BadAccountLimit}
+use Rattle.arn_ids.specs.declared.faults.ConfigFault.TheVariants.{BadLeastRemainder, TooManyFunctions, BadName}
+use Rattle.arn_ids.specs.declared.faults.ConfigFault.TheVariants.{DuplicateName, BadHandler, BadTimeout, NoEnvironment}
+use Rattle.arn_ids.specs.declared.faults.ConfigFault.TheVariants.{TooManyEnvironments, BadPort, DuplicatePort}
+use Rattle.arn_ids.specs.declared.faults.ConfigFault.TheVariants.{TooManyExtensions, BadExtension, DuplicateExtension}
+use Rattle.arn_ids.specs.declared.faults.ConfigFault.TheVariants.{ReservationAboveEnvironments, RemainderTooSmall}
 
 -- a number from low to high
 abbrev pub is_between : ℕ → ℕ → ℕ → Bool
 is_between low high n = nat_le low n && nat_le n high
 
--- whether an element stands again behind itself
+-- whether an element is repeated later in the list
 abbrev pub repeats : {A : Type 0} → (A → A → Bool) → List A → Bool
 repeats same [] = false
 repeats same (x ∷ xs) = list_any (same x) xs || repeats same xs
@@ -84,23 +91,25 @@ has_function_without_environment config = list_any (λ function. length function
 
 -- more than 256 environments over all functions
 unfoldable pub has_too_many_environments : Config → Bool
-has_too_many_environments config = nat_lt 256 (length (owners config))
+has_too_many_environments config = nat_lt most_environments (length (owners config))
 
 -- a port is 0
 unfoldable pub has_bad_port : Config → Bool
 has_bad_port config = list_any (nat_eq 0) (ports config)
 
--- a port stands twice
+-- a port is used twice
 unfoldable pub has_duplicate_port : Config → Bool
 has_duplicate_port config = repeats nat_eq (ports config)
 
 -- a function expects more than ten extensions
 unfoldable pub has_too_many_extensions : Config → Bool
-has_too_many_extensions config = list_any (λ function. nat_lt 10 (length function.extensions)) config.functions
+has_too_many_extensions config =
+    list_any (λ function. nat_lt most_extensions (length function.extensions)) config.functions
 
 -- the name of an extension is out of its form
 unfoldable pub has_bad_extension : Config → Bool
-has_bad_extension config = list_any (λ function. list_any (λ name. not (is_label name)) function.extensions) config.functions
+has_bad_extension config =
+    list_any (λ function. list_any (λ name. not (is_label name)) function.extensions) config.functions
 
 -- a function expects two extensions of one name; two functions may expect the same
 unfoldable pub has_duplicate_extension : Config → Bool
@@ -108,11 +117,13 @@ has_duplicate_extension config = list_any (λ function. repeats bytes_eq functio
 
 -- a function reserves more than it has environments
 unfoldable pub has_reservation_above_environments : Config → Bool
-has_reservation_above_environments config = list_any (λ function. nat_lt (length function.slots) (reservation_of function)) config.functions
+has_reservation_above_environments config =
+    list_any (λ function. nat_lt (length function.slots) (reservation_of function)) config.functions
 
 -- the reservations and the least remainder are together above the limit
 unfoldable pub has_too_small_remainder : Config → Bool
-has_too_small_remainder config = nat_lt config.account_limit (config.least_remainder + sum_by reservation_of config.functions)
+has_too_small_remainder config =
+    nat_lt config.account_limit (config.least_remainder + sum_by reservation_of config.functions)
 
 -- the fault of the first condition that holds
 abbrev pub earliest : List (Bool × ConfigFault) → Option ConfigFault

@@ -1,5 +1,6 @@
 -- What a text says of a function: its grammar, what it names at a home, and the text that names a function.
-use Rattle.std.specs.Prelude.{ℕ, ◌≡◌, Bool, true, ◌&&◌, ◌||◌, ◌==◌, nat_lt, if◌then◌else◌, List, [], ◌∷◌, ◌++◌, length, codes, bytes_eq, Option, Some, None, Result, Ok, Err, IsOk, is_some}
+use Rattle.std.specs.Prelude.{ℕ, ◌≡◌, Bool, true, ◌&&◌, ◌||◌, ◌==◌, nat_lt, if◌then◌else◌, List, [], ◌∷◌, ◌++◌, length}
+use Rattle.std.specs.Prelude.{codes, bytes_eq, Option, Some, None, Result, Ok, Err, IsOk, is_some}
 use Rattle.std.specs.List.{slice_split}
 use Rattle.arn_ids.specs.Words.{is_word, is_name_byte, is_name, is_account, is_region}
 use Rattle.arn_ids.specs.declared.config.Home.{Home}
@@ -19,7 +20,7 @@ is_latest text = bytes_eq text (codes "$LATEST")
 abbrev pub is_qualifier : List ℕ → Bool
 is_qualifier text = is_latest text || is_word is_name_byte 128 text
 
--- the parts of a text that stand for something
+-- the parts of a name, as they are written
 pub record Written : Type 0 where
   pub region : Option (List ℕ)
   pub account : Option (List ℕ)
@@ -35,10 +36,11 @@ of_account account kind name qualifier =
 -- arn:aws:lambda:REGION:ACCOUNT:function:NAME, and what follows it
 abbrev pub of_arn : List ℕ → List ℕ → List ℕ → List ℕ → List ℕ → List ℕ → List ℕ → Option (List ℕ) → Option Written
 of_arn arn partition service region account kind name qualifier =
-    if bytes_eq arn (codes "arn") && bytes_eq partition (codes "aws") && bytes_eq service (codes "lambda") && bytes_eq kind (codes "function")
+    if bytes_eq arn (codes "arn") && bytes_eq partition (codes "aws")
+    && bytes_eq service (codes "lambda") && bytes_eq kind (codes "function")
     then Some (record { region = Some region; account = Some account; name = name; qualifier = qualifier }) else None
 
--- which part stands where; no other number of parts stands for anything
+-- the parts by what they mean; a name has no other number of parts
 abbrev pub shape : List (List ℕ) → Option Written
 shape [] = None
 shape (name ∷ []) = Some (record { region = None; account = None; name = name; qualifier = None })
@@ -58,11 +60,14 @@ is_none_or p (Some text) = p text
 
 -- each part that is there is of its form
 abbrev pub is_well_formed : Written → Bool
-is_well_formed w = is_name w.name && is_none_or is_qualifier w.qualifier && is_none_or is_account w.account && is_none_or is_region w.region
+is_well_formed w =
+    is_name w.name && is_none_or is_qualifier w.qualifier
+    && is_none_or is_account w.account && is_none_or is_region w.region
 
--- the account and the region are the home's, where they are written
+-- the account and the region, if they are written, are the home's
 abbrev pub is_here : Home → Written → Bool
-is_here home w = is_none_or (λ a. bytes_eq a home.account) w.account && is_none_or (λ r. bytes_eq r home.region) w.region
+is_here home w =
+    is_none_or (λ a. bytes_eq a home.account) w.account && is_none_or (λ r. bytes_eq r home.region) w.region
 
 -- the first fault of the parts, or the function that they name
 abbrev pub named_by : Home → Option Written → Result Named NameFault
@@ -70,7 +75,8 @@ named_by home None = Err Malformed
 named_by home (Some w) =
     if is_well_formed w then
     (if is_here home w then
-    (if is_none_or is_latest w.qualifier then Ok (record { name = w.name; qualified = is_some w.qualifier }) else Err UnknownQualifier)
+    (if is_none_or is_latest w.qualifier then Ok (record { name = w.name; qualified = is_some w.qualifier })
+    else Err UnknownQualifier)
     else Err ForeignAccount)
     else Err Malformed
 
@@ -82,19 +88,20 @@ named_in home text = if nat_lt 170 (length text) then Err Malformed else named_b
 abbrev pub qualifier_text : Bool → List ℕ
 qualifier_text qualified = if qualified then codes ":$LATEST" else []
 
--- the text that names a function wherever the service stands
+-- the text that names a function in any account and region
 abbrev pub arn : Home → List ℕ → Bool → List ℕ
 arn home name qualified =
-    codes "arn:aws:lambda:" ++ home.region ++ codes ":" ++ home.account ++ codes ":function:" ++ name ++ qualifier_text qualified
+    codes "arn:aws:lambda:" ++ home.region ++ codes ":" ++ home.account ++ codes ":function:" ++ name
+    ++ qualifier_text qualified
 
--- a fault that was given is the one that the grammar gives; memory runs out only where it gives a function
+-- a fault that was given is the one that the grammar gives; memory runs out only if it gives a function
 abbrev pub Fails : NameFault → Result Named NameFault → Type 0
 Fails Malformed read = read ≡ Err Malformed
 Fails ForeignAccount read = read ≡ Err ForeignAccount
 Fails UnknownQualifier read = read ≡ Err UnknownQualifier
 Fails OutOfMemory read = IsOk read
 
--- what a reader returned is what the grammar gives, want of memory aside
+-- what a reader returned is what the grammar gives, unless memory ran out
 abbrev pub Gives : Result Named NameFault → Result Named NameFault → Type 0
 Gives (Ok named) read = read ≡ Ok named
 Gives (Err fault) read = Fails fault read

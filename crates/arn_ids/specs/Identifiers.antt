@@ -1,5 +1,6 @@
 -- The 128 bits of an identifier: a high word from the salt, and a low word that says what it identifies.
-use Rattle.std.specs.Prelude.{ℕ, ◌+◌, ◌*◌, ◌/◌, ◌%◌, ◌^◌, ◌&&◌, ◌==◌, nat_lt, if◌then◌else◌, List, codes, Option, Some, None, option_map}
+use Rattle.std.specs.Prelude.{ℕ, ◌+◌, ◌*◌, ◌/◌, ◌%◌, ◌^◌, ◌&&◌, ◌==◌, nat_lt, if◌then◌else◌, List, codes}
+use Rattle.std.specs.Prelude.{Option, Some, None, option_map}
 use Rattle.std.specs.Int.{w128, to_be_bytes, from_be_bytes}
 use Rattle.uuid.specs.Text.{hyphenated_text, lower}
 use Rattle.arn_ids.specs.declared.identifiers.IdKind.{IdKind}
@@ -26,19 +27,27 @@ identifier_of salt kind number count = to_be_bytes w128 (high_word salt * 2 ^ 64
 
 -- an identifier as it is written (RFC 9562, section 4); a dash for a number or a count that no identifier has
 unfoldable pub id_word : ℕ → IdKind → ℕ → ℕ → List ℕ
-id_word salt kind number count = if nat_lt number 4096 && nat_lt count (2 ^ 48) then hyphenated_text lower (identifier_of salt kind number count) else codes "-"
+id_word salt kind number count =
+    if nat_lt number 4096 && nat_lt count (2 ^ 48)
+    then hyphenated_text lower (identifier_of salt kind number count)
+    else codes "-"
 
 -- the kind that four bits stand for
 abbrev pub kind_of : ℕ → Option IdKind
-kind_of bits = if bits == 8 then Some Request else if bits == 10 then Some Extension else if bits == 11 then Some Event else None
+kind_of bits =
+    if bits == 8 then Some Request else
+    if bits == 10 then Some Extension else
+    if bits == 11 then Some Event else None
 
--- what two words say: nothing unless the version is 8
+-- the parts of two words: none unless the version is 8
 abbrev pub parts_of_words : ℕ → ℕ → Option IdParts
 parts_of_words high low =
     if high / 2 ^ 12 % 16 == 8
-    then option_map (λ kind. record { salt_word = high; kind = kind; number = low / 2 ^ 48 % 2 ^ 12; count = low % 2 ^ 48 }) (kind_of (low / 2 ^ 60))
+    then option_map
+    (λ kind. record { salt_word = high; kind = kind; number = low / 2 ^ 48 % 2 ^ 12; count = low % 2 ^ 48 })
+    (kind_of (low / 2 ^ 60))
     else None
 
--- what sixteen bytes say
+-- the parts of sixteen bytes
 unfoldable pub parts_of : List ℕ → Option IdParts
 parts_of id = parts_of_words (from_be_bytes w128 id / 2 ^ 64) (from_be_bytes w128 id % 2 ^ 64)

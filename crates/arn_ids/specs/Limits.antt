@@ -5,6 +5,18 @@ use Rattle.std.specs.Prelude.{ℕ}
 abbrev pub longest_body : ℕ
 longest_body = 6291456
 
+-- how many environments an account has at most, over all its functions
+abbrev pub most_environments : ℕ
+most_environments = 256
+
+-- how many extensions a function expects at most, and how many register in one generation of an environment
+abbrev pub most_extensions : ℕ
+most_extensions = 10
+
+-- the length of the longest trace, in bytes
+abbrev pub longest_trace : ℕ
+longest_trace = 256
+
 -- the greatest moment: the most milliseconds that JSON carries exactly, 2^53 - 1 (RFC 8259, section 6)
 abbrev pub greatest_moment : ℕ
 greatest_moment = 9007199254740991

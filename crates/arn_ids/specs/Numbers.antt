@@ -1,13 +1,15 @@
 -- Numbers in texts: decimal, without leading zeros, each with a greatest value.
-use Rattle.std.specs.Prelude.{ℕ, ◌+◌, ◌-◌, ◌*◌, ◌&&◌, ◌==◌, nat_le, if◌then◌else◌, List, [], ◌∷◌, length, Option, Some, None, option_and_then}
+use Rattle.std.specs.Prelude.{ℕ, ◌+◌, ◌-◌, ◌*◌, ◌&&◌, ◌==◌, nat_le, if◌then◌else◌, List, [], ◌∷◌, length}
+use Rattle.std.specs.Prelude.{Option, Some, None, option_and_then}
 use Rattle.arn_ids.specs.Words.{is_digit}
 use Rattle.arn_ids.specs.Environments.{owners}
 use Rattle.arn_ids.specs.declared.config.Config.{Config}
 
--- the number that n goes on to with these digits, where it stays within most
+-- the number that n becomes with these digits behind it, if it stays within most
 abbrev pub digits_in : ℕ → ℕ → List ℕ → Option ℕ
 digits_in most n [] = Some n
-digits_in most n (b ∷ bs) = if is_digit b && nat_le (10 * n + (b - 48)) most then digits_in most (10 * n + (b - 48)) bs else None
+digits_in most n (b ∷ bs) =
+    if is_digit b && nat_le (10 * n + (b - 48)) most then digits_in most (10 * n + (b - 48)) bs else None
 
 -- a number of at most most: one digit, or several of which the first isn't 0
 abbrev pub number_in : ℕ → List ℕ → Option ℕ

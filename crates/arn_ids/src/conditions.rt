@@ -7,13 +7,9 @@ ghost use Rattle.arn_ids.specs.Words.{is_label as is_label_text};
 ghost use Rattle.arn_ids.specs.Faults as faults;
 
 use crate::words::{is_account, is_label, is_name, is_region};
-use crate::{Config, Function, Slot, Text};
+use crate::{Config, Function, MOST_ENVIRONMENTS, MOST_EXTENSIONS, Slot, Text};
 
 const MOST_FUNCTIONS: usize = 64;
-
-const MOST_ENVIRONMENTS: usize = 256;
-
-const MOST_EXTENSIONS: usize = 10;
 
 const HIGHEST_ACCOUNT_LIMIT: u32 = 1_000_000;
 
@@ -157,14 +153,17 @@ pub(crate) fn has_bad_port(config: &Config) -> bool
 
 /// Whether one of these slots, or an environment of these functions, has this port.
 fn is_taken(port: u16, slots: &[Slot], later: &[Function]) -> bool
-    ensures { result ≡ (list_any (nat_eq port) (map faults.port_of slots.now) || list_any (nat_eq port) (faults.environment_ports later.now)) }
+    ensures { result ≡ (list_any (nat_eq port) (map faults.port_of slots.now)
+        || list_any (nat_eq port) (faults.environment_ports later.now)) }
 {
     has_slot_on(slots, port) || has_environment_on(later, port)
 }
 
-/// Whether a port of one function stands again, there or at a later function.
+/// Whether a port of one function is repeated, in that function or in a later one.
 fn has_port_again(slots: &[Slot], later: &[Function]) -> bool
-    ensures { let again = faults.repeats nat_eq (map faults.port_of slots.now ++ faults.environment_ports later.now) in MatchBool result (again ≡ true) (again ≡ faults.repeats nat_eq (faults.environment_ports later.now)) }
+    ensures { let again = faults.repeats nat_eq (map faults.port_of slots.now ++ faults.environment_ports later.now)
+        in MatchBool result (again ≡ true)
+        (again ≡ faults.repeats nat_eq (faults.environment_ports later.now)) }
 {
     for (i, slot) in slots.iter().enumerate() {
         if is_taken(slot.port, &slots[i + 1..], later) {

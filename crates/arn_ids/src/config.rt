@@ -14,7 +14,7 @@ pub type FnNo = u32;
 /// The number of an environment, from 1 over all functions in the order of their ports.
 pub type EnvNo = u32;
 
-/// Where this service stands.
+/// The account and the region of the service.
 #[derive(Drop)]
 pub struct Home {
     /// The account: 12 digits.
@@ -23,10 +23,10 @@ pub struct Home {
     pub region: Text,
 }
 
-/// An execution environment's place: the loopback port that it has of its own.
+/// An execution environment's own loopback port.
 #[derive(Clone, Copy, Debug, PartialEq, Eq)]
 pub struct Slot {
-    /// 1 to 65,535, none of them twice in a configuration.
+    /// 1 to 65,535, unique in the configuration.
     pub port: u16,
 }
 
@@ -35,39 +35,44 @@ pub struct Slot {
 pub struct Function {
     /// 1 to 64 of ASCII letters, digits, `-` and `_`.
     pub name: Text,
-    /// What the registered body tells extensions: 1 to 128 bytes of 0x20 to 0x7E.
+    /// The handler, which extensions read in the response to Register: 1 to 128 bytes of 0x20 to
+    /// 0x7E.
     pub handler: Text,
     /// The timeout in seconds, 1 to 900. (Lambda Developer Guide: Configure Lambda function timeout)
     pub timeout_s: u32,
-    /// Its reserved concurrency, at most its environments, if it has one.
+    /// Its reserved concurrency, if it has one: at most the number of its environments.
     /// (Lambda Developer Guide: Configuring reserved concurrency for a function)
     pub reserved: Option<u32>,
-    /// The names of the extensions without which an environment is not ready: at most ten.
+    /// The names of the extensions that an environment waits for before it is ready: at most ten.
     pub extensions: Row<Text>,
-    /// Its environments: one or more, at most 256 in the account.
+    /// Its environments: one or more; at most `MOST_ENVIRONMENTS` in the account.
     pub slots: Row<Slot>,
 }
 
-/// What an account is configured with, before any of it was looked at.
+/// The configuration of an account, not yet checked.
 #[derive(Drop)]
 pub struct Config {
-    /// Where the service stands.
+    /// The account and the region.
     pub home: Home,
     /// How many invocations may be in flight at once: 1 to 1,000,000.
     pub account_limit: u32,
-    /// How many of them no reservation may take: 0 to the account limit.
+    /// How many of them must stay unreserved: 0 to the account limit.
     /// (PutFunctionConcurrency: at least 100 stay unreserved)
     pub least_remainder: u32,
     /// The port of callers and operators, 1 to 65,535.
     pub invoke_port: u16,
-    /// The functions, at most 64; their numbers are their places, from 1.
+    /// The functions, at most 64, numbered from 1 in this order.
     pub functions: Row<Function>,
 }
 
 impl Config {
-    /// The configuration, where it has no fault. A faulty one is dropped.
+    /// Returns the configuration as checked, if it has no fault.
+    ///
+    /// # Errors
+    /// The first fault that holds. The configuration is then dropped.
     pub fn check(self) -> Result<Checked, ConfigFault>
-        ensures { MatchResult result (λ checked. (checked ≡ self) × (first_fault self ≡ None)) (λ fault. first_fault self ≡ Some fault) }
+        ensures { MatchResult result (λ checked. (checked ≡ self) × (first_fault self ≡ None))
+            (λ fault. first_fault self ≡ Some fault) }
     {
         match fault_of(&self) {
             Some(fault) => Err(fault),
@@ -94,7 +99,7 @@ impl Model for Checked {
     ghost invariant = { λ c. first_fault c.config ≡ None };
 }
 
-/// The place of the first function with a name.
+/// Returns the index of the first function with a name, from 0.
 fn place_of(functions: &[Function], name: &[u8]) -> Option<usize>
     ensures { result ≡ position (λ function. bytes_eq function.name name.now) functions.now }
 {
@@ -104,7 +109,7 @@ fn place_of(functions: &[Function], name: &[u8]) -> Option<usize>
 }
 
 impl Checked {
-    /// The functions, in the order of their numbers: the one with number 1 stands first.
+    /// Returns the functions in the order of their numbers, from number 1.
     pub fn functions(&self) -> &[Function]
         ensures value { result.now ≡ self.now.functions }
         ensures sound { first_fault self.now ≡ None }
@@ -112,7 +117,7 @@ impl Checked {
         self.config.functions.as_slice()
     }
 
-    /// What is configured for the function with a number.
+    /// Returns the configuration of the function with a number.
     pub fn function(&self, function: FnNo) -> &Function
         requires from_one { 1 ≤ function }
         requires there { function ≤ length self.now.functions }
@@ -121,7 +126,7 @@ impl Checked {
         &self.functions()[function as usize - 1]
     }
 
-    /// The number of the function with a name.
+    /// Returns the number of the function with a name.
     pub fn function_named(&self, name: &[u8]) -> Option<FnNo>
         ensures { result ≡ number_named self.now name.now }
     {
@@ -129,7 +134,7 @@ impl Checked {
         Some(place as u32 + 1)
     }
 
-    /// How many environments there are.
+    /// Returns the number of environments.
     pub fn environments(&self) -> u32
         ensures { result ≡ length (owners self.now) }
     {
@@ -140,7 +145,7 @@ impl Checked {
         count
     }
 
-    /// The number of an environment's function.
+    /// Returns the number of an environment's function.
     pub fn function_of(&self, env: EnvNo) -> FnNo
         requires from_one { 1 ≤ env }
         requires there { env ≤ length (owners self.now) }
@@ -157,35 +162,35 @@ impl Checked {
         unreachable!()
     }
 
-    /// What was checked.
+    /// Returns the configuration that was checked.
     pub fn as_config(&self) -> &Config
         ensures { result.now ≡ self.now }
     {
         &self.config
     }
 
-    /// The account and the region.
+    /// Returns the account and the region.
     pub fn home(&self) -> &Home
         ensures { result.now ≡ self.now.home }
     {
         &self.config.home
     }
 
-    /// How many invocations may be in flight at once, over all functions.
+    /// Returns how many invocations may be in flight at once, over all functions.
     pub fn account_limit(&self) -> u32
         ensures { result ≡ self.now.account_limit }
     {
         self.config.account_limit
     }
 
-    /// How much of the account's limit no reservation may take from the unreserved functions.
+    /// Returns how much of the account's limit must stay unreserved.
     pub fn least_remainder(&self) -> u32
         ensures { result ≡ self.now.least_remainder }
     {
         self.config.least_remainder
     }
 
-    /// The loopback port of the callers.
+    /// Returns the loopback port of callers and operators.
     pub fn invoke_port(&self) -> u16
         ensures { result ≡ self.now.invoke_port }
     {

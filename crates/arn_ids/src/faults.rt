@@ -8,7 +8,7 @@ use std::error::Error;
 use std::fmt;
 
 /// Why a configuration is refused: the first fault that holds, in the order of the variants. Each
-/// is looked for in the whole configuration before the next. Printed, a fault is its name.
+/// is tested over the whole configuration before the next. A fault is printed as its name.
 #[derive(Clone, Copy, Debug, PartialEq, Eq)]
 pub enum ConfigFault {
     /// The account isn't twelve digits.
@@ -31,13 +31,13 @@ pub enum ConfigFault {
     BadTimeout,
     /// A function has no port.
     NoEnvironment,
-    /// The functions have more than 256 ports together.
+    /// The functions have more than `MOST_ENVIRONMENTS` ports together.
     TooManyEnvironments,
     /// A port is 0.
     BadPort,
-    /// A port stands twice, that of the callers among them.
+    /// A port is used twice; the invoke port counts.
     DuplicatePort,
-    /// A function expects more than ten extensions.
+    /// A function expects more than `MOST_EXTENSIONS` extensions.
     TooManyExtensions,
     /// The name of an extension isn't 1 to 128 printing ASCII characters.
     BadExtension,
@@ -48,13 +48,13 @@ pub enum ConfigFault {
     /// The reservations and the least remainder are together above the account's limit.
     RemainderTooSmall,
     /// The greatest number of entries of a journal is out of its range. `Config::check` never
-    /// gives this one: it is for the program, whose configuration names that number too. It is
-    /// printed as `EntriesOutOfRange`.
+    /// returns this fault: it is for a program, whose configuration has that number too. It is
+    /// printed as `EntriesOutOfRange`, as the fault of `Book::open` is called.
     BadEntries,
 }
 
 impl ConfigFault {
-    /// What it is printed as.
+    /// Returns the name that the fault is printed as.
     fn name(self) -> &'static str {
         match self {
             ConfigFault::BadAccount => "BadAccount",
@@ -88,7 +88,7 @@ impl fmt::Display for ConfigFault {
 
 impl Error for ConfigFault {}
 
-/// The fault that a configuration is refused for.
+/// Returns the first fault of a configuration, if it has one.
 #[tactic(auto, unfolding(crate::specs::Faults::first_fault))]
 pub(crate) fn fault_of(config: &Config) -> Option<ConfigFault>
     ensures { result ≡ first_fault config.now }

@@ -4,77 +4,82 @@
 //! are four bits of the kind, twelve of a number and 48 of a count.
 
 ghost use Rattle.std.specs.Prelude.{◌≡◌, ◌<◌, ◌^◌, Some};
-ghost use Rattle.arn_ids.specs.Identifiers.{high_word, low_word as low_word_of, identifier_of, kind_of, parts_of, parts_of_words};
+ghost use Rattle.arn_ids.specs.Identifiers.{high_word, low_word as low_word_of, identifier_of, kind_of};
+ghost use Rattle.arn_ids.specs.Identifiers.{parts_of, parts_of_words};
 ghost use Rattle.arn_ids.specs.declared.identifiers.IdKind.TheVariants.{Request, Extension, Event};
 
 use crate::{EnvNo, FnNo};
 use uuid::Uuid;
 
-/// What an identifier stands for.
+/// What an identifier identifies.
 #[derive(Clone, Copy, Debug, PartialEq, Eq)]
 pub enum IdKind {
     /// An invocation, whose number is that of its function.
     Request,
     /// An extension, whose number is that of its environment.
     Extension,
-    /// An event that an extension was told of, whose number is that of its environment.
+    /// An event that was sent to an extension, whose number is that of its environment.
     Event,
 }
 
-/// What an identifier says.
+/// The parts of an identifier.
 #[derive(Clone, Copy, Debug, PartialEq, Eq)]
 pub struct IdParts {
-    /// The high 64 bits as they stand.
+    /// The high 64 bits, unchanged.
     pub salt_word: u64,
     /// What it identifies.
     pub kind: IdKind,
     /// The function's or the environment's number, below 2^12.
     pub number: u32,
-    /// Which one of its number it is, counted from 1; below 2^48.
+    /// Its position among the identifiers of this kind and number, from 1; below 2^48.
     pub count: u64,
 }
 
-/// The high 64 bits of each identifier that is made with this salt.
+/// Returns the high 64 bits of each identifier that is made with this salt.
 pub fn salt_word(salt: u64) -> u64
     ensures { result ≡ high_word salt }
 {
     salt / 0x1_0000 * 0x1_0000 + 0x8000 + salt % 0x1000
 }
 
-/// The identifier of a function's `count`-th invocation (Runtime API,
+/// Returns the identifier of a function's `count`-th invocation (Runtime API,
 /// `Lambda-Runtime-Aws-Request-Id`).
 pub fn request_id(salt: u64, function: FnNo, count: u64) -> Uuid
     requires number { function < 4096 }
     requires count { count < 2 ^ 48 }
     ensures value { result ≡ identifier_of salt Request function count }
-    ensures reads_back { parts_of result ≡ Some (record { salt_word = high_word salt; kind = Request; number = function; count = count }) }
+    ensures reads_back { parts_of result
+        ≡ Some (record { salt_word = high_word salt; kind = Request; number = function; count = count }) }
 {
     identifier(salt, IdKind::Request, function, count)
 }
 
-/// The identifier of an environment's `count`-th registered extension (Extensions API,
+/// Returns the identifier of an environment's `count`-th registered extension (Extensions API,
 /// `Lambda-Extension-Identifier`).
 pub fn extension_id(salt: u64, env: EnvNo, count: u64) -> Uuid
     requires number { env < 4096 }
     requires count { count < 2 ^ 48 }
     ensures value { result ≡ identifier_of salt Extension env count }
-    ensures reads_back { parts_of result ≡ Some (record { salt_word = high_word salt; kind = Extension; number = env; count = count }) }
+    ensures reads_back { parts_of result
+        ≡ Some (record { salt_word = high_word salt; kind = Extension; number = env; count = count }) }
 {
     identifier(salt, IdKind::Extension, env, count)
 }
 
-/// The identifier of the `count`-th event that an environment's extensions were told of
+/// Returns the identifier of the `count`-th event that was sent to an environment's extensions
 /// (Extensions API, `Lambda-Extension-Event-Identifier`).
 pub fn event_id(salt: u64, env: EnvNo, count: u64) -> Uuid
     requires number { env < 4096 }
     requires count { count < 2 ^ 48 }
     ensures value { result ≡ identifier_of salt Event env count }
-    ensures reads_back { parts_of result ≡ Some (record { salt_word = high_word salt; kind = Event; number = env; count = count }) }
+    ensures reads_back { parts_of result
+        ≡ Some (record { salt_word = high_word salt; kind = Event; number = env; count = count }) }
 {
     identifier(salt, IdKind::Event, env, count)
 }
 
-/// What an identifier says. `None` where its version isn't 8, or its kind is none of the three.
+/// Returns the parts of an identifier, or `None` if its version isn't 8 or its kind isn't one of
+/// the three.
 #[tactic(auto, unfolding(crate::specs::Identifiers::parts_of))]
 pub fn id_parts(id: &Uuid) -> Option<IdParts>
     ensures { result ≡ parts_of id.now }
@@ -127,7 +132,8 @@ fn identifier(salt: u64, kind: IdKind, number: u32, count: u64) -> Uuid
     requires number { number < 4096 }
     requires count { count < 2 ^ 48 }
     ensures value { result ≡ identifier_of salt kind number count }
-    ensures reads_back { parts_of result ≡ Some (record { salt_word = high_word salt; kind = kind; number = number; count = count }) }
+    ensures reads_back { parts_of result
+        ≡ Some (record { salt_word = high_word salt; kind = kind; number = number; count = count }) }
 {
     Uuid::from_u64_pair(salt_word(salt), low_word(kind, number, count))
 }

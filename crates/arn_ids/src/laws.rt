@@ -11,7 +11,9 @@ use crate::{Checked, FnNo};
 pub fn arns_read_back(checked: &Checked, function: FnNo, qualified: bool)
     requires from_one { 1 ≤ function }
     requires there { function ≤ length checked.now.functions }
-    ensures { let name = (function_at checked.now function).name in named_in checked.now.home (arn checked.now.home name qualified) ≡ Ok (record { name = name; qualified = qualified }) }
+    ensures { let name = (function_at checked.now function).name
+        in named_in checked.now.home (arn checked.now.home name qualified)
+        ≡ Ok (record { name = name; qualified = qualified }) }
 {
     let _functions = checked.functions();
 }

@@ -15,7 +15,10 @@ mod words;
 pub use config::{Checked, Config, EnvNo, FnNo, Function, Home, Slot};
 pub use faults::ConfigFault;
 pub use identifiers::{IdKind, IdParts, event_id, extension_id, id_parts, request_id, salt_word};
-pub use limits::{GREATEST_COUNT, GREATEST_MOMENT, LONGEST_BODY};
+pub use limits::{
+    GREATEST_COUNT, GREATEST_MOMENT, LONGEST_BODY, LONGEST_TRACE, MOST_ENVIRONMENTS,
+    MOST_EXTENSIONS,
+};
 pub use names::{FunctionName, NameFault, Named, arn_text, is_qualifier};
 pub use numbers::{read_environment, read_number, read_number_u32};
 pub use text::{Row, Text};

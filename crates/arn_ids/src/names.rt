@@ -30,10 +30,10 @@ pub struct Named {
     pub qualified: bool,
 }
 
-/// Why a text names no function here: the first that holds, in the order of the variants.
+/// Why a text doesn't name a function here: the first fault that holds, in the order of the variants.
 #[derive(Clone, Copy, Debug, PartialEq, Eq, Error)]
 pub enum NameFault {
-    /// It is in no form of a function's name, a part of it is out of its form, or it has more than
+    /// It doesn't have a form of a function's name, a part of it is malformed, or it has more than
     /// 170 bytes.
     #[error("the name is malformed")]
     Malformed,
@@ -43,7 +43,7 @@ pub enum NameFault {
     /// It has a well-formed qualifier that isn't `$LATEST`.
     #[error("the qualifier is unknown")]
     UnknownQualifier,
-    /// It names a function, for which there was no memory.
+    /// It names a function, but there was no memory for the name.
     #[error("out of memory")]
     OutOfMemory,
 }
@@ -60,11 +60,13 @@ impl From<AllocError> for NameFault {
 pub struct FunctionName;
 
 impl FunctionName {
-    /// The function that a text of at most 170 bytes names at this home, in one of three forms: its
-    /// name, `ACCOUNT:function:NAME`, or `arn:aws:lambda:REGION:ACCOUNT:function:NAME`, each of which
-    /// may end in `:QUALIFIER`, where `$LATEST` alone is known. (Invoke: FunctionName)
+    /// Returns the function that a text of at most 170 bytes names at this home, in one of three
+    /// forms: its name, `ACCOUNT:function:NAME`, or `arn:aws:lambda:REGION:ACCOUNT:function:NAME`.
+    /// Each of them may end in `:QUALIFIER`; the one known qualifier is `$LATEST`.
+    /// (Invoke: FunctionName)
     ///
-    /// The first fault that holds is given; want of memory comes last.
+    /// # Errors
+    /// The first fault that holds; `OutOfMemory` comes last.
     #[tactic(auto, unfolding(crate::specs::Grammar::named_in))]
     pub fn parse(alloc: Global, home: &Home, text: &str) -> Result<Named, NameFault>
         ensures { grammar.Gives result (grammar.named_in home.now text.now) }
@@ -91,7 +93,7 @@ impl FunctionName {
     }
 }
 
-/// The ARN of a function at this home, with `:$LATEST` behind it where it is qualified.
+/// Returns the ARN of a function at this home, with `:$LATEST` at its end if it is qualified.
 pub fn arn_text(
     alloc: Global,
     home: &Home,
@@ -117,7 +119,7 @@ fn qualifier_text(qualified: bool) -> &'static str
     if qualified { ":$LATEST" } else { "" }
 }
 
-/// The parts of a text that stand for something.
+/// The parts of a name, as they are written.
 #[derive(Drop)]
 struct Spelled<'a> {
     region: Option<&'a str>,
@@ -126,7 +128,7 @@ struct Spelled<'a> {
     qualifier: Option<&'a str>,
 }
 
-/// The front part, and what follows its colon.
+/// Splits a text at its first colon, if it has one.
 fn cut(text: &str) -> (&str, Option<&str>)
     ensures { MatchOption result.1 (grammar.parts text.now ≡ result.0.now ∷ [])
         (λ rest. grammar.parts text.now ≡ result.0.now ∷ grammar.parts rest.now) }
@@ -143,7 +145,8 @@ fn of_account<'a>(
     name: &'a str,
     qualifier: Option<&'a str>,
 ) -> Option<Spelled<'a>>
-    ensures { option_map written result ≡ grammar.of_account account.now kind.now name.now (option_map text_of qualifier.entry) }
+    ensures { option_map written result
+        ≡ grammar.of_account account.now kind.now name.now (option_map text_of qualifier.entry) }
 {
     if kind != "function" {
         return None;
@@ -166,7 +169,9 @@ fn of_arn<'a>(
     name: &'a str,
     qualifier: Option<&'a str>,
 ) -> Option<Spelled<'a>>
-    ensures { option_map written result ≡ grammar.of_arn arn.now partition.now service.now region.now account.now kind.now name.now (option_map text_of qualifier.entry) }
+    ensures { option_map written result
+        ≡ grammar.of_arn arn.now partition.now service.now region.now account.now kind.now name.now
+        (option_map text_of qualifier.entry) }
 {
     if arn == "arn" && partition == "aws" && service == "lambda" && kind == "function" {
         return Some(Spelled {
@@ -179,7 +184,7 @@ fn of_arn<'a>(
     None
 }
 
-/// The parts of a text, and which of them stands where.
+/// Returns the parts of a name by what they mean.
 fn parts_of(text: &str) -> Option<Spelled<'_>>
     ensures { option_map written result ≡ grammar.shape (grammar.parts text.now) }
 {
@@ -212,7 +217,7 @@ fn parts_of(text: &str) -> Option<Spelled<'_>>
     long_form(first, second, third, fourth, rest)
 }
 
-/// The parts of an ARN, whose first four are split off.
+/// Returns the parts of an ARN whose first four are split off already.
 fn long_form<'a>(
     arn: &str,
     partition: &str,
@@ -220,7 +225,8 @@ fn long_form<'a>(
     region: &'a str,
     rest: &'a str,
 ) -> Option<Spelled<'a>>
-    ensures { option_map written result ≡ grammar.shape (arn.now ∷ partition.now ∷ service.now ∷ region.now ∷ grammar.parts rest.now) }
+    ensures { option_map written result
+        ≡ grammar.shape (arn.now ∷ partition.now ∷ service.now ∷ region.now ∷ grammar.parts rest.now) }
 {
     let (account, rest) = cut(rest);
     let rest = rest?;

@@ -5,7 +5,7 @@ ghost use Rattle.arn_ids.specs.Numbers.{number_in, digits_in, env_in};
 
 use crate::{Checked, EnvNo};
 
-/// A decimal number of at most `most`, without leading zeros.
+/// Reads a decimal number from 0 to `most`, without leading zeros.
 pub fn read_number(text: &[u8], most: u64) -> Option<u64>
     ensures value { result ≡ number_in most text.now }
     ensures within { IfSome result (λ n. n ≤ most) }
@@ -17,7 +17,7 @@ pub fn read_number(text: &[u8], most: u64) -> Option<u64>
     }
 }
 
-/// The same where `most` is below 2^32.
+/// Reads a decimal number from 0 to `most`, without leading zeros, for a `most` below 2^32.
 pub fn read_number_u32(text: &[u8], most: u32) -> Option<u32>
     ensures { result ≡ number_in most text.now }
 {
@@ -45,8 +45,8 @@ fn digits(text: &[u8], most: u64) -> Option<u64>
     Some(number)
 }
 
-/// The environment of a configuration whose number stands here: decimal, from 1 to the number of its
-/// environments, without leading zeros.
+/// Reads the number of an environment: decimal, from 1 to the number of environments, without
+/// leading zeros.
 pub fn read_environment(config: &Checked, text: &[u8]) -> Option<EnvNo>
     ensures { result ≡ env_in config.now text.now }
 {

@@ -26,7 +26,7 @@ impl Text {
         Text { text }
     }
 
-    /// The text.
+    /// Returns the text.
     pub fn as_str(&self) -> &str
         ensures { result.now ≡ self.now }
     {
@@ -34,7 +34,7 @@ impl Text {
     }
 }
 
-/// Values in a row, seen as the list of them.
+/// Values in a row, seen as a list.
 #[derive(Debug, Drop)]
 pub struct Row<T> {
     items: Vec<T>,
@@ -56,14 +56,14 @@ impl<T> Row<T> {
         Row { items }
     }
 
-    /// The values.
+    /// Returns the values.
     pub fn as_slice(&self) -> &[T]
         ensures { result.now ≡ self.now }
     {
         &self.items
     }
 
-    /// Gives the values back, with their memory.
+    /// Returns the values, with their memory.
     pub fn into_vec(self) -> Vec<T>
         ensures { result.items ≡ self }
     {

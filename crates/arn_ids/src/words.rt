@@ -25,7 +25,7 @@ fn is_name_byte(b: u8) -> bool
     b.is_ascii_digit() || b.is_ascii_lowercase() || b.is_ascii_uppercase() || b == b'-' || b == b'_'
 }
 
-/// Whether each byte may stand in a function's name.
+/// Whether each byte is allowed in a function's name.
 pub(crate) fn has_name_bytes(text: &str) -> bool
     ensures { result ≡ list_all words.is_name_byte text.now }
 {
@@ -56,8 +56,7 @@ fn has_printable_bytes(bytes: &[u8]) -> bool
     bytes.iter().all(|b| is_printable(*b))
 }
 
-/// Whether there are from 1 to `most` bytes, each of which is an ASCII character that prints, the
-/// space among them.
+/// Whether there are from 1 to `most` bytes, each of them a printing ASCII character or a space.
 pub fn is_printable_word(bytes: &[u8], most: usize) -> bool
     ensures { result ≡ words.is_word words.is_printable most bytes.now }
 {
