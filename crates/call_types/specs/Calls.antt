@@ -1,7 +1,9 @@
 -- What a call names, and its bytes.
 use Rattle.std.specs.Prelude.{ℕ, Bool, true, false, List, [], Option, Some, None}
 use Rattle.call_types.specs.declared.call.Call.{Call}
-use Rattle.call_types.specs.declared.call.Call.TheVariants.{Invoke, RuntimeNext, Response, ResponseTooLarge, Failure, InitFailure, Register, ExtNext, ExtInitFailure, ExtExitFailure, Spindown, Expire}
+use Rattle.call_types.specs.declared.call.Call.TheVariants.{Invoke, RuntimeNext, Response, ResponseTooLarge, Failure}
+use Rattle.call_types.specs.declared.call.Call.TheVariants.{InitFailure, Register, ExtNext, ExtInitFailure}
+use Rattle.call_types.specs.declared.call.Call.TheVariants.{ExtExitFailure, Spindown, Expire}
 
 -- a caller invokes a function
 abbrev pub is_invoke : Call → Bool

@@ -1,7 +1,10 @@
 -- The head of a call: its variant, its function or environment (else 0), and its count where it has one.
 use Rattle.std.specs.Prelude.{ℕ, Option, Some, None}
 use Rattle.call_types.specs.declared.call.Call.{Call}
-use Rattle.call_types.specs.declared.call.Call.TheVariants.{Invoke, RuntimeNext, Response, ResponseTooLarge, Failure, InitFailure, Register, ExtNext, ExtInitFailure, ExtExitFailure, Tick, Withdraw, Spindown, Stop, Expire, Reserve}
+use Rattle.call_types.specs.declared.call.Call.TheVariants.{Invoke, RuntimeNext, Response, ResponseTooLarge, Failure}
+use Rattle.call_types.specs.declared.call.Call.TheVariants.{InitFailure, Register, ExtNext, ExtInitFailure}
+use Rattle.call_types.specs.declared.call.Call.TheVariants.{ExtExitFailure, Tick, Withdraw, Spindown, Stop}
+use Rattle.call_types.specs.declared.call.Call.TheVariants.{Expire, Reserve}
 use Rattle.call_types.specs.declared.head.Head.{Head}
 use Rattle.call_types.specs.declared.head.Kind.{Kind}
 use Rattle.call_types.specs.declared.head.Kind.TheVariants as kind

@@ -1,11 +1,15 @@
 -- Which calls are within the limits of the service.
 use Rattle.std.specs.Prelude.{◌≡◌, ◌≤◌, ℕ, Bool, true, nat_le, List, length, Option, Some, None}
 use Rattle.arn_ids.specs.Words.{is_word, is_printable, is_label}
-use Rattle.arn_ids.specs.Limits.{longest_body, greatest_moment, greatest_count, greatest_ticket, greatest_reservation}
+use Rattle.arn_ids.specs.Limits.{longest_body, longest_trace}
+use Rattle.arn_ids.specs.Limits.{greatest_moment, greatest_count, greatest_ticket, greatest_reservation}
 use Rattle.arn_ids.specs.Environments.{owners}
 use Rattle.arn_ids.specs.declared.config.Config.{Config}
 use Rattle.call_types.specs.declared.call.Call.{Call}
-use Rattle.call_types.specs.declared.call.Call.TheVariants.{Invoke, RuntimeNext, Response, ResponseTooLarge, Failure, InitFailure, Register, ExtNext, ExtInitFailure, ExtExitFailure, Tick, Withdraw, Spindown, Stop, Expire, Reserve}
+use Rattle.call_types.specs.declared.call.Call.TheVariants.{Invoke, RuntimeNext, Response, ResponseTooLarge, Failure}
+use Rattle.call_types.specs.declared.call.Call.TheVariants.{InitFailure, Register, ExtNext, ExtInitFailure}
+use Rattle.call_types.specs.declared.call.Call.TheVariants.{ExtExitFailure, Tick, Withdraw, Spindown, Stop}
+use Rattle.call_types.specs.declared.call.Call.TheVariants.{Expire, Reserve}
 
 -- a payload, an output or a report has at most 6,291,456 bytes (Lambda quotas: invocation payload)
 abbrev pub is_body : List ℕ → Bool
@@ -13,7 +17,7 @@ is_body body = nat_le (length body) longest_body
 
 -- a trace: 1 to 256 printing characters
 abbrev pub is_trace : List ℕ → Bool
-is_trace = is_word is_printable 256
+is_trace = is_word is_printable longest_trace
 
 -- an environment of the configuration
 abbrev pub IsEnv : Config → ℕ → Type 0
@@ -37,7 +41,8 @@ abbrev pub IsReservation : Option ℕ → Type 0
 IsReservation None = Unit {0}
 IsReservation (Some count) = count ≤ greatest_reservation
 
--- A call that a client, an operator or the clock can make: its numbers are those of the configuration, and its texts have their lengths.
+-- A call that a client, an operator or the clock can make: its numbers are those of the configuration, and its texts
+-- have their lengths.
 abbrev pub IsWithin : Config → Call → Type 0
 IsWithin config (Invoke f qualified trace body) = IsFunction config f × IsTrace trace × (is_body body ≡ true)
 IsWithin config (RuntimeNext e) = IsEnv config e

@@ -17,7 +17,7 @@ pub enum Reason {
 }
 
 impl Reason {
-    /// Its word (Extensions API: `shutdownReason`).
+    /// Returns its word (Extensions API: `shutdownReason`).
     pub fn as_str(self) -> &'static str
         ensures { result.now ≡ reason_word self }
     {
@@ -43,7 +43,7 @@ pub enum Throttle {
 }
 
 impl Throttle {
-    /// Its word (Invoke: the `Reason` of `TooManyRequestsException`).
+    /// Returns its word (Invoke: the `Reason` of `TooManyRequestsException`).
     pub fn as_str(self) -> &'static str
         ensures { result.now ≡ throttle_word self }
     {
@@ -81,8 +81,8 @@ pub enum Rejection {
     BadReservation,
 }
 
-/// The answer to a call. It holds no bytes: where it has a payload or an output, it names the
-/// ticket of the call that brought them. Moments are milliseconds, at most 2^53 - 1, but a deadline
+/// The answer to a call. It holds no bytes: for a payload or an output it has the ticket of the
+/// call that brought them. Moments are milliseconds, at most 2^53 - 1, but a deadline
 /// may lie past that.
 #[derive(Clone, Copy, Debug, PartialEq, Eq)]
 pub enum Answer {
@@ -93,7 +93,7 @@ pub enum Answer {
         /// When the invocation times out (`Lambda-Runtime-Deadline-Ms`).
         deadline: u64,
     },
-    /// An extension's Next tells that an invocation began (Extensions API, INVOKE event).
+    /// An extension's Next reports that an invocation began (Extensions API, INVOKE event).
     Told {
         /// The ticket of the Invoke.
         invoke: Ticket,
@@ -102,11 +102,11 @@ pub enum Answer {
         /// The event's number at its environment, from 1.
         event: u64,
     },
-    /// An extension's Next tells that the environment ends (Extensions API, SHUTDOWN event).
+    /// An extension's Next reports that the environment ends (Extensions API, SHUTDOWN event).
     Ending {
         /// Why it ends (`shutdownReason`).
         reason: Reason,
-        /// When the environment is gone in any case (`deadlineMs`).
+        /// When the environment ends at the latest (`deadlineMs`).
         until: u64,
         /// The event's number at its environment, from 1.
         event: u64,
@@ -118,7 +118,7 @@ pub enum Answer {
     },
     /// The report, spindown or stop is accepted (Runtime API: 202).
     Accepted,
-    /// The clock ticked, or the withdrawal was looked at.
+    /// The clock ticked, or the withdrawal was processed.
     Done,
     /// The invocation's output (Invoke: 200).
     Output {
@@ -153,13 +153,13 @@ pub enum Answer {
     Unreserved,
 }
 
-/// Where an environment is in its life (Lambda Developer Guide, "Understanding the Lambda execution
+/// The phase of an environment (Lambda Developer Guide, "Understanding the Lambda execution
 /// environment lifecycle"). Moments are milliseconds.
 #[derive(Clone, Copy, Debug, PartialEq, Eq)]
 pub enum Phase {
     /// Init: the runtime or some extension has not asked for its Next yet.
     Starting {
-        /// When the Init times out: 10 seconds after the first contact, none before it.
+        /// When the Init times out: 10 seconds after the first contact, `None` before it.
         deadline: Option<u64>,
         /// The ticket of the Invoke that waits for the Init to end.
         bound: Option<Ticket>,
@@ -173,11 +173,12 @@ pub enum Phase {
         /// When the invocation times out.
         deadline: u64,
     },
-    /// Shutdown: extensions that registered for SHUTDOWN are told and waited for.
+    /// Shutdown: extensions that registered for SHUTDOWN are notified, and the environment waits for
+    /// them.
     Closing {
         /// Why it closes.
         reason: Reason,
-        /// When it ends in any case: 2 seconds after it began.
+        /// When it ends at the latest: 2 seconds after it began.
         until: u64,
         /// The ticket of the Invoke that the next generation is to serve.
         bound: Option<Ticket>,

@@ -7,7 +7,7 @@ use arn_ids::{EnvNo, FnNo, Text};
 use bytes::Bytes;
 use std::marker::Model;
 
-/// The place of a call in the history, from 0.
+/// The index of a call in the history, from 0.
 pub type Ticket = u64;
 
 /// One call of a client, of an operator or of the clock. Its function and its environment are
@@ -58,11 +58,11 @@ pub enum Call {
         env: EnvNo,
         /// `Lambda-Extension-Name`.
         name: Text,
-        /// Whether it is to be told each invocation (event INVOKE).
+        /// Whether it is notified of each invocation (event INVOKE).
         invoke: bool,
-        /// Whether it is to be told the end of its environment (event SHUTDOWN).
+        /// Whether it is notified of the end of its environment (event SHUTDOWN).
         shutdown: bool,
-        /// Whether it wants the account's identifier in the reply (feature `accountId`).
+        /// Whether it asks for the account's number in the reply (feature `accountId`).
         account: bool,
     },
     /// An extension asks for its next event (Extensions API, Next).
@@ -98,7 +98,8 @@ pub enum Call {
     },
     /// An operator stops the service.
     Stop,
-    /// The deadline of an environment's phase has come. No one calls this: it is an entry of its own.
+    /// The deadline of an environment's phase has passed. It isn't a call: the service itself makes
+    /// this entry.
     Expire {
         env: EnvNo,
     },
@@ -106,7 +107,7 @@ pub enum Call {
     /// DeleteFunctionConcurrency).
     Reserve {
         function: FnNo,
-        /// How many concurrent invocations to reserve; none removes the reservation.
+        /// How many concurrent invocations to reserve; `None` removes the reservation.
         count: Option<u32>,
     },
 }
@@ -134,7 +135,7 @@ impl Answers {
         Answers { answers }
     }
 
-    /// The pairs.
+    /// Returns the pairs.
     pub fn as_slice(&self) -> &[(Ticket, Answer)]
         ensures { result.now ≡ self.now }
     {
@@ -145,9 +146,9 @@ impl Answers {
 /// One call of the history with what it caused.
 #[derive(Drop)]
 pub struct Entry {
-    /// When it was taken, in milliseconds, at most 2^53 - 1; never before the entry before it.
+    /// When it was taken, in milliseconds, at most 2^53 - 1 and never earlier than its predecessor.
     pub moment: u64,
-    /// The call, an expiry's among them.
+    /// The call, or an expiry.
     pub call: Call,
     /// The answers that it gave, to its own ticket and to older ones that waited.
     pub answers: Answers,

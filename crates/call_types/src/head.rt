@@ -5,7 +5,7 @@ ghost use Rattle.call_types.specs.Heads.{head_of};
 
 use crate::Call;
 
-/// The variant of a call: each is the one of `Call` of the same name.
+/// The variant of a call, by its name in `Call`.
 #[derive(Clone, Copy, Debug, PartialEq, Eq)]
 pub enum Kind {
     Invoke,
@@ -31,14 +31,14 @@ pub enum Kind {
 pub struct Head {
     /// The call's variant.
     pub kind: Kind,
-    /// The number of the call's function or environment, 0 where it names neither.
+    /// The number of the call's function or environment, 0 if it names neither.
     pub number: u32,
-    /// The call's `id`, `ext`, ticket or reservation, where it has one.
+    /// The call's `id`, `ext`, ticket or reservation, if it has one.
     pub count: Option<u64>,
 }
 
 impl Call {
-    /// The call's head.
+    /// Returns the call's head.
     pub fn head(&self) -> Head
         ensures { result ≡ head_of self.now }
     {

@@ -1,4 +1,5 @@
-//! The calls, answers and entries of one account, as types: what a history of them means is told by `call_model`.
+//! The calls, answers and entries of one account, as types. `call_model` defines what a history of
+//! them means.
 #![tactic(auto)]
 
 mod answer;

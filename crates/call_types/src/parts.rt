@@ -18,7 +18,7 @@ impl Call {
         }
     }
 
-    /// The function that the call invokes.
+    /// Returns the function that the call invokes.
     pub fn function(&self) -> Option<FnNo>
         ensures { result ≡ spec.invoked self.now }
     {
@@ -28,7 +28,7 @@ impl Call {
         }
     }
 
-    /// The environment that the call names.
+    /// Returns the environment that the call names.
     pub fn environment(&self) -> Option<EnvNo>
         ensures { result ≡ env_of self.now }
     {
@@ -48,7 +48,7 @@ impl Call {
         }
     }
 
-    /// The bytes of the call, a payload, an output or a report; none where it has none.
+    /// Returns the call's payload, output or report, if it has one.
     pub fn body(&self) -> &[u8]
         ensures { result.now ≡ spec.body_of self.now }
     {

@@ -1,13 +1,14 @@
 -- Rows of items in blocks.
-use Rattle.std.specs.Prelude.{◌≡◌, ℕ, zero, suc, ◌+◌, ◌*◌, ◌<◌, ◌≤◌, ◌^◌, List, [], ◌∷◌, length, map, take, drop, All, vec_items, vec_capacity}
+use Rattle.std.specs.Prelude.{◌≡◌, ℕ, zero, suc, ◌+◌, ◌*◌, ◌<◌, ◌≤◌, ◌^◌, List, [], ◌∷◌, length, map, take, drop, All}
+use Rattle.std.specs.Prelude.{vec_items, vec_capacity}
 use Rattle.std.specs.List.{flat_map}
 use Rattle.std.specs.declared.vec.Vec.{Vec}
 
--- how many items stand in a block
+-- how many items a block has
 abbrev pub block_length : ℕ
 block_length = 1024
 
--- a list cut into so many blocks of one width
+-- a list cut into this many blocks of one width
 abbrev pub cut : {X : Type 0} → ℕ → ℕ → List X → List (List X)
 cut width zero xs = []
 cut width (suc n) xs = take width xs ∷ cut width n (drop width xs)
@@ -22,7 +23,7 @@ pub record AreBlocks {X Z : Type 0} (blocks : List (Vec X Z)) : Type 0 where
   pub within : length (joined blocks) ≤ block_length * length blocks
   pub whole : All (λ block. block_length ≤ vec_capacity block) blocks
 
--- blocks that hold so many items and have room for so many more
+-- blocks that hold these items and have room for this many more
 pub record IsRow {X Z : Type 0} (blocks : List (Vec X Z)) (count : ℕ) (room : ℕ) : Type 0 where
   pub are_blocks : AreBlocks blocks
   pub count_is : count ≡ length (joined blocks)

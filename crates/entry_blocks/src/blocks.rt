@@ -1,18 +1,19 @@
 //! A row of items in blocks, with room made beforehand.
 
-ghost use Rattle.std.specs.Prelude.{◌≡◌, ◌-◌, ◌<◌, ◌≤◌, ◌++◌, ◌∷◌, [], length, vec_len, vec_capacity, OnOk, OnErr, option_copied, slice_get, slice_index_or, slice_set};
+ghost use Rattle.std.specs.Prelude.{◌≡◌, ◌-◌, ◌<◌, ◌≤◌, ◌++◌, ◌∷◌, [], length, vec_len, vec_capacity, OnOk, OnErr};
+ghost use Rattle.std.specs.Prelude.{option_copied, slice_get, slice_index_or, slice_set};
 ghost use Rattle.std.specs.Slice.{IsGetResult, IsItemAt};
 ghost use Rattle.entry_blocks.specs.Rows.{joined, AreBlocks};
 
 use std::alloc::{AllocError, Global};
 use std::marker::Model;
 
-/// How many items stand in a block.
+/// How many items a block has.
 const BLOCK_LENGTH: usize = 1024;
 
-/// Items in the order in which they were appended, in blocks of 1,024. An append moves no item that
-/// stands there. Where the row of the blocks grows, it is copied: 24 bytes for every 1,024 items.
-/// Contracts see the items, and for how many more there is room.
+/// Items in the order in which they were appended, in blocks of 1,024. An append never moves an item.
+/// If the list of the blocks grows, it is copied: 24 bytes for every 1,024 items. Contracts see the
+/// items, and for how many more there is room.
 #[derive(Drop)]
 pub struct Blocks<T> {
     /// Each block is full before the next holds any.
@@ -45,14 +46,14 @@ impl<T> Blocks<T> {
         }
     }
 
-    /// How many items there are.
+    /// Returns the number of items.
     pub fn len(&self) -> usize
         ensures { result ≡ length self.now.0 }
     {
         self.length
     }
 
-    /// The item at an index; none past the last.
+    /// Returns the item at an index, or `None` past the last.
     pub fn get(&self, index: usize) -> Option<&T>
         ensures value { option_copied result ≡ slice_get self.now.0 index }
         ensures item { IsItemAt self.now.0 index result }
@@ -64,7 +65,7 @@ impl<T> Blocks<T> {
         }
     }
 
-    /// The item at an index that is there.
+    /// Returns the item at an index below the number of items.
     pub fn at(&self, index: usize) -> &T
         requires { index < length self.now.0 }
         ensures { (default : T) → result.now ≡ slice_index_or self.now.0 index default }
@@ -72,7 +73,7 @@ impl<T> Blocks<T> {
         &self.blocks[index / BLOCK_LENGTH][index % BLOCK_LENGTH]
     }
 
-    /// The item that was appended last.
+    /// Returns the item that was appended last.
     pub fn last(&self) -> Option<&T>
         ensures value { option_copied result ≡ slice_get self.now.0 (length self.now.0 - 1) }
         ensures item { IsGetResult self.now.0 0 (length self.now.0 - 1) result }
@@ -83,7 +84,7 @@ impl<T> Blocks<T> {
         self.get(self.length - 1)
     }
 
-    /// Gives up the room; the items stay.
+    /// Frees the room for further items, and keeps the items.
     pub fn give_up_room(&mut self)
         ensures { self.new ≡ (self.old.0, 0) }
     {
@@ -92,11 +93,11 @@ impl<T> Blocks<T> {
 }
 
 impl<T: Drop> Blocks<T> {
-    /// Makes room for this many items; a refusal leaves the items and their room. A block is
-    /// reserved whole.
+    /// Makes room for this many more items. A block is reserved whole.
     ///
     /// # Errors
-    /// Where memory is refused, or where a `usize` doesn't count so many items.
+    /// If memory is refused, or if their number is above that of a `usize`. The items and their room
+    /// are then as before.
     pub fn reserve(&mut self, additional: usize) -> Result<(), AllocError>
         ensures items { self.new.0 ≡ self.old.0 }
         ensures made { OnOk result (self.new.1 ≡ additional) }
@@ -108,7 +109,7 @@ impl<T: Drop> Blocks<T> {
         Ok(())
     }
 
-    /// Puts an item in the place of another.
+    /// Replaces an item by another.
     pub fn set(&mut self, index: usize, item: T)
         requires { index < length self.old.0 }
         ensures { self.new ≡ (slice_set self.old.0 index item, self.old.1) }
@@ -116,7 +117,7 @@ impl<T: Drop> Blocks<T> {
         self.blocks[index / BLOCK_LENGTH][index % BLOCK_LENGTH] = item;
     }
 
-    /// Appends an item where there is room.
+    /// Appends an item, for which there is room.
     pub fn push(&mut self, item: T)
         requires { 0 < self.old.1 }
         ensures { self.new ≡ (self.old.0 ++ item ∷ [], self.old.1 - 1) }
@@ -127,7 +128,7 @@ impl<T: Drop> Blocks<T> {
     }
 }
 
-/// Begins blocks up to this many in all.
+/// Adds empty blocks until there are this many.
 fn begin<T: Drop>(blocks: &mut Vec<Vec<T>>, wanted: usize) -> Result<(), AllocError>
     requires { AreBlocks blocks.old.items }
     ensures are_blocks { AreBlocks blocks.new.items }
@@ -143,7 +144,7 @@ fn begin<T: Drop>(blocks: &mut Vec<Vec<T>>, wanted: usize) -> Result<(), AllocEr
     Ok(())
 }
 
-/// Puts an item at the end of a block that isn't full.
+/// Appends an item to a block that isn't full.
 fn put<T: Drop>(block: &mut Vec<T>, item: T)
     requires { vec_len block.old < vec_capacity block.old }
     ensures items { block.new.items ≡ block.old.items ++ item ∷ [] }

@@ -1,4 +1,4 @@
-//! A growing row of things in blocks, so that an append moves nothing that stands there.
+//! An append-only list in blocks: appending never moves an item.
 #![tactic(auto)]
 
 mod blocks;
