@@ -11,7 +11,7 @@ use Rattle.call_model.specs.Limits.{in_flight, reservation, Verdict, Refuses, wh
 use Rattle.concurrency_pool.specs.declared.pool.Usage.{Usage}
 use Rattle.concurrency_pool.specs.Numbers.{Numbers}
 
--- what a function may have and has
+-- a function's limits, and what it has in flight
 abbrev pub usage : Config → List Entry → ℕ → Usage
 usage config h f = record {
   environments = length (function_at config f).slots;
@@ -27,12 +27,12 @@ numbers config h = record {
   functions = map (usage config h) (function_numbers config);
 }
 
--- the verdict where a limit refuses, and where none does
+-- the verdict if a limit refuses, and if none does
 abbrev pub by_throttle : Option Throttle → Option ℕ → Verdict
 by_throttle (Some reason) place = Refuses reason
 by_throttle None place = where_placed place
 
--- what a Reserve is answered that may be taken, and one that may not
+-- the answer to a Reserve that is allowed, and to one that isn't
 abbrev pub by_reserve : Bool → Option ℕ → Answer
 by_reserve false count = Refused BadReservation
 by_reserve true None = Unreserved

@@ -1,6 +1,7 @@
 -- The limits on a function's invocations, from the numbers of a pool.
 -- (Lambda Developer Guide, "Understanding Lambda function scaling", "Configuring reserved concurrency for a function")
-use Rattle.std.specs.Prelude.{ℕ, ◌+◌, ◌-◌, Bool, true, ◌&&◌, if◌then◌else◌, nat_le, map, slice_set, sum_by, Option, Some, None}
+use Rattle.std.specs.Prelude.{ℕ, ◌+◌, ◌-◌, Bool, true, ◌&&◌, if◌then◌else◌, nat_le, map, slice_set, sum_by, Option}
+use Rattle.std.specs.Prelude.{Some, None}
 use Rattle.arn_ids.specs.declared.config.Config.{Config}
 use Rattle.arn_ids.specs.Environments.{numbered}
 use Rattle.call_types.specs.declared.answer.Throttle.{Throttle}
@@ -42,8 +43,8 @@ abbrev pub throttle_by : Numbers → Option ℕ → ℕ → Option Throttle
 throttle_by pool (Some limit) in_flight = if nat_le limit in_flight then Some ByFunction else None
 throttle_by pool None in_flight = if nat_le (remainder pool) (unreserved_in_flight pool) then Some ByAccount else None
 
--- The limit that refuses an invocation: a reserved function is held against its own reservation alone, the others together
--- against the remainder.
+-- The limit that refuses an invocation: for a reserved function its own reservation alone, for the others together
+-- the remainder.
 unfoldable pub throttle : Numbers → ℕ → Option Throttle
 throttle pool f = throttle_by pool (usage_at pool f).reserved (usage_at pool f).in_flight
 
@@ -54,12 +55,15 @@ taken_with pool f count = ((reserved_in_all pool - reserved_by (usage_at pool f)
 -- A reservation is at most the function's environments, and leaves the least remainder to the unreserved functions.
 unfoldable pub may_reserve : Numbers → ℕ → Option ℕ → Bool
 may_reserve pool f None = true
-may_reserve pool f (Some count) = nat_le count (usage_at pool f).environments && nat_le (taken_with pool f count) pool.account_limit
+may_reserve pool f (Some count) =
+    nat_le count (usage_at pool f).environments && nat_le (taken_with pool f count) pool.account_limit
 
 -- the pool with this many in flight of a function
 abbrev pub with_in_flight : Numbers → ℕ → ℕ → Numbers
-with_in_flight pool f n = record pool { functions = slice_set pool.functions (f - 1) (record (usage_at pool f) { in_flight = n }) }
+with_in_flight pool f n =
+    record pool { functions = slice_set pool.functions (f - 1) (record (usage_at pool f) { in_flight = n }) }
 
 -- the pool with this reservation of a function
 abbrev pub with_reserved : Numbers → ℕ → Option ℕ → Numbers
-with_reserved pool f count = record pool { functions = slice_set pool.functions (f - 1) (record (usage_at pool f) { reserved = count }) }
+with_reserved pool f count =
+    record pool { functions = slice_set pool.functions (f - 1) (record (usage_at pool f) { reserved = count }) }

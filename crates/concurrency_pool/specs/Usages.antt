@@ -1,4 +1,4 @@
--- What one function may have and has in flight.
+-- The limits of one function, and what it has in flight.
 use Rattle.std.specs.Prelude.{ℕ, if◌then◌else◌, is_none, length, None}
 use Rattle.arn_ids.specs.declared.config.Function.{Function}
 use Rattle.call_model.specs.Limits.{or_zero}

@@ -1,16 +1,18 @@
-//! The functions of an account by what they may have and what they have in flight. Their totals are
-//! kept beside them, so that a question or a change goes over no other function.
+//! The limits of an account's functions and what they have in flight, with their totals, so that no
+//! question or change visits another function.
 
-ghost use Rattle.std.specs.Prelude.{◌≡◌, ◌+◌, ◌-◌, ◌*◌, ◌^◌, ◌<◌, ◌≤◌, length, slice_set, MatchResult, IfOk, None, Some, true};
+ghost use Rattle.std.specs.Prelude.{◌≡◌, ◌+◌, ◌-◌, ◌*◌, ◌^◌, ◌<◌, ◌≤◌, length, slice_set, MatchResult, IfOk, None};
+ghost use Rattle.std.specs.Prelude.{Some, true};
 ghost use Rattle.concurrency_pool.specs.Usages.{usage_of, reserved_by, unreserved_by};
-ghost use Rattle.concurrency_pool.specs.Pools.{usage_at, opened, reserved_in_all, remainder, in_flight_in_all, throttle, taken_with, may_reserve, with_in_flight, with_reserved};
+ghost use Rattle.concurrency_pool.specs.Pools.{usage_at, opened, reserved_in_all, remainder, in_flight_in_all};
+ghost use Rattle.concurrency_pool.specs.Pools.{throttle, taken_with, may_reserve, with_in_flight, with_reserved};
 
 use arn_ids::{Checked, FnNo, Function};
 use call_model::Throttle;
 use std::alloc::{AllocError, Global};
 use std::marker::Model;
 
-/// What a function may have and what it has in flight.
+/// A function's limits, and what it has in flight.
 #[derive(Clone, Copy)]
 pub struct Usage {
     /// How many environments it has.
@@ -26,9 +28,8 @@ pub struct Usage {
 /// (Lambda Developer Guide, "Understanding Lambda function scaling", "Configuring reserved
 /// concurrency for a function")
 ///
-/// It is seen as a record of the limits and of the functions in the order of their numbers. The
-/// totals beside them are the sums over the functions: only [`Pool::open`] goes over all of them and
-/// takes memory.
+/// Contracts see a record of the limits and of the functions in the order of their numbers. The
+/// totals are the sums over the functions. Only [`Pool::open`] visits all functions and takes memory.
 #[derive(Drop)]
 pub struct Pool {
     account_limit: u32,
@@ -49,20 +50,28 @@ impl Model for Pool {
 
     ghost use Rattle.concurrency_pool.specs.Totals.{AreTotals};
 
-    ghost view = { λ pool. record { account_limit = pool.account_limit; least_remainder = pool.least_remainder; functions = pool.functions.items } };
+    ghost view = { λ pool. record {
+      account_limit = pool.account_limit;
+      least_remainder = pool.least_remainder;
+      functions = pool.functions.items;
+    } };
 
-    ghost invariant = { λ pool. AreTotals (record { account_limit = pool.account_limit; least_remainder = pool.least_remainder; functions = pool.functions.items }) pool.reserved pool.unreserved pool.in_flight };
+    ghost invariant = { λ pool. AreTotals (record {
+      account_limit = pool.account_limit;
+      least_remainder = pool.least_remainder;
+      functions = pool.functions.items;
+    }) pool.reserved pool.unreserved pool.in_flight };
 }
 
 impl Usage {
-    /// What it takes of the account's limit.
+    /// Returns what it takes of the account's limit.
     fn taken_of_limit(&self) -> u32
         ensures { result ≡ reserved_by self.now }
     {
         self.reserved.unwrap_or(0)
     }
 
-    /// What it has in flight of the remainder.
+    /// Returns what it has in flight of the remainder.
     fn taken_of_remainder(&self) -> u32
         ensures { result ≡ unreserved_by self.now }
     {
@@ -74,7 +83,7 @@ impl Usage {
     }
 }
 
-/// What a function has before any invocation.
+/// Returns the usage of a function before any invocation.
 fn unused(function: &Function) -> Usage
     ensures { result ≡ usage_of function.now }
 {
@@ -85,7 +94,7 @@ fn unused(function: &Function) -> Usage
     }
 }
 
-/// A total with a part in place of its last one.
+/// Returns a total in which a part is replaced.
 fn moved(total: u64, last: u32, part: u32) -> u64
     requires within { last ≤ total }
     requires fits { total ≤ 64 * 2 ^ 32 }
@@ -95,10 +104,10 @@ fn moved(total: u64, last: u32, part: u32) -> u64
 }
 
 impl Pool {
-    /// The pool of a configuration, with its reservations and nothing in flight.
+    /// Returns the pool of a configuration, with its reservations and nothing in flight.
     ///
     /// # Errors
-    /// Only where memory is refused.
+    /// Only if memory is refused.
     pub fn open(alloc: Global, config: &Checked) -> Result<Pool, AllocError>
         ensures { IfOk result (λ pool. pool ≡ opened config.now) }
     {
@@ -119,25 +128,25 @@ impl Pool {
         })
     }
 
-    /// How many functions there are.
+    /// Returns the number of functions.
     pub fn functions(&self) -> u32
         ensures { result ≡ length self.now.functions }
     {
         self.functions.len() as u32
     }
 
-    /// Whether the limits admit one more invocation of a function. It takes the same time however
-    /// many functions there are.
+    /// Tests whether the limits admit one more invocation of a function, in constant time.
     ///
     /// # Errors
-    /// [`Throttle::Function`] where the function has a reservation and as many in flight or more,
-    /// [`Throttle::Account`] where it has none and the functions without one have together as many
-    /// in flight as the reservations leave of the account's limit, or more.
+    /// [`Throttle::Function`] if the function has a reservation and at least that many in flight;
+    /// [`Throttle::Account`] if it has none, and the functions without one together have at least as
+    /// many in flight as the reservations leave of the account's limit.
     #[tactic(auto, unfolding(crate::specs::Pools::throttle))]
     pub fn may_admit(&self, function: FnNo) -> Result<(), Throttle>
         requires from_one { 1 ≤ function }
         requires there { function ≤ length self.now.functions }
-        ensures { MatchResult result (λ _. throttle self.now function ≡ None) (λ reason. throttle self.now function ≡ Some reason) }
+        ensures { MatchResult result (λ _. throttle self.now function ≡ None)
+            (λ reason. throttle self.now function ≡ Some reason) }
     {
         let usage = self.usage(function);
         match usage.reserved {
@@ -162,7 +171,7 @@ impl Pool {
         self.put(function, one_more);
     }
 
-    /// Counts one invocation less of a function that has some in flight.
+    /// Counts one invocation less of a function that has at least one in flight.
     pub fn release(&mut self, function: FnNo)
         requires from_one { 1 ≤ function }
         requires there { function ≤ length self.old.functions }
@@ -177,7 +186,7 @@ impl Pool {
         self.put(function, one_less);
     }
 
-    /// How many invocations of a function are in flight: the charges less the releases.
+    /// Returns how many invocations of a function are in flight: its charges less its releases.
     pub fn in_flight(&self, function: FnNo) -> u32
         requires from_one { 1 ≤ function }
         requires there { function ≤ length self.now.functions }
@@ -186,14 +195,14 @@ impl Pool {
         self.usage(function).in_flight
     }
 
-    /// How many invocations are in flight of all functions together.
+    /// Returns how many invocations of all functions are in flight.
     pub fn in_flight_in_all(&self) -> u64
         ensures { result ≡ in_flight_in_all self.now }
     {
         self.in_flight
     }
 
-    /// A function's reservation in force.
+    /// Returns a function's reservation in force.
     pub fn reservation(&self, function: FnNo) -> Option<u32>
         requires from_one { 1 ≤ function }
         requires there { function ≤ length self.now.functions }
@@ -203,7 +212,7 @@ impl Pool {
     }
 
     /// Whether a reservation is at most the function's environments, and leaves the least remainder
-    /// to the functions without one. None always may.
+    /// to the functions without one. `None` is always allowed.
     /// (PutFunctionConcurrency: at least 100 stay unreserved)
     #[tactic(auto, unfolding(crate::specs::Pools::may_reserve))]
     pub fn may_reserve(&self, function: FnNo, count: Option<u32>) -> bool
@@ -221,8 +230,8 @@ impl Pool {
         count as usize <= usage.environments && kept <= u64::from(self.account_limit)
     }
 
-    /// Puts a reservation in force that the pool may take, or none, in place of the function's last
-    /// one. What is in flight stays, also where that is more than the new reservation.
+    /// Sets or removes a function's reservation, as [`Pool::may_reserve`] allows. What is in flight
+    /// stays, even if that is more than the new reservation.
     /// (PutFunctionConcurrency, DeleteFunctionConcurrency)
     pub fn reserve(&mut self, function: FnNo, count: Option<u32>)
         requires from_one { 1 ≤ function }
@@ -238,7 +247,7 @@ impl Pool {
         self.put(function, limited);
     }
 
-    /// What a function may have and has.
+    /// Returns a function's limits, and what it has in flight.
     fn usage(&self, function: FnNo) -> Usage
         requires from_one { 1 ≤ function }
         requires there { function ≤ length self.now.functions }
@@ -249,12 +258,13 @@ impl Pool {
         self.functions[function as usize - 1]
     }
 
-    /// Puts a function's numbers in place of its last ones, and what they add into the totals. A
-    /// greater reservation has to leave the least remainder.
+    /// Replaces a function's numbers, and updates the totals. A greater reservation has to leave the
+    /// least remainder.
     fn put(&mut self, function: FnNo, usage: Usage)
         requires from_one { 1 ≤ function }
         requires there { function ≤ length self.old.functions }
-        requires leaves { reserved_by (usage_at self.old function) < reserved_by usage → taken_with self.old function (reserved_by usage) ≤ self.old.account_limit }
+        requires leaves { reserved_by (usage_at self.old function) < reserved_by usage
+            → taken_with self.old function (reserved_by usage) ≤ self.old.account_limit }
         ensures { self.new ≡ record self.old { functions = slice_set self.old.functions (function - 1) usage } }
     {
         let last = self.usage(function);
@@ -268,7 +278,7 @@ impl Pool {
         self.in_flight = moved(self.in_flight, last.in_flight, usage.in_flight);
     }
 
-    /// What the reservations leave of the account's limit.
+    /// Returns what the reservations leave of the account's limit.
     fn remainder(&self) -> u64
         ensures { result ≡ remainder self.now }
     {
