@@ -1,37 +1,37 @@
-pub mod Awaiting
-pub mod BeforeCalls
-pub mod Concerned
-pub mod EntryAnswers
-pub mod EntryMoves
-pub mod EntryExtent
-pub mod Expiring
-pub mod Extent
-pub mod FleetMeets
-pub mod GivenAnswers
-pub mod Flown
-pub mod InForce
-pub mod Indexed
-pub mod LedgerKept
-pub mod Loops
-pub mod Merging
-pub mod Newly
-pub mod RequestCounts
-pub mod Verdicts
-pub mod Visiting
-pub mod Visits
+mod Awaiting
+mod BeforeCalls
+mod Concerned
+mod EntryAnswers
+mod EntryMoves
+mod EntryExtent
+mod Expiring
+mod Extent
+mod FleetMeets
+mod GivenAnswers
+mod Flown
+mod InForce
+mod Indexed
+mod LedgerKept
+mod Loops
+mod Merging
+mod Newly
+mod RequestCounts
+mod Verdicts
+mod Visiting
+mod Visits
 -- The room of the journal.
-pub mod RoomMeets
+mod RoomMeets
 -- A history's text is replayed to that history.
 pub mod LineEnds
-pub mod FormsAgree
-pub mod HistoryLines
-pub mod TextParts
-pub mod GoingOn
-pub mod AnswersStay
+mod FormsAgree
+mod HistoryLines
+mod TextParts
+mod GoingOn
+mod AnswersStay
 pub mod Reaching
-pub mod Replaying
-pub mod WholeText
+mod Replaying
+mod WholeText
 -- What a reply is made of.
-pub mod Rendered
+mod Rendered
 -- A reserved function gets the replies that it would get alone.
 pub mod Isolating

@@ -1,8 +1,8 @@
 pub mod Repeats
 pub mod Counting
 pub mod Bounds
-pub mod WordsRead
-pub mod Parts
-pub mod Arns
+mod WordsRead
+mod Parts
+mod Arns
 pub mod Printable
 pub mod Pieces

@@ -20,42 +20,42 @@ pub mod BoundWaits
 pub mod Lives
 pub mod Charges
 pub mod Flight
-pub mod FlightStep
+mod FlightStep
 -- The limits of admissions.
 pub mod AdmissionLimits
 pub mod NoLocalRefusal
 -- Deliveries: what an entry answers by the table, what a Busy that begins delivers, and that this is once.
-pub mod FirstPhase
+mod FirstPhase
 pub mod FirstAnswers
-pub mod GivenCounts
-pub mod DeliveredOnce
+mod GivenCounts
+mod DeliveredOnce
 -- Parked Nexts: whose they are, where they stand, and that an Idle environment has one.
-pub mod NextsHome
+mod NextsHome
 pub mod Roles
-pub mod ParkedRoles
-pub mod OpenStays
-pub mod ParkedNexts
-pub mod IdleParked
+mod ParkedRoles
+mod OpenStays
+mod ParkedNexts
+mod IdleParked
 -- Outcomes come after their delivery.
-pub mod BusyDelivered
-pub mod OutcomeDelivered
+mod BusyDelivered
+mod OutcomeDelivered
 pub mod SafeLaws
 -- What is due, and the next history.
-pub mod DueList
+mod DueList
 pub mod NextLegal
 pub mod Added
 -- Isolation: what a function would see alone.
 pub mod OwnTickets
-pub mod TwinHistories
-pub mod OwnHistory
-pub mod OwnEvents
-pub mod OwnStands
-pub mod OwnVerdict
-pub mod OwnAnswers
+mod TwinHistories
+mod OwnHistory
+mod OwnEvents
+mod OwnStands
+mod OwnVerdict
+mod OwnAnswers
 pub mod OwnLegal
 pub mod OwnTexts
 pub mod NamedTickets
 -- The calls and the counts of a history, by ticket.
 pub mod PastLemmas
 -- Histories that show what the laws need.
-pub mod Witness
+mod Witness

@@ -1,4 +1,4 @@
 pub mod Numbered
-pub mod Leaves
-pub mod Totals
+mod Leaves
+mod Totals
 pub mod History

@@ -1,2 +1,2 @@
-pub mod Cuts
-pub mod Kept
+mod Cuts
+mod Kept

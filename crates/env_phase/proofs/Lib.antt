@@ -1,14 +1,14 @@
 -- The table as the code reads it.
-pub mod Tests
+mod Tests
 -- The first stage of each call, as the code makes it.
-pub mod Turns
-pub mod Welcome
+mod Turns
+mod Welcome
 -- What comes after each entry.
-pub mod NoneServed
+mod NoneServed
 -- How many answers and extensions there are.
-pub mod Room
+mod Room
 pub mod Extent
 -- The stand after every history.
 pub mod Homes
-pub mod Waiting
+mod Waiting
 pub mod Meets

@@ -1,5 +1,5 @@
-pub mod Lists
+mod Lists
 pub mod Lengths
 pub mod PutInPlace
-pub mod NumberedInPlace
-pub mod EachExtension
+mod NumberedInPlace
+mod EachExtension

@@ -1,2 +1,2 @@
-pub mod Fates
-pub mod Holding
+mod Fates
+mod Holding

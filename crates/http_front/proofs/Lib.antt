@@ -1,4 +1,4 @@
-pub mod PortLemmas
-pub mod Answering
-pub mod Fronts
-pub mod AtDoors
+mod PortLemmas
+mod Answering
+mod Fronts
+mod AtDoors

@@ -1,7 +1,7 @@
-pub mod PathLemmas
-pub mod RouteLemmas
-pub mod HeadLemmas
-pub mod Within
-pub mod Allowed
-pub mod TooLong
-pub mod ParamRoutes
+mod PathLemmas
+mod RouteLemmas
+mod HeadLemmas
+mod Within
+mod Allowed
+mod TooLong
+mod ParamRoutes

@@ -1,12 +1,12 @@
-pub mod Parsed
-pub mod Each
-pub mod MembersLemmas
-pub mod Whole
-pub mod Again
+mod Parsed
+mod Each
+mod MembersLemmas
+mod Whole
+mod Again
 pub mod PlainText
-pub mod TextAgain
+mod TextAgain
 pub mod SetupAgain
-pub mod BodyTexts
-pub mod ObjectParts
-pub mod FieldValues
-pub mod JsonPartsLemmas
+mod BodyTexts
+mod ObjectParts
+mod FieldValues
+mod JsonPartsLemmas

@@ -1,8 +1,8 @@
 -- What is read of a body, one frame more at a time.
-pub mod Frames
+mod Frames
 -- What an exchange gives, from where it stands.
-pub mod Beginnings
+mod Beginnings
 -- The compact text of the counts' value.
-pub mod StatsText
+mod StatsText
 -- What the relations of an account say of the reply to a call.
-pub mod Replying
+mod Replying

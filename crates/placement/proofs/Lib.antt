@@ -1,5 +1,5 @@
 pub mod Numbered
 pub mod Lowest
-pub mod Bits
-pub mod First
-pub mod Noted
+mod Bits
+mod First
+mod Noted

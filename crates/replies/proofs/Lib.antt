@@ -1,2 +1,2 @@
-pub mod FieldValues
-pub mod NoFunction
+mod FieldValues
+mod NoFunction

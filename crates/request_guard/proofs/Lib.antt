@@ -1,2 +1,2 @@
-pub mod PageFields
-pub mod Passed
+mod PageFields
+mod Passed

@@ -1,10 +1,10 @@
-pub mod TextFieldLemmas
-pub mod FieldLemmas
-pub mod WritingLemmas
-pub mod CallLemmas
-pub mod WithinLemmas
-pub mod NumberLemmas
-pub mod SplitLemmas
+mod TextFieldLemmas
+mod FieldLemmas
+mod WritingLemmas
+mod CallLemmas
+mod WithinLemmas
+mod NumberLemmas
+mod SplitLemmas
 pub mod ReadAgain
 pub mod WordBounds
 pub mod LineBounds

@@ -1,7 +1,7 @@
-pub mod Written
-pub mod Composing
-pub mod LineEnds
-pub mod LongLines
-pub mod Feeding
-pub mod ReadingOn
-pub mod AddedEntries
+mod Written
+mod Composing
+mod LineEnds
+mod LongLines
+mod Feeding
+mod ReadingOn
+mod AddedEntries

@@ -1,1 +1,1 @@
-pub mod Appending
+mod Appending
