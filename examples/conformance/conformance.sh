@@ -1,5 +1,6 @@
 # The handler that `tools/conformance runtime` expects, for examples/runtime.sh: _HANDLER=conformance.handler. It relies
 # on the kit's events, which are compact, `do` first and `value` last.
+# shellcheck shell=sh
 
 handler() {
   case $1 in '{"do":"'*) ;; *) printf '%s' "$1" && return ;; esac
