@@ -8,8 +8,8 @@
 //   ADDRESS  the environment's, such as 127.0.0.1:9001 (default: AWS_LAMBDA_RUNTIME_API, else this one)
 //
 // A handler is async, or calls back. What it throws is printed, and reported with its trace. An Init that fails is
-// reported too, and ends the runtime with status 1. It ends with 0 once its environment shuts down: whoever started it
-// starts it again, as Lambda does.
+// reported too, and ends the runtime with status 1. It ends with 0 once its environment shuts down: start it again
+// then, as Lambda does.
 import { spawnSync } from "node:child_process";
 import fs from "node:fs";
 import http from "node:http";
