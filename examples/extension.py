@@ -1,6 +1,6 @@
 #!/usr/bin/env python3
-"""An extension of one environment: is told each invocation and the shutdown, and prints what it is told.
-Start it before the environment's runtime: once the environment has become idle, nobody registers.
+"""An extension of one environment: it is notified of each invocation and of the shutdown, and prints these events.
+Start it before the environment's runtime: once the environment has become idle, no extension can register.
 
 usage: examples/extension.py [ADDRESS]   (the environment's: default AWS_LAMBDA_RUNTIME_API, else 127.0.0.1:9001)"""
 import contextlib

@@ -10,4 +10,5 @@ case $payload in
 *[!a-z0-9._]*) ;;
 *) test ! -f "$sample" || payload=@$sample ;;
 esac
-exec curl --silent --show-error --include --data-binary "$payload" "http://$address/2015-03-31/functions/$name/invocations"
+exec curl --silent --show-error --include --data-binary "$payload" \
+  "http://$address/2015-03-31/functions/$name/invocations"

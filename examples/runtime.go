@@ -1,4 +1,4 @@
-// A runtime in Go, with nothing but its standard library: asks for an invocation, calls the handler, posts what it gave.
+// A runtime in Go, with nothing but its standard library: asks for an invocation, calls the handler, posts its output.
 //
 // usage: go run examples/runtime.go   (the address: AWS_LAMBDA_RUNTIME_API, else 127.0.0.1:9001)
 package main

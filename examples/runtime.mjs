@@ -8,8 +8,8 @@
 //   ADDRESS  the environment's, such as 127.0.0.1:9001 (default: AWS_LAMBDA_RUNTIME_API, else this one)
 //
 // A handler is async, or calls back. What it throws is printed, and reported with its trace. An Init that fails is
-// reported too, and ends the runtime with status 1. It ends with 0 once its environment shuts down: whoever started it
-// starts it again, as Lambda does.
+// reported too, and ends the runtime with status 1. It ends with 0 once its environment shuts down: start it again
+// then, as Lambda does.
 import { spawnSync } from "node:child_process";
 import fs from "node:fs";
 import http from "node:http";
@@ -19,7 +19,8 @@ import { pathToFileURL } from "node:url";
 import util from "node:util";
 
 const RUNTIME = "/2018-06-01/runtime/";
-const MESSAGE_LIMIT = 100_000; // characters: a report of more than 6 MiB is refused, and its caller waits for the timeout
+// In characters: a report of more than 6 MiB is refused, and its caller waits for the timeout.
+const MESSAGE_LIMIT = 100_000;
 
 const words = process.argv.slice(2);
 const isAddress = (word) => /:\d+$/.test(word);
@@ -52,8 +53,9 @@ async function ask(...request) {
 function askOnce(method, route, body = "", headers = {}) {
   const [host, port] = [ADDRESS.slice(0, ADDRESS.lastIndexOf(":")), ADDRESS.slice(ADDRESS.lastIndexOf(":") + 1)];
   const length = method === "POST" ? { "Content-Length": Buffer.byteLength(body) } : {};
+  const options = { host, port, method, path: RUNTIME + route, agent, headers: { ...headers, ...length } };
   return new Promise((resolve, reject) => {
-    const request = http.request({ host, port, method, path: RUNTIME + route, agent, headers: { ...headers, ...length } }, (reply) => {
+    const request = http.request(options, (reply) => {
       const parts = [];
       reply.on("data", (part) => parts.push(part));
       reply.on("error", reject);
@@ -91,10 +93,12 @@ function typeHeader(report) {
 
 // The trace ends before this program's own frames.
 function printTrace(fault) {
-  for (let [each, depth] = [fault, 0]; util.types.isNativeError(each) && depth < 10; [each, depth] = [each.cause, depth + 1]) {
+  let each = fault;
+  for (let depth = 0; util.types.isNativeError(each) && depth < 10; depth += 1) {
     const lines = String(each.stack).split("\n");
     const own = lines.findIndex((line) => line.includes(import.meta.url));
     Reflect.set(each, "stack", (own < 0 ? lines : lines.slice(0, own)).join("\n"));
+    each = each.cause;
   }
   console.error(fault instanceof RuntimeFault ? fault.stack : fault);
 }
@@ -104,7 +108,9 @@ function printTrace(fault) {
 // Whether the nearest package.json says so.
 function isOfTypeModule(folder) {
   const [file, above] = [path.join(folder, "package.json"), path.dirname(folder)];
-  if (!fs.existsSync(file)) return path.basename(folder) !== "node_modules" && above !== folder && isOfTypeModule(above);
+  if (!fs.existsSync(file)) {
+    return path.basename(folder) !== "node_modules" && above !== folder && isOfTypeModule(above);
+  }
   try {
     return JSON.parse(fs.readFileSync(file))?.type === "module";
   } catch (fault) {
@@ -115,13 +121,14 @@ function isOfTypeModule(folder) {
 
 // The file of a module, in the order in which Lambda looks, and whether it is an ES module.
 function fileOf(base) {
-  const ending = ["", ".js", ".mjs", ".cjs"].find((ending) => fs.statSync(base + ending, { throwIfNoEntry: false })?.isFile());
+  const isFile = (name) => fs.statSync(name, { throwIfNoEntry: false })?.isFile();
+  const ending = ["", ".js", ".mjs", ".cjs"].find((each) => isFile(base + each));
   if (ending === undefined) return { file: fs.existsSync(base) ? base : undefined, isES: false };
   return { file: base + ending, isES: ending === ".mjs" || (ending === ".js" && isOfTypeModule(path.dirname(base))) };
 }
 
-// The place of a SyntaxError and its line: of CommonJS its stack begins with them, of an ES module Node's own check says
-// them.
+// The place of a SyntaxError and its line: a CommonJS module's stack begins with them, and for an ES module Node's own
+// check prints them.
 function placeOf(fault, file, isES) {
   const said = isES ? spawnSync(process.execPath, ["--check", file], { encoding: "utf8" }).stderr : fault.stack;
   return (said ?? "").split("\n\n")[0];
@@ -133,7 +140,9 @@ async function moduleOf(folder, name) {
     if (isES) return await import(pathToFileURL(file));
     return require(file ?? require.resolve(name, { paths: [ROOT, path.resolve(ROOT, folder)] }));
   } catch (cause) {
-    if (cause instanceof SyntaxError) throw new RuntimeFault("UserCodeSyntaxError", String(cause), { lines: placeOf(cause, file, isES) });
+    if (cause instanceof SyntaxError) {
+      throw new RuntimeFault("UserCodeSyntaxError", String(cause), { lines: placeOf(cause, file, isES) });
+    }
     if (cause?.code === "MODULE_NOT_FOUND") throw new RuntimeFault("ImportModuleError", String(cause), { cause });
     throw cause;
   }
@@ -162,7 +171,9 @@ const greet = async (event) => ({ greeting: `Hello, ${event.name ?? "world"}!` }
 let whenUncaught = failInit;
 let whenEmpty = () => {};
 process.on("uncaughtException", (fault) => whenUncaught(fault, 129));
-process.on("unhandledRejection", (cause) => whenUncaught(new RuntimeFault("UnhandledPromiseRejection", String(cause), { cause }), 128));
+process.on("unhandledRejection", (cause) => {
+  whenUncaught(new RuntimeFault("UnhandledPromiseRejection", String(cause), { cause }), 128);
+});
 process.on("beforeExit", () => whenEmpty());
 
 // What a handler may ask of its invocation (Developer Guide, "Using the Lambda context object to retrieve Node.js
@@ -191,10 +202,14 @@ function contextOf(headers, done) {
 // The handler's output, and whether the event loop must run empty before the next invocation comes.
 function outputOf(handler, text, headers) {
   return new Promise((resolve, reject) => {
-    const end = (fault, output, waits) => (fault === null || fault === undefined ? resolve({ output, waits }) : reject(fault));
+    const end = (fault, output, waits) => {
+      if (fault === null || fault === undefined) resolve({ output, waits });
+      else reject(fault);
+    };
     const context = contextOf(headers, (fault, output) => end(fault, output, false));
+    const callback = (fault, output) => end(fault, output, context.callbackWaitsForEmptyEventLoop);
     whenEmpty = () => end(null, null, false); // nothing is left that could answer
-    const result = handler(JSON.parse(text), context, (fault, output) => end(fault, output, context.callbackWaitsForEmptyEventLoop));
+    const result = handler(JSON.parse(text), context, callback);
     if (typeof result?.then === "function") result.then(context.succeed, context.fail);
   });
 }
@@ -255,13 +270,15 @@ async function failInit(fault) {
 
 function tellUnreachable(fault) {
   if (hasAnswered) return process.exit(0); // the service has stopped
-  console.error(`runtime.mjs: no Runtime API at ${ADDRESS}: ${fault.message}: start the service first, and name its environment's port`);
+  const advice = "start the service first, and name its environment's port";
+  console.error(`runtime.mjs: no Runtime API at ${ADDRESS}: ${fault.message}: ${advice}`);
   process.exit(1);
 }
 
 function tellUsage(status) {
   const lines = fs.readFileSync(new URL(import.meta.url), "utf8").split("\n").slice(1);
-  console.log(lines.slice(0, lines.findIndex((line) => !line.startsWith("//"))).map((line) => line.slice(3)).join("\n"));
+  const head = lines.slice(0, lines.findIndex((line) => !line.startsWith("//")));
+  console.log(head.map((line) => line.slice(3)).join("\n"));
   process.exit(status);
 }
 

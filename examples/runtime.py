@@ -7,7 +7,7 @@ usage: examples/runtime.py [HANDLER] [ADDRESS]
   ADDRESS  the environment's, such as 127.0.0.1:9001 (default: AWS_LAMBDA_RUNTIME_API, else this one)
 
 What a handler raises is printed, and reported with its stack. An Init that fails is reported too, and ends the runtime
-with status 1. It ends with 0 once its environment shuts down: whoever started it starts it again, as Lambda does."""
+with status 1. It ends with 0 once its environment shuts down: start it again then, as Lambda does."""
 import decimal
 import http.client
 import inspect

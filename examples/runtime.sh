@@ -1,7 +1,7 @@
 #!/bin/sh
 # A runtime in shell, with curl alone, as the bootstrap of AWS's tutorial "Building a custom runtime": the handler
 # function.handler is the shell function `handler` of function.sh. It is given the event, and prints its output. If its
-# status is not 0, that is the invocation's error, and what it prints is the report, if it prints one. The headers of the
+# status is not 0, that is the invocation's error, and what it prints, if anything, is the report. The headers of the
 # invocation are in $head: `header Lambda-Runtime-Deadline-Ms` prints one.
 #
 # usage: _HANDLER=function.handler examples/runtime.sh   (without _HANDLER it greets; AWS_LAMBDA_RUNTIME_API has the

@@ -77,7 +77,11 @@ static double now(void) {
 }
 
 static int dial(int port) {
-    struct sockaddr_in address = {.sin_family = AF_INET, .sin_port = htons(port), .sin_addr.s_addr = htonl(INADDR_LOOPBACK)};
+    struct sockaddr_in address = {
+        .sin_family = AF_INET,
+        .sin_port = htons(port),
+        .sin_addr.s_addr = htonl(INADDR_LOOPBACK),
+    };
     struct timeval patience = {PATIENCE, 0};
     int s = socket(AF_INET, SOCK_STREAM, 0), one = 1;
     if (s < 0) fail("no socket: %s", strerror(errno));
@@ -132,7 +136,8 @@ static struct answer hear(int s, char *buffer) {
     if (id) sscanf(id + 32, " %63[^\r]", a.id);
     if (a.length > largest + SPARE) fail("an answer of %zu bytes, and at most %zu were sent", a.length, largest);
     size_t body = have - (end + 4 - head);
-    if (body > a.length) fail("an answer of %zu bytes is followed by %zu that nobody asked for", a.length, body - a.length);
+    if (body > a.length)
+        fail("an answer of %zu bytes is followed by %zu that nobody asked for", a.length, body - a.length);
     memcpy(buffer, end + 4, body);
     while (body < a.length) {
         ssize_t got = recv(s, buffer + body, a.length - body, 0);
@@ -142,8 +147,14 @@ static struct answer hear(int s, char *buffer) {
     return a;
 }
 
+/* How many bytes of an answer's body a message shows. */
+static int shown(struct answer a) {
+    return a.length < 300 ? (int)a.length : 300;
+}
+
 static void want(const char *what, struct answer a, int status, const char *body) {
-    if (a.status != status) fail("%s: status %d, and %d is expected: %.*s", what, a.status, status, (int)(a.length < 300 ? a.length : 300), body);
+    if (a.status != status)
+        fail("%s: status %d, and %d is expected: %.*s", what, a.status, status, shown(a), body);
 }
 
 static char *room(void) {
@@ -185,8 +196,10 @@ static double invoke(int s, char *buffer, const char *sent, size_t size, int who
         double seconds = now() - begun;
         if (a.status != 429) {
             want("an invocation", a, 200, buffer);
-            if (a.length != size) fail("an output of %zu bytes for a payload of %zu: %.*s", a.length, size, (int)(a.length < 300 ? a.length : 300), buffer);
-            if (whole ? memcmp(buffer, sent, size) : buffer[size - 1] != '"') fail("an output of %zu bytes is not the payload", size);
+            if (a.length != size)
+                fail("an output of %zu bytes for a payload of %zu: %.*s", a.length, size, shown(a), buffer);
+            if (whole ? memcmp(buffer, sent, size) : buffer[size - 1] != '"')
+                fail("an output of %zu bytes is not the payload", size);
             return seconds;
         }
         __sync_fetch_and_add(&throttles, 1);
@@ -201,7 +214,8 @@ static void *run_caller(void *argument) {
     pthread_barrier_wait(&warm);
     pthread_barrier_wait(&begin);
     long turn;
-    while ((turn = __sync_fetch_and_add(&next_turn, 1)) < invocations) took[turn] = invoke(s, buffer, payload, largest, 0);
+    while ((turn = __sync_fetch_and_add(&next_turn, 1)) < invocations)
+        took[turn] = invoke(s, buffer, payload, largest, 0);
     return 0;
 }
 
@@ -287,7 +301,8 @@ static void beside(long larges, long smalls) {
     long count = 0;
     while (count < smalls && !*(volatile int *)&large_is_done) took[count++] = invoke(s, buffer, small, SMALL, 0);
     double seconds = now() - begun;
-    if (larges && !large_is_done) fail("%ld invocations of %d B were done before %ld large ones", smalls, SMALL, larges);
+    if (larges && !large_is_done)
+        fail("%ld invocations of %d B were done before %ld large ones", smalls, SMALL, larges);
     if (larges) pthread_join(large, 0);
     qsort(took, count, sizeof *took, by_size);
     printf("%ld %.1f %.1f %.2f\n", count, micros(count, 50), micros(count, 99), larges / seconds);
@@ -297,7 +312,14 @@ static void beside(long larges, long smalls) {
 /* Registers an extension; gives what identifies it. A service without extensions says 404: then nothing does. */
 static void register_extension(int s, int number, char *id) {
     char head[512];
-    int length = snprintf(head, sizeof head, "POST /2020-01-01/extension/register HTTP/1.1\r\nHost: h\r\nLambda-Extension-Name: e%d\r\nContent-Length: 2\r\n\r\n{}", number);
+    int length = snprintf(head, sizeof head,
+                          "POST /2020-01-01/extension/register HTTP/1.1\r\n"
+                          "Host: h\r\n"
+                          "Lambda-Extension-Name: e%d\r\n"
+                          "Content-Length: 2\r\n"
+                          "\r\n"
+                          "{}",
+                          number);
     send_all(s, head, length);
     char answer[4096];
     ssize_t got = recv(s, answer, sizeof answer - 1, 0);
@@ -319,7 +341,12 @@ static void park(int extensions) {
         for (int x = 1; x <= extensions; x++) {
             int s = dial(invoke_port + e);
             register_extension(s, x, id);
-            int length = snprintf(request, sizeof request, "GET /2020-01-01/extension/event/next HTTP/1.1\r\nHost: h\r\nLambda-Extension-Identifier: %s\r\n\r\n", id);
+            int length = snprintf(request, sizeof request,
+                                  "GET /2020-01-01/extension/event/next HTTP/1.1\r\n"
+                                  "Host: h\r\n"
+                                  "Lambda-Extension-Identifier: %s\r\n"
+                                  "\r\n",
+                                  id);
             send_all(s, request, length);
             sockets[at++] = (struct pollfd){s, POLLIN, 0};
         }
@@ -370,7 +397,8 @@ int main(int count, char **words) {
     invoke_port = given[0];
     environments = given[1];
     largest = 8192;
-    if (count == 6 && !strcmp(words[1], "round") && is_between(1, given[1], MOST_ENVIRONMENTS) && given[2] >= 2 && given[3] >= 1) {
+    if (count == 6 && !strcmp(words[1], "round") &&
+        is_between(1, given[1], MOST_ENVIRONMENTS) && given[2] >= 2 && given[3] >= 1) {
         largest = given[2];
         invocations = given[3];
         round_trips();
@@ -382,6 +410,7 @@ int main(int count, char **words) {
     } else if (count == 5 && !strcmp(words[1], "short") && is_between(1, given[2], MOST_CALLERS)) {
         short_connections(given[1], given[2]);
     }
-    fprintf(stderr, "usage: load round PORT ENVIRONMENTS SIZE INVOCATIONS | beside PORT LARGE LARGES SMALLS | park PORT ENVIRONMENTS EXTENSIONS | short PORT COUNT CALLERS\n");
+    fprintf(stderr, "usage: load round PORT ENVIRONMENTS SIZE INVOCATIONS | beside PORT LARGE LARGES SMALLS"
+                    " | park PORT ENVIRONMENTS EXTENSIONS | short PORT COUNT CALLERS\n");
     return 2;
 }

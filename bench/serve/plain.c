@@ -73,7 +73,9 @@ static int send_all(int socket, const char *bytes, size_t size, int flags) {
 
 static int reply(struct connection *c, int status, const char *headers, const char *body, size_t size) {
     char head[512];
-    int length = snprintf(head, sizeof head, "HTTP/1.1 %d X\r\nContent-Type: application/json\r\n%sContent-Length: %zu\r\n\r\n", status, headers, size);
+    int length = snprintf(head, sizeof head,
+                          "HTTP/1.1 %d X\r\nContent-Type: application/json\r\n%sContent-Length: %zu\r\n\r\n",
+                          status, headers, size);
     if (size < 4096) {
         char whole[8192];
         memcpy(whole, head, length);
@@ -207,7 +209,8 @@ static int invoke(struct connection *c, char *payload, size_t size) {
         pthread_mutex_unlock(&lock);
         free(payload);
         free(i);
-        return text(c, 429, "{\"Reason\":\"LocalEnvironmentLimitExceeded\",\"Type\":\"User\",\"message\":\"Rate Exceeded.\"}");
+        return text(c, 429, "{\"Reason\":\"LocalEnvironmentLimitExceeded\",\"Type\":\"User\","
+                            "\"message\":\"Rate Exceeded.\"}");
     }
     admitted++;
     keep(0, payload, size);
@@ -258,7 +261,8 @@ static int next(struct connection *c) {
     }
     if (e->asks != mine) {
         pthread_mutex_unlock(&lock);
-        return text(c, 403, "{\"errorMessage\":\"A newer poll replaced this one\",\"errorType\":\"InvalidStateTransition\"}");
+        return text(c, 403, "{\"errorMessage\":\"A newer poll replaced this one\","
+                            "\"errorType\":\"InvalidStateTransition\"}");
     }
     e->is_asking = 0;
     const char *payload = e->open->payload;
@@ -414,7 +418,11 @@ int main(int count, char **words) {
     }
     pthread_t thread = 0;
     for (int n = 0; n <= environment_count; n++) {
-        struct sockaddr_in address = {.sin_family = AF_INET, .sin_port = htons(atoi(words[1]) + n), .sin_addr.s_addr = htonl(INADDR_LOOPBACK)};
+        struct sockaddr_in address = {
+            .sin_family = AF_INET,
+            .sin_port = htons(atoi(words[1]) + n),
+            .sin_addr.s_addr = htonl(INADDR_LOOPBACK),
+        };
         struct port *port = malloc(sizeof *port);
         int one = 1;
         port->environment = n;

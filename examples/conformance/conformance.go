@@ -77,8 +77,10 @@ func handler(payload json.RawMessage, of invocation) (any, error) {
 		first := of.remaining()
 		pause()
 		return map[string]any{
-			"requestId": of.header.Get("Lambda-Runtime-Aws-Request-Id"), "functionArn": of.header.Get("Lambda-Runtime-Invoked-Function-Arn"),
-			"remaining": []int64{first, of.remaining()}, "traceId": os.Getenv("_X_AMZN_TRACE_ID"),
+			"requestId":   of.header.Get("Lambda-Runtime-Aws-Request-Id"),
+			"functionArn": of.header.Get("Lambda-Runtime-Invoked-Function-Arn"),
+			"remaining":   []int64{first, of.remaining()},
+			"traceId":     os.Getenv("_X_AMZN_TRACE_ID"),
 		}, nil
 	case "print":
 		var text string

@@ -1,5 +1,6 @@
-# The handler that `tools/conformance runtime` expects, for examples/runtime.sh: _HANDLER=conformance.handler. It relies on
-# the kit's events, which are compact, `do` first and `value` last.
+# The handler that `tools/conformance runtime` expects, for examples/runtime.sh: _HANDLER=conformance.handler. It relies
+# on the kit's events, which are compact, `do` first and `value` last.
+# shellcheck shell=sh
 
 handler() {
   case $1 in '{"do":"'*) ;; *) printf '%s' "$1" && return ;; esac
@@ -9,7 +10,7 @@ handler() {
   case $rest in *'"value":'*) value=${rest#*'"value":'} && value=${value%'}'} ;; esac
   case $do in
   echo) printf '%s' "$value" ;;
-  bytes) printf '[%s]' "$(printf '%s' "$value" | sed 's/^"//; s/"$//' | od -An -v -tu1 | tr -s ' \n' ' ' | sed 's/^ //; s/ $//; s/ /,/g')" ;;
+  bytes) printf '[%s]' "$(bytes_of "$value")" ;;
   large) printf '"' && head -c "$value" /dev/zero | tr '\0' x && printf '"' ;;
   stream) printf '%s' "$value" | sed 's/^\[//; s/\]$//; s/","//g' ;;
   sleep) pause "$value" && printf '%s' "$value" ;;
@@ -21,7 +22,12 @@ handler() {
   esac
 }
 
-# So many milliseconds.
+# The bytes of a JSON string without escapes: numbers with commas between them.
+bytes_of() {
+  printf '%s' "$1" | sed 's/^"//; s/"$//' | od -An -v -tu1 | tr -s ' \n' ' ' | sed 's/^ //; s/ $//; s/ /,/g'
+}
+
+# Sleeps for this many milliseconds.
 pause() { sleep "$(printf '%d.%03d' $(($1 / 1000)) $(($1 % 1000)))"; }
 
 remaining() { echo $(($(header Lambda-Runtime-Deadline-Ms) - $(date +%s%3N))); }
@@ -29,8 +35,9 @@ remaining() { echo $(($(header Lambda-Runtime-Deadline-Ms) - $(date +%s%3N))); }
 seen() {
   first=$(remaining)
   pause "$1"
-  printf '{"requestId":"%s","functionArn":"%s","remaining":[%d,%d],"traceId":"%s"}' "$(header Lambda-Runtime-Aws-Request-Id)" \
-    "$(header Lambda-Runtime-Invoked-Function-Arn)" "$first" "$(remaining)" "$_X_AMZN_TRACE_ID"
+  printf '{"requestId":"%s","functionArn":"%s","remaining":[%d,%d],"traceId":"%s"}' \
+    "$(header Lambda-Runtime-Aws-Request-Id)" "$(header Lambda-Runtime-Invoked-Function-Arn)" \
+    "$first" "$(remaining)" "$_X_AMZN_TRACE_ID"
 }
 
 # Prints the report, which has type and message as they stand in the event.

@@ -1,5 +1,5 @@
-"""What linters find in the tools, tests and benches, and lines that are too long. A line with a comment `noqa` is left
-alone, as usual. A linter that is not on this machine finds nothing."""
+"""What linters find in the tools, tests, benches and examples, and lines that are too long. A line with a comment
+`noqa` is left alone by the linters, as usual."""
 import ast
 import os
 import re
@@ -9,12 +9,12 @@ import subprocess
 from checkout import files_of
 
 MOST = 120
-LEFT_OUT = re.compile(r"examples/conformance/(broken|failing|conformance)\.")
+# They cannot be read, or fail, as the conformance kit needs it.
+LEFT_OUT = re.compile(r"examples/conformance/(broken|failing)\.")
 SUFFIXES = {".py": "python", ".sh": "sh", **dict.fromkeys((".c", ".go", ".js", ".mjs", ".css"), "other")}
 SHEBANGS = ((re.compile(r"#!.*python"), "python"), (re.compile(r"#!.*\b(ba|da)?sh\b"), "sh"))
 # Left out: imports below a line that says where modules are, the length of lines (`too_long` has it), and rules of
-# taste
-# (where a continued line begins, spaces in slices, empty lines in functions and at the end, names for a lambda).
+# taste (where a continued line begins, spaces in slices, empty lines in functions and at the end, names for a lambda).
 RULES = ["--ignore", "E12,E133,E203,E226,E24,E306,E402,E501,E704,E731,W391,W503,W504"]
 LINTERS = (
     # what it checks, its commands by name, Debian's package
@@ -37,7 +37,7 @@ def kind_of(path, name):
 
 
 def programs_of(root):
-    """The programs of the repository that are no crate's, by their languages."""
+    """The programs of the repository outside its crates, by their languages."""
     kinds = {}
     for name in files_of(root):
         kind = kind_of(os.path.join(root, name), name)
@@ -64,13 +64,15 @@ def unreadable(root, kinds):
                 yield f"{name}:{fault.lineno}: {fault.msg}"
 
 
+def command_of(linter):
+    """The path of a linter, None if it is not on this machine."""
+    return next(filter(None, map(shutil.which, linter[1])), None)
+
+
 def found_by(linter, root, kinds):
-    """What a linter finds; None if it is not here."""
-    kind, commands, words, _ = linter
-    command = next(filter(None, map(shutil.which, commands)), None)
-    if not command:
-        return None
-    ran = subprocess.run([command, *words, *kinds.get(kind, ())], cwd=root, stdout=subprocess.PIPE,
+    """What a linter that is here finds."""
+    kind, _, words, _ = linter
+    ran = subprocess.run([command_of(linter), *words, *kinds.get(kind, ())], cwd=root, stdout=subprocess.PIPE,
                          stderr=subprocess.STDOUT, text=True)
     return [it for it in ran.stdout.splitlines() if not is_left_alone(root, it)]
 

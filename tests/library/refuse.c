@@ -1,5 +1,5 @@
-/* In front of the C library's malloc and realloc: refuses the request with the number REFUSE (the first is 1), and notes
-   that it did, in the file REFUSED. Writes the size of each request, as 8 bytes, to the file TRACE. */
+/* In front of the C library's malloc and realloc: refuses the request with the number REFUSE (the first is 1), and
+   makes the file REFUSED when it does. Writes the size of each request, as 8 bytes, to the file TRACE. */
 #define _GNU_SOURCE
 #include <dlfcn.h>
 #include <fcntl.h>

@@ -99,7 +99,6 @@ def file_for(purpose):
     return os.path.join(TEMPORARY, f"wrong_extension.{os.environ.get('AWS_LAMBDA_FUNCTION_NAME')}.{purpose}")
 
 
-
 class GoesOnAtSpindown(Extension):
     check, reason = "ends_at_spindown", "SPINDOWN"
 
