@@ -14,8 +14,8 @@ abbrev pub found : {R S H K L : Type 0} → Service.Ghosts S K L → Poll R S H 
 found service poll look =
     (then : List Entry) × service.looks (arc_value poll.service) poll.front poll.ticket look then
 
--- An answer is what a look gives. Where the bell was lost, something was heard, and a look found that the
--- ticket waits.
+-- An answer is what a look gives. If the bell was lost, something was heard, and a look found that the ticket
+-- waits.
 abbrev pub Answers : {H E : Type 0} → (Look → Type 0) → (H → Type 0) → Result Answer E → Type 0
 Answers looks hears (Ok answer) = looks (Given answer)
 Answers {H} looks hears (Err lost) = ((heard : H) × hears heard) × looks Waiting

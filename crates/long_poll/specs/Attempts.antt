@@ -1,4 +1,4 @@
--- What came of an attempt to submit a call.
+-- The result of an attempt to submit a call.
 use Rattle.std.specs.Prelude.{◌≡◌, ◌<◌, ℕ}
 use Rattle.call_types.specs.declared.call.Call.{Call}
 use Rattle.decisions.specs.declared.decide.Decide as Decide
@@ -13,12 +13,12 @@ use Rattle.long_poll.specs.declared.connection.Connection.{Connection}
 use Rattle.long_poll.specs.declared.service.Service as Service
 use Rattle.usage_ledger.specs.declared.keep.Keep as Keep
 
--- It comes back only where it may be held back still.
+-- It comes back only if it may still be held back.
 abbrev pub IsPatient : {L : Type 0} → ℕ → Attempt L → Type 0
 IsPatient left (Made back) = Unit {0}
 IsPatient left (HeldBack call bell) = 0 < left
 
--- Where it is held back again, that is for a shorter time than before.
+-- If it is held back again, then for a shorter time than before.
 abbrev pub IsNearer : {L : Type 0} → ℕ → Begun L → Type 0
 IsNearer left (Replied reply) = Unit {0}
 IsNearer left (Dozes held) = held.left < left

@@ -27,8 +27,8 @@ AreDataOf reads (frame ∷ frames) bytes =
     (first : List ℕ) × (rest : List ℕ) × (bytes ≡ first ++ rest)
     × IsDataOf reads frame first × AreDataOf reads frames rest
 
--- What is read of a body is what is held already and then its data, up to the most: the frames of all of the
--- body came, or so many that the most is read.
+-- What is read of a body is what is held already and then its data, up to the most: all frames of the body came,
+-- or enough of them for the most to be read.
 pub record Reads {D E : Type 0} (reads : D → List ℕ → Type 0) (source : Runs (Result (Frame D) E))
     (held read : List ℕ) : Type 0 where
   pub frames : List (Frame D)

@@ -39,7 +39,7 @@ use Rattle.long_poll.specs.declared.outcome.Outcome.TheVariants as outcome
 use Rattle.long_poll.specs.declared.service.Service as Service
 use Rattle.usage_ledger.specs.declared.keep.Keep as Keep
 
--- What is rendered at a ticket; the fault is that of a lost bell where nothing is.
+-- What is rendered at a ticket; if nothing is, the fault of a lost bell.
 abbrev pub Renders : (ℕ → Option Reply → Type 0) → ℕ → Result Reply ExchangeFault → Type 0
 Renders renders ticket (Ok reply) = renders ticket (Some reply)
 Renders renders ticket (Err BellLost) = renders ticket None
@@ -58,8 +58,8 @@ Awaits renders ticket (Ok (outcome.Reply reply)) = Renders renders ticket (Ok re
 Awaits renders ticket (Ok (outcome.History body)) = ⊥
 Awaits renders ticket (Err fault) = Renders renders ticket (Err fault)
 
--- It is so of what was read of a body of which this is held already; or, where the head declares a body that is too
--- long, of each body that is, and nothing is read of it.
+-- It holds of what was read of a body of which this is held already; or, if the head declares a body that is too
+-- long, of each such body, and nothing is read of it.
 abbrev pub IsOfBody : {P E : Type 0} → (P → List ℕ → Type 0) → Runs (Result (Frame P) E) → Parts → List ℕ
     → (List ℕ → Type 0) → Type 0
 IsOfBody reads source head held is =
@@ -74,7 +74,7 @@ module _ {R S D N K L : Type 0} {service : Service.Ghosts S K L} {decider : Deci
   shown seen ticket reply =
       (then : List Entry) × service.renders (arc_value connection.service) seen ticket reply then
 
-  -- A call that is held back is one that its account takes, and its bell can be heard. Each pause takes some time.
+  -- A call that is held back is one for its account, and its bell can be heard. Each pause takes some time.
   abbrev pub IsHeld : Dozing → Type 0
   IsHeld held =
       IsWithin (service.serves (arc_value connection.service)) held.call
@@ -173,9 +173,9 @@ module _ {R S D N K L : Type 0} {service : Service.Ghosts S K L} {decider : Deci
     ComesOfCall call (Err BodyFailed) = ⊥
 
     module _ {H : Type 0} (shows : Option ℕ → H → Type 0) where
-      -- What comes of a request with this head and this body: a reply, or, where the history is asked for, a
-      -- body that shows it from where it is asked for. The fault of a lost bell comes only where its call was
-      -- submitted and nothing is rendered at the ticket; that the bell was heard before is said of no bell.
+      -- What comes of a request with this head and this body: a reply, or, if the history is asked for, a body
+      -- that shows it from there on. The fault of a lost bell comes only if its call was submitted and nothing
+      -- is rendered at the ticket; that the bell was heard before is not said.
       abbrev pub ComesOf : Parts → List ℕ → Result (Outcome H) ExchangeFault → Type 0
       ComesOf head body (Ok (outcome.Reply reply)) =
           (made : Decision) × Decides head body made × IsReply made reply

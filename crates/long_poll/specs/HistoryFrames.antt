@@ -20,15 +20,15 @@ behind (Entry t) (Ok frame) = Entry (t + 1)
 behind Ended (Ok frame) = Ended
 behind stage (Err e) = Ended
 
--- what a poll answers where a text was read, or none, or memory was refused
+-- what a poll answers if a text was read, or none, or if memory was refused
 abbrev pub answer_of : {A E : Type 0} → Result (Option A) E → Option (Result A E)
 answer_of (Ok None) = None
 answer_of (Ok (Some frame)) = Some (Ok frame)
 answer_of (Err e) = Some (Err e)
 
 module _ {S K L E : Type 0} (service : Service.Ghosts S K L) (s : S) where
-  -- One answer of a poll at a stage, by who had seen so much of the history, and has then seen so much: a
-  -- text of the history where it is one, its end only where the history has ended, or that it failed.
+  -- One answer of a poll at a stage, by what was seen of the history before and after it: a text of the history,
+  -- its end only if the history has ended, or a failure.
   abbrev pub Answers : List Taken → Stage → Option (Result (Frame (List ℕ)) E) → List Taken → Type 0
   Answers seen Opening None then = ⊥
   Answers seen Opening (Some (Ok frame)) then =

@@ -1,5 +1,6 @@
 -- The length that a request declares for its body.
-use Rattle.std.specs.Prelude.{ℕ, Bool, false, not, ◌&&◌, nat_lt, List, codes, Option, Some, None, is_some, option_and_then}
+use Rattle.std.specs.Prelude.{ℕ, Bool, false, not, ◌&&◌, nat_lt, List, codes, Option, Some, None}
+use Rattle.std.specs.Prelude.{is_some, option_and_then}
 use Rattle.http.specs.HeaderMap.{get}
 use Rattle.http.specs.declared.request.Parts.{Parts}
 use Rattle.arn_ids.specs.Limits.{longest_body, greatest_ticket}
@@ -7,7 +8,8 @@ use Rattle.arn_ids.specs.Numbers.{number_in}
 
 -- the length in `Content-Length` (RFC 9110, section 8.6)
 abbrev pub declared_length : Parts → Option ℕ
-declared_length p = option_and_then (λ value. number_in greatest_ticket value.bytes) (get p.headers (codes "content-length"))
+declared_length p = option_and_then
+    (λ value. number_in greatest_ticket value.bytes) (get p.headers (codes "content-length"))
 
 -- a length is more than a body may have (Lambda quotas: invocation payload)
 abbrev pub is_too_long : Option ℕ → Bool

@@ -1,4 +1,4 @@
--- Where a bell rings, and where it is heard.
+-- The sources of wakes of a bell: where it rings, and where it is heard.
 use Rattle.std.specs.Prelude.{ℕ}
 use Rattle.futures.specs.Channel.{completed_source, canceled_source}
 use Rattle.long_poll.specs.declared.bell.OneShotBell.{OneShotBell}

@@ -1,4 +1,4 @@
--- Where an exchange stands, and what it may give from there.
+-- The stage of an exchange, and what it may give from there.
 use Rattle.std.specs.Prelude.{◌≡◌, ℕ, List, Option, Result, Ok, Err}
 use Rattle.futures.specs.Runs.{Runs}
 use Rattle.http_body.specs.declared.frame.Frame.{Frame}
@@ -58,7 +58,7 @@ module _ {R S D N K L : Type 0} {service : Service.Ghosts S K L} {decider : Deci
     {keep : Keep.Ghosts K} (connection : Connection R S D N K L service decider keep)
     (clock : Clock.Ghosts N) {B P E : Type 0}
     (yields : B → Runs (Result (Frame P) E)) (reads : P → List ℕ → Type 0) where
-  -- What it may give, where these bodies show the history, each from where it is asked for.
+  -- What it may give, if these bodies show the history, each from where it is asked for.
   abbrev pub GivesFrom : {H : Type 0} → (Option ℕ → H → Type 0) → Stage B L → Result (Outcome H) ExchangeFault → Type 0
   GivesFrom shows (Collecting parts collecting) =
       Exchanges connection clock shows reads (yields collecting.body) parts collecting.held

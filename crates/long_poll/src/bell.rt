@@ -9,13 +9,13 @@ use futures::future::Future;
 use futures::task::{Context, Poll};
 use std::alloc::{AllocError, Global};
 
-/// A bell for one call. Where it is dropped unrung, that is heard too.
+/// A bell for one call. If it is dropped before it rings, that is heard too.
 #[derive(Drop)]
 pub struct OneShotBell {
     sender: Sender<()>,
 }
 
-/// Ready once its bell rang or was dropped. (No contract says so: the channel's own does not tell
+/// Is ready once its bell has rung or was dropped. (No contract says so: the channel's own does not say
 /// when its receiver is ready.)
 #[derive(Drop)]
 pub struct Heard {
@@ -23,10 +23,10 @@ pub struct Heard {
 }
 
 impl OneShotBell {
-    /// A bell, and what hears it.
+    /// Makes a bell, and what hears it.
     ///
     /// # Errors
-    /// Only where memory is refused.
+    /// `AllocError` if memory is refused.
     pub fn pair(alloc: Global) -> Result<(OneShotBell, Heard), AllocError>
         ensures { IfOk result (λ pair. rings_at pair.0 ≡ hears_at pair.1) }
     {

@@ -12,7 +12,7 @@ use futures::task::{Context, Poll};
 use http_body::{Body, Frame};
 use std::alloc::{AllocError, Global};
 
-/// How many frames one poll takes, so that a long body lets others run.
+/// The most frames that one poll takes, so that others run beside a long body.
 const FRAMES_PER_POLL: u32 = 128;
 
 /// Collects the first bytes of a body.
@@ -23,7 +23,7 @@ pub(crate) struct Collecting<B> {
     held: FirstBytes,
 }
 
-/// The bytes of a frame's data, none of trailers.
+/// Returns the bytes of a frame's data; trailers have none.
 fn data_in<D: Into<Bytes> + Drop>(frame: Frame<D>) -> Bytes
     ensures { IsDataOf D.converts frame result }
 {
@@ -34,7 +34,7 @@ fn data_in<D: Into<Bytes> + Drop>(frame: Frame<D>) -> Bytes
 }
 
 impl<B: Body> Collecting<B> {
-    /// Of this body, of which nothing was read.
+    /// Collects this body, of which nothing was read.
     pub(crate) fn new(alloc: Global, body: B) -> Collecting<B>
         ensures { (result.body ≡ body) × (result.held ≡ []) }
     {
@@ -50,7 +50,7 @@ impl<B: Body> Collecting<B>
 where
     B::Data: Into<Bytes>,
 {
-    /// Takes the data of a frame, and tells whether no more is wanted.
+    /// Takes the data of a frame, and returns whether no more is read.
     fn take_frame(&mut self, frame: Frame<B::Data>) -> Result<bool, AllocError>
         ensures taken { OnOk result (Takes B.Data.converts frame self.old.held self.new.held) }
         ensures full { IfOk result (λ full. full ≡ (length self.new.held == most_bytes)) }
@@ -61,7 +61,7 @@ where
         Ok(self.held.is_full())
     }
 
-    /// What was collected.
+    /// Gives up what was collected.
     fn collected(&mut self) -> Result<Bytes, ExchangeFault>
         ensures held { MatchResult result (λ bytes. bytes ≡ self.old.held)
             (λ fault. fault ≡ ExchangeFault.OutOfMemory) }

@@ -30,11 +30,11 @@ use std::time::Duration;
 use std::{thread, time};
 use usage_ledger::{Front, Keep, Ledgers, Tally};
 
-/// The first pause between two looks whether a call is still premature, in microseconds. A runtime that
-/// is on its way to its next invocation wants no longer as a rule, and its caller waits no longer then.
+/// The first pause before a premature call is tried again, in microseconds: usually long enough for a
+/// runtime to ask for its next invocation, so that the caller waits no longer.
 const FIRST_PAUSE: u64 = 50;
 
-/// The longest such pause, in microseconds.
+/// The longest pause, in microseconds.
 const LONGEST_PAUSE: u64 = 8_000;
 
 /// What the exchanges of one connection share: the account and who decides its requests, both of
@@ -57,33 +57,33 @@ pub struct Connection<R, S: Service<K, L>, D: Decide, N, K: Keep, L: Ledgers> {
     ghost agree: { S.serves (arc_value service) ≡ D.decides_for (arc_value decider) },
 }
 
-/// A call that is held back as it is premature, with its bell and what hears it. Between two looks
-/// whether it still is, the thread *sleeps* for a pause, at most 8 ms, and then lets its connection go on
-/// once: only then are a signal to stop and the connection's own state seen. (The timers of the kit's
-/// reactor round up to a millisecond; the first pauses are far shorter.)
+/// A premature call that is held back, with its bell and what hears it. Between two attempts the thread
+/// *sleeps* for a pause of at most 8 ms, and then lets its connection go on once: only then are a signal to
+/// stop and the connection's own state noticed. (The timers of the kit's reactor round up to a millisecond;
+/// the first pauses are far shorter.)
 #[derive(Drop)]
 pub(crate) struct Dozing {
     call: Call,
     bell: OneShotBell,
     heard: Heard,
-    // For how long it may still be held back, and how long the next pause is, in microseconds.
+    // How long it may still be held back, and how long the next pause is, in microseconds.
     left: u64,
     pause: u64,
 }
 
-/// What a request has come to.
+/// How far a request has come.
 #[derive(Drop)]
 pub(crate) enum Begun<L: Ledgers> {
     /// It has its reply.
     Replied(Reply),
     /// Its call is premature and held back; a pause has passed.
     Dozes(Dozing),
-    /// It asks for the history: from the entry of a ticket on, or whole.
+    /// It asks for the history, from the entry of a ticket on or whole.
     AsksForHistory {
         from: Option<Ticket>,
     },
-    /// Its call was submitted, and something is heard once its ticket is answered. The front has seen
-    /// the history up to the call.
+    /// Its call was submitted, and its bell rings once its ticket is answered. The token has seen the
+    /// history up to the call.
     Parked {
         ticket: Ticket,
         heard: Heard,
@@ -91,16 +91,16 @@ pub(crate) enum Begun<L: Ledgers> {
     },
 }
 
-/// What came of an attempt to submit a call.
+/// The result of an attempt to submit a call.
 #[derive(Drop)]
 enum Attempt<L: Ledgers> {
-    /// It was submitted, and this came back.
+    /// It was submitted, with this result.
     Made(Result<(Ticket, Front<L>), Refused<OneShotBell>>),
     /// It was premature, and comes back with its bell.
     HeldBack(Call, OneShotBell),
 }
 
-/// The pause behind another one, in microseconds: twice as long, up to the longest.
+/// Returns the pause after another one, in microseconds: twice as long, up to the longest.
 fn next_pause(pause: u64) -> u64
     requires { 1 ≤ pause }
     ensures { 1 ≤ result }
@@ -155,12 +155,12 @@ impl<
         }
     }
 
-    /// Its allocator.
+    /// Returns its allocator.
     pub(crate) fn alloc(&self) -> Global {
         self.alloc
     }
 
-    /// The connection's token, to be put back. If a request has it, another one that has seen the history.
+    /// Takes the connection's token, to be put back. If a request has it, makes another that has seen the history.
     fn token(&self) -> Front<L> {
         match self.seen.take() {
             Some(front) => front,
@@ -209,8 +209,7 @@ impl<
         }
     }
 
-    /// Submits a call with its bell, unless it is premature and may be held back for so many
-    /// microseconds.
+    /// Submits a call with its bell, unless it is premature and may be held back for `left` microseconds more.
     fn attempt_within(&self, left: u64, call: Call, bell: OneShotBell) -> Attempt<L>
         requires { IsWithin (S.serves (arc_value self.now.service)) call }
         ensures attempt { IsAttempt self.now N.Clock bell call result }
@@ -238,9 +237,8 @@ impl<
         })
     }
 
-    /// Submits a call that was held back with its bell: once it is not premature, or when it was held
-    /// back for as long as the connection's patience goes. Else a pause passes, in which no lock is held.
-    /// A Next is noted as open.
+    /// Submits a call that was held back, with its bell, once it is no longer premature or the connection's
+    /// patience is used up. Otherwise a pause passes, during which no lock is held. A Next is noted as open.
     pub(crate) fn submit_held(&self, held: Dozing) -> Result<Begun<L>, ExchangeFault>
         requires { IsHeld self.now held }
         ensures ok { IfOk result (IsBegun self.now N.Clock held.call) }
@@ -299,14 +297,15 @@ impl<
 
     /// Decides a request whose body is too long, which isn't read, and does what is decided.
     pub(crate) fn begin_too_long(&self, parts: &Parts) -> Result<Begun<L>, ExchangeFault>
-        ensures ok { IfOk result (λ begun. (body : List ℕ) → longest_body < length body → HasBegun self.now N.Clock parts.now body begun) }
+        ensures ok { IfOk result
+            (λ begun. (body : List ℕ) → longest_body < length body → HasBegun self.now N.Clock parts.now body begun) }
         ensures err { IfErr result (λ fault. fault ≡ ExchangeFault.OutOfMemory) }
     {
         let decided = self.decider.decide_too_long(self.alloc, parts);
         self.carry_out(decided?)
     }
 
-    /// The counts of its account.
+    /// Returns the counts of its account.
     fn stats(&self) -> Stats
         ensures { Counts self.now result }
     {
@@ -316,7 +315,7 @@ impl<
         stats
     }
 
-    /// A function's reservation in its account.
+    /// Returns a function's reservation in its account.
     fn reservation(&self, function: FnNo) -> Option<u32>
         requires { IsFunction (S.serves (arc_value self.now.service)) function }
         ensures { Reserves self.now function result }
@@ -327,10 +326,12 @@ impl<
         count
     }
 
-    /// Does what was decided of a request.
+    /// Does what was decided about a request.
     fn carry_out(&self, decision: Decision) -> Result<Begun<L>, ExchangeFault>
         requires { IsAllowed (S.serves (arc_value self.now.service)) decision }
-        ensures ok { IfOk result (λ begun. (head : Head) → (body : List ℕ) → Decides self.now head body decision → HasBegun self.now N.Clock head body begun) }
+        ensures ok { IfOk result
+            (λ begun. (head : Head) → (body : List ℕ) → Decides self.now head body decision
+            → HasBegun self.now N.Clock head body begun) }
         ensures err { IfErr result (λ fault. fault ≡ ExchangeFault.OutOfMemory) }
     {
         match decision {
@@ -348,7 +349,7 @@ impl<
         }
     }
 
-    /// The account's history: from the entry of a ticket on, or whole.
+    /// Returns the account's history, from the entry of a ticket on or whole.
     pub(crate) fn history(
         &self,
         from: Option<Ticket>,
@@ -359,7 +360,7 @@ impl<
         Ok(HistoryBody::new(self.rt, service, from))
     }
 
-    /// Renders the answer of a ticket. The note of a Next is taken back.
+    /// Renders the answer to a ticket. The note of a Next is taken back.
     fn render(&self, front: &mut Front<L>, ticket: Ticket) -> Result<Reply, ExchangeFault>
         ensures { Renders (shown self.now front.old) ticket result }
     {
@@ -373,8 +374,8 @@ impl<
         }
     }
 
-    /// Waits until something is heard, and then renders the answer of a ticket. It knows nothing of
-    /// what hears, so that it cannot render before.
+    /// Waits until the bell is heard, and then renders the answer to a ticket. It takes what hears as any
+    /// future, so that it cannot render earlier.
     pub(crate) fn poll_render<H: Future>(
         &self,
         heard: &mut H,

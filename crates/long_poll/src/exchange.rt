@@ -26,7 +26,7 @@ use std::sync::{Arc, Wait};
 use std::{mem, time};
 use usage_ledger::{Front, Keep, Ledgers};
 
-/// Where an exchange stands.
+/// The stage of an exchange.
 #[derive(Drop)]
 enum Stage<B, L: Ledgers> {
     /// The body is being collected.
@@ -34,11 +34,11 @@ enum Stage<B, L: Ledgers> {
         parts: Parts,
         body: Collecting<B>,
     },
-    /// The call is premature and held back: each poll looks once, and sleeps for a pause where it still is.
+    /// The call is premature and held back: each poll tries it once, and sleeps for a pause if it still is.
     Holding(Dozing),
-    /// The call that was held back is being looked at, within one poll.
+    /// The call that was held back is being tried, within one poll.
     Submitting,
-    /// The call was submitted, and its answer is awaited. The front has seen the history up to the call.
+    /// The call was submitted, and its answer is awaited. The token has seen the history up to the call.
     Waiting {
         ticket: Ticket,
         heard: Heard,
@@ -46,8 +46,8 @@ enum Stage<B, L: Ledgers> {
     },
 }
 
-/// One request: its body is collected, it is decided, its call is held back while it is premature, and
-/// submitted, its answer awaited and rendered; or it is answered what is shown without a call.
+/// One request. Its body is collected and it is decided; its call is held back while premature, submitted,
+/// and its answer awaited and rendered. A request for counts, a reservation or the history needs no call.
 #[derive(Drop)]
 pub struct Exchange<R, S: Service<K, L>, D: Decide, N, B, K: Keep, L: Ledgers> {
     connection: Arc<Connection<R, S, D, N, K, L>>,
@@ -69,7 +69,7 @@ where
     ghost use Rattle.long_poll.specs.Stages.{IsStarting, IsHolding, IsWaiting, WaitsFor};
     ghost use Rattle.long_poll.specs.Standing.{Holds, Starts};
 
-    /// The exchange of a request with this head and this body. It takes no memory.
+    /// Begins the exchange of a request with this head and this body. It takes no memory.
     pub fn new(
         connection: Arc<Connection<R, S, D, N, K, L>>,
         parts: Parts,
@@ -86,7 +86,7 @@ where
         }
     }
 
-    /// Looks once more at the call that is held back.
+    /// Tries once more the call that is held back.
     fn look_again(&mut self) -> Result<Begun<L>, ExchangeFault>
         requires { IsHolding (Holds self.old) self.old.stage }
         ensures value { Starts N.Clock B.yields B.Data.converts self.old result }
@@ -98,9 +98,9 @@ where
         }
     }
 
-    /// Collects the body; then the request is decided, and its call submitted. A body that is declared to be
-    /// too long isn't asked for, so that a client which waits for `100 Continue` doesn't send it (RFC 9110,
-    /// section 10.1.1). Or looks once more at the call that is held back.
+    /// Collects the body, then decides the request and submits its call; or tries once more the call that is
+    /// held back. A body that is declared to be too long isn't asked for, so that a client which waits for
+    /// `100 Continue` doesn't send it (RFC 9110, section 10.1.1).
     fn poll_start(&mut self, cx: &mut Context<'_>) -> Poll<Result<Begun<L>, ExchangeFault>>
         requires { IsStarting (Holds self.old) B.can_poll self.old.stage }
         ensures value { IfReady result (Starts N.Clock B.yields B.Data.converts self.old) }
@@ -124,7 +124,7 @@ where
         }
     }
 
-    /// From now on the answer of this ticket is awaited. What was collected is let go.
+    /// Awaits the answer to this ticket from now on. What was collected is dropped.
     fn park(&mut self, ticket: Ticket, heard: Heard, front: Front<L>)
         ensures stage { self.new.stage ≡ stage.Waiting ticket heard front }
         ensures connection { self.new.connection ≡ self.old.connection }
@@ -136,7 +136,7 @@ where
         };
     }
 
-    /// The account's history: from the entry of a ticket on, or whole.
+    /// Returns the account's history, from the entry of a ticket on or whole.
     fn history(
         &self,
         from: Option<Ticket>,

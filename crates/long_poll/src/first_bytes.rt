@@ -30,7 +30,7 @@ impl Model for FirstBytes {
 }
 
 impl FirstBytes {
-    /// None yet. It takes no memory.
+    /// An empty list. It takes no memory.
     pub(crate) fn none(alloc: Global) -> FirstBytes
         ensures { result ≡ [] }
     {
@@ -39,7 +39,7 @@ impl FirstBytes {
         }
     }
 
-    /// The bytes, which it gives up, in memory of their own and no more of it than they need.
+    /// Gives up the bytes, in memory of their own that is no larger than they need.
     pub(crate) fn taken(&mut self, alloc: Global) -> Result<Bytes, AllocError>
         ensures bytes { IfOk result (λ bytes. bytes ≡ self.old) }
         ensures few { length self.old ≤ most_bytes }
@@ -56,14 +56,14 @@ impl FirstBytes {
         self.bytes.len()
     }
 
-    /// Whether no more are read.
+    /// Returns whether no more bytes are read.
     pub(crate) fn is_full(&self) -> bool
         ensures { result ≡ (length self.now == most_bytes) }
     {
         self.len() == MOST_BYTES
     }
 
-    /// Takes what is wanted of more bytes, behind which so many are expected.
+    /// Takes as many of the bytes as are still to be read; `expected` more are expected after them.
     pub(crate) fn add(&mut self, more: Bytes, expected: u64) -> Result<(), AllocError>
         ensures { OnOk result (self.new ≡ take most_bytes (self.old ++ more)) }
     {
@@ -72,8 +72,8 @@ impl FirstBytes {
         self.push(more.as_slice(), expected)
     }
 
-    /// Takes more bytes. For those that are expected room is made at once, so that the bytes of a body
-    /// whose length is known are moved once.
+    /// Takes more bytes. Room for the expected ones is made at once, so that the bytes of a body whose
+    /// length is known are moved once.
     fn push(&mut self, more: &[u8], expected: u64) -> Result<(), AllocError>
         requires { length self.old + length more.now ≤ most_bytes }
         ensures { OnOk result (self.new ≡ self.old ++ more.now) }

@@ -14,18 +14,18 @@ use std::marker::PhantomData;
 use std::sync::{Arc, Wait};
 use usage_ledger::{Front, Keep, Ledgers, Tally};
 
-/// Which text comes next.
+/// The text that comes next.
 #[derive(Clone, Copy)]
 enum Stage {
-    /// That before the first entry.
+    /// The one before the first entry.
     Opening,
-    /// That of the entry with a ticket.
+    /// The one of the entry with a ticket.
     Entry(Ticket),
     /// None: the history has ended, or memory was refused.
     Ended,
 }
 
-/// Which text a history begins with that is shown from a ticket on, or whole.
+/// Returns the text that a history begins with, from a ticket on or whole.
 fn stage_from(from: Option<Ticket>) -> Stage
     ensures { result ≡ first_stage from }
 {
@@ -35,17 +35,16 @@ fn stage_from(from: Option<Ticket>) -> Stage
     }
 }
 
-/// Bytes as a piece of a body, with no copy of them.
+/// Makes bytes a piece of a body, without a copy.
 fn piece(bytes: Vec<u8>) -> Result<Bytes, AllocError>
     ensures { IfOk result (λ piece. piece ≡ bytes.items) }
 {
     Ok(Bytes::from_vec(bytes).map_err(AllocError::from)?)
 }
 
-/// The text of a history, streamed: its opening, then the text of each entry, from ticket 0 to the
-/// first that there is none of; or, from a ticket on, the texts of those entries alone. All are of one
-/// history. Each is a frame of its own, and no more than one is in memory. Want of memory ends the body
-/// with an error.
+/// The text of a history, streamed: its opening, then the text of each entry, from ticket 0 to the last;
+/// or, from a ticket on, the texts of those entries alone. All are of one history. Each is a frame of its
+/// own, and no more than one is in memory. If memory is refused, the body ends with an error.
 #[derive(Drop)]
 pub struct HistoryBody<R, S, K: Keep, L: Ledgers> {
     rt: R,
@@ -56,8 +55,8 @@ pub struct HistoryBody<R, S, K: Keep, L: Ledgers> {
 }
 
 impl<R: Wait + Drop, S: Service<K, L>, K: Keep, L: Ledgers> HistoryBody<R, S, K, L> {
-    /// The history of a service: from the entry of a ticket on, or the whole where none is named. Past
-    /// the last entry it is empty. It takes no memory.
+    /// Streams the history of a service: from the entry of a ticket on, or whole if none is named. From a
+    /// ticket past the last entry it is empty. It takes no memory.
     pub fn new(rt: R, service: Arc<S>, from: Option<Ticket>) -> HistoryBody<R, S, K, L>
         ensures stands { (result.service ≡ service) × (result.stage ≡ first_stage from) }
         ensures seen { S.shows (arc_value service) result.front }
@@ -72,7 +71,7 @@ impl<R: Wait + Drop, S: Service<K, L>, K: Keep, L: Ledgers> HistoryBody<R, S, K,
         }
     }
 
-    /// The text before the first entry.
+    /// Returns the text before the first entry.
     fn opening(&mut self) -> Result<Frame<Bytes>, AllocError>
         ensures value { Answers S.Service (arc_value self.old.service) self.old.front
             Stage.Opening (Some result) self.new.front }
@@ -85,7 +84,7 @@ impl<R: Wait + Drop, S: Service<K, L>, K: Keep, L: Ledgers> HistoryBody<R, S, K,
         Ok(Frame::data(text))
     }
 
-    /// The text of an entry, none behind the last.
+    /// Returns the text of an entry, `None` past the last.
     fn entry(&mut self, ticket: Ticket) -> Result<Option<Frame<Bytes>>, AllocError>
         ensures value { Answers S.Service (arc_value self.old.service) self.old.front
             (Stage.Entry ticket) (answer_of result) self.new.front }

@@ -7,7 +7,7 @@ use account_book::Refusal;
 use lambda_wire::{InvokeFault, Reply, fault_reply, invoke_fault_reply};
 use std::alloc::{AllocError, Global};
 
-/// What is said of a refusal.
+/// The message of a refusal.
 fn message_of(refusal: Refusal) -> &'static str
     ensures { result.now ≡ spec.message_of refusal }
 {
@@ -17,7 +17,7 @@ fn message_of(refusal: Refusal) -> &'static str
     }
 }
 
-/// Its type.
+/// The error type of a refusal.
 fn kind_of(refusal: Refusal) -> &'static str
     ensures { result.now ≡ spec.kind_of refusal }
 {
@@ -27,7 +27,7 @@ fn kind_of(refusal: Refusal) -> &'static str
     }
 }
 
-/// The reply to an Invoke that was refused, or to another call. The only error is want of memory.
+/// Makes the reply to a refused Invoke, or to another refused call. The only error is `AllocError`.
 pub(crate) fn refusal_reply(
     alloc: Global,
     is_invoke: bool,

@@ -55,11 +55,11 @@ pub trait Service<K: Keep, L: Ledgers>: Drop {
     /// What was seen of the history, the function, its reservation, and what is seen then.
     ghost reserves: { Self → List Entry → ℕ → Option ℕ → List Entry → Type 0 };
 
-    /// Submits a call at a moment in milliseconds, below 2^53, with the bell of whoever waits for its
+    /// Submits a call at a moment in milliseconds, below 2^53, with the bell of the caller that waits for its
     /// answer. What the step counts moves the tally.
     ///
     /// # Errors
-    /// Where the call is not taken; its bell comes back.
+    /// `Refused` if the call is not taken; its bell comes back.
     fn submit<R: Wait>(
         &self,
         rt: &R,
@@ -73,11 +73,11 @@ pub trait Service<K: Keep, L: Ledgers>: Drop {
         requires within { IsWithin (serves self.now) call }
         ensures { submits self.now front.old tally.old.held now call bell result front.new tally.new.held };
 
-    /// Submits a call unless it is premature: an Invoke that would be throttled while an environment
-    /// that stands in its way is about to be ready again.
+    /// Submits a call unless it is premature: an Invoke that would be throttled while an environment that is
+    /// in its way is about to be ready again.
     ///
     /// # Errors
-    /// `Premature` where it is: the call comes back with its bell. Else as `submit`.
+    /// `Premature` if it is: the call comes back with its bell. Otherwise as `submit`.
     fn offer<R: Wait>(
         &self,
         rt: &R,
@@ -91,17 +91,17 @@ pub trait Service<K: Keep, L: Ledgers>: Drop {
         requires within { IsWithin (serves self.now) call }
         ensures { Offers (submits self.now) front.old tally.old.held now call bell result front.new tally.new.held };
 
-    /// A token that has seen the history as it is.
+    /// Makes a token that has seen the history as it is.
     fn front<R: Wait>(&self, rt: &R) -> Front<L>
         ensures { shows self.now result };
 
-    /// What a ticket was answered.
+    /// Returns the answer to a ticket, or that it waits.
     fn look<R: Wait>(&self, rt: &R, front: &mut Front<L>, ticket: Ticket) -> Look
         ensures { looks self.now front.old ticket result front.new };
 
-    /// What the client of the call with a ticket gets, none while the ticket has no answer.
+    /// Returns what the client of the call with a ticket gets, `None` while the ticket has no answer.
     ///
-    /// The only error is want of memory.
+    /// The only error is `AllocError`.
     fn render<R: Wait>(
         &self,
         rt: &R,
@@ -110,12 +110,12 @@ pub trait Service<K: Keep, L: Ledgers>: Drop {
     ) -> Result<Option<Reply>, AllocError>
         ensures { IfOk result (λ reply. renders self.now front.old ticket reply front.new) };
 
-    /// The text of the history before its first entry. The only error is want of memory.
+    /// Returns the text of the history before its first entry. The only error is `AllocError`.
     fn opening<R: Wait>(&self, rt: &R) -> Result<Vec<u8>, AllocError>
         ensures { IfOk result (λ text. opens self.now text.items) };
 
-    /// The history text of the entry with a ticket, none past the end. The only error is want of
-    /// memory.
+    /// Returns the history text of the entry with a ticket, `None` past the end. The only error is
+    /// `AllocError`.
     fn history<R: Wait>(
         &self,
         rt: &R,
@@ -125,11 +125,11 @@ pub trait Service<K: Keep, L: Ledgers>: Drop {
         ensures { IfOk result (λ text.
             tells self.now front.old ticket (option_map (λ bytes. bytes.items) text) front.new) };
 
-    /// The counts.
+    /// Returns the counts.
     fn stats<R: Wait>(&self, rt: &R, front: &mut Front<L>) -> Stats
         ensures { counts self.now front.old result front.new };
 
-    /// The reservation in force of a function, by its number from 1, none where it has none.
+    /// Returns the reservation in force of a function, by its number from 1, `None` if it has none.
     fn reservation<R: Wait>(&self, rt: &R, front: &mut Front<L>, function: FnNo) -> Option<u32>
         requires { IsFunction (serves self.now) function }
         ensures { reserves self.now front.old function result front.new };

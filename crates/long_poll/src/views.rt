@@ -11,7 +11,7 @@ use lambda_wire::{Headers, Reply, json_headers, write_reservation};
 use serde_json::{Value, json};
 use std::alloc::{AllocError, Global};
 
-/// The counts as a JSON value.
+/// Returns the counts as a JSON value.
 fn stats_value(alloc: Global, stats: Stats) -> Result<Value, AllocError>
     ensures { IfOk result (λ value. view value ≡ spec.stats_data stats) }
 {
@@ -24,7 +24,7 @@ fn stats_value(alloc: Global, stats: Stats) -> Result<Value, AllocError>
     })
 }
 
-/// The counts as JSON.
+/// Returns the counts as JSON.
 #[tactic(auto, using(crate::proofs::StatsText::stats_written))]
 fn write_stats(alloc: Global, stats: Stats) -> Result<Vec<u8>, AllocError>
     ensures { IfOk result (λ text. text.items ≡ spec.stats_text stats) }
@@ -32,7 +32,7 @@ fn write_stats(alloc: Global, stats: Stats) -> Result<Vec<u8>, AllocError>
     stats_value(alloc, stats)?.to_vec(alloc)
 }
 
-/// Shows the counts of an account. As of every function here, the only error is want of memory.
+/// Makes the reply that shows an account's counts. The only error, here and below, is `AllocError`.
 pub fn stats_reply(alloc: Global, stats: Stats) -> Result<Reply, AllocError>
     ensures { IfOk result (λ reply. reply ≡ spec.stats_reply stats) }
 {
@@ -51,7 +51,7 @@ pub fn history_headers(alloc: Global) -> Result<Headers, AllocError>
     Ok(Row::new(headers))
 }
 
-/// Shows a function's reservation in force (Lambda API, GetFunctionConcurrency).
+/// Makes the reply that shows a function's reservation in force (Lambda API, GetFunctionConcurrency).
 pub fn reservation_reply(alloc: Global, count: Option<u32>) -> Result<Reply, AllocError>
     ensures { IfOk result (λ reply. reply ≡ spec.reservation_reply count) }
 {
