@@ -1,5 +1,6 @@
 pub mod TextFieldLemmas
 pub mod FieldLemmas
+pub mod Fronts
 pub mod WritingLemmas
 pub mod CallLemmas
 pub mod WithinLemmas
