@@ -170,7 +170,8 @@ fn push_other(given: &mut Given, other: &Given) -> Result<(), CaseFault> {
 /// | `keep none` | the tallies keep no receipts and no calls |
 /// | `calls N` | calls as the lines of scripts, which the tally with this number submits; 0 if none stands there |
 /// | `quietly N` | the same, of which nothing is told |
-/// | `ask` | questions: `looks`, `look T`, `history T`, `render T`, `due MOMENT`, `life`, `stats`, `opening`, `reservation FUNCTION`, `tally N`, `bells` |
+/// | `ask` | questions: `looks`, `look T`, `history T`, `render T`, `due MOMENT`, `life`, `stats` |
+/// | `ask`, also | `opening`, `reservation FUNCTION`, `tally N`, `bells` |
 /// | `crowd N` | what each of four threads calls N times |
 /// | `join` | the tallies 1 and 2 are joined |
 /// | `hold-back` | the tally 1 is not there when the account is settled |

@@ -171,13 +171,14 @@ fn play<
 /// | Part | What it says |
 /// |---|---|
 /// | `open` | the configuration; else it has one function `f` on environment 1 |
-/// | `board MOOD` | the service is no account, but one that `answers` its calls, `loses-bells`, `refuses JournalFull`, or finds `premature N` of the calls that are offered |
+/// | `board MOOD` | not an account: a service of this mood, `answers`, `loses-bells` or one of the next two |
+/// | its moods | `refuses JournalFull`; `premature N`: N of the calls that are offered are premature |
 /// | `patience N` | connections hold premature calls back for N milliseconds, not for 0 |
 /// | `asks` | requests, one a line, which are made one after another |
 /// | `at-once` | three requests, which are made at once |
 /// | `drops` | requests that are let go once they wait |
 /// | `lost T` | a `Poll` for the answer of ticket T, whose bell is dropped |
-/// | `across` | a `Poll` on another thread for the answer of a runtime's Next, while its request is begun and let go once it waits |
+/// | `across` | a `Poll` on another thread for a runtime's Next, whose request is let go once it waits |
 ///
 /// A request is a moment, what its connection's clock reads; a path; and a body, `=TEXT` or `letters N` in
 /// one piece, or as many pieces as `pieces N` says before it, behind which with `broken N` it fails. The

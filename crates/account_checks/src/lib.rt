@@ -1,7 +1,7 @@
-//! What is checked of accounts in memory, in the tables below `accounts`, `ledgers` and `exchanges`: desks behind their locks, the bells of those who
-//! wait, threads that share an account, and settlements of true and of forged tallies; the ledgers
-//! of their counts; and the polls and exchanges of `long_poll`, over an account and over a service
-//! that does as a case says.
+//! The checks of accounts in memory, in the tables below `accounts`, `ledgers` and `exchanges`: desks
+//! behind their locks, the bells of waiting callers, threads that share an account, and settlements of
+//! true and of forged tallies; the ledgers of their counts; and the polls and exchanges of `long_poll`,
+//! over an account and over a service that behaves as a case says.
 #![tactic(auto)]
 
 mod accounts;

@@ -6,7 +6,8 @@ use Rattle.lambda_wire.specs.declared.body_writer.InvokeFault.TheVariants.{User,
 
 -- A refusal on an environment's port (Runtime API and Extensions API: ErrorResponse).
 unfoldable pub fault_text : List ℕ → List ℕ → List ℕ
-fault_text message kind = codes "{\"errorMessage\":" ++ quoted message ++ codes ",\"errorType\":" ++ quoted kind ++ codes "}"
+fault_text message kind =
+    codes "{\"errorMessage\":" ++ quoted message ++ codes ",\"errorType\":" ++ quoted kind ++ codes "}"
 
 -- A refused Invoke (Lambda API, Invoke: Errors).
 unfoldable pub invoke_fault_text : InvokeFault → List ℕ → List ℕ
@@ -16,30 +17,32 @@ invoke_fault_text Service message = codes "{\"Message\":" ++ quoted message ++ c
 
 -- A throttled Invoke (Lambda API, Invoke: TooManyRequestsException).
 unfoldable pub throttle_text : List ℕ → List ℕ
-throttle_text reason = codes "{\"Reason\":" ++ quoted reason ++ codes ",\"Type\":\"User\",\"message\":\"Rate Exceeded.\"}"
+throttle_text reason =
+    codes "{\"Reason\":" ++ quoted reason ++ codes ",\"Type\":\"User\",\"message\":\"Rate Exceeded.\"}"
 
--- What was asked is done.
+-- A request was accepted.
 unfoldable pub status_text : List ℕ
 status_text = codes "{\"status\":\"OK\"}"
 
--- the account's number, where an extension asked for it
+-- the account's number, if an extension asked for it
 abbrev pub account_member : Option (List ℕ) → List ℕ
 account_member None = []
 account_member (Some account) = codes "\"accountId\":" ++ quoted account ++ codes ","
 
 -- An extension is registered (Extensions API, Register).
 unfoldable pub registered_text : Option (List ℕ) → List ℕ → List ℕ → List ℕ
-registered_text account function handler = codes "{" ++ account_member account ++ codes "\"functionName\":" ++ quoted function
+registered_text account function handler = codes "{" ++ account_member account ++ codes "\"functionName\":"
+    ++ quoted function
     ++ codes ",\"functionVersion\":\"$LATEST\",\"handler\":" ++ quoted handler ++ codes "}"
 
--- An invocation is told to an extension (Extensions API, INVOKE event).
+-- An extension is notified of an invocation (Extensions API, INVOKE event).
 unfoldable pub invoke_event_text : ℕ → List ℕ → List ℕ → List ℕ → List ℕ
 invoke_event_text deadline arn request trace = codes "{\"deadlineMs\":" ++ decimal deadline
     ++ codes ",\"eventType\":\"INVOKE\",\"invokedFunctionArn\":" ++ quoted arn
     ++ codes ",\"requestId\":" ++ quoted request
     ++ codes ",\"tracing\":{\"type\":\"X-Amzn-Trace-Id\",\"value\":" ++ quoted trace ++ codes "}}"
 
--- The end of an environment is told to an extension (Extensions API, SHUTDOWN event).
+-- An extension is notified of the end of its environment (Extensions API, SHUTDOWN event).
 unfoldable pub shutdown_event_text : ℕ → List ℕ → List ℕ
 shutdown_event_text deadline reason = codes "{\"deadlineMs\":" ++ decimal deadline
     ++ codes ",\"eventType\":\"SHUTDOWN\",\"shutdownReason\":" ++ quoted reason ++ codes "}"

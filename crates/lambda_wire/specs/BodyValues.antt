@@ -29,7 +29,7 @@ throttle_data reason = object
     (member (codes "Type") (string (codes "User"))
     (member (codes "message") (string (codes "Rate Exceeded.")) no_members)))
 
--- the account's number, where an extension asked for it
+-- the account's number, if an extension asked for it
 abbrev pub with_account : Option (List ℕ) → Members → Members
 with_account None ms = ms
 with_account (Some account) ms = member (codes "accountId") (string account) ms
@@ -42,7 +42,7 @@ registered_data account function handler = object
     (member (codes "functionVersion") (string (codes "$LATEST"))
     (member (codes "handler") (string handler) no_members))))
 
--- where an invocation's trace stands
+-- the member with an invocation's trace
 abbrev pub tracing_data : List ℕ → Data
 tracing_data trace = object
     (member (codes "type") (string (codes "X-Amzn-Trace-Id"))

@@ -1,5 +1,6 @@
--- The setup that a configuration says: one JSON object, with no member that isn't named here.
-use Rattle.std.specs.Prelude.{ℕ, ◌||◌, ◌^◌, Bool, nat_lt, if◌then◌else◌, List, [], length, bytes_eq, codes, Result, Ok, Err}
+-- The setup that a configuration describes: one JSON object, with no other members than these.
+use Rattle.std.specs.Prelude.{ℕ, ◌||◌, ◌^◌, Bool, nat_lt, if◌then◌else◌, List, [], length, bytes_eq, codes}
+use Rattle.std.specs.Prelude.{Result, Ok, Err}
 use Rattle.serde_json.specs.Data.{Data}
 use Rattle.serde_json.specs.Find.{get}
 use Rattle.arn_ids.specs.declared.config.Slot.{Slot}
@@ -9,7 +10,8 @@ use Rattle.arn_ids.specs.declared.config.Config.{Config}
 use Rattle.lambda_wire.specs.declared.setup.Setup.{Setup}
 use Rattle.lambda_wire.specs.declared.fault.WireFault.{WireFault}
 use Rattle.lambda_wire.specs.declared.fault.WireFault.TheVariants.{TooLong, BadShape}
-use Rattle.lambda_wire.specs.Reading.{◌>>=◌, json_in, has_only, required, or_else, optional, text_of, number_of, number_below, list_of}
+use Rattle.lambda_wire.specs.Reading.{◌>>=◌, json_in, has_only, required, or_else, optional}
+use Rattle.lambda_wire.specs.Reading.{text_of, number_of, number_below, list_of}
 
 -- the members that a function may have
 abbrev pub is_function_member : List ℕ → Bool
@@ -22,7 +24,7 @@ is_setup_member k = bytes_eq k (codes "account") || bytes_eq k (codes "region") 
     || bytes_eq k (codes "accountLimit") || bytes_eq k (codes "leastRemainder") || bytes_eq k (codes "invokePort")
     || bytes_eq k (codes "salt") || bytes_eq k (codes "maxEntries")
 
--- a port's number, 0 among them
+-- a port's number, or 0
 abbrev pub port_of : Data → Result ℕ WireFault
 port_of = number_below (2 ^ 16)
 
@@ -37,7 +39,7 @@ lists_of d = do
   slots ← required (list_of slot_of) (get (codes "ports") d)
   Ok (extensions, slots)
 
--- a function, and what stands for the members that it leaves out
+-- a function, and the defaults of the members that it leaves out
 unfoldable pub function_of : Data → Result Function WireFault
 function_of d = if has_only is_function_member d then (do
   timeout_s ← or_else 3 (number_below (2 ^ 32)) (get (codes "timeout") d)
@@ -45,17 +47,24 @@ function_of d = if has_only is_function_member d then (do
   name ← required text_of (get (codes "name") d)
   handler ← or_else (codes "index.handler") text_of (get (codes "handler") d)
   lists ← lists_of d
-  Ok (record { name = name; handler = handler; timeout_s = timeout_s; reserved = reserved; extensions = lists.0; slots = lists.1 }))
+  Ok (record {
+    name = name;
+    handler = handler;
+    timeout_s = timeout_s;
+    reserved = reserved;
+    extensions = lists.0;
+    slots = lists.1;
+  }))
     else Err BadShape
 
--- where an account is
+-- an account's number and region
 unfoldable pub home_of : Data → Result Home WireFault
 home_of d = do
   account ← required text_of (get (codes "account") d)
   region ← required text_of (get (codes "region") d)
   Ok (record { account = account; region = region })
 
--- an account, and what stands for the members that it leaves out
+-- an account, and the defaults of the members that it leaves out
 unfoldable pub config_of : Data → Result Config WireFault
 config_of d = do
   account_limit ← or_else 1000 (number_below (2 ^ 32)) (get (codes "accountLimit") d)
@@ -80,10 +89,10 @@ setup_of d = if has_only is_setup_member d then (do
   Ok (record { config = config; salt = salt; max_entries = max_entries }))
     else Err BadShape
 
--- the setup that the bytes say, however many they are
+-- the setup that the bytes describe, whatever their number
 abbrev pub said_by : List ℕ → Result Setup WireFault
 said_by bytes = json_in bytes >>= setup_of
 
--- the setup that at most 20,000,000 bytes say
+-- the setup that at most 20,000,000 bytes describe
 unfoldable pub read_setup : List ℕ → Result Setup WireFault
 read_setup bytes = if nat_lt 20000000 (length bytes) then Err TooLong else said_by bytes

@@ -19,7 +19,7 @@ list_data ds = array (items_of ds)
 abbrev pub slot_data : Slot → Data
 slot_data slot = number_data slot.port
 
--- a reservation that there isn't is left out
+-- a reservation, unless there is none
 abbrev pub with_reserved : Option ℕ → Members → Members
 with_reserved None ms = ms
 with_reserved (Some n) ms = member (codes "reserved") (number_data n) ms

@@ -1,4 +1,4 @@
--- The headers that a reply was given so far.
+-- The headers of a reply so far.
 use Rattle.std.specs.Prelude.{ℕ, ◌≡◌, false, List}
 use Rattle.http_header.specs.FieldValue.{FieldValue}
 use Rattle.lambda_wire.specs.declared.header_list.HeaderList.{HeaderList}

@@ -1,4 +1,4 @@
--- The headers of replies. Names are compared without case (RFC 9110, section 5.1), and stand in lower case.
+-- The headers of replies. Names are compared without case (RFC 9110, section 5.1), and written in lower case.
 use Rattle.std.specs.Prelude.{ℕ, Bool, true, false, List, [], ◌∷◌, ◌++◌, codes, decimal, Option, Some, None}
 use Rattle.http_header.specs.FieldValue.{FieldValue, plain_value}
 
@@ -10,7 +10,7 @@ header name text = (name, plain_value text)
 abbrev pub json_headers : List (List ℕ × FieldValue)
 json_headers = header (codes "content-type") (codes "application/json") ∷ []
 
--- what stands for the trace of a caller that gave none
+-- the trace of an invocation whose caller gave none
 abbrev pub no_trace : List ℕ
 no_trace = codes "Root=1-00000000-000000000000000000000000;Sampled=0"
 
@@ -43,7 +43,7 @@ invoke_headers request failed = json_headers
     ∷ header (codes "x-amzn-requestid") request
     ∷ failure_mark failed
 
--- the request identifier, where there is one
+-- the request identifier, if there is one
 abbrev pub request_mark : Option (List ℕ) → List (List ℕ × FieldValue)
 request_mark None = []
 request_mark (Some request) = header (codes "x-amzn-requestid") request ∷ []

@@ -10,7 +10,7 @@ use Rattle.serde_json.specs.Read.{number_of, max_depth}
 abbrev pub form : List ℕ → Option json.Json
 form text = option_and_then (λ p. json.if_last p.0 p.1) (json.value max_depth (tokens text))
 
--- a token that is no number, or one in range
+-- a token that isn't a number, or is one in range
 abbrev pub is_in_range : Token → Bool
 is_in_range Token.begin_object = true
 is_in_range Token.end_object = true

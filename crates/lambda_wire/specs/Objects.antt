@@ -1,4 +1,4 @@
--- The members that an object of JSON was given so far.
+-- The members of a JSON object so far.
 use Rattle.std.specs.Prelude.{ℕ, ◌≡◌, false, List, Option, Some, None}
 use Rattle.serde_json.specs.Data.{Data, Members, put}
 use Rattle.serde_json.specs.View.{members_view}

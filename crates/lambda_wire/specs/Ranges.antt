@@ -8,7 +8,7 @@ use Rattle.arn_ids.specs.declared.config.Config.{Config}
 abbrev pub IsSlotInRange : Slot → Type 0
 IsSlotInRange slot = slot.port < 2 ^ 16
 
--- a reservation, where there is one, has 32 bits
+-- a reservation, if there is one, has 32 bits
 abbrev pub IsReservedInRange : Option ℕ → Type 0
 IsReservedInRange None = Unit {0}
 IsReservedInRange (Some n) = n < 2 ^ 32
@@ -19,5 +19,6 @@ IsFunctionInRange f = (f.timeout_s < 2 ^ 32) × IsReservedInRange f.reserved × 
 
 -- the numbers of an account, and those of its functions
 abbrev pub IsConfigInRange : Config → Type 0
-IsConfigInRange config = (config.account_limit < 2 ^ 32) × (config.least_remainder < 2 ^ 32) × (config.invoke_port < 2 ^ 16)
+IsConfigInRange config =
+    (config.account_limit < 2 ^ 32) × (config.least_remainder < 2 ^ 32) × (config.invoke_port < 2 ^ 16)
     × All IsFunctionInRange config.functions

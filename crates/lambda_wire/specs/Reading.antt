@@ -1,7 +1,9 @@
 -- What a body of JSON holds, and the steps by which a value is read from it.
-use Rattle.std.specs.Prelude.{ℕ, ◌≡◌, Bool, true, false, ◌&&◌, nat_lt, if◌then◌else◌, List, [], ◌∷◌, Option, Some, None, Result, Ok, Err, option_and_then}
+use Rattle.std.specs.Prelude.{ℕ, ◌≡◌, Bool, true, false, ◌&&◌, nat_lt, if◌then◌else◌, List, [], ◌∷◌}
+use Rattle.std.specs.Prelude.{Option, Some, None, Result, Ok, Err, option_and_then}
 use Rattle.std.specs.Str.{is_utf8}
-use Rattle.serde_json.specs.Data.{Data, null, boolean, number, string, array, object, Items, no_items, item, Members, no_members, member}
+use Rattle.serde_json.specs.Data.{Data, null, boolean, number, string, array, object, Items, no_items, item}
+use Rattle.serde_json.specs.Data.{Members, no_members, member}
 use Rattle.serde_json.specs.Read.{read}
 use Rattle.serde_json.specs.Find.{as_str, as_number, as_u64, as_array}
 use Rattle.lambda_wire.specs.declared.fault.WireFault.{WireFault}
@@ -13,7 +15,7 @@ abbrev pub ◌>>=◌ : {A B : Type 0} → Result A WireFault → (A → Result B
 (Ok x) >>= f = f x
 (Err e) >>= f = Err e
 
--- a fault comes only where reading gives it, want of memory aside
+-- a fault comes only if reading gives it, lack of memory aside
 abbrev pub Fails : {A : Type 0} → WireFault → Result A WireFault → Type 0
 Fails TooLong reading = reading ≡ Err TooLong
 Fails NotJson reading = reading ≡ Err NotJson
@@ -21,12 +23,12 @@ Fails BadShape reading = reading ≡ Err BadShape
 Fails BadEvent reading = reading ≡ Err BadEvent
 Fails OutOfMemory reading = Unit {0}
 
--- what a function returned, under this view, is what reading gives, want of memory aside
+-- what a function returned, under this view, is what reading gives, lack of memory aside
 abbrev pub GivesAs : {A B : Type 0} → (A → B) → Result A WireFault → Result B WireFault → Type 0
 GivesAs seen (Ok x) reading = reading ≡ Ok (seen x)
 GivesAs seen (Err e) reading = Fails e reading
 
--- what a function returned is what reading gives, want of memory aside
+-- what a function returned is what reading gives, lack of memory aside
 abbrev pub Gives : {A : Type 0} → Result A WireFault → Result A WireFault → Type 0
 Gives (Ok x) reading = reading ≡ Ok x
 Gives (Err e) reading = Fails e reading
@@ -41,7 +43,7 @@ abbrev pub json_or : Option Data → Result Data WireFault
 json_or None = Err NotJson
 json_or (Some d) = Ok d
 
--- the value of the JSON that the bytes are; of a member that stands more than once the last counts
+-- the value of the JSON that the bytes are; if a member appears more than once, the last one counts
 unfoldable pub json_in : List ℕ → Result Data WireFault
 json_in bytes = if is_utf8 bytes then json_or (read bytes) else Err NotJson
 
@@ -64,7 +66,7 @@ abbrev pub required : {A : Type 0} → (Data → Result A WireFault) → Option 
 required f None = Err BadShape
 required f (Some d) = f d
 
--- a member that may be absent, and what then stands for it
+-- a member that may be absent, and its default
 abbrev pub or_else : {A : Type 0} → A → (Data → Result A WireFault) → Option Data → Result A WireFault
 or_else default f None = Ok default
 or_else default f (Some d) = f d

@@ -11,4 +11,8 @@ fault_reply status message kind = record { status = status; headers = json_heade
 
 -- A refusal by the Lambda API, before a call: its status, its type, the form of its body and its message.
 abbrev pub invoke_fault_reply : ℕ → List ℕ → InvokeFault → List ℕ → Reply
-invoke_fault_reply status kind form message = record { status = status; headers = error_headers None kind; body = invoke_fault_text form message }
+invoke_fault_reply status kind form message = record {
+  status = status;
+  headers = error_headers None kind;
+  body = invoke_fault_text form message;
+}

@@ -1,5 +1,6 @@
--- What the bodies of requests say: an Invoke's payload, an extension's registration, a reservation.
-use Rattle.std.specs.Prelude.{ℕ, ◌^◌, Bool, ◌||◌, nat_lt, if◌then◌else◌, List, [], ◌∷◌, length, bytes_eq, codes, Result, Ok, Err}
+-- What the bodies of requests contain: an Invoke's payload, an extension's registration, a reservation.
+use Rattle.std.specs.Prelude.{ℕ, ◌^◌, Bool, ◌||◌, nat_lt, if◌then◌else◌, List, [], ◌∷◌, length, bytes_eq, codes}
+use Rattle.std.specs.Prelude.{Result, Ok, Err}
 use Rattle.std.specs.List.{list_all, list_any}
 use Rattle.serde_json.specs.Data.{Data}
 use Rattle.serde_json.specs.Find.{get, as_object}
@@ -13,7 +14,7 @@ use Rattle.lambda_wire.specs.declared.request_reader.Events.{Events}
 abbrev pub within_limit : {A : Type 0} → List ℕ → Result A WireFault → Result A WireFault
 within_limit bytes reading = if nat_lt longest_body (length bytes) then Err TooLong else reading
 
--- a payload is JSON and is taken as it stands; no bytes at all stand for an empty object
+-- a payload is JSON and stays unchanged; an empty body means an empty object
 abbrev pub payload_of : List ℕ → Result (List ℕ) WireFault
 payload_of [] = Ok (codes "{}")
 payload_of (b ∷ bytes) = json_in (b ∷ bytes) >>= λ _. Ok (b ∷ bytes)
@@ -35,7 +36,7 @@ events_of texts = if list_all is_event texts
     })
     else Err BadEvent
 
--- the events that an object asks for; other members aren't looked at
+-- the events that an object asks for; other members are ignored
 abbrev pub registration_of : Data → Result Events WireFault
 registration_of d = wanted (as_object d) >>= λ _. or_else [] (list_of text_of) (get (codes "events") d) >>= events_of
 
@@ -43,7 +44,7 @@ registration_of d = wanted (as_object d) >>= λ _. or_else [] (list_of text_of) 
 unfoldable pub read_events : List ℕ → Result Events WireFault
 read_events bytes = within_limit bytes (json_in bytes >>= registration_of)
 
--- the reservation that an object asks for; other members aren't looked at
+-- the reservation that an object asks for; other members are ignored
 abbrev pub reservation_of : Data → Result ℕ WireFault
 reservation_of d = required (number_below (2 ^ 32)) (get (codes "ReservedConcurrentExecutions") d)
 

@@ -1,7 +1,8 @@
-//! The bodies of replies are written.
+//! The writers of the bodies of replies.
 
 ghost use Rattle.std.specs.Prelude.{◌≡◌, IfOk, option_map};
-ghost use Rattle.lambda_wire.specs.Bodies.{fault_text, invoke_fault_text, throttle_text, status_text, registered_text, invoke_event_text, shutdown_event_text, reservation_text};
+ghost use Rattle.lambda_wire.specs.Bodies.{fault_text, invoke_fault_text, throttle_text, status_text};
+ghost use Rattle.lambda_wire.specs.Bodies.{registered_text, invoke_event_text, shutdown_event_text, reservation_text};
 
 use crate::object_writer::ObjectWriter;
 use bytes::Bytes;
@@ -13,7 +14,7 @@ use std::alloc::{AllocError, Global};
 pub enum InvokeFault {
     /// The caller's: `{"Type":"User","message":M}`.
     User,
-    /// The caller's, who named what is not there: `{"Message":M,"Type":"User"}`.
+    /// The caller's, if what it named doesn't exist: `{"Message":M,"Type":"User"}`.
     NotFound,
     /// The service's: `{"Message":M,"Type":"Service"}`.
     Service,
@@ -22,7 +23,7 @@ pub enum InvokeFault {
 /// Writes a refusal on an environment's port, `{"errorMessage":M,"errorType":T}` (Runtime API and
 /// Extensions API: ErrorResponse).
 ///
-/// As of every writer here, the only error is want of memory.
+/// The only error of this and the other writers is lack of memory.
 pub fn write_fault(alloc: Global, message: &str, kind: &str) -> Result<Vec<u8>, AllocError>
     ensures { IfOk result (λ b. b.items ≡ fault_text message.now kind.now) }
 {
@@ -68,7 +69,7 @@ pub fn write_throttle(alloc: Global, reason: &str) -> Result<Vec<u8>, AllocError
         .into_vec()
 }
 
-/// Says that what was asked is done, `{"status":"OK"}`. It takes no memory.
+/// Returns the body of an accepted request, `{"status":"OK"}`. It takes no memory.
 #[tactic(auto, unfolding(crate::specs::Bodies::status_text))]
 pub fn status_body() -> Bytes
     ensures { result ≡ status_text }
@@ -76,7 +77,7 @@ pub fn status_body() -> Bytes
     Bytes::from_static("{\"status\":\"OK\"}".as_bytes())
 }
 
-/// Writes a registration: the function's name and handler, and the account's number where the
+/// Writes a registration: the function's name and handler, and the account's number if the
 /// extension asked for it (Extensions API, Register).
 pub fn write_registered(
     alloc: Global,
@@ -84,7 +85,8 @@ pub fn write_registered(
     function: &str,
     handler: &str,
 ) -> Result<Vec<u8>, AllocError>
-    ensures { IfOk result (λ b. b.items ≡ registered_text (option_map (λ a. a.now) account.entry) function.now handler.now) }
+    ensures { IfOk result
+        (λ b. b.items ≡ registered_text (option_map (λ a. a.now) account.entry) function.now handler.now) }
 {
     ObjectWriter::new(alloc)
         .text("functionName", function)
@@ -117,7 +119,7 @@ pub fn write_invoke_event(
         .into_vec()
 }
 
-/// Writes that an environment ends: when it is gone in any case, in milliseconds, and why
+/// Writes that an environment ends: when it ends at the latest, in milliseconds, and why
 /// (Extensions API, SHUTDOWN event).
 pub fn write_shutdown_event(
     alloc: Global,
@@ -133,7 +135,7 @@ pub fn write_shutdown_event(
         .into_vec()
 }
 
-/// Writes a function's reservation, `{}` where it has none (Lambda API, GetFunctionConcurrency).
+/// Writes a function's reservation, `{}` if it has none (Lambda API, GetFunctionConcurrency).
 #[tactic(auto, unfolding(crate::specs::Bodies::reservation_text))]
 pub fn write_reservation(alloc: Global, count: Option<u32>) -> Result<Vec<u8>, AllocError>
     ensures { IfOk result (λ b. b.items ≡ reservation_text count) }

@@ -1,4 +1,4 @@
-//! A configuration is read.
+//! The reader of configurations.
 
 ghost use Rattle.std.specs.Prelude.{◌≡◌, ◌<◌, codes, length, string_bytes, IsErrOf};
 ghost use Rattle.std.specs.List.{list_all};
@@ -6,7 +6,8 @@ ghost use Rattle.std.specs.BTreeMap.{keys};
 ghost use Rattle.serde_json.specs.Find.{get};
 ghost use Rattle.serde_json.specs.View.{view, items_view};
 ghost use Rattle.lambda_wire.specs.Reading as spec;
-ghost use Rattle.lambda_wire.specs.Configuration.{is_function_member, is_setup_member, slot_of, lists_of, function_of, home_of, config_of, setup_of, read_setup};
+ghost use Rattle.lambda_wire.specs.Configuration.{is_function_member, is_setup_member, slot_of, lists_of};
+ghost use Rattle.lambda_wire.specs.Configuration.{function_of, home_of, config_of, setup_of, read_setup};
 
 use crate::fault::WireFault;
 use crate::members::{
@@ -202,15 +203,16 @@ fn setup(alloc: Global, value: &Value) -> Result<Setup, WireFault>
 /// | function: `reserved` | whole number below 2^32 | none |
 /// | function: `extensions` | list of texts | empty |
 ///
-/// A whole number is an integer literal: neither `1.0`, `1e3` nor `-0` is one. Of a member that
-/// stands more than once the last counts. What the values mean is for `Config::check`.
+/// A whole number is an integer literal: `1.0`, `1e3` and `-0` are not. If a member appears more than
+/// once, the last one counts. `Config::check` tests the values.
 ///
-/// The errors are `TooLong`; `NotJson`; `BadShape` where a member is of another type, isn't in the
-/// table, or is required and absent; and `OutOfMemory` for any want of memory.
+/// # Errors
+/// `TooLong`; `NotJson`; `BadShape` if a member is of another type, isn't in the table, or is required
+/// and absent; and `OutOfMemory`.
 #[tactic(auto, unfolding(crate::specs::Configuration::read_setup))]
 pub fn read_config(alloc: Global, bytes: &[u8]) -> Result<Setup, WireFault>
     ensures setup { spec.Gives result (read_setup bytes.now) }
-    // The length is looked at first, and takes no memory.
+    // The length comes first: to test it takes no memory.
     ensures too_long { 20000000 < length bytes.now → IsErrOf result WireFault.TooLong }
 {
     if bytes.len() > MAX_BYTES {

@@ -1,4 +1,4 @@
-//! A configuration is written.
+//! The writer of configurations.
 
 ghost use Rattle.std.specs.Prelude.{◌≡◌, ◌≤◌, Ok, IfOk, length, map, All};
 ghost use Rattle.serde_json.specs.Data.{string};
@@ -123,7 +123,8 @@ fn setup_value(
 /// a function without a reservation has no member `reserved`. Texts are quoted as `serde_json`
 /// quotes them (RFC 8259, section 7). `salt` and `max_entries` are those of `Setup`.
 ///
-/// The only error is want of memory.
+/// # Errors
+/// Only if memory is refused.
 pub fn write_config(
     alloc: Global,
     config: &Config,

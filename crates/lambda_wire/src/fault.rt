@@ -12,16 +12,16 @@ pub enum WireFault {
     /// There are more bytes than a body of this kind may have.
     #[error("the body is too long")]
     TooLong,
-    /// The bytes are no JSON text (RFC 8259) in UTF-8, or nest deeper than 127 arrays and objects.
+    /// The bytes aren't a JSON text (RFC 8259) in UTF-8, or nest more than 127 arrays and objects.
     #[error("the body is not JSON")]
     NotJson,
-    /// The JSON is not of the form that is wanted.
+    /// The JSON doesn't have the required form.
     #[error("the JSON is not of the form that is wanted")]
     BadShape,
     /// An extension asks for an event that is neither INVOKE nor SHUTDOWN.
     #[error("an event is neither INVOKE nor SHUTDOWN")]
     BadEvent,
-    /// There was no memory for what is read.
+    /// There was no memory for the values that were read.
     #[error("out of memory")]
     OutOfMemory,
 }

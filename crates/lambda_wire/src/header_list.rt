@@ -1,6 +1,7 @@
-//! The headers of a reply are written one after the other.
+//! The writer of the headers of a reply, one after the other.
 
-ghost use Rattle.std.specs.Prelude.{ℕ, ◌≡◌, List, [], ◌∷◌, ◌++◌, decimal, IfOk, IsTrue, MatchOption, option_map, unwrap_or, string_bytes};
+ghost use Rattle.std.specs.Prelude.{ℕ, ◌≡◌, List, [], ◌∷◌, ◌++◌, decimal, IfOk, IsTrue, MatchOption};
+ghost use Rattle.std.specs.Prelude.{option_map, unwrap_or, string_bytes};
 ghost use Rattle.http_header.specs.FieldName.{is_header_name};
 ghost use Rattle.http_header.specs.FieldValue.{FieldValue, plain_value, IsFieldValue, is_visible_text};
 ghost use Rattle.lambda_wire.specs.Headers as spec;
@@ -33,8 +34,8 @@ fn value_of(text: String) -> Result<HeaderValue, AllocError>
     }
 }
 
-/// The headers that a reply was given so far. That memory ran out on the way is noted, and told at the
-/// end, as by an `ObjectWriter`.
+/// The headers of a reply so far. If memory runs out, that is noted and reported at the end, as by an
+/// `ObjectWriter`.
 #[derive(Drop)]
 pub(crate) struct HeaderList {
     alloc: Global,
@@ -43,7 +44,7 @@ pub(crate) struct HeaderList {
 }
 
 impl HeaderList {
-    /// The header of every reply with a body, with room for so many in all.
+    /// Returns the header of every reply with a body, with room for `room` headers in all.
     pub(crate) fn new(alloc: Global, room: usize) -> HeaderList
         ensures { Lists result spec.json_headers }
     {
@@ -65,15 +66,17 @@ impl HeaderList {
     #[inline(always)]
     fn header(self, name: &'static str, value: HeaderValue) -> HeaderList
         requires { IsTrue (is_header_name name.now) }
-        ensures { (before : List (List ℕ × FieldValue)) → Lists self before → Lists result (before ++ (name.now, value) ∷ []) }
+        ensures { (before : List (List ℕ × FieldValue)) → Lists self before
+            → Lists result (before ++ (name.now, value) ∷ []) }
     {
         self.named(HeaderName::from_static(name), value)
     }
 
-    /// Adds a header, whose name is made.
+    /// Adds a header, given as a name and a value.
     #[inline(always)]
     fn named(self, name: HeaderName, value: HeaderValue) -> HeaderList
-        ensures { (before : List (List ℕ × FieldValue)) → Lists self before → Lists result (before ++ (name, value) ∷ []) }
+        ensures { (before : List (List ℕ × FieldValue)) → Lists self before
+            → Lists result (before ++ (name, value) ∷ []) }
     {
         let HeaderList {
             alloc,
@@ -88,11 +91,12 @@ impl HeaderList {
         }
     }
 
-    /// Adds a header with a text that is always the same.
+    /// Adds a header with a constant text.
     pub(crate) fn fixed(self, name: &'static str, text: &'static str) -> HeaderList
         requires name { IsTrue (is_header_name name.now) }
         requires text { IsTrue (is_visible_text text.now) }
-        ensures { (before : List (List ℕ × FieldValue)) → Lists self before → Lists result (before ++ spec.header name.now text.now ∷ []) }
+        ensures { (before : List (List ℕ × FieldValue)) → Lists self before
+            → Lists result (before ++ spec.header name.now text.now ∷ []) }
     {
         self.header(name, HeaderValue::from_static(text))
     }
@@ -101,7 +105,8 @@ impl HeaderList {
     pub(crate) fn text(self, name: &'static str, text: &str) -> HeaderList
         requires name { IsTrue (is_header_name name.now) }
         requires text { IsFieldValue text.now }
-        ensures { (before : List (List ℕ × FieldValue)) → Lists self before → Lists result (before ++ spec.header name.now text.now ∷ []) }
+        ensures { (before : List (List ℕ × FieldValue)) → Lists self before
+            → Lists result (before ++ spec.header name.now text.now ∷ []) }
     {
         match value(self.alloc, text) {
             Ok(value) => self.header(name, value),
@@ -109,7 +114,7 @@ impl HeaderList {
         }
     }
 
-    /// Adds a header with a text, or with another that is always the same if there is none.
+    /// Adds a header with a text, or with a constant one if there is none.
     pub(crate) fn text_or(
         self,
         name: &'static str,
@@ -120,7 +125,8 @@ impl HeaderList {
         requires text { MatchOption text Unit (λ t. IsFieldValue t.now) }
         requires otherwise { IsTrue (is_visible_text otherwise.now) }
         ensures { (before : List (List ℕ × FieldValue)) → Lists self before
-            → Lists result (before ++ spec.header name.now (unwrap_or (option_map (λ t. t.now) text.entry) otherwise.now) ∷ []) }
+            → Lists result
+            (before ++ spec.header name.now (unwrap_or (option_map (λ t. t.now) text.entry) otherwise.now) ∷ []) }
     {
         match text {
             Some(text) => self.text(name, text),
@@ -132,7 +138,8 @@ impl HeaderList {
     pub(crate) fn string(self, name: &'static str, text: String) -> HeaderList
         requires name { IsTrue (is_header_name name.now) }
         requires text { IsFieldValue (string_bytes text) }
-        ensures { (before : List (List ℕ × FieldValue)) → Lists self before → Lists result (before ++ spec.header name.now (string_bytes text) ∷ []) }
+        ensures { (before : List (List ℕ × FieldValue)) → Lists self before
+            → Lists result (before ++ spec.header name.now (string_bytes text) ∷ []) }
     {
         match value_of(text) {
             Ok(value) => self.header(name, value),
@@ -143,7 +150,8 @@ impl HeaderList {
     /// Adds a header with a whole number.
     pub(crate) fn number(self, name: &'static str, number: u64) -> HeaderList
         requires { IsTrue (is_header_name name.now) }
-        ensures { (before : List (List ℕ × FieldValue)) → Lists self before → Lists result (before ++ spec.header name.now (decimal number) ∷ []) }
+        ensures { (before : List (List ℕ × FieldValue)) → Lists self before
+            → Lists result (before ++ spec.header name.now (decimal number) ∷ []) }
     {
         match HeaderValue::from_u64(self.alloc, number) {
             Ok(value) => self.header(name, value),
@@ -173,7 +181,7 @@ impl HeaderList {
         }
     }
 
-    /// The headers. The only error is want of memory.
+    /// Returns the headers. The only error is lack of memory.
     pub(crate) fn done(self) -> Result<Row<(HeaderName, HeaderValue)>, AllocError>
         ensures { (headers : List (List ℕ × FieldValue)) → Lists self headers → IfOk result (λ h. h ≡ headers) }
     {

@@ -14,18 +14,18 @@ pub type Headers = Row<(HeaderName, HeaderValue)>;
 
 /// The headers of every reply with a body: `Content-Type: application/json`.
 ///
-/// As of every function here, the only error is want of memory.
+/// The only error of this and the other functions is lack of memory.
 pub fn json_headers(alloc: Global) -> Result<Headers, AllocError>
     ensures { IfOk result (λ h. h ≡ spec.json_headers) }
 {
     HeaderList::new(alloc, 1).done()
 }
 
-/// What stands for the trace of a caller that gave none.
+/// The trace of an invocation whose caller gave none.
 pub const NO_TRACE: &str = "Root=1-00000000-000000000000000000000000;Sampled=0";
 
 /// The headers of a delivery: the request identifier, when the invocation times out, in
-/// milliseconds, the invoked ARN, whose memory it keeps, and the trace, or what stands for it
+/// milliseconds, the invoked ARN, whose memory it keeps, and the trace or its default
 /// (Runtime API, Next invocation).
 pub fn next_headers(
     alloc: Global,
@@ -84,7 +84,7 @@ pub fn invoke_headers(alloc: Global, request: &str, failed: bool) -> Result<Head
     }
 }
 
-/// The headers of a refusal by the Lambda API: its type, and the request identifier where there is
+/// The headers of a refusal by the Lambda API: its type, and the request identifier if there is
 /// one (Lambda API, Invoke: Errors).
 pub fn error_headers(
     alloc: Global,

@@ -1,7 +1,8 @@
-//! Whether bytes are JSON, found without building their value: the value of a payload may take many
-//! times the memory of its text.
+//! Tests whether bytes are JSON without building their value, which can take many times the memory of
+//! the text.
 
-ghost use Rattle.std.specs.Prelude.{◌≡◌, ◌<◌, length, ◌==◌, slice_index, Some, None, IfOk, IsOk, OnOk, IsTrue, MatchResult, true, false, is_some};
+ghost use Rattle.std.specs.Prelude.{◌≡◌, ◌<◌, length, ◌==◌, slice_index, Some, None, IfOk, IsOk};
+ghost use Rattle.std.specs.Prelude.{OnOk, IsTrue, MatchResult, true, false, is_some};
 ghost use Rattle.json.specs.Json.{skip_value};
 ghost use Rattle.json.specs.Reads.{skip_items, skip_members};
 ghost use Rattle.serde_json.specs.Read.{number_of, number_from, float_of, read};
@@ -14,7 +15,7 @@ use fast_float::Numeral;
 use json::{Invalid, Reader, Scratch, Token};
 use std::alloc::{AllocError, Global};
 
-/// How deep arrays and objects may nest, as where a value is built.
+/// How deep arrays and objects may nest: as deep as if a value is built.
 const MAX_DEPTH: usize = 127;
 
 /// Whether the float next to the number is finite.
@@ -65,8 +66,8 @@ fn is_readable(text: &str) -> bool
     }
 }
 
-/// Passes one value whose arrays and objects nest `depth` deep at most, and looks at the range of each
-/// number on the way. It stops at the first fault: after an error the reader is of no use.
+/// Skips one value whose arrays and objects nest at most `depth` deep, and tests the range of each of its
+/// numbers. It stops at the first fault; after an error the reader is unusable.
 #[cycle(check)]
 #[inline(always)]
 fn check_value(reader: &mut Reader<'_>, depth: usize) -> Result<(), Invalid>
@@ -93,7 +94,7 @@ fn check_value(reader: &mut Reader<'_>, depth: usize) -> Result<(), Invalid>
     }
 }
 
-/// Passes the items of an array and the bracket that closes it.
+/// Skips the items of an array and the bracket that closes it.
 #[cycle(check)]
 #[inline(never)]
 fn check_items(reader: &mut Reader<'_>, depth: usize) -> Result<(), Invalid>
@@ -108,7 +109,7 @@ fn check_items(reader: &mut Reader<'_>, depth: usize) -> Result<(), Invalid>
     Ok(())
 }
 
-/// Passes the members of an object and the brace that closes it.
+/// Skips the members of an object and the brace that closes it.
 #[cycle(check)]
 #[inline(never)]
 fn check_members(reader: &mut Reader<'_>, depth: usize) -> Result<(), Invalid>
@@ -123,7 +124,7 @@ fn check_members(reader: &mut Reader<'_>, depth: usize) -> Result<(), Invalid>
     Ok(())
 }
 
-/// Whether a value can be built of the text.
+/// Whether the text has a JSON value.
 #[tactic(auto, using(crate::proofs::JsonPartsLemmas::read_by_parts))]
 fn is_readable_json(text: &str, scratch: &mut Scratch) -> Result<bool, AllocError>
     ensures { IfOk result (λ readable. readable ≡ is_some (read text.now)) }
@@ -132,7 +133,7 @@ fn is_readable_json(text: &str, scratch: &mut Scratch) -> Result<bool, AllocErro
     Ok(check_value(&mut reader, MAX_DEPTH).is_ok() && reader.next().is_none())
 }
 
-/// Whether a value can be built of the text, which is read in this room.
+/// Whether the text has a JSON value; it is read in this scratch memory.
 fn is_json(alloc: Global, room: &mut PayloadScratch, text: &str) -> Result<bool, AllocError>
     ensures { IfOk result (λ readable. readable ≡ is_some (read text.now)) }
 {
@@ -142,7 +143,7 @@ fn is_json(alloc: Global, room: &mut PayloadScratch, text: &str) -> Result<bool,
     Ok(readable)
 }
 
-/// Ok where `json_of` reads the bytes; else the fault with which it doesn't, want of memory aside.
+/// Returns `Ok` if `json_of` reads the bytes, and otherwise its fault, lack of memory aside.
 pub(crate) fn check_json(
     alloc: Global,
     room: &mut PayloadScratch,

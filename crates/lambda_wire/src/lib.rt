@@ -1,4 +1,4 @@
-//! The bodies and headers of this service: what is read from bytes, and the bytes that are written.
+//! The bodies and headers of this service: their readers and writers.
 #![tactic(auto)]
 
 mod body_writer;

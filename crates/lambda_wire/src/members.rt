@@ -10,7 +10,7 @@ use arn_ids::{Row, Text};
 use serde_json::Value;
 use std::alloc::Global;
 
-/// The value of the JSON that the bytes are.
+/// Reads the bytes as a JSON value.
 #[tactic(auto, unfolding(crate::specs::Reading::json_in))]
 pub(crate) fn json_of(alloc: Global, bytes: &[u8]) -> Result<Value, WireFault>
     ensures { spec.GivesAs view result (spec.json_in bytes.now) }
@@ -68,7 +68,7 @@ pub(crate) fn number_u16(value: &Value) -> Result<u16, WireFault>
     u16::try_from(wide).map_err(|_| WireFault::BadShape)
 }
 
-/// The text that a member is, which must be there.
+/// Returns the text of a required member.
 pub(crate) fn text_at(alloc: Global, object: &Value, name: &str) -> Result<Text, WireFault>
     ensures { spec.Gives result (spec.required spec.text_of (get name.now (view object.now))) }
 {
@@ -78,7 +78,7 @@ pub(crate) fn text_at(alloc: Global, object: &Value, name: &str) -> Result<Text,
     }
 }
 
-/// The items of the list that a member is, which must be there.
+/// Returns the items of a required member that is a list.
 pub(crate) fn items_at<'v>(object: &'v Value, name: &str) -> Result<&'v [Value], WireFault>
     ensures { spec.GivesAs (λ v. items_view v.now) result
         (spec.required spec.items_in (get name.now (view object.now))) }
@@ -89,7 +89,7 @@ pub(crate) fn items_at<'v>(object: &'v Value, name: &str) -> Result<&'v [Value],
     }
 }
 
-/// The text that a member is, or a default where it is absent.
+/// Returns the text of a member, or a default if it is absent.
 pub(crate) fn text_or(
     alloc: Global,
     object: &Value,
@@ -105,7 +105,7 @@ pub(crate) fn text_or(
     }
 }
 
-/// The texts of the list that a member is, or none where it is absent.
+/// Returns the texts of a member that is a list, or no texts if it is absent.
 pub(crate) fn texts_or_none(
     alloc: Global,
     object: &Value,
@@ -123,7 +123,7 @@ pub(crate) fn texts_or_none(
     }
 }
 
-/// The number below 2^64 that a member is, or a default where it is absent.
+/// Returns the number below 2^64 of a member, or a default if it is absent.
 pub(crate) fn number_or(object: &Value, name: &str, default: u64) -> Result<u64, WireFault>
     ensures { spec.Gives result
         (spec.or_else default spec.number_of (get name.now (view object.now))) }
@@ -134,7 +134,7 @@ pub(crate) fn number_or(object: &Value, name: &str, default: u64) -> Result<u64,
     }
 }
 
-/// The number below 2^32 that a member is, or a default where it is absent.
+/// Returns the number below 2^32 of a member, or a default if it is absent.
 pub(crate) fn number_u32_or(object: &Value, name: &str, default: u32) -> Result<u32, WireFault>
     ensures { spec.Gives result
         (spec.or_else default (spec.number_below (2 ^ 32)) (get name.now (view object.now))) }
@@ -145,7 +145,7 @@ pub(crate) fn number_u32_or(object: &Value, name: &str, default: u32) -> Result<
     }
 }
 
-/// The number below 2^16 that a member is, or a default where it is absent.
+/// Returns the number below 2^16 of a member, or a default if it is absent.
 pub(crate) fn number_u16_or(object: &Value, name: &str, default: u16) -> Result<u16, WireFault>
     ensures { spec.Gives result
         (spec.or_else default (spec.number_below (2 ^ 16)) (get name.now (view object.now))) }
@@ -156,7 +156,7 @@ pub(crate) fn number_u16_or(object: &Value, name: &str, default: u16) -> Result<
     }
 }
 
-/// The number below 2^32 that a member is, if it is there.
+/// Returns the number below 2^32 of a member, if it is there.
 pub(crate) fn optional_u32(object: &Value, name: &str) -> Result<Option<u32>, WireFault>
     ensures { spec.Gives result
         (spec.optional (spec.number_below (2 ^ 32)) (get name.now (view object.now))) }

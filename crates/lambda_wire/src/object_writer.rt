@@ -1,4 +1,4 @@
-//! An object of JSON is written member by member, in any order of the names.
+//! The writer of JSON objects, member by member, in any order of the names.
 
 ghost use Rattle.std.specs.Prelude.{ℕ, ◌≡◌, false, List, IfOk, option_map};
 ghost use Rattle.serde_json.specs.Data.{Members, no_members, put, string, number, unsigned, array, object};
@@ -10,8 +10,8 @@ ghost use Rattle.lambda_wire.specs.Ranges.{IsReservedInRange};
 use serde_json::{Map, Value};
 use std::alloc::{AllocError, Global};
 
-/// The members that an object was given so far. That memory ran out on the way is noted, and told at
-/// the end: a `?` for each member would be dear to prove.
+/// The members of an object so far. If memory runs out, that is noted and reported at the end: a `?` for
+/// each member would be expensive to prove.
 #[derive(Drop)]
 pub(crate) struct ObjectWriter {
     alloc: Global,
@@ -20,7 +20,7 @@ pub(crate) struct ObjectWriter {
 }
 
 impl ObjectWriter {
-    /// No member yet.
+    /// Returns an object without members.
     pub(crate) fn new(alloc: Global) -> ObjectWriter
         ensures { Holds result no_members }
     {
@@ -71,7 +71,8 @@ impl ObjectWriter {
 
     /// Adds a member that is a whole number.
     pub(crate) fn number(self, name: &str, count: u64) -> ObjectWriter
-        ensures { (before : Members) → Holds self before → Holds result (put name.now (number (unsigned count)) before) }
+        ensures { (before : Members) → Holds self before
+            → Holds result (put name.now (number (unsigned count)) before) }
     {
         self.value(name, Value::from(count))
     }
@@ -90,14 +91,16 @@ impl ObjectWriter {
 
     /// Adds a member that is a list.
     pub(crate) fn list(self, name: &str, values: Vec<Value>) -> ObjectWriter
-        ensures { (before : Members) → Holds self before → Holds result (put name.now (array (items_view values.items)) before) }
+        ensures { (before : Members) → Holds self before
+            → Holds result (put name.now (array (items_view values.items)) before) }
     {
         self.value(name, Value::Array(values))
     }
 
     /// Adds a member that is an object.
     pub(crate) fn object(self, name: &str, inner: ObjectWriter) -> ObjectWriter
-        ensures { (before inside : Members) → Holds self before → Holds inner inside → Holds result (put name.now (object inside) before) }
+        ensures { (before inside : Members) → Holds self before → Holds inner inside
+            → Holds result (put name.now (object inside) before) }
     {
         match inner.into_value() {
             Ok(value) => self.value(name, value),
@@ -115,7 +118,7 @@ impl ObjectWriter {
         }
     }
 
-    /// The object. The only error is want of memory.
+    /// Returns the object. The only error is lack of memory.
     pub(crate) fn into_value(self) -> Result<Value, AllocError>
         ensures { (members : Members) → Holds self members → IfOk result (λ v. view v ≡ object members) }
     {
@@ -124,7 +127,7 @@ impl ObjectWriter {
         }
         Ok(Value::Object(self.members))
     }
-    /// The object as compact JSON. The only error is want of memory.
+    /// Returns the object as compact JSON. The only error is lack of memory.
     pub(crate) fn into_vec(self) -> Result<Vec<u8>, AllocError>
         ensures { (members : Members) (text : List ℕ) → Holds self members → has_float (object members) ≡ false
             → compact_text (object members) ≡ text → IfOk result (λ b. b.items ≡ text) }

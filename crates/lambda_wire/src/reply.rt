@@ -14,16 +14,16 @@ use std::alloc::{AllocError, Global};
 pub struct Reply {
     /// From 200 to 599.
     pub status: u16,
-    /// All but those that the connection itself adds, as `Content-Length` and `Date`.
+    /// All headers except those that the connection itself adds, such as `Content-Length` and `Date`.
     pub headers: Headers,
-    /// Its bytes, none where the reply has no body.
+    /// Its bytes; empty if the reply has no body.
     pub body: Bytes,
 }
 
 impl Reply {
-    /// A reply of what its headers and its body came to.
+    /// Returns a reply with these headers and this body, if there was memory for both.
     ///
-    /// As of every function here, the only error is want of memory, that of one of the two included.
+    /// The only error of this and the other functions is lack of memory.
     pub fn of(
         status: u16,
         headers: Result<Headers, AllocError>,

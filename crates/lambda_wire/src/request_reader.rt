@@ -1,11 +1,12 @@
-//! The bodies of requests are read.
+//! The readers of the bodies of requests.
 
 ghost use Rattle.std.specs.Prelude.{◌≡◌, ◌<◌, length, IsErrOf, bytes_eq};
 ghost use Rattle.std.specs.List.{list_all, list_any};
 ghost use Rattle.serde_json.specs.View.{view};
 ghost use Rattle.arn_ids.specs.Limits.{longest_body};
 ghost use Rattle.lambda_wire.specs.Reading as spec;
-ghost use Rattle.lambda_wire.specs.Requests.{is_event, events_of, registration_of, reservation_of, read_payload, read_events, read_count};
+ghost use Rattle.lambda_wire.specs.Requests.{is_event, events_of, registration_of, reservation_of};
+ghost use Rattle.lambda_wire.specs.Requests.{read_payload, read_events, read_count};
 
 use crate::fault::WireFault;
 use crate::json_check::check_json;
@@ -19,17 +20,18 @@ use std::alloc::{AllocError, Global};
 /// The events that an extension asks for (Extensions API, Register).
 #[derive(Clone, Copy, Debug, PartialEq, Eq)]
 pub struct Events {
-    /// Whether it is to be told each invocation (INVOKE).
+    /// Whether it is notified of each invocation (INVOKE).
     pub invoke: bool,
-    /// Whether it is to be told the end of its environment (SHUTDOWN).
+    /// Whether it is notified of the end of its environment (SHUTDOWN).
     pub shutdown: bool,
 }
 
-/// Reads the payload of an Invoke: JSON (RFC 8259) of at most 6,291,456 bytes, which is taken as it
-/// stands and shares its memory; an empty body stands for `{}` (Lambda API, Invoke: Payload). It is read
-/// in the scratch's room, whatever was read there before.
+/// Reads the payload of an Invoke: JSON (RFC 8259) of at most 6,291,456 bytes, which is unchanged and
+/// shares its memory; an empty body means `{}` (Lambda API, Invoke: Payload). It is read in the memory of
+/// the scratch, whose contents don't matter.
 ///
-/// The errors are `TooLong`, `NotJson` (white space alone is no JSON), and `OutOfMemory`.
+/// # Errors
+/// `TooLong`, `NotJson` (white space alone isn't JSON) and `OutOfMemory`.
 #[tactic(auto, unfolding(crate::specs::Requests::read_payload))]
 pub fn read_invoke_body(
     alloc: Global,
@@ -37,7 +39,7 @@ pub fn read_invoke_body(
     bytes: &Bytes,
 ) -> Result<Bytes, WireFault>
     ensures payload { spec.Gives result (read_payload bytes.now) }
-    // The length is looked at first, and takes no memory.
+    // The length comes first: to test it takes no memory.
     ensures too_long { longest_body < length bytes.now → IsErrOf result WireFault.TooLong }
 {
     if bytes.len() > LONGEST_BODY {
@@ -89,15 +91,16 @@ fn registration(alloc: Global, value: &Value) -> Result<Events, WireFault>
 }
 
 /// Reads the body of a registration: a JSON object of at most 6,291,456 bytes, whose `events` is a
-/// list of `INVOKE` and `SHUTDOWN`, each any number of times. Without `events` none is asked for;
-/// other members aren't looked at (Extensions API, Register).
+/// list of `INVOKE` and `SHUTDOWN`, each any number of times. Without `events` it asks for none; other
+/// members are ignored (Extensions API, Register).
 ///
-/// The errors are `TooLong`; `NotJson`; `BadShape` for anything but an object whose `events`, where
-/// it has some, is a list of texts; `BadEvent` for a text that is neither event; `OutOfMemory`.
+/// # Errors
+/// `TooLong`; `NotJson`; `BadShape` unless it is an object whose `events`, if it has any, is a list of
+/// texts; `BadEvent` for a text that is neither event; `OutOfMemory`.
 #[tactic(auto, unfolding(crate::specs::Requests::read_events))]
 pub fn read_register(alloc: Global, bytes: &[u8]) -> Result<Events, WireFault>
     ensures events { spec.Gives result (read_events bytes.now) }
-    // The length is looked at first, and takes no memory.
+    // The length comes first: to test it takes no memory.
     ensures too_long { longest_body < length bytes.now → IsErrOf result WireFault.TooLong }
 {
     if bytes.len() > LONGEST_BODY {
@@ -118,13 +121,14 @@ fn reservation(value: &Value) -> Result<u32, WireFault>
 }
 
 /// Reads the body of a PutFunctionConcurrency: a JSON object of at most 6,291,456 bytes with a
-/// whole number `ReservedConcurrentExecutions` below 2^32; other members aren't looked at.
+/// whole number `ReservedConcurrentExecutions` below 2^32; other members are ignored.
 ///
-/// The errors are `TooLong`, `NotJson`, `BadShape` and `OutOfMemory`.
+/// # Errors
+/// `TooLong`, `NotJson`, `BadShape` and `OutOfMemory`.
 #[tactic(auto, unfolding(crate::specs::Requests::read_count))]
 pub fn read_reservation(alloc: Global, bytes: &[u8]) -> Result<u32, WireFault>
     ensures count { spec.Gives result (read_count bytes.now) }
-    // The length is looked at first, and takes no memory.
+    // The length comes first: to test it takes no memory.
     ensures too_long { longest_body < length bytes.now → IsErrOf result WireFault.TooLong }
 {
     if bytes.len() > LONGEST_BODY {

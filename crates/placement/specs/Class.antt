@@ -5,7 +5,7 @@ use Rattle.call_types.specs.declared.answer.Phase.TheVariants as phase
 use Rattle.placement.specs.declared.class.Class.{Class}
 use Rattle.placement.specs.declared.class.Class.TheVariants.{Idle, StartingFree, ClosingFree, Taken}
 
--- this class where nothing is bound
+-- this class if nothing is bound
 abbrev pub unless_bound : Option ℕ → Class → Class
 unless_bound None class = class
 unless_bound (Some t) class = Taken

@@ -1,6 +1,8 @@
 -- The sets of free environments, and what ties them to the environments. No public clause cites this module.
-use Rattle.std.specs.Prelude.{◌≡◌, ℕ, ◌-◌, ◌/◌, ◌%◌, ◌<◌, ◌≤◌, Bool, true, false, ◌==◌, cond, List, length, get_or, slice_index}
+use Rattle.std.specs.Prelude.{◌≡◌, ℕ, ◌-◌, ◌/◌, ◌%◌, ◌<◌, ◌≤◌, Bool, true, false, ◌==◌, cond, List, length}
+use Rattle.std.specs.Prelude.{get_or, slice_index}
 use Rattle.std.specs.Int.{bit_at}
+use Rattle.arn_ids.specs.Limits.{most_environments}
 use Rattle.placement.specs.declared.class.Class.{Class}
 use Rattle.placement.specs.declared.class.Class.TheVariants.{Idle, StartingFree, ClosingFree, Taken}
 use Rattle.placement.specs.declared.env_set.EnvSet.{EnvSet}
@@ -21,7 +23,7 @@ has_at set i = bit_at (slice_index set.words (i / 64)) (i % 64) == 1
 -- the lowest numbered environment of a set
 pub record IsLowest (set : EnvSet) (e : ℕ) : Type 0 where
   pub from_one : 1 ≤ e
-  pub within : e ≤ 256
+  pub within : e ≤ most_environments
   pub is_in : has_at set (e - 1) ≡ true
   pub below : (i : ℕ) → i < e - 1 → has_at set i ≡ false
 
@@ -50,10 +52,10 @@ class_for f place = cond (place.function == f) place.class Taken
 -- the sets of a function have its environments by their classes
 pub record Marks (free : Free) (f : ℕ) (places : List Place) : Type 0 where
   pub whole : IsWhole free
-  pub marked : (i : ℕ) → i < 256 → HasClass free i (class_for f (get_or places i no_place))
+  pub marked : (i : ℕ) → i < most_environments → HasClass free i (class_for f (get_or places i no_place))
 
 -- The sets of all functions, by their numbers. No function has number 0.
 pub record Follows (sets : List Free) (places : List Place) : Type 0 where
-  pub fits : length places ≤ 256
+  pub fits : length places ≤ most_environments
   pub known : (i : ℕ) → i < length places → (get_or places i no_place).function < length sets
   pub marks : (f : ℕ) (d : Free) → f < length sets → Marks (get_or sets f d) f places

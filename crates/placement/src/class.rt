@@ -5,7 +5,7 @@ ghost use Rattle.placement.specs.Class.{class_of, is_class};
 
 use call_model::Phase;
 
-/// Whether an environment takes an invocation, and after what.
+/// Whether an environment takes an invocation, and what has to happen first.
 /// (Lambda Developer Guide, "Understanding the Lambda execution environment lifecycle")
 #[derive(Clone, Copy, Debug, PartialEq, Eq)]
 pub enum Class {
@@ -13,14 +13,14 @@ pub enum Class {
     Idle,
     /// It serves when its Init ends.
     StartingFree,
-    /// It serves when it was shut down and its next Init ended.
+    /// It serves once it has shut down and its next Init has ended.
     ClosingFree,
     /// It serves an invocation or has one bound, or it is off for good.
     Taken,
 }
 
 impl Class {
-    /// The class of an environment in a phase.
+    /// Returns the class of an environment in a phase.
     pub fn of(phase: Phase) -> Class
         ensures { result ≡ class_of phase }
     {
@@ -39,7 +39,7 @@ impl Class {
         }
     }
 
-    /// Whether it is that one.
+    /// Whether the two are the same class.
     pub(crate) fn is(self, class: Class) -> bool
         ensures { result ≡ is_class class self }
     {

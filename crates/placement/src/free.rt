@@ -1,6 +1,7 @@
 //! The environments of one function that take an invocation.
 
 ghost use Rattle.std.specs.Prelude.{◌≢◌, ℕ, ◌-◌, ◌<◌, ◌≤◌};
+ghost use Rattle.arn_ids.specs.Limits.{most_environments};
 ghost use Rattle.placement.specs.Sets.{IsWhole, HasClass, SameAt};
 ghost use Rattle.placement.specs.declared.class.Class.TheVariants.{Taken};
 
@@ -20,10 +21,10 @@ pub(crate) struct Free {
 }
 
 impl Free {
-    /// None.
+    /// Returns the sets without an environment.
     pub(crate) fn none() -> Free
         ensures whole { IsWhole result }
-        ensures none { (i : ℕ) → i < 256 → HasClass result i Taken }
+        ensures none { (i : ℕ) → i < most_environments → HasClass result i Taken }
     {
         Free {
             idle: EnvSet::empty(),
@@ -32,14 +33,14 @@ impl Free {
         }
     }
 
-    /// Notes an environment's class, in place of the one noted before.
+    /// Sets an environment's class.
     pub(crate) fn note(&mut self, env: EnvNo, class: Class)
         requires whole { IsWhole self.old }
         requires from_one { 1 ≤ env }
-        requires within { env ≤ 256 }
+        requires within { env ≤ most_environments }
         ensures whole { IsWhole self.new }
         ensures here { HasClass self.new (env - 1) class }
-        ensures others { (i : ℕ) → i < 256 → i ≢ env - 1 → SameAt self.old self.new i }
+        ensures others { (i : ℕ) → i < most_environments → i ≢ env - 1 → SameAt self.old self.new i }
     {
         self.idle.put(env, class.is(Class::Idle));
         self.starting.put(env, class.is(Class::StartingFree));

@@ -1,4 +1,4 @@
-//! What the classes after a history say of it. Each function does nothing; its clauses are the laws.
+//! How the classes relate to the history. Each function does nothing; its clauses are the laws.
 
 ghost use Rattle.std.specs.Prelude.{◌≡◌, ℕ, List, []};
 ghost use Rattle.arn_ids.specs.declared.config.Config.{Config};
@@ -9,7 +9,7 @@ ghost use Rattle.placement.specs.Meets.{places};
 
 /// The environments meet the history.
 pub fn meets()
-    // Before any call every environment starts with nothing bound.
+    // Before any call, every environment is starting with nothing bound.
     ensures opened { (config : Config) → opened config ≡ places config [] }
     // An invocation goes where the definitions place it.
     ensures place { (config : Config) (h : List Entry) (f : ℕ) → place_among (places config h) f ≡ place config h f }

@@ -1,8 +1,8 @@
 //! The environments of an account by function and class.
 //!
-//! Beside the row of environments each function has three sets of them, one for each class that
-//! takes an invocation. So a note writes one place and three words, and a choice reads twelve words,
-//! however many environments there are. Neither takes memory.
+//! Beside the list of environments, each function has three sets of them, one for each class that
+//! takes an invocation. So to set a class writes one element and three words, and a choice reads
+//! twelve words, whatever the number of environments. Neither takes memory.
 
 ghost use Rattle.std.specs.Prelude.{◌≡◌, ◌-◌, ◌≤◌, length, slice_set, IfOk};
 ghost use Rattle.placement.specs.Places.{place_among, place_at, opened};
@@ -13,7 +13,7 @@ use arn_ids::{Checked, EnvNo, FnNo};
 use std::alloc::{AllocError, Global};
 use std::marker::Model;
 
-/// An environment: the function that it belongs to, and the class that was last noted of it.
+/// An environment: its function, and its class.
 #[derive(Clone, Copy)]
 pub struct Place {
     /// The number of its function, from 1.
@@ -43,10 +43,10 @@ impl Model for Places {
 }
 
 impl Places {
-    /// The environments of a configuration, each of them starting with nothing bound.
+    /// Returns the environments of a configuration, each of them starting with nothing bound.
     ///
     /// # Errors
-    /// Only where memory is refused.
+    /// Only if memory is refused.
     pub fn open(alloc: Global, config: &Checked) -> Result<Places, AllocError>
         ensures { IfOk result (λ places. places ≡ opened config.now) }
     {
@@ -63,14 +63,14 @@ impl Places {
         Ok(Places { places, free })
     }
 
-    /// How many environments there are.
+    /// Returns the number of environments.
     pub fn environments(&self) -> u32
         ensures { result ≡ length self.now }
     {
         self.places.len() as u32
     }
 
-    /// Notes an environment's class, in place of the one noted before, in constant time.
+    /// Sets an environment's class, in constant time.
     pub fn note(&mut self, env: EnvNo, class: Class)
         requires from_one { 1 ≤ env }
         requires there { env ≤ length self.old }
@@ -82,9 +82,9 @@ impl Places {
         self.free[function as usize].note(env, class);
     }
 
-    /// Where the function's next invocation goes: to its lowest numbered environment that is idle,
-    /// else to one that starts, else to one that closes, with nothing bound; none where all are
-    /// taken. Takes constant time.
+    /// Returns the environment that takes the function's next invocation, in constant time: the lowest
+    /// numbered one that is idle, else one that starts, else one that closes, with nothing bound.
+    /// Returns `None` if all are taken.
     pub fn choose(&self, function: FnNo) -> Option<EnvNo>
         ensures { result ≡ place_among self.now function }
     {

@@ -1,4 +1,4 @@
--- What a caller hands in, as the definitions see it.
+-- The input of a reply, as the definitions see it.
 use Rattle.std.specs.Prelude.{Some}
 use Rattle.call_types.specs.declared.call.Call.{Call}
 use Rattle.call_types.specs.declared.call.Call.TheVariants.{Invoke}
@@ -16,7 +16,8 @@ gist_of g = record {
   source_count = g.source_count;
 }
 
--- A call brings no trace, or one of 1 to 256 printing characters: so each call that a script can make, and each expiry.
+-- A call has no trace, or one of 1 to 256 printing characters. This holds for each call that a script can make, and for
+-- each expiry.
 abbrev pub IsTraced : Call → Type 0
 IsTraced (Invoke f qualified trace body) = IsTrace trace
 IsTraced _ = Unit {0}

@@ -1,9 +1,9 @@
--- What a reply says of the invocation, the environment and the extension that it is about.
+-- The invocation, the environment and the extension of a reply, in words.
 pub mod Words
 -- The replies, a family of answers each.
 pub mod Refusals
 pub mod Polls
 pub mod Outcomes
--- The reply that an answer comes to.
+-- The reply for an answer.
 pub mod Replies
 pub mod Gists

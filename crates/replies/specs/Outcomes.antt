@@ -1,4 +1,4 @@
--- The replies to callers and operators: what became of an invocation, what was asked is done.
+-- The replies to callers and operators: the outcome of an invocation, and accepted requests.
 use Rattle.std.specs.Prelude.{ℕ, Bool, true, List, [], ◌++◌, codes, decimal, Option, Some, None}
 use Rattle.lambda_wire.specs.Bodies.{fault_text, throttle_text, invoke_fault_text, status_text, reservation_text}
 use Rattle.lambda_wire.specs.Headers.{json_headers, invoke_headers, error_headers}
@@ -13,7 +13,7 @@ use Rattle.call_types.specs.Calls.{body_of}
 use Rattle.call_types.specs.Words.{throttle_word}
 use Rattle.replies.specs.Words.{request_text, invoked_function}
 
--- The invocation ran: the bytes of the report, marked where they tell of a failure (Lambda API, Invoke: Response Elements).
+-- The invocation ran: the bytes of the report, marked if they report a failure (Lambda API, Invoke: Response Elements).
 unfoldable pub outcome : ℕ → Gist → Bool → Reply
 outcome salt gist failed = record {
   status = 200;
@@ -21,7 +21,7 @@ outcome salt gist failed = record {
   body = body_of gist.source;
 }
 
--- The invocation failed with no report of its own: a message that names it, and its type.
+-- The invocation failed without a report: a message that names it, and its type.
 unfoldable pub failure : ℕ → Gist → List ℕ → List ℕ → Reply
 failure salt gist message kind = record {
   status = 200;
@@ -32,7 +32,9 @@ failure salt gist message kind = record {
 -- It took longer than its function's timeout, in seconds.
 abbrev pub timed_out : Config → ℕ → Gist → Reply
 timed_out config salt gist =
-    failure salt gist (codes " Task timed out after " ++ decimal (invoked_function config gist.call).timeout_s ++ codes " seconds") (codes "Function.Timeout")
+    failure salt gist
+    (codes " Task timed out after " ++ decimal (invoked_function config gist.call).timeout_s ++ codes " seconds")
+    (codes "Function.Timeout")
 
 -- It waited for an Init that took longer than 10 seconds.
 abbrev pub init_timed_out : ℕ → Gist → Reply
@@ -40,7 +42,8 @@ init_timed_out salt gist = failure salt gist (codes " Init timed out after 10 se
 
 -- Its output was larger than 6,291,456 bytes.
 abbrev pub output_too_large : ℕ → Gist → Reply
-output_too_large salt gist = failure salt gist (codes " Response exceeds 6291456 bytes") (codes "Function.ResponseSizeTooLarge")
+output_too_large salt gist =
+    failure salt gist (codes " Response exceeds 6291456 bytes") (codes "Function.ResponseSizeTooLarge")
 
 -- The invocation isn't admitted (Lambda API, Invoke: TooManyRequestsException).
 unfoldable pub throttled : ℕ → Gist → Throttle → Reply
@@ -52,10 +55,11 @@ throttled salt gist reason = record {
 
 -- the request identifier of an Invoke; no other call has one
 abbrev pub request_named : ℕ → Call → ℕ → Option (List ℕ)
-request_named salt (Invoke f qualified trace body) count = Some (request_text salt (Invoke f qualified trace body) count)
+request_named salt (Invoke f qualified trace body) count =
+    Some (request_text salt (Invoke f qualified trace body) count)
 request_named salt call count = None
 
--- The service is stopped: an Invoke is told its request identifier (Lambda API, Invoke: ServiceException).
+-- The service is stopped: an Invoke gets its request identifier (Lambda API, Invoke: ServiceException).
 unfoldable pub stopped : Option (List ℕ) → Reply
 stopped request = record {
   status = 500;
@@ -63,7 +67,7 @@ stopped request = record {
   body = invoke_fault_text Service (codes "Service is stopped");
 }
 
--- What was asked is accepted, or done.
+-- The request is accepted, or done.
 unfoldable pub done_with : ℕ → Reply
 done_with status = record { status = status; headers = json_headers; body = status_text }
 
@@ -71,6 +75,6 @@ done_with status = record { status = status; headers = json_headers; body = stat
 unfoldable pub reserved : ℕ → Reply
 reserved count = record { status = 200; headers = json_headers; body = reservation_text (Some count) }
 
--- A reservation is removed: there is no body, and so no header that tells of one (Lambda API, DeleteFunctionConcurrency).
+-- A reservation is removed: there is no body, and so no header for one (Lambda API, DeleteFunctionConcurrency).
 abbrev pub unreserved : Reply
 unreserved = record { status = 204; headers = []; body = [] }

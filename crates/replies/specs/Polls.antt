@@ -11,23 +11,25 @@ use Rattle.call_types.specs.Calls.{body_of}
 use Rattle.call_types.specs.Words.{reason_word}
 use Rattle.replies.specs.Words.{request_text, env_text, env_function, arn_text, trace_text, account_text}
 
--- An invocation is delivered to a runtime: the payload of its Invoke as it stands (Runtime API, Next invocation).
+-- An invocation is delivered to a runtime: the payload of its Invoke, unchanged (Runtime API, Next invocation).
 unfoldable pub delivery : Config → ℕ → Gist → ℕ → Reply
 delivery config salt gist deadline = record {
   status = 200;
-  headers = next_headers (request_text salt gist.source gist.source_count) deadline (arn_text config gist.source) (trace_text gist.source);
+  headers = next_headers (request_text salt gist.source gist.source_count) deadline
+      (arn_text config gist.source) (trace_text gist.source);
   body = body_of gist.source;
 }
 
--- An invocation is told to an extension (Extensions API, Next: INVOKE event).
+-- An extension is notified of an invocation (Extensions API, Next: INVOKE event).
 unfoldable pub invoke_event : Config → ℕ → Gist → ℕ → ℕ → Reply
 invoke_event config salt gist deadline event = record {
   status = 200;
   headers = event_headers (env_text salt Event gist.call event);
-  body = invoke_event_text deadline (arn_text config gist.source) (request_text salt gist.source gist.source_count) (trace_text gist.source);
+  body = invoke_event_text deadline (arn_text config gist.source)
+      (request_text salt gist.source gist.source_count) (trace_text gist.source);
 }
 
--- The end of its environment is told to an extension (Extensions API, Next: SHUTDOWN event).
+-- An extension is notified of the end of its environment (Extensions API, Next: SHUTDOWN event).
 unfoldable pub shutdown_event : ℕ → Gist → Reason → ℕ → ℕ → Reply
 shutdown_event salt gist reason until event = record {
   status = 200;
@@ -40,5 +42,6 @@ unfoldable pub registration : Config → ℕ → Gist → ℕ → Reply
 registration config salt gist count = record {
   status = 200;
   headers = registered_headers (env_text salt Extension gist.call count);
-  body = registered_text (account_text config gist.call) (env_function config gist.call).name (env_function config gist.call).handler;
+  body = registered_text (account_text config gist.call)
+      (env_function config gist.call).name (env_function config gist.call).handler;
 }

@@ -1,11 +1,12 @@
--- The replies to calls that are refused. Statuses, types and messages are this service's own where the public
+-- The replies to calls that are refused. Statuses, types and messages are this service's own if the public
 -- documents leave them open.
 use Rattle.std.specs.Prelude.{ℕ, List, codes}
 use Rattle.lambda_wire.specs.Replies.{fault_reply, invoke_fault_reply}
 use Rattle.lambda_wire.specs.declared.body_writer.InvokeFault.TheVariants.{User}
 use Rattle.lambda_wire.specs.declared.reply.Reply.{Reply}
 use Rattle.call_types.specs.declared.answer.Rejection.{Rejection}
-use Rattle.call_types.specs.declared.answer.Rejection.TheVariants.{State, Replaced, BadId, Unknown, TooLarge, Container, NameInUse, TooMany, NotIdle, BadReservation}
+use Rattle.call_types.specs.declared.answer.Rejection.TheVariants.{State, Replaced, BadId, Unknown, TooLarge, Container}
+use Rattle.call_types.specs.declared.answer.Rejection.TheVariants.{NameInUse, TooMany, NotIdle, BadReservation}
 
 -- The status, the type and the message of a refusal.
 abbrev pub refusal_words : Rejection → ℕ × List ℕ × List ℕ
@@ -33,6 +34,6 @@ unfoldable pub refused : Rejection → Reply
 refused BadReservation = reservation_refusal (refusal_words BadReservation)
 refused refusal = plain_refusal (refusal_words refusal)
 
--- The reply to a poll that was taken back.
+-- The reply to a poll that was withdrawn.
 abbrev pub withdrawn : Reply
 withdrawn = fault_reply 403 (codes "The poll was withdrawn") (codes "InvalidStateTransition")

@@ -1,15 +1,19 @@
--- The reply that an answer comes to: its status, its headers and its body.
+-- The reply for an answer: its status, its headers and its body.
 use Rattle.std.specs.Prelude.{ℕ, true, false, Option, option_map}
 use Rattle.lambda_wire.specs.declared.reply.Reply.{Reply}
 use Rattle.arn_ids.specs.declared.config.Config.{Config}
 use Rattle.call_types.specs.declared.answer.Answer.{Answer}
-use Rattle.call_types.specs.declared.answer.Answer.TheVariants.{Delivered, Told, Ending, Registered, Accepted, Done, Output, Error, TimedOut, InitTimedOut, OutputTooLarge, Throttled, Stopped, Withdrawn, Refused, Reserved, Unreserved}
+use Rattle.call_types.specs.declared.answer.Answer.TheVariants.{Delivered, Told, Ending, Registered, Accepted, Done}
+use Rattle.call_types.specs.declared.answer.Answer.TheVariants.{Output, Error, TimedOut, InitTimedOut, OutputTooLarge}
+use Rattle.call_types.specs.declared.answer.Answer.TheVariants.{Throttled, Stopped, Withdrawn, Refused}
+use Rattle.call_types.specs.declared.answer.Answer.TheVariants.{Reserved, Unreserved}
 use Rattle.call_model.specs.Isolation.{Gist}
 use Rattle.replies.specs.Refusals.{refused, withdrawn}
 use Rattle.replies.specs.Polls.{delivery, invoke_event, shutdown_event, registration}
-use Rattle.replies.specs.Outcomes.{outcome, timed_out, init_timed_out, output_too_large, throttled, request_named, stopped, done_with, reserved, unreserved}
+use Rattle.replies.specs.Outcomes.{outcome, timed_out, init_timed_out, output_too_large, throttled, request_named}
+use Rattle.replies.specs.Outcomes.{stopped, done_with, reserved, unreserved}
 
--- The reply of an answer, from the calls and the counts that it is about.
+-- The reply for an answer, from the calls and the counts that it refers to.
 unfoldable pub reply_to : Config → ℕ → Gist → Answer → Reply
 reply_to config salt gist (Delivered invoke deadline) = delivery config salt gist deadline
 reply_to config salt gist (Told invoke deadline event) = invoke_event config salt gist deadline event

@@ -1,4 +1,4 @@
--- What a reply says of the invocation, the environment and the extension that it is about.
+-- The invocation, the environment and the extension of a reply, in words.
 use Rattle.std.specs.Prelude.{ℕ, Bool, false, if◌then◌else◌, List, Option, Some, None, unwrap_or}
 use Rattle.arn_ids.specs.Environments.{function_of, function_at}
 use Rattle.arn_ids.specs.Grammar.{arn}
@@ -12,11 +12,11 @@ use Rattle.call_types.specs.Calls.{env_of, invoked}
 use Rattle.arn_ids.specs.Identifiers.{id_word}
 use Rattle.lambda_wire.specs.Headers.{no_trace}
 
--- the number of the function that a call invokes; 0 for a call that is no Invoke
+-- the number of the function that a call invokes; 0 if it isn't an Invoke
 abbrev pub function_number : Call → ℕ
 function_number call = unwrap_or (invoked call) 0
 
--- the request identifier of an Invoke, by its number among its function's (Runtime API: Lambda-Runtime-Aws-Request-Id)
+-- the request identifier of an Invoke, by its count at its function (Runtime API: Lambda-Runtime-Aws-Request-Id)
 abbrev pub request_text : ℕ → Call → ℕ → List ℕ
 request_text salt call count = id_word salt Request (function_number call) count
 
@@ -55,6 +55,6 @@ abbrev pub wants_account : Call → Bool
 wants_account (Register e name invoke shutdown account) = account
 wants_account _ = false
 
--- the account's number, where it was asked for
+-- the account's number, if the extension asked for it
 abbrev pub account_text : Config → Call → Option (List ℕ)
 account_text config call = if wants_account call then Some config.home.account else None

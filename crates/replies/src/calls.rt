@@ -1,4 +1,4 @@
-//! What a call says of itself.
+//! The parts of a call that its reply needs.
 
 ghost use Rattle.std.specs.Prelude.{◌≡◌, IfOk, MatchOption, option_map, unwrap_or};
 ghost use Rattle.http_header.specs.FieldValue.{IsFieldValue};
@@ -22,7 +22,7 @@ pub(crate) fn is_qualified(call: &Call) -> bool
     }
 }
 
-/// The trace of an Invoke whose caller gave one.
+/// Returns the trace of an Invoke, if its caller gave one.
 pub(crate) fn given_trace(call: &Call) -> Option<&str>
     requires { IsTraced call.now }
     ensures value { unwrap_or (option_map (λ t. t.now) result) no_trace ≡ spec.trace_text call.now }
@@ -37,7 +37,7 @@ pub(crate) fn given_trace(call: &Call) -> Option<&str>
     }
 }
 
-/// The trace of an Invoke, or what stands for it.
+/// Returns the trace of an Invoke, or its default.
 pub(crate) fn trace_of(call: &Call) -> &str
     requires { IsTraced call.now }
     ensures { result.now ≡ spec.trace_text call.now }
@@ -48,7 +48,7 @@ pub(crate) fn trace_of(call: &Call) -> &str
     }
 }
 
-/// Whether a call registers an extension that wants the account's number.
+/// Whether a call registers an extension that asks for the account's number.
 pub(crate) fn wants_account(call: &Call) -> bool
     ensures { result ≡ spec.wants_account call.now }
 {
@@ -58,7 +58,7 @@ pub(crate) fn wants_account(call: &Call) -> bool
     }
 }
 
-/// The bytes of a call, which it shares, none where it has none.
+/// Returns the bytes of a call, which stay shared, or none if it has none.
 pub(crate) fn shared_body(call: &Call) -> Result<Bytes, AllocError>
     ensures { IfOk result (λ bytes. bytes ≡ body_of call.now) }
 {

@@ -1,4 +1,4 @@
-//! What the configuration says of a function, none of it where there is no such function.
+//! The configuration of a function, with empty values if there is no such function.
 
 ghost use Rattle.std.specs.Prelude.{◌≡◌, IfOk, MatchOption, None, string_bytes};
 ghost use Rattle.arn_ids.specs.Faults.{first_fault};
@@ -11,10 +11,11 @@ use arn_ids::{Checked, EnvNo, FnNo, Function};
 use call_model::Call;
 use std::alloc::{AllocError, Global};
 
-/// The function with a number.
+/// Returns the function with a number.
 #[tactic(auto, using(crate::proofs::NoFunction::beyond))]
 fn function_in(config: &Checked, number: FnNo) -> Option<&Function>
-    ensures there { MatchOption result (function_at config.now number ≡ no_function) (λ f. f.now ≡ function_at config.now number) }
+    ensures there { MatchOption result (function_at config.now number ≡ no_function)
+        (λ f. f.now ≡ function_at config.now number) }
     ensures sound { first_fault config.now ≡ None }
 {
     let functions = config.functions();
@@ -27,7 +28,7 @@ fn function_in(config: &Checked, number: FnNo) -> Option<&Function>
     Some(config.function(number))
 }
 
-/// The number of an environment's function.
+/// Returns the number of an environment's function.
 #[tactic(auto, using(crate::proofs::NoFunction::no_owner))]
 fn function_of(config: &Checked, env: EnvNo) -> FnNo
     ensures { result ≡ function_of_env config.now env }
@@ -41,7 +42,7 @@ fn function_of(config: &Checked, env: EnvNo) -> FnNo
     config.function_of(env)
 }
 
-/// The name of the function with a number.
+/// Returns the name of the function with a number.
 fn name_of(config: &Checked, number: FnNo) -> &str
     ensures value { result.now ≡ (function_at config.now number).name }
     ensures sound { first_fault config.now ≡ None }
@@ -52,14 +53,14 @@ fn name_of(config: &Checked, number: FnNo) -> &str
     }
 }
 
-/// The number of the function that a call invokes, 0 where it is no Invoke.
+/// Returns the number of the function that a call invokes, 0 if it isn't an Invoke.
 pub(crate) fn function_number(call: &Call) -> FnNo
     ensures { result ≡ spec.function_number call.now }
 {
     call.function().unwrap_or(0)
 }
 
-/// The timeout of the function that a call invokes, in seconds.
+/// Returns the timeout of the function that a call invokes, in seconds.
 pub(crate) fn timeout_s(config: &Checked, call: &Call) -> u32
     ensures { result ≡ (spec.invoked_function config.now call.now).timeout_s }
 {
@@ -69,7 +70,7 @@ pub(crate) fn timeout_s(config: &Checked, call: &Call) -> u32
     }
 }
 
-/// The ARN under which an Invoke names its function.
+/// Returns the ARN under which an Invoke names its function.
 pub(crate) fn arn_text(alloc: Global, config: &Checked, call: &Call) -> Result<String, AllocError>
     ensures value { IfOk result (λ text. string_bytes text ≡ spec.arn_text config.now call.now) }
     ensures fits { IsFieldValue (spec.arn_text config.now call.now) }
@@ -78,7 +79,7 @@ pub(crate) fn arn_text(alloc: Global, config: &Checked, call: &Call) -> Result<S
     arn_ids::arn_text(alloc, config.home(), name, is_qualified(call))
 }
 
-/// The name and the handler of the function of the environment that a call names.
+/// Returns the name and the handler of the function of the environment that a call names.
 pub(crate) fn env_function<'a>(config: &'a Checked, call: &Call) -> (&'a str, &'a str)
     ensures name { result.0.now ≡ (spec.env_function config.now call.now).name }
     ensures handler { result.1.now ≡ (spec.env_function config.now call.now).handler }

@@ -1,20 +1,19 @@
-//! What a reply is made of.
+//! The input of a reply.
 
 use call_model::{Answer, Call};
 
-/// All that the reply to a call is made of. The calls are only read, so that a body is copied once,
-/// into the reply.
+/// Everything that the reply to a call depends on. The calls are borrowed.
 #[derive(Clone, Copy)]
 pub struct Gist<'a> {
     /// The answer to the call.
     pub answer: Answer,
     /// The call.
     pub call: &'a Call,
-    /// The count in its request identifier, where it is an Invoke; from 1.
+    /// The count in its request identifier, if it is an Invoke; from 1.
     pub count: u64,
-    /// The call that the answer names: the Invoke that is delivered or told, or the report that
-    /// brought an output or an error. The call itself where the answer names none.
+    /// The call that the answer names: the Invoke of a delivery or an event, or the report that
+    /// brought an output or an error. If the answer names none, the call itself.
     pub source: &'a Call,
-    /// The count in the request identifier of that call, where it is an Invoke; from 1.
+    /// The count in the request identifier of that call, if it is an Invoke; from 1.
     pub source_count: u64,
 }

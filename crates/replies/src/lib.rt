@@ -1,4 +1,4 @@
-//! Replies: what a client gets for the answer to its call.
+//! Replies: the status, headers and body that a client gets for the answer to its call.
 #![tactic(auto)]
 
 mod calls;

@@ -1,4 +1,4 @@
-//! The replies to callers and operators: what became of an invocation, what was asked is done.
+//! The replies to callers and operators: the outcome of an invocation, and accepted requests.
 
 ghost use Rattle.std.specs.Prelude.{◌≡◌, IfOk, MatchOption, option_map};
 ghost use Rattle.http_header.specs.FieldValue.{IsFieldValue};
@@ -19,7 +19,7 @@ use lambda_wire::{
 use std::alloc::{AllocError, Global};
 use uuid::Uuid;
 
-/// The invocation ran: the bytes of the report, marked where they tell of a failure.
+/// The invocation ran: the bytes of the report, marked if they report a failure.
 #[tactic(auto, unfolding(crate::specs::Outcomes::outcome))]
 pub(crate) fn outcome(
     alloc: Global,
@@ -38,7 +38,7 @@ pub(crate) fn outcome(
     })
 }
 
-/// The invocation failed with no report of its own: the message behind its identifier, and a type.
+/// The invocation failed without a report: its identifier with the message after it, and a type.
 #[tactic(auto, unfolding(crate::specs::Outcomes::failure))]
 fn failure(
     alloc: Global,
@@ -116,7 +116,7 @@ pub(crate) fn throttled(
     Reply::of(429, headers, write_throttle(alloc, reason.as_str()))
 }
 
-/// The service is stopped, for a call that has this request identifier, where it has one.
+/// The service is stopped, for a call with this request identifier, if it has one.
 #[tactic(auto, unfolding(crate::specs::Outcomes::stopped))]
 fn service_stopped(alloc: Global, request: Option<&str>) -> Result<Reply, AllocError>
     requires request { MatchOption request Unit (λ r. IsFieldValue r.now) }
@@ -127,7 +127,7 @@ fn service_stopped(alloc: Global, request: Option<&str>) -> Result<Reply, AllocE
     Reply::of(500, headers, body)
 }
 
-/// The service is stopped, for a call with its count where it is an Invoke.
+/// The service is stopped, for a call with its count if it is an Invoke.
 pub(crate) fn stopped(
     alloc: Global,
     salt: u64,
@@ -146,7 +146,7 @@ pub(crate) fn stopped(
     }
 }
 
-/// What was asked is accepted, or done.
+/// The request is accepted, or done.
 #[tactic(auto, unfolding(crate::specs::Outcomes::done_with))]
 pub(crate) fn done_with(alloc: Global, status: u16) -> Result<Reply, AllocError>
     ensures { IfOk result (λ r. r ≡ spec.done_with status) }

@@ -17,7 +17,7 @@ use lambda_wire::{
 use std::alloc::{AllocError, Global};
 use uuid::Uuid;
 
-/// An invocation is delivered to a runtime: its payload as it stands.
+/// An invocation is delivered to a runtime: its payload, unchanged.
 #[tactic(auto, unfolding(crate::specs::Polls::delivery))]
 pub(crate) fn delivery(
     alloc: Global,
@@ -40,7 +40,7 @@ pub(crate) fn delivery(
     })
 }
 
-/// An invocation is told to an extension.
+/// An extension is notified of an invocation.
 #[tactic(auto, unfolding(crate::specs::Polls::invoke_event))]
 pub(crate) fn invoke_event(
     alloc: Global,
@@ -64,7 +64,7 @@ pub(crate) fn invoke_event(
     Reply::of(200, headers, body)
 }
 
-/// The end of its environment is told to an extension.
+/// An extension is notified of the end of its environment.
 #[tactic(auto, unfolding(crate::specs::Polls::shutdown_event))]
 pub(crate) fn shutdown_event(
     alloc: Global,

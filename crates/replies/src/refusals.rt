@@ -69,7 +69,7 @@ pub(crate) fn refused(alloc: Global, refusal: Rejection) -> Result<Reply, AllocE
     }
 }
 
-/// The reply to a poll that was taken back.
+/// The reply to a poll that was withdrawn.
 pub(crate) fn withdrawn(alloc: Global) -> Result<Reply, AllocError>
     ensures { IfOk result (λ r. r ≡ spec.withdrawn) }
 {

@@ -1,4 +1,4 @@
-//! The reply that an answer comes to.
+//! The reply for an answer.
 
 ghost use Rattle.std.specs.Prelude.{◌≡◌, IfOk, Some};
 ghost use Rattle.replies.specs.Gists.{gist_of, IsTraced};
@@ -16,14 +16,14 @@ use call_model::Answer;
 use lambda_wire::Reply;
 use std::alloc::{AllocError, Global};
 
-/// The reply that the client of an answered call gets: its status, its headers and its body (Runtime
+/// Returns the reply to the client of an answered call: its status, headers and body (Runtime
 /// API, Extensions API and Lambda API).
 ///
 /// | Answer | Status | Body |
 /// |---|---|---|
 /// | `Delivered` | 200 | the payload of the source |
 /// | `Told`, `Ending` | 200 | the INVOKE or the SHUTDOWN event |
-/// | `Registered` | 200 | the function, and the account's number where it was asked for |
+/// | `Registered` | 200 | the function, and the account's number if the extension asked for it |
 /// | `Accepted`, `Done` | 202, 200 | `{"status":"OK"}` |
 /// | `Output`, `Error` | 200 | the bytes of the source |
 /// | `TimedOut`, `InitTimedOut`, `OutputTooLarge` | 200 | the error's message and type |
@@ -31,12 +31,13 @@ use std::alloc::{AllocError, Global};
 /// | `Withdrawn`, `Refused` | 400, 403, 409, 413 or 500 | the error's message and type |
 /// | `Reserved`, `Unreserved` | 200, 204 | the reservation, none |
 ///
-/// The request identifier of a delivery or an INVOKE event is that of the source, each other one that
-/// of the call itself; a failed invocation is marked by `X-Amz-Function-Error`. The environment of an
-/// event or an extension is the one that the call names. An identifier whose number or count no
-/// identifier has is a dash.
+/// The request identifier of a delivery or an INVOKE event is that of the source; any other reply has
+/// that of the call itself. A failed invocation is marked by `X-Amz-Function-Error`. The environment of
+/// an event or an extension is the one that the call names. If an identifier cannot have its number or
+/// its count, a dash is written instead.
 ///
-/// The only error is want of memory.
+/// # Errors
+/// Only if memory is refused.
 #[tactic(auto, unfolding(crate::specs::Replies::reply_to))]
 pub fn reply(
     alloc: Global,

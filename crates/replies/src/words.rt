@@ -10,7 +10,7 @@ use crate::functions::function_number;
 use arn_ids::{IdKind, event_id, extension_id, request_id};
 use call_model::Call;
 
-/// An identifier; a dash for a number or a count that no identifier has.
+/// Returns an identifier as text, or a dash if no identifier can have this number or count.
 #[tactic(auto, unfolding(arn_ids::specs::Identifiers::id_word), using(crate::proofs::FieldValues::id_fits))]
 fn id_word<'b>(buffer: &'b mut [u8], salt: u64, kind: IdKind, number: u32, count: u64) -> &'b str
     requires { 36 ≤ length buffer.old }
@@ -30,7 +30,7 @@ fn id_word<'b>(buffer: &'b mut [u8], salt: u64, kind: IdKind, number: u32, count
     id.hyphenated().encode_lower(buffer)
 }
 
-/// The request identifier of an Invoke, by its number among its function's.
+/// Returns the request identifier of an Invoke, by its count among those of its function.
 #[tactic(auto, using(crate::proofs::FieldValues::id_fits))]
 pub(crate) fn request_text<'b>(buffer: &'b mut [u8], salt: u64, call: &Call, count: u64) -> &'b str
     requires { 36 ≤ length buffer.old }
@@ -40,7 +40,7 @@ pub(crate) fn request_text<'b>(buffer: &'b mut [u8], salt: u64, call: &Call, cou
     id_word(buffer, salt, IdKind::Request, function_number(call), count)
 }
 
-/// The identifier of an event or an extension of the environment that a call names.
+/// Returns the identifier of an event or an extension of the environment that a call names.
 #[tactic(auto, using(crate::proofs::FieldValues::id_fits))]
 pub(crate) fn env_text<'b>(
     buffer: &'b mut [u8],

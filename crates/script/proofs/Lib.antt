@@ -5,6 +5,7 @@ mod CallLemmas
 mod WithinLemmas
 mod NumberLemmas
 mod SplitLemmas
+mod Fronts
 pub mod ReadAgain
 pub mod WordBounds
 pub mod LineBounds

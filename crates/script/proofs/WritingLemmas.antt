@@ -1,24 +1,13 @@
 -- What stands before stays in front of what is added.
-use Rattle.std.proofs.Common.{◌≡◌, ℕ, ◌≤◌, List, [], ◌∷◌, ◌++◌, length, take, drop, Result, Ok, Err, refl, sym, ap, ◌∙◌, arith, append_assoc}
+use Rattle.std.proofs.Common.{◌≡◌, ℕ, List, [], ◌∷◌, ◌++◌, length, take, drop, Result, Ok, Err, refl, sym, ap, ◌∙◌, append_assoc}
 use Rattle.std.specs.Result.{IsErrAnd}
 use Rattle.script.specs.Writing.{Adds, spaced}
-use Rattle.std.proofs.lemmas.List.{append-nil, length-take, take-take}
-use Rattle.std.proofs.Math.Seq.{take-append_seam, take-length}
-
-pub in_front : (old text new : List ℕ) → new ≡ old ++ text → take (length old) new ≡ old
-in_front old text new e = rw e (take-append_seam old text)
-
-pub as_before : (old new : List ℕ) → new ≡ old → take (length old) new ≡ old
-as_before old new e = rw e (take-length old)
-
-pub still_in_front : (old mid new : List ℕ) → take (length old) mid ≡ old → take (length mid) new ≡ mid → take (length old) new ≡ old
-still_in_front old mid new a b =
-    let short : length old ≤ length mid = omega (arith, length-take (length old) mid, ap length a) in
-    sym (take-take (length old) (length mid) new short) ∙ rw b a
+use Rattle.script.proofs.Fronts.{added, onward}
+use Rattle.std.proofs.lemmas.List.{append-nil}
 
 -- what stood before a text that was added stays in front
 pub kept_in_front : (front old mid new : List ℕ) → mid ≡ old ++ front → take (length mid) new ≡ mid → take (length old) new ≡ old
-kept_in_front front old mid new e stays = still_in_front old mid new (in_front old front mid e) stays
+kept_in_front front old mid new e stays = onward old mid new (added old front mid e) stays
 
 -- what fails behind a text that was added
 pub fails_after : {T E : Type 0} → (Q : E → Type 0) (r : Result T E) (text front old mid new : List ℕ) → IsErrAnd r Q → mid ≡ old ++ front → take (length mid) new ≡ mid → Adds r text old new

@@ -7,9 +7,13 @@ use Rattle.arn_ids.specs.declared.identifiers.IdKind.TheVariants.{Request, Exten
 use Rattle.arn_ids.specs.declared.config.Config.{Config}
 use Rattle.call_types.specs.declared.call.Entry.{Entry}
 use Rattle.call_types.specs.declared.answer.Answer.{Answer}
-use Rattle.call_types.specs.declared.answer.Answer.TheVariants.{Delivered, Told, Ending, Registered, Accepted, Done, Output, Error, TimedOut, InitTimedOut, OutputTooLarge, Throttled, Stopped, Withdrawn, Refused, Reserved, Unreserved}
+use Rattle.call_types.specs.declared.answer.Answer.TheVariants.{Delivered, Told, Ending, Registered, Accepted, Done}
+use Rattle.call_types.specs.declared.answer.Answer.TheVariants.{Output, Error, TimedOut, InitTimedOut, OutputTooLarge}
+use Rattle.call_types.specs.declared.answer.Answer.TheVariants.{Throttled, Stopped, Withdrawn, Refused}
+use Rattle.call_types.specs.declared.answer.Answer.TheVariants.{Reserved, Unreserved}
 use Rattle.call_types.specs.declared.answer.Rejection.{Rejection}
-use Rattle.call_types.specs.declared.answer.Rejection.TheVariants.{State, Replaced, BadId, Unknown, TooLarge, Container, NameInUse, TooMany, NotIdle, BadReservation}
+use Rattle.call_types.specs.declared.answer.Rejection.TheVariants.{State, Replaced, BadId, Unknown, TooLarge, Container}
+use Rattle.call_types.specs.declared.answer.Rejection.TheVariants.{NameInUse, TooMany, NotIdle, BadReservation}
 use Rattle.call_model.specs.History.{call_of, upto}
 use Rattle.call_types.specs.Calls.{env_of, invoked, body_of}
 use Rattle.call_types.specs.Words.{reason_word, throttle_word}
@@ -19,7 +23,8 @@ use Rattle.script.specs.TextFields.{text_field}
 
 -- the request identifier of the Invoke with a ticket (Runtime API: Lambda-Runtime-Aws-Request-Id)
 abbrev pub request_word : ℕ → List Entry → ℕ → List ℕ
-request_word salt h p = id_word salt Request (unwrap_or (invoked (call_of h p)) 0) (request_count (upto h p) (call_of h p))
+request_word salt h p =
+    id_word salt Request (unwrap_or (invoked (call_of h p)) 0) (request_count (upto h p) (call_of h p))
 
 -- the identifier of an event or an extension of the environment that the call with a ticket names
 abbrev pub env_word : ℕ → IdKind → List Entry → ℕ → ℕ → List ℕ
@@ -44,9 +49,12 @@ refusal_word BadReservation = codes "BadReservation"
 
 -- The words of an answer to a ticket.
 unfoldable pub answer_words : ℕ → List Entry → ℕ → Answer → List (List ℕ)
-answer_words salt h t (Delivered p deadline) = codes "deliver" ∷ request_word salt h p ∷ decimal deadline ∷ body_word h p ∷ []
-answer_words salt h t (Told p deadline event) = codes "tell" ∷ env_word salt Event h t event ∷ request_word salt h p ∷ decimal deadline ∷ []
-answer_words salt h t (Ending reason until event) = codes "shutdown" ∷ env_word salt Event h t event ∷ reason_word reason ∷ decimal until ∷ []
+answer_words salt h t (Delivered p deadline) =
+    codes "deliver" ∷ request_word salt h p ∷ decimal deadline ∷ body_word h p ∷ []
+answer_words salt h t (Told p deadline event) =
+    codes "tell" ∷ env_word salt Event h t event ∷ request_word salt h p ∷ decimal deadline ∷ []
+answer_words salt h t (Ending reason until event) =
+    codes "shutdown" ∷ env_word salt Event h t event ∷ reason_word reason ∷ decimal until ∷ []
 answer_words salt h t (Registered count) = codes "registered" ∷ env_word salt Extension h t count ∷ []
 answer_words salt h t Accepted = codes "accepted" ∷ []
 answer_words salt h t Done = codes "done" ∷ []
@@ -70,10 +78,11 @@ answer_line salt h number t answer = line_of (decimal number ∷ decimal t ∷ a
 unfoldable pub answer_lines : ℕ → List Entry → ℕ → Entry → List ℕ
 answer_lines salt h number entry = flat_map (λ a. answer_line salt h number a.0 a.1) entry.answers
 
--- an answer's line in a history, where it is a comment
+-- an answer's line in a history, as a comment
 abbrev pub comment_line : ℕ → List Entry → ℕ → ℕ × Answer → List ℕ
 comment_line salt h number a = codes "# " ++ answer_line salt h number a.0 a.1
 
 -- The text of an entry in a history: the line of its call, and those of its answers.
 unfoldable pub entry_text : Config → ℕ → List Entry → ℕ → Entry → List ℕ
-entry_text config salt h number entry = call_text config entry.moment entry.call ++ 10 ∷ flat_map (comment_line salt h number) entry.answers
+entry_text config salt h number entry =
+    call_text config entry.moment entry.call ++ 10 ∷ flat_map (comment_line salt h number) entry.answers

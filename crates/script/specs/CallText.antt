@@ -4,7 +4,10 @@ use Rattle.std.specs.List.{flat_map}
 use Rattle.arn_ids.specs.Environments.{function_at}
 use Rattle.arn_ids.specs.declared.config.Config.{Config}
 use Rattle.call_types.specs.declared.call.Call.{Call}
-use Rattle.call_types.specs.declared.call.Call.TheVariants.{Invoke, RuntimeNext, Response, ResponseTooLarge, Failure, InitFailure, Register, ExtNext, ExtInitFailure, ExtExitFailure, Tick, Withdraw, Spindown, Stop, Expire, Reserve}
+use Rattle.call_types.specs.declared.call.Call.TheVariants.{Invoke, RuntimeNext, Response, ResponseTooLarge, Failure}
+use Rattle.call_types.specs.declared.call.Call.TheVariants.{InitFailure, Register, ExtNext, ExtInitFailure}
+use Rattle.call_types.specs.declared.call.Call.TheVariants.{ExtExitFailure, Tick, Withdraw, Spindown, Stop}
+use Rattle.call_types.specs.declared.call.Call.TheVariants.{Expire, Reserve}
 use Rattle.script.specs.TextFields.{text_field}
 
 -- words with one space between them
@@ -12,7 +15,7 @@ abbrev pub line_of : List (List ℕ) → List ℕ
 line_of [] = []
 line_of (word ∷ words) = word ++ flat_map (λ w. 32 ∷ w) words
 
--- a dash where there is nothing
+-- a dash if there is nothing
 abbrev pub or_dash : (List ℕ → List ℕ) → Option (List ℕ) → List ℕ
 or_dash word None = codes "-"
 or_dash word (Some text) = word text
@@ -30,15 +33,18 @@ abbrev pub reservation : Option ℕ → List ℕ
 reservation None = codes "-"
 reservation (Some count) = decimal count
 
--- the words of a call behind its moment
+-- the words of a call after its moment
 unfoldable pub call_words : Config → Call → List (List ℕ)
-call_words config (Invoke f qualified trace body) = codes "invoke" ∷ (function_at config f).name ∷ flag (codes "q") qualified ∷ or_dash text_field trace ∷ text_field body ∷ []
+call_words config (Invoke f qualified trace body) =
+    codes "invoke" ∷ (function_at config f).name ∷ flag (codes "q") qualified ∷ or_dash text_field trace
+    ∷ text_field body ∷ []
 call_words config (RuntimeNext e) = codes "next" ∷ decimal e ∷ []
 call_words config (Response e id body) = codes "response" ∷ decimal e ∷ decimal id ∷ text_field body ∷ []
 call_words config (ResponseTooLarge e id) = codes "response-too-large" ∷ decimal e ∷ decimal id ∷ []
 call_words config (Failure e id body) = codes "failure" ∷ decimal e ∷ decimal id ∷ text_field body ∷ []
 call_words config (InitFailure e body) = codes "init-failure" ∷ decimal e ∷ text_field body ∷ []
-call_words config (Register e name invoke shutdown account) = codes "register" ∷ decimal e ∷ text_field name ∷ events invoke shutdown ∷ flag (codes "a") account ∷ []
+call_words config (Register e name invoke shutdown account) =
+    codes "register" ∷ decimal e ∷ text_field name ∷ events invoke shutdown ∷ flag (codes "a") account ∷ []
 call_words config (ExtNext e x) = codes "ext-next" ∷ decimal e ∷ decimal x ∷ []
 call_words config (ExtInitFailure e x body) = codes "ext-init-failure" ∷ decimal e ∷ decimal x ∷ text_field body ∷ []
 call_words config (ExtExitFailure e x body) = codes "ext-exit-failure" ∷ decimal e ∷ decimal x ∷ text_field body ∷ []
@@ -49,11 +55,11 @@ call_words config Stop = codes "stop" ∷ []
 call_words config (Expire e) = codes "expire" ∷ decimal e ∷ []
 call_words config (Reserve f count) = codes "reserve" ∷ (function_at config f).name ∷ reservation count ∷ []
 
--- what stands before the moment: an expiry is a comment, since no script makes it
+-- the text before the moment: an expiry is a comment, since no script makes it
 abbrev pub before_moment : Call → List ℕ
 before_moment (Expire e) = codes "## "
 before_moment _ = []
 
--- The line of a call that is taken at a moment, without its ending.
+-- The line of a call at a moment, without its ending.
 unfoldable pub call_text : Config → ℕ → Call → List ℕ
 call_text config moment call = before_moment call ++ line_of (decimal moment ∷ call_words config call)

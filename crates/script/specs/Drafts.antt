@@ -1,8 +1,8 @@
--- What a draft becomes.
+-- The text that a draft becomes.
 use Rattle.std.specs.Prelude.{ℕ, List, ◌++◌}
 use Rattle.script.specs.TextFields.{escaped}
 use Rattle.script.specs.declared.draft.Part.{Part}
 
--- a text, and behind it the body, escaped
+-- a text, and after it the body, escaped
 abbrev pub part_text : Part → List ℕ
 part_text part = part.text.items ++ escaped part.body

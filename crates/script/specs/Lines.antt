@@ -1,10 +1,13 @@
--- The lines of a script, and the call that each stands for.
-use Rattle.std.specs.Prelude.{ℕ, Bool, true, false, ◌&&◌, ◌==◌, if◌then◌else◌, List, [], ◌∷◌, codes, bytes_eq, Option, Some, None, option_map, option_and_then}
+-- The lines of a script, and the call of each.
+use Rattle.std.specs.Prelude.{ℕ, Bool, true, false, ◌&&◌, ◌==◌, if◌then◌else◌, List, [], ◌∷◌, codes}
+use Rattle.std.specs.Prelude.{bytes_eq, Option, Some, None, option_map, option_and_then}
 use Rattle.std.specs.List.{slice_split}
 use Rattle.arn_ids.specs.Environments.{number_named}
 use Rattle.arn_ids.specs.declared.config.Config.{Config}
 use Rattle.call_types.specs.declared.call.Call.{Call}
-use Rattle.call_types.specs.declared.call.Call.TheVariants.{Invoke, RuntimeNext, Response, ResponseTooLarge, Failure, InitFailure, Register, ExtNext, ExtInitFailure, ExtExitFailure, Tick, Withdraw, Spindown, Stop, Reserve}
+use Rattle.call_types.specs.declared.call.Call.TheVariants.{Invoke, RuntimeNext, Response, ResponseTooLarge, Failure}
+use Rattle.call_types.specs.declared.call.Call.TheVariants.{InitFailure, Register, ExtNext, ExtInitFailure}
+use Rattle.call_types.specs.declared.call.Call.TheVariants.{ExtExitFailure, Tick, Withdraw, Spindown, Stop, Reserve}
 use Rattle.arn_ids.specs.Numbers.{number_in, env_in}
 use Rattle.arn_ids.specs.Limits.{greatest_moment, greatest_count, greatest_ticket, greatest_reservation}
 use Rattle.script.specs.TextFields.{body_in, name_in, trace_in}
@@ -58,7 +61,8 @@ events_in field =
 
 -- how many are reserved, or the dash that removes a reservation
 abbrev pub reservation_in : List ℕ → Option (Option ℕ)
-reservation_in field = if bytes_eq field (codes "-") then Some None else option_map Some (number_in greatest_reservation field)
+reservation_in field =
+    if bytes_eq field (codes "-") then Some None else option_map Some (number_in greatest_reservation field)
 
 -- invoke F Q T =BODY
 unfoldable pub invoke_in : Config → List (List ℕ) → Option Call
@@ -131,19 +135,24 @@ unfoldable pub extension_call_in : Config → List ℕ → List (List ℕ) → O
 extension_call_in config word line =
     if bytes_eq word (codes "register") then register_in config line else
     if bytes_eq word (codes "ext-next") then option_map (λ two. ExtNext two.0 two.1) (env_and_count_in config line) else
-    if bytes_eq word (codes "ext-init-failure") then option_map (λ report. ExtInitFailure report.0 report.1 report.2) (report_in config line) else
-    if bytes_eq word (codes "ext-exit-failure") then option_map (λ report. ExtExitFailure report.0 report.1 report.2) (report_in config line) else None
+    if bytes_eq word (codes "ext-init-failure")
+    then option_map (λ report. ExtInitFailure report.0 report.1 report.2) (report_in config line) else
+    if bytes_eq word (codes "ext-exit-failure")
+    then option_map (λ report. ExtExitFailure report.0 report.1 report.2) (report_in config line) else None
 
 -- those of runtimes, else of extensions
 unfoldable pub runtime_call_in : Config → List ℕ → List (List ℕ) → Option Call
 runtime_call_in config word line =
     if bytes_eq word (codes "next") then option_map (λ env. RuntimeNext env) (lone_env_in config line) else
-    if bytes_eq word (codes "response") then option_map (λ report. Response report.0 report.1 report.2) (report_in config line) else
-    if bytes_eq word (codes "response-too-large") then option_map (λ two. ResponseTooLarge two.0 two.1) (env_and_count_in config line) else
-    if bytes_eq word (codes "failure") then option_map (λ report. Failure report.0 report.1 report.2) (report_in config line) else
+    if bytes_eq word (codes "response")
+    then option_map (λ report. Response report.0 report.1 report.2) (report_in config line) else
+    if bytes_eq word (codes "response-too-large")
+    then option_map (λ two. ResponseTooLarge two.0 two.1) (env_and_count_in config line) else
+    if bytes_eq word (codes "failure")
+    then option_map (λ report. Failure report.0 report.1 report.2) (report_in config line) else
     if bytes_eq word (codes "init-failure") then init_failure_in config line else extension_call_in config word line
 
--- those of callers, operators and the clock, else of environments; reserve only where the script's form has it
+-- those of callers, operators and the clock, else of environments; reserve only if the script's form has it
 unfoldable pub call_by_word : Bool → Config → List ℕ → List (List ℕ) → Option Call
 call_by_word reserves config word line =
     if bytes_eq word (codes "invoke") then invoke_in config line else
@@ -153,7 +162,7 @@ call_by_word reserves config word line =
     if bytes_eq word (codes "withdraw") then withdraw_in line else
     if bytes_eq word (codes "reserve") && reserves then reserve_in config line else runtime_call_in config word line
 
--- a moment, a word, and the fields that belong to it
+-- a moment, a word, and the arguments of the word
 abbrev pub timed_call_in : Bool → Config → List (List ℕ) → Option (ℕ × Call)
 timed_call_in reserves config [] = None
 timed_call_in reserves config (moment ∷ []) = None
@@ -162,6 +171,6 @@ timed_call_in reserves config (moment ∷ word ∷ line) = do
   call ← call_by_word reserves config word line
   Some (m, call)
 
--- The moment and the call that a line stands for, without its ending; reserves says whether it may be a `reserve`.
+-- The moment and the call of a line, given without its ending; reserves says whether it may be a `reserve`.
 unfoldable pub call_in : Bool → Config → List ℕ → Option (ℕ × Call)
 call_in reserves config line = timed_call_in reserves config (fields line)

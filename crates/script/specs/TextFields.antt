@@ -1,5 +1,6 @@
 -- The text fields of a script: an equals sign, and bytes of which some are percent-encoded.
-use Rattle.std.specs.Prelude.{ℕ, ◌/◌, ◌%◌, Bool, true, ◌||◌, ◌==◌, nat_lt, if◌then◌else◌, List, [], ◌∷◌, codes, bytes_eq, Option, Some, None, option_map, option_and_then}
+use Rattle.std.specs.Prelude.{ℕ, ◌/◌, ◌%◌, Bool, true, ◌||◌, ◌==◌, nat_lt, if◌then◌else◌, List, [], ◌∷◌, codes}
+use Rattle.std.specs.Prelude.{bytes_eq, Option, Some, None, option_map, option_and_then}
 use Rattle.std.specs.List.{flat_map}
 use Rattle.std.specs.Fmt.{digit_glyph}
 use Rattle.percent_encoding.specs.Percent.{percent_decode}
@@ -10,7 +11,7 @@ use Rattle.call_types.specs.Within.{is_body, is_trace}
 abbrev pub is_escaped : ℕ → Bool
 is_escaped b = nat_lt b 33 || b == 37 || nat_lt 126 b
 
--- the byte as it stands, or a percent sign and its two digits in upper case (RFC 3986, section 2.1)
+-- the byte itself, or a percent sign and its two digits in upper case (RFC 3986, section 2.1)
 abbrev pub text_byte : ℕ → List ℕ
 text_byte b = if is_escaped b then 37 ∷ digit_glyph true (b / 16 % 16) ∷ digit_glyph true (b % 16) ∷ [] else b ∷ []
 
@@ -22,7 +23,7 @@ escaped bytes = flat_map text_byte bytes
 abbrev pub text_field : List ℕ → List ℕ
 text_field bytes = 61 ∷ escaped bytes
 
--- what a field says, behind its equals sign: a percent sign without two digits stays as it is
+-- the text of a field, after its equals sign; a percent sign without two digits is kept
 abbrev pub text_in : List ℕ → Option (List ℕ)
 text_in [] = None
 text_in (b ∷ bs) = if b == 61 then Some (percent_decode bs) else None

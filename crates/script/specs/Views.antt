@@ -3,7 +3,7 @@ use Rattle.std.specs.Prelude.{ℕ, List, [], Option, Some, None}
 use Rattle.std.specs.Borrow.{Bor}
 use Rattle.script.specs.Lines.{fields}
 
--- the fields of what is left of a line; none where nothing is left
+-- the fields of what is left of a line; none if nothing is left
 abbrev pub fields_left : Option (Bor (List ℕ)) → List (List ℕ)
 fields_left None = []
 fields_left (Some rest) = fields rest.now

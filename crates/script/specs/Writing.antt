@@ -1,4 +1,4 @@
--- How words are written at the end of what was written before.
+-- How words are appended to a text.
 use Rattle.std.specs.Prelude.{◌≡◌, ℕ, List, ◌∷◌, ◌++◌, length, take, Result, Ok, Err, decimal}
 use Rattle.std.specs.List.{flat_map}
 use Rattle.uuid.specs.Text.{hyphenated_text, lower}
@@ -9,7 +9,7 @@ use Rattle.script.specs.AnswerText.{answer_line}
 use Rattle.call_types.specs.declared.call.Entry.{Entry}
 use Rattle.call_types.specs.declared.answer.Answer.{Answer}
 
--- what a word is written as
+-- the text of a word
 abbrev pub word_text : Word → List ℕ
 word_text (words.Plain text) = text.now
 word_text (words.Number n) = decimal n
@@ -17,15 +17,15 @@ word_text (words.Identifier id) = hyphenated_text lower id
 word_text (words.Text bytes) = text_field bytes.now
 word_text (words.Body body) = text_field body.now
 
--- words, each behind a space
+-- words, each after a space
 abbrev pub spaced : List (List ℕ) → List ℕ
 spaced words = flat_map (λ word. 32 ∷ word) words
 
--- At Ok the text stands behind what was there. At Err a part of it may, and what was there still comes first.
+-- If it is Ok, the text was appended. If it is Err, a part of it may have been; the older text is still in front.
 abbrev pub Adds : {T E : Type 0} → Result T E → List ℕ → List ℕ → List ℕ → Type 0
 Adds (Ok x) text old new = new ≡ old ++ text
 Adds (Err e) text old new = take (length old) new ≡ old
 
--- the lines of answers, each behind a mark
+-- the lines of answers, each after a mark
 abbrev pub marked_lines : ℕ → List Entry → List ℕ → ℕ → List (ℕ × Answer) → List ℕ
 marked_lines salt h mark number answers = flat_map (λ a. mark ++ answer_line salt h number a.0 a.1) answers

@@ -37,7 +37,7 @@ fn refusal_text(refusal: Rejection) -> &'static str
     }
 }
 
-/// The first word of an answer.
+/// Returns the first word of an answer.
 #[tactic(auto, unfolding(crate::specs::AnswerText::answer_words))]
 fn first_word(answer: Answer) -> &'static str
     ensures { (salt : ℕ) (h : List Entry) (t : ℕ) → take 1 (answer_words salt h t answer) ≡ result.now ∷ [] }
@@ -121,7 +121,7 @@ fn push_ending<W: Sink>(
     push_words(out, &words)
 }
 
-/// Adds the words of an answer behind its first, each behind a space.
+/// Adds the words of an answer after its first, each after a space.
 #[tactic(auto, unfolding(crate::specs::AnswerText::answer_words))]
 fn push_other_words<W: Sink>(
     out: &mut W,
@@ -164,7 +164,7 @@ fn push_other_words<W: Sink>(
     }
 }
 
-/// Adds the words of an answer, each behind a space.
+/// Adds the words of an answer, each after a space.
 fn push_answer_words<W: Sink>(
     out: &mut W,
     past: &Past,
@@ -178,7 +178,7 @@ fn push_answer_words<W: Sink>(
     push_other_words(out, past, ticket, answer)
 }
 
-/// Adds a mark, and the numbers that an answer's line begins with.
+/// Adds a mark, and the numbers at the start of an answer's line.
 fn push_numbers<W: Sink>(
     out: &mut W,
     mark: &str,
@@ -192,7 +192,7 @@ fn push_numbers<W: Sink>(
     push_spaced(out, &Word::Number(ticket))
 }
 
-/// Adds the line of an answer, behind a mark.
+/// Adds the line of an answer, after a mark.
 fn push_answer<W: Sink>(
     out: &mut W,
     past: &Past,
@@ -210,7 +210,7 @@ fn push_answer<W: Sink>(
     end_line(out)
 }
 
-/// Adds the lines of answers, each behind a mark.
+/// Adds the lines of answers, each after a mark.
 fn push_lines<W: Sink>(
     out: &mut W,
     past: &Past,
@@ -243,14 +243,15 @@ fn push_lines<W: Sink>(
 /// | `Reserved`, `Unreserved` | `reserved N`, `unreserved` |
 /// | `Accepted`, `Done`, `Stopped`, `Withdrawn` | the same word in lower case |
 ///
-/// Of a body the bytes below 0x21, `%` and those above 0x7E are percent-encoded. An identifier whose
-/// number or count no identifier has is a dash.
+/// In a body, the bytes below 0x21, `%` and the bytes above 0x7E are percent-encoded. If an identifier
+/// cannot have its number or its count, a dash is written instead.
 ///
-/// `entries` are those of the whole history, the oldest first, and `counts` the count in the request
-/// identifier of each that is an Invoke, 0 for each other one. No entry is looked at but those that
-/// the answers name.
+/// `entries` are those of the whole history, the oldest first. `counts` has for each of them the count
+/// in its request identifier if it is an Invoke, and otherwise 0. Only the entries that the answers name
+/// are read.
 ///
-/// The only error is want of memory, after which `out` is as it was.
+/// # Errors
+/// Only if memory is refused; `out` is then as it was.
 pub fn push_answers(
     out: &mut Vec<u8>,
     salt: u64,
@@ -295,13 +296,14 @@ fn push_whole_entry<W: Sink>(
     push_lines(out, past, "# ", number, entry.answers.as_slice())
 }
 
-/// The text of the entry with a number as a history has it, in which no body is escaped yet: the line of
-/// its call, as `read_call` reads it, and the lines of its answers as `push_answers` writes them, each
-/// behind `# `. An expiry, which nobody called, is the comment `## M expire E`.
+/// Returns the text of the entry with a number, as a history has it, before its bodies are escaped: the
+/// line of its call, as `read_call` reads it, and the lines of its answers as `push_answers` writes them,
+/// each after `# `. An expiry isn't a call: it is the comment `## M expire E`.
 ///
 /// `entries` and `counts` are as for `push_answers`.
 ///
-/// The only error is want of memory.
+/// # Errors
+/// Only if memory is refused.
 pub fn draft_entry(
     alloc: Global,
     config: &Checked,

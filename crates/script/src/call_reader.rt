@@ -1,4 +1,4 @@
-//! The call that a line of a script stands for.
+//! The reader of the calls of a script.
 
 ghost use Rattle.std.specs.Prelude.{◌≡◌, bytes_eq, IfOk, IfSome};
 ghost use Rattle.script.specs.Lines as spec;
@@ -16,21 +16,21 @@ use bytes::Bytes;
 use call_model::Call;
 use std::alloc::{AllocError, Global};
 
-/// Whether a word is this.
+/// Whether the two words are equal.
 fn says(word: &[u8], text: &str) -> bool
     ensures { result ≡ bytes_eq word.now text.now }
 {
     word == text.as_bytes()
 }
 
-/// The count in an identifier.
+/// Reads the count in an identifier.
 fn count_number(field: &[u8]) -> Option<u64>
     ensures { result ≡ spec.count_in field.now }
 {
     read_number(field, GREATEST_COUNT)
 }
 
-/// Whether a flag is set, which is this word or else a dash.
+/// Reads a flag: this word if it is set, otherwise a dash.
 fn flag(field: &[u8], word: &str) -> Option<bool>
     ensures { result ≡ spec.flag_in word.now field.now }
 {
@@ -43,7 +43,7 @@ fn flag(field: &[u8], word: &str) -> Option<bool>
     }
 }
 
-/// Whether an extension registers for INVOKE, and whether for SHUTDOWN.
+/// Reads whether an extension registers for INVOKE, and whether for SHUTDOWN.
 fn events(field: &[u8]) -> Option<(bool, bool)>
     ensures { result ≡ spec.events_in field.now }
 {
@@ -60,7 +60,7 @@ fn events(field: &[u8]) -> Option<(bool, bool)>
     }
 }
 
-/// How many are reserved, or the dash that removes a reservation.
+/// Reads a reservation, or the dash that removes one.
 fn reservation(field: &[u8]) -> Option<Option<u32>>
     ensures { result ≡ spec.reservation_in field.now }
 {
@@ -98,7 +98,7 @@ fn invoke(alloc: Global, config: &Checked, line: Option<&[u8]>) -> Result<Option
     }))
 }
 
-/// The one environment that a line names.
+/// Reads the one environment that a line names.
 #[tactic(auto, unfolding(crate::specs::Lines::lone_env_in))]
 fn lone_env(config: &Checked, line: Option<&[u8]>) -> Option<EnvNo>
     ensures { result ≡ spec.lone_env_in config.now (fields_left line.entry) }
@@ -106,7 +106,7 @@ fn lone_env(config: &Checked, line: Option<&[u8]>) -> Option<EnvNo>
     read_environment(config, one_field(line)?)
 }
 
-/// The environment and the count that a line names.
+/// Reads the environment and the count that a line names.
 #[tactic(auto, unfolding(crate::specs::Lines::env_and_count_in))]
 fn env_and_count(config: &Checked, line: Option<&[u8]>) -> Option<(EnvNo, u64)>
     ensures { result ≡ spec.env_and_count_in config.now (fields_left line.entry) }
@@ -117,7 +117,7 @@ fn env_and_count(config: &Checked, line: Option<&[u8]>) -> Option<(EnvNo, u64)>
     Some((env, count))
 }
 
-/// The environment, the count and the bytes of a report.
+/// Reads the environment, the count and the bytes of a report.
 #[tactic(auto, unfolding(crate::specs::Lines::report_in))]
 fn report(
     alloc: Global,
@@ -231,7 +231,7 @@ fn stop(line: Option<&[u8]>) -> Option<Call>
     }
 }
 
-/// The calls of extensions, by their word.
+/// Reads a call of an extension, by its word.
 #[tactic(auto, unfolding(crate::specs::Lines::extension_call_in))]
 fn extension_call(
     alloc: Global,
@@ -259,7 +259,7 @@ fn extension_call(
     Ok(None)
 }
 
-/// The calls of runtimes, by their word, and else those of extensions.
+/// Reads a call of a runtime, by its word, or else of an extension.
 #[tactic(auto, unfolding(crate::specs::Lines::runtime_call_in))]
 fn runtime_call(
     alloc: Global,
@@ -290,8 +290,8 @@ fn runtime_call(
     extension_call(alloc, config, word, line)
 }
 
-/// The calls of callers, of operators and of the clock, by their word, and else those that runtimes
-/// and extensions make.
+/// Reads a call of a caller, an operator or the clock, by its word, or else of a runtime or an
+/// extension.
 #[tactic(auto, unfolding(crate::specs::Lines::call_by_word))]
 fn call_by_word(
     alloc: Global,
@@ -346,28 +346,30 @@ fn timed_call(
     Ok(Some((moment, call)))
 }
 
-/// The moment and the call that a line of a script stands for; `None` where it stands for none.
+/// Reads the moment and the call of a line of a script; returns `None` if it isn't a call.
 ///
-/// The line is given without its ending. Its fields stand between single spaces: the moment in
-/// milliseconds, a word, and what belongs to the word.
+/// The line is given without its ending. Its fields are separated by single spaces: the moment in
+/// milliseconds, a word, and the arguments of the word.
 ///
 /// | Word | Fields |
 /// |---|---|
-/// | `invoke F Q T =BODY` | name of a function; `q` where it is qualified, else `-`; `=TRACE` or `-` |
+/// | `invoke F Q T =BODY` | name of a function; `q` if it is qualified, else `-`; `=TRACE` or `-` |
 /// | `next E` | an environment's number |
 /// | `response E N =BODY`, `failure E N =BODY`, `response-too-large E N` | N the count in the request identifier |
 /// | `init-failure E =BODY` | |
-/// | `register E =NAME V A` | V one of `i`, `s`, `is`, `-`; A `a` where the account is asked for, else `-` |
-/// | `ext-next E X`, `ext-init-failure E X =BODY`, `ext-exit-failure E X =BODY` | X the count in the extension identifier |
+/// | `register E =NAME V A` | V one of `i`, `s`, `is`, `-`; A `a` if it asks for the account, else `-` |
+/// | `ext-next E X` | X the count in the extension identifier |
+/// | `ext-init-failure E X =BODY`, `ext-exit-failure E X =BODY` | as above |
 /// | `tick`, `stop`, `spindown E`, `withdraw T` | T a ticket, below 2^64 |
-/// | `reserve F N`, `reserve F -` | N below 2^32; only where `reserves` |
+/// | `reserve F N`, `reserve F -` | N below 2^32; only if `reserves` |
 ///
 /// Numbers are decimal without leading zeros, moments below 2^53, counts below 2^48. A text begins
 /// with `=`, and what follows is percent-decoded (RFC 3986, section 2.1; a `%` without two digits
-/// stays): a body has at most 6,291,456 bytes, a trace from 1 to 256 characters that print, a name
+/// stays): a body has at most 6,291,456 bytes, a trace from 1 to 256 printing characters, a name
 /// from 1 to 128.
 ///
-/// The only error is want of memory.
+/// # Errors
+/// Only if memory is refused.
 pub fn read_call(
     alloc: Global,
     config: &Checked,

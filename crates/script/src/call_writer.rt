@@ -1,4 +1,4 @@
-//! The line of a call in a history.
+//! The writer of a call's line in a history.
 
 ghost use Rattle.std.specs.Prelude.{◌≡◌, [], ◌∷◌, decimal, codes};
 ghost use Rattle.arn_ids.specs.Environments.{function_at};
@@ -13,7 +13,7 @@ use bytes::Bytes;
 use call_model::Call;
 use std::alloc::AllocError;
 
-/// The name of a function; none for a number that no function has.
+/// Returns the name of a function; an empty one if there is no function with this number.
 #[tactic(auto, using(crate::proofs::CallLemmas::no_name))]
 fn name_of(config: &Checked, function: FnNo) -> &str
     ensures { result.now ≡ (function_at config.now function).name }
@@ -166,7 +166,7 @@ fn push_reserve<W: Sink>(out: &mut W, name: &str, count: Option<u32>) -> Result<
     push_words(out, &words)
 }
 
-/// Adds the words of a call, each behind a space.
+/// Adds the words of a call, each after a space.
 #[tactic(auto, unfolding(crate::specs::CallText::call_words))]
 fn push_call_words<W: Sink>(out: &mut W, config: &Checked, call: &Call) -> Result<(), AllocError>
     ensures { Adds result (spaced (call_words config.now call.now)) (W.text out.old) (W.text out.new) }
@@ -225,7 +225,7 @@ fn mark(call: &Call) -> &'static str
     }
 }
 
-/// Adds the line of a call that is taken at a moment, without its ending.
+/// Adds the line of a call at a moment, without its ending.
 pub(crate) fn push_call<W: Sink>(
     out: &mut W,
     config: &Checked,

@@ -1,4 +1,4 @@
-//! A text of which the large parts are still to be written.
+//! The text of an entry before its bodies are escaped.
 
 ghost use Rattle.std.specs.Prelude.{◌≡◌, [], IfOk};
 ghost use Rattle.std.specs.List.{flat_map};
@@ -12,7 +12,7 @@ use std::alloc::{AllocError, Global};
 use std::marker::Model;
 use std::mem;
 
-/// A text, and the body that stands behind it.
+/// A text, and the body that follows it.
 #[derive(Drop)]
 pub(crate) struct Part {
     text: Vec<u8>,
@@ -20,8 +20,9 @@ pub(crate) struct Part {
 }
 
 /// The text of an entry in which no body is escaped yet: short texts, and between them the bodies, which
-/// it shares with the history. So it takes little time and memory, whatever the length of the bodies, and
-/// who writes it under a lock finishes it once the lock is free. Contracts see the text that it becomes.
+/// it shares with the history. So it takes little time and memory, whatever the length of the bodies: a
+/// caller makes it under a lock, and finishes it after the lock is released. Contracts see the text that
+/// it becomes.
 #[derive(Drop)]
 pub struct Draft {
     alloc: Global,
@@ -49,7 +50,6 @@ fn push_parts(out: &mut Vec<u8>, parts: &[Part]) -> Result<(), AllocError>
     Ok(())
 }
 
-#[tactic(auto, using(crate::proofs::WritingLemmas::in_front, crate::proofs::WritingLemmas::still_in_front, crate::proofs::WritingLemmas::as_before))]
 fn push_part(out: &mut Vec<u8>, part: &Part) -> Result<(), AllocError>
     ensures { Adds result (part_text part.now) out.old.items out.new.items }
 {
@@ -58,7 +58,7 @@ fn push_part(out: &mut Vec<u8>, part: &Part) -> Result<(), AllocError>
 }
 
 impl Draft {
-    /// An empty text.
+    /// Returns an empty text.
     pub(crate) fn new(alloc: Global) -> Draft
         ensures { result ≡ [] }
     {
@@ -69,9 +69,11 @@ impl Draft {
         }
     }
 
-    /// The text: of a body the bytes below 0x21, `%` and those above 0x7E are percent-encoded.
+    /// Returns the text. In a body, the bytes below 0x21, `%` and the bytes above 0x7E are
+    /// percent-encoded.
     ///
-    /// The only error is want of memory.
+    /// # Errors
+    /// Only if memory is refused.
     pub fn finish(self) -> Result<Vec<u8>, AllocError>
         ensures { IfOk result (λ text. text.items ≡ self) }
     {

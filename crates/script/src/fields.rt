@@ -1,18 +1,18 @@
-//! The fields of a line, which stand between its spaces.
+//! The fields of a line, which its spaces separate.
 
 ghost use Rattle.std.specs.Prelude.{◌≡◌, ◌∷◌, ◌==◌, option_map, position};
 ghost use Rattle.script.specs.Lines.{fields};
 ghost use Rattle.script.specs.Lines as spec;
 ghost use Rattle.script.specs.Views.{fields_left, text_of, two_of, three_of, four_of};
 
-/// Where the first space is.
+/// Returns the index of the first space.
 fn space_at(text: &[u8]) -> Option<usize>
     ensures { result ≡ position (λ b. b == 32) text.now }
 {
     text.iter().position(|b| *b == b' ')
 }
 
-/// The front field, and what follows its space where there is one.
+/// Splits a line at its first space, if it has one.
 pub(crate) fn cut(text: &[u8]) -> (&[u8], Option<&[u8]>)
     ensures { fields text.now ≡ result.0.now ∷ fields_left result.1 }
 {
@@ -22,7 +22,7 @@ pub(crate) fn cut(text: &[u8]) -> (&[u8], Option<&[u8]>)
     }
 }
 
-/// One field and no more.
+/// Returns the one field of a line, if it has exactly one.
 #[tactic(auto, using(crate::proofs::FieldLemmas::too_many))]
 pub(crate) fn one_field(rest: Option<&[u8]>) -> Option<&[u8]>
     ensures { option_map text_of result ≡ spec.one_field (fields_left rest.entry) }
@@ -34,7 +34,7 @@ pub(crate) fn one_field(rest: Option<&[u8]>) -> Option<&[u8]>
     }
 }
 
-/// Two fields and no more.
+/// Returns the fields of a line, if it has exactly two.
 pub(crate) fn two_fields(rest: Option<&[u8]>) -> Option<(&[u8], &[u8])>
     ensures { option_map two_of result ≡ spec.two_fields (fields_left rest.entry) }
 {
@@ -45,7 +45,7 @@ pub(crate) fn two_fields(rest: Option<&[u8]>) -> Option<(&[u8], &[u8])>
     }
 }
 
-/// Three fields and no more.
+/// Returns the fields of a line, if it has exactly three.
 pub(crate) fn three_fields(rest: Option<&[u8]>) -> Option<(&[u8], &[u8], &[u8])>
     ensures { option_map three_of result ≡ spec.three_fields (fields_left rest.entry) }
 {
@@ -56,7 +56,7 @@ pub(crate) fn three_fields(rest: Option<&[u8]>) -> Option<(&[u8], &[u8], &[u8])>
     }
 }
 
-/// Four fields and no more.
+/// Returns the fields of a line, if it has exactly four.
 pub(crate) fn four_fields(rest: Option<&[u8]>) -> Option<(&[u8], &[u8], &[u8], &[u8])>
     ensures { option_map four_of result ≡ spec.four_fields (fields_left rest.entry) }
 {

@@ -1,4 +1,4 @@
-//! The law of lines: a function with no work in it, whose contract is proved.
+//! The law of lines: a function that does nothing, whose contract is proved.
 
 ghost use Rattle.std.specs.Prelude.{◌≡◌, ◌<◌, ◌≤◌, ℕ, true, Some, None, All};
 ghost use Rattle.arn_ids.specs.Faults.{first_fault};

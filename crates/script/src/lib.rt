@@ -1,5 +1,5 @@
 //! The text forms of calls and answers: the lines of a script, and those of a history.
-#![tactic(auto)]
+#![tactic(auto, using(crate::proofs::Fronts::added, crate::proofs::Fronts::onward, crate::proofs::Fronts::same))]
 
 mod answer_writer;
 mod call_reader;

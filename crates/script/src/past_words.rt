@@ -1,4 +1,4 @@
-//! What the words of an answer say of the calls before it.
+//! The words of an answer that refer to earlier calls.
 
 ghost use Rattle.std.specs.Prelude.{◌≡◌, reverse};
 ghost use Rattle.arn_ids.specs.Identifiers.{id_word as written};
@@ -11,7 +11,7 @@ use crate::words::Word;
 use arn_ids::{IdKind, event_id, extension_id, request_id};
 use call_model::{Call, Past, Ticket};
 
-/// An identifier; a dash for a number or a count that no identifier has.
+/// An identifier; a dash if no identifier can have this number or count.
 #[tactic(auto, unfolding(arn_ids::specs::Identifiers::id_word))]
 fn id_word(salt: u64, kind: IdKind, number: u32, count: u64) -> Word<'static>
     ensures { word_text result ≡ written salt kind number count }
@@ -29,7 +29,7 @@ fn id_word(salt: u64, kind: IdKind, number: u32, count: u64) -> Word<'static>
     })
 }
 
-/// The request identifier of the Invoke with a ticket.
+/// Returns the request identifier of the Invoke with a ticket.
 pub(crate) fn request_word(past: &Past, ticket: Ticket) -> Word<'static>
     ensures { word_text result ≡ spec.request_word past.now.salt (reverse past.now.entries.now.0) ticket }
 {
@@ -40,7 +40,7 @@ pub(crate) fn request_word(past: &Past, ticket: Ticket) -> Word<'static>
     id_word(past.salt, IdKind::Request, function, past.count(ticket))
 }
 
-/// The identifier of an event or an extension at the environment of the call with a ticket.
+/// Returns the identifier of an event or an extension at the environment of the call with a ticket.
 pub(crate) fn env_word(past: &Past, kind: IdKind, ticket: Ticket, count: u64) -> Word<'static>
     ensures { word_text result ≡ spec.env_word past.now.salt kind (reverse past.now.entries.now.0) ticket count }
 {
@@ -51,7 +51,7 @@ pub(crate) fn env_word(past: &Past, kind: IdKind, ticket: Ticket, count: u64) ->
     id_word(past.salt, kind, env, count)
 }
 
-/// The bytes of a call, none where it has none.
+/// Returns the bytes of a call, or none if it has none.
 fn call_word(call: &Call) -> Word<'_>
     ensures { word_text result ≡ text_field (body_of call.now) }
 {
@@ -66,7 +66,7 @@ fn call_word(call: &Call) -> Word<'_>
     }
 }
 
-/// The bytes of the call with a ticket.
+/// Returns the bytes of the call with a ticket.
 pub(crate) fn body_word<'a>(past: &Past<'a>, ticket: Ticket) -> Word<'a>
     ensures { word_text result ≡ spec.body_word (reverse past.now.entries.now.0) ticket }
 {

@@ -1,4 +1,4 @@
-//! What lines are written into.
+//! The destination of written lines.
 
 ghost use Rattle.std.specs.Prelude.{ℕ, List};
 ghost use Rattle.script.specs.TextFields.{escaped};
@@ -10,10 +10,10 @@ use std::alloc::AllocError;
 
 /// A text that grows at its end. If memory is refused, a part may have been added.
 pub(crate) trait Sink {
-    /// What was written.
+    /// The text so far.
     ghost text: { Self → List ℕ };
 
-    /// Adds bytes as they are.
+    /// Adds bytes, unchanged.
     fn push_bytes(&mut self, bytes: &[u8]) -> Result<(), AllocError>
         ensures { Adds result bytes.now (text self.old) (text self.new) };
 
@@ -29,7 +29,6 @@ pub(crate) trait Sink {
 impl Sink for Vec<u8> {
     ghost text = { λ v. v.items };
 
-    #[tactic(auto, using(crate::proofs::WritingLemmas::in_front, crate::proofs::WritingLemmas::still_in_front, crate::proofs::WritingLemmas::as_before))]
     fn push_bytes(&mut self, bytes: &[u8]) -> Result<(), AllocError> {
         self.extend_from_slice(bytes)
     }

@@ -4,16 +4,14 @@ ghost use Rattle.std.specs.Prelude.{◌≡◌, option_map, IfOk};
 ghost use Rattle.arn_ids.specs.Words.{is_word, is_printable as is_printable_byte};
 ghost use Rattle.script.specs.TextFields.{text_in, text_that, body_in, name_in, trace_in};
 
-use arn_ids::{LONGEST_BODY, Text, is_printable_word};
+use arn_ids::{LONGEST_BODY, LONGEST_TRACE, Text, is_printable_word};
 use bytes::Bytes;
 use percent_encoding::percent_decode;
 use std::alloc::{AllocError, Global};
 
-const LONGEST_TRACE: usize = 256;
-
 const LONGEST_NAME: usize = 128;
 
-/// The bytes that a field stands for.
+/// Decodes the bytes of a field.
 fn decoded(alloc: Global, field: &[u8]) -> Result<Option<Vec<u8>>, AllocError>
     ensures { IfOk result (λ text. option_map (λ v. v.items) text ≡ text_in field.now) }
 {
@@ -25,7 +23,7 @@ fn decoded(alloc: Global, field: &[u8]) -> Result<Option<Vec<u8>>, AllocError>
     Ok(Some(bytes))
 }
 
-/// A text of 1 to `most` characters that print.
+/// Reads a text of 1 to `most` printing characters.
 fn printable_text(alloc: Global, field: &[u8], most: usize) -> Result<Option<Text>, AllocError>
     ensures { IfOk result (λ text. text ≡ text_that (is_word is_printable_byte most) field.now) }
 {
@@ -41,7 +39,7 @@ fn printable_text(alloc: Global, field: &[u8], most: usize) -> Result<Option<Tex
     }
 }
 
-/// A payload, an output or a report.
+/// Reads a payload, an output or a report.
 pub(crate) fn body(alloc: Global, field: &[u8]) -> Result<Option<Bytes>, AllocError>
     ensures { IfOk result (λ body. body ≡ body_in field.now) }
 {
@@ -54,14 +52,14 @@ pub(crate) fn body(alloc: Global, field: &[u8]) -> Result<Option<Bytes>, AllocEr
     Ok(Some(Bytes::from_vec(bytes)?))
 }
 
-/// The name of an extension.
+/// Reads the name of an extension.
 pub(crate) fn extension_name(alloc: Global, field: &[u8]) -> Result<Option<Text>, AllocError>
     ensures { IfOk result (λ name. name ≡ name_in field.now) }
 {
     printable_text(alloc, field, LONGEST_NAME)
 }
 
-/// A trace, or the dash of a call without one.
+/// Reads a trace, or the dash of a call without one.
 pub(crate) fn trace(alloc: Global, field: &[u8]) -> Result<Option<Option<Text>>, AllocError>
     ensures { IfOk result (λ trace. trace ≡ trace_in field.now) }
 {

@@ -18,19 +18,18 @@ const ESCAPED: AsciiSet = ascii_set!(CONTROLS.add(b' ').add(b'%'));
 /// A word of a line.
 #[derive(Clone, Copy)]
 pub(crate) enum Word<'a> {
-    /// A text as it stands.
+    /// A text, unchanged.
     Plain(&'a str),
     /// A number in decimal.
     Number(u64),
     /// An identifier, hyphenated and in lower case (RFC 9562, section 4).
     Identifier(Uuid),
-    /// Bytes, percent-encoded behind an equals sign.
+    /// Bytes, percent-encoded after an equals sign.
     Text(&'a [u8]),
-    /// A payload, an output or a report, percent-encoded behind an equals sign.
+    /// A payload, an output or a report, percent-encoded after an equals sign.
     Body(&'a Bytes),
 }
 
-#[tactic(auto, using(crate::proofs::WritingLemmas::in_front, crate::proofs::WritingLemmas::still_in_front, crate::proofs::WritingLemmas::as_before))]
 fn push_pieces(out: &mut Vec<u8>, pieces: PercentEncode) -> Result<(), AllocError>
     ensures { Adds result (encoded_text pieces.entry) out.old.items out.new.items }
 {
@@ -40,14 +39,13 @@ fn push_pieces(out: &mut Vec<u8>, pieces: PercentEncode) -> Result<(), AllocErro
     Ok(())
 }
 
-/// Adds bytes, percent-encoded, which are not copied before.
+/// Adds bytes, percent-encoded, without a copy of them.
 pub(crate) fn push_escaped(out: &mut Vec<u8>, bytes: &[u8]) -> Result<(), AllocError>
     ensures { Adds result (escaped bytes.now) out.old.items out.new.items }
 {
     push_pieces(out, percent_encode(bytes, ESCAPED))
 }
 
-#[tactic(auto, using(crate::proofs::WritingLemmas::in_front, crate::proofs::WritingLemmas::still_in_front, crate::proofs::WritingLemmas::as_before))]
 fn push_number<W: Sink>(out: &mut W, number: u64) -> Result<(), AllocError>
     ensures { Adds result (decimal number) (W.text out.old) (W.text out.new) }
 {
@@ -55,7 +53,6 @@ fn push_number<W: Sink>(out: &mut W, number: u64) -> Result<(), AllocError>
     out.push_bytes(buffer.format(number).as_bytes())
 }
 
-#[tactic(auto, using(crate::proofs::WritingLemmas::in_front, crate::proofs::WritingLemmas::still_in_front, crate::proofs::WritingLemmas::as_before))]
 fn push_identifier<W: Sink>(out: &mut W, id: Uuid) -> Result<(), AllocError>
     ensures { Adds result (hyphenated_text lower id) (W.text out.old) (W.text out.new) }
 {
@@ -64,7 +61,6 @@ fn push_identifier<W: Sink>(out: &mut W, id: Uuid) -> Result<(), AllocError>
     out.push_bytes(text.as_bytes())
 }
 
-#[tactic(auto, using(crate::proofs::WritingLemmas::in_front, crate::proofs::WritingLemmas::still_in_front, crate::proofs::WritingLemmas::as_before))]
 fn push_text<W: Sink>(out: &mut W, bytes: &[u8]) -> Result<(), AllocError>
     ensures { Adds result (text_field bytes.now) (W.text out.old) (W.text out.new) }
 {
@@ -72,7 +68,6 @@ fn push_text<W: Sink>(out: &mut W, bytes: &[u8]) -> Result<(), AllocError>
     out.push_escaped(bytes)
 }
 
-#[tactic(auto, using(crate::proofs::WritingLemmas::in_front, crate::proofs::WritingLemmas::still_in_front, crate::proofs::WritingLemmas::as_before))]
 fn push_body<W: Sink>(out: &mut W, body: &Bytes) -> Result<(), AllocError>
     ensures { Adds result (text_field body.now) (W.text out.old) (W.text out.new) }
 {
@@ -81,7 +76,6 @@ fn push_body<W: Sink>(out: &mut W, body: &Bytes) -> Result<(), AllocError>
 }
 
 /// Adds a word.
-#[tactic(auto, using(crate::proofs::WritingLemmas::in_front, crate::proofs::WritingLemmas::still_in_front, crate::proofs::WritingLemmas::as_before))]
 pub(crate) fn push_word<W: Sink>(out: &mut W, word: &Word) -> Result<(), AllocError>
     ensures { Adds result (word_text word.now) (W.text out.old) (W.text out.new) }
 {
@@ -94,8 +88,7 @@ pub(crate) fn push_word<W: Sink>(out: &mut W, word: &Word) -> Result<(), AllocEr
     }
 }
 
-/// Adds a word behind a space.
-#[tactic(auto, using(crate::proofs::WritingLemmas::in_front, crate::proofs::WritingLemmas::still_in_front, crate::proofs::WritingLemmas::as_before))]
+/// Adds a space and a word.
 pub(crate) fn push_spaced<W: Sink>(out: &mut W, word: &Word) -> Result<(), AllocError>
     ensures { Adds result (32 ∷ word_text word.now) (W.text out.old) (W.text out.new) }
 {
@@ -103,7 +96,7 @@ pub(crate) fn push_spaced<W: Sink>(out: &mut W, word: &Word) -> Result<(), Alloc
     push_word(out, word)
 }
 
-/// Adds words, each behind a space.
+/// Adds words, each after a space.
 pub(crate) fn push_words<W: Sink>(out: &mut W, words: &[Word]) -> Result<(), AllocError>
     ensures { Adds result (spaced (map word_text words.now)) (W.text out.old) (W.text out.new) }
 {
@@ -113,21 +106,21 @@ pub(crate) fn push_words<W: Sink>(out: &mut W, words: &[Word]) -> Result<(), All
     Ok(())
 }
 
-/// Adds one word, behind a space.
+/// Adds one word, after a space.
 pub(crate) fn push_name<W: Sink>(out: &mut W, name: &str) -> Result<(), AllocError>
     ensures { Adds result (spaced (name.now ∷ [])) (W.text out.old) (W.text out.new) }
 {
     push_words(out, &[Word::Plain(name)])
 }
 
-/// Adds the one word that a line ends with, behind a space.
+/// Adds the last word of a line, after a space.
 pub(crate) fn push_last<W: Sink>(out: &mut W, word: &Word) -> Result<(), AllocError>
     ensures { Adds result (spaced (word_text word.now ∷ [])) (W.text out.old) (W.text out.new) }
 {
     push_spaced(out, word)
 }
 
-/// Adds a word and what it is about, each behind a space.
+/// Adds a word and its argument, each after a space.
 pub(crate) fn push_named<W: Sink>(out: &mut W, name: &str, word: &Word) -> Result<(), AllocError>
     ensures { Adds result (spaced (name.now ∷ word_text word.now ∷ [])) (W.text out.old) (W.text out.new) }
 {
@@ -136,7 +129,6 @@ pub(crate) fn push_named<W: Sink>(out: &mut W, name: &str, word: &Word) -> Resul
 }
 
 /// Ends a line.
-#[tactic(auto, using(crate::proofs::WritingLemmas::in_front, crate::proofs::WritingLemmas::still_in_front, crate::proofs::WritingLemmas::as_before))]
 pub(crate) fn end_line<W: Sink>(out: &mut W) -> Result<(), AllocError>
     ensures { Adds result (10 ∷ []) (W.text out.old) (W.text out.new) }
 {

@@ -4,7 +4,7 @@ use Rattle.account_book.specs.Run.{ScriptFault, InConfiguration, InText, InLine}
 use Rattle.script_replay.specs.declared.fault.ReplayFault.{ReplayFault}
 use Rattle.script_replay.specs.declared.fault.ReplayFault.TheVariants as faults
 
--- what was taken has the fault; want of memory is none of a script's, which neither reads nor writes
+-- the fault that the lines have; lack of memory isn't a fault of a script, nor is one of the reader or the writer
 abbrev pub HasFault : {A : Type 0} → Result A ScriptFault → ReplayFault → Type 0
 HasFault taken (faults.Config fault) = taken ≡ Err (InConfiguration fault)
 HasFault taken (faults.Wire fault) = taken ≡ Err (InText fault)

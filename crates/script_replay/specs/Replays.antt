@@ -1,9 +1,10 @@
--- What a replay has written where it ended.
+-- What a replay has written when it ends.
 use Rattle.std.specs.Prelude.{◌≡◌, ℕ, ◌+◌, ◌==◌, false, List, [], ◌∷◌, ◌++◌, Option, Some, None, Result, Ok, Err, All}
 use Rattle.std.specs.Io.{IsEmptyOrEndsWith}
 use Rattle.std.specs.Io.KnownBytes.{Appends, Consumes}
 use Rattle.std.specs.Str.Lines.{lines}
-use Rattle.account_book.specs.Run.{ScriptFault, InConfiguration, InText, InLine, Progress, AtStart, line_taken, replay_from}
+use Rattle.account_book.specs.Run.{ScriptFault, InConfiguration, InText, InLine, Progress, AtStart}
+use Rattle.account_book.specs.Run.{line_taken, replay_from}
 use Rattle.script_replay.specs.declared.fault.ReplayFault.{ReplayFault}
 use Rattle.script_replay.specs.declared.fault.ReplayFault.TheVariants as faults
 
@@ -17,7 +18,8 @@ onto text (Err fault) = Err fault
 onto text (Ok (next, more)) = Ok (next, text ++ more)
 
 -- what a line gave, and then the rest
-abbrev pub then_taken : Result (Progress × List ℕ) ScriptFault → (Progress → Result (Progress × List ℕ) ScriptFault) → Result (Progress × List ℕ) ScriptFault
+abbrev pub then_taken : Result (Progress × List ℕ) ScriptFault
+    → (Progress → Result (Progress × List ℕ) ScriptFault) → Result (Progress × List ℕ) ScriptFault
 then_taken (Err fault) rest = Err fault
 then_taken (Ok (next, text)) rest = onto text (rest next)
 
@@ -25,11 +27,13 @@ then_taken (Ok (next, text)) rest = onto text (rest next)
 -- theirs.
 abbrev pub lines_taken : ℕ → Progress → List (List ℕ) → Result (Progress × List ℕ) ScriptFault
 lines_taken number progress [] = Ok (progress, [])
-lines_taken number progress (line ∷ lines) = then_taken (line_taken number progress line) (λ next. lines_taken (number + 1) next lines)
+lines_taken number progress (line ∷ lines) =
+    then_taken (line_taken number progress line) (λ next. lines_taken (number + 1) next lines)
 
 -- Lines were taken from where it stood to where it stands next, and none has a fault. What they write was written, and
 -- nothing else.
-pub record Played (number : ℕ) (first next : Progress) (lines : List (List ℕ)) (old new : Option (List ℕ)) : Type 0 where
+pub record Played (number : ℕ) (first next : Progress) (lines : List (List ℕ))
+    (old new : Option (List ℕ)) : Type 0 where
   pub text : List ℕ
   pub took : lines_taken number first lines ≡ Ok (next, text)
   pub wrote : Appends old new text
@@ -46,7 +50,8 @@ pub record BrokenOff (input : List ℕ) (left : Option (List ℕ)) (old new : Op
   pub played : Played 1 AtStart next (lines whole) old new
 
 -- the lines come to this fault, or to none, and what they come to was written, and nothing else
-pub record Ended (number : ℕ) (progress : Progress) (lines : List (List ℕ)) (fault : Option ScriptFault) (old new : Option (List ℕ)) : Type 0 where
+pub record Ended (number : ℕ) (progress : Progress) (lines : List (List ℕ)) (fault : Option ScriptFault)
+    (old new : Option (List ℕ)) : Type 0 where
   pub ends : (replay_from number progress lines).fault ≡ fault
   pub wrote : Appends old new (replay_from number progress lines).text
 
@@ -66,7 +71,8 @@ pub record Cut (number : ℕ) (progress : Progress) (lines : List (List ℕ)) (o
 
 -- what holds at a fault, of lines that were to be replayed; none of them makes a reader fail
 abbrev pub StoppedAt : ℕ → Progress → List (List ℕ) → Option (List ℕ) → Option (List ℕ) → ReplayFault → Type 0
-StoppedAt number progress lines old new (faults.Config fault) = Ended number progress lines (Some (InConfiguration fault)) old new
+StoppedAt number progress lines old new (faults.Config fault) =
+    Ended number progress lines (Some (InConfiguration fault)) old new
 StoppedAt number progress lines old new (faults.Wire fault) = Ended number progress lines (Some (InText fault)) old new
 StoppedAt number progress lines old new (faults.Script line) = Ended number progress lines (Some (InLine line)) old new
 StoppedAt number progress lines old new faults.Read = ⊥

@@ -17,7 +17,7 @@ pub record Took {A : Type 0} (taken : Result (A × List ℕ) ScriptFault) (next 
   pub gave : taken ≡ Ok (next, text)
   pub grown : new ≡ old ++ text
 
--- where a replay stands between two bytes: its progress, the lines so far, and what was read of the next line
+-- the state of a replay between two bytes: its progress, the lines so far, and what was read of the next line
 pub record Position : Type 0 where
   pub progress : Progress
   pub line : ℕ
@@ -41,7 +41,8 @@ pub record Going (first now : Position) (piece rest : List ℕ) (old new : Optio
 
 -- what holds at a fault within a piece, whatever comes after it
 abbrev pub StoppedIn : Position → List ℕ → Option (List ℕ) → Option (List ℕ) → ReplayFault → Type 0
-StoppedIn first piece old new e = (more : List ℕ) → StoppedAt (first.line + 1) first.progress (lines (first.pending ++ (piece ++ more))) old new e
+StoppedIn first piece old new e = (more : List ℕ)
+    → StoppedAt (first.line + 1) first.progress (lines (first.pending ++ (piece ++ more))) old new e
 
 -- the last line, which no line feed ends, if there is one
 abbrev pub last_lines : List ℕ → List (List ℕ)

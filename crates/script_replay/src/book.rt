@@ -1,4 +1,4 @@
-//! The book of a script: how its configuration opens it, and what it answers to a call.
+//! The book of a script: how its configuration opens it, and how it answers a call.
 
 ghost use Rattle.std.specs.Prelude.{◌≡◌, ◌<◌, ◌≤◌, ◌^◌, ◌++◌, length, reverse, drop, OnOk, IfOk, IfErr, Ok, Err};
 ghost use Rattle.call_types.specs.Within.{IsWithin};
@@ -13,7 +13,7 @@ use lambda_wire::{WireFault, read_config};
 use std::alloc::{AllocError, Global};
 use std::sync::Arc;
 
-/// Opens the book that the configuration's line says.
+/// Opens the book that the configuration's line describes.
 #[tactic(auto, unfolding(account_book::specs::Run::opened))]
 pub fn open_book(alloc: Global, line: &[u8]) -> Result<Book, ReplayFault>
     ensures book { IfOk result (λ book. opened line.now ≡ Ok book) }
@@ -39,7 +39,8 @@ pub fn open_book(alloc: Global, line: &[u8]) -> Result<Book, ReplayFault>
 /// Adds the answer lines of the entries from this number on.
 fn push_from(book: &Book, from: usize, out: &mut Vec<u8>) -> Result<(), AllocError>
     requires there { from ≤ length book.now.history }
-    ensures { OnOk result (out.new.items ≡ out.old.items ++ lines_from book.now.salt book.now.history from (drop from (reverse book.now.history))) }
+    ensures { OnOk result (out.new.items ≡ out.old.items
+        ++ lines_from book.now.salt book.now.history from (drop from (reverse book.now.history))) }
 {
     let entries = book.entries();
     let counts = book.counts();
@@ -52,7 +53,7 @@ fn push_from(book: &Book, from: usize, out: &mut Vec<u8>) -> Result<(), AllocErr
     Ok(())
 }
 
-/// Hands the book a call, and adds the lines that it is answered.
+/// Applies a call to the book, and adds the lines of its answers.
 #[tactic(auto, unfolding(account_book::specs::Run::call_answered))]
 pub fn answer(book: &mut Book, now: u64, call: Call, out: &mut Vec<u8>) -> Result<(), AllocError>
     requires moment { now < 2 ^ 53 }

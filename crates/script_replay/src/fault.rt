@@ -9,23 +9,23 @@ use lambda_wire::WireFault;
 use std::alloc::{AllocError, AllocFailed};
 use thiserror::Error;
 
-/// Why a replay ends before its input does. Printed, it is the line that the program writes on
+/// Why a replay ends before its input does. It is printed as the line that the program writes to
 /// standard error.
 #[derive(Clone, Copy, Debug, PartialEq, Eq, Error)]
 pub enum ReplayFault {
-    /// The configuration says what no account can have.
+    /// The configuration has this fault.
     #[error("configuration: {0}")]
     Config(ConfigFault),
-    /// The configuration's line is not read.
+    /// The configuration's line cannot be read.
     #[error("configuration: {0:?}")]
     Wire(WireFault),
-    /// This line stands for no call, or is too long. The first line is 1.
+    /// This line isn't a call, or is too long. The first line is 1.
     #[error("script: line {line}")]
     Script { line: u64 },
     /// The reader failed, or took more than 2^32 calls.
     #[error("input: failed")]
     Read,
-    /// The writer failed, or took nothing.
+    /// The writer failed, or accepted nothing.
     #[error("output: failed")]
     Write,
     /// There was no memory.
@@ -34,7 +34,7 @@ pub enum ReplayFault {
 }
 
 impl ReplayFault {
-    /// The exit status of a program that ends with it: 2 where the script is at fault, 4 where the
+    /// Returns the exit status of a program that ends with it: 2 if the script is at fault, 4 if the
     /// machine is.
     pub fn status(self) -> u8
         ensures { result ≡ status_of self }

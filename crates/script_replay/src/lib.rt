@@ -1,5 +1,5 @@
-//! The replay of a script: a configuration and calls are read, and what each call is answered is
-//! written, line by line.
+//! The replay of a script: reads a configuration and calls, and writes the answers of each call,
+//! line by line.
 #![tactic(auto)]
 
 mod book;

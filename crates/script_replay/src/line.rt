@@ -1,8 +1,9 @@
-//! What one line of a script does.
+//! The replay of one line of a script.
 
 ghost use Rattle.std.specs.Prelude.{◌≡◌, ◌<◌, ℕ, List, length, OnOk, IfErr};
 ghost use Rattle.std.specs.Str.Lines.{strip_carriage_return};
-ghost use Rattle.account_book.specs.Run.{is_form_2 as says_form_2, is_skipped as skips, line_limit, line_answered, line_taken};
+ghost use Rattle.account_book.specs.Run.{is_form_2 as says_form_2, is_skipped as skips, line_limit};
+ghost use Rattle.account_book.specs.Run.{line_answered, line_taken};
 ghost use Rattle.script_replay.specs.Faults.{HasFault};
 ghost use Rattle.script_replay.specs.Steps.{Took};
 ghost use Rattle.script_replay.specs.Views.{seen};
@@ -13,21 +14,21 @@ use account_book::Book;
 use lambda_wire::WireFault;
 use std::alloc::Global;
 
-/// How many bytes a line may have, its ending not counted.
+/// The length of the longest line in bytes, without its ending.
 pub const LINE_LIMIT: usize = 20_000_000;
 
-/// Where a replay stands between two lines.
+/// The state of a replay between two lines.
 #[derive(Drop)]
 pub enum Progress {
-    /// No line was taken.
+    /// No line was read.
     AtStart,
-    /// The first line said that the script is of form 2; the configuration comes next.
+    /// The first line was that of form 2; the configuration comes next.
     AfterForm,
-    /// The configuration opened the book. Lines may be `reserve` in form 2 alone.
+    /// The configuration opened the book. Only form 2 has `reserve` lines.
     Taking { reserves: bool, book: Book },
 }
 
-/// Whether a first line says that the script is of form 2.
+/// Whether a first line is that of form 2.
 fn is_form_2(line: &[u8]) -> bool
     ensures { result ≡ says_form_2 line.now }
 {
@@ -44,7 +45,7 @@ fn is_skipped(line: &[u8]) -> bool
     }
 }
 
-/// Takes a carriage return away from the end of a line that a line feed ended.
+/// Removes a carriage return from the end of a line that a line feed ended.
 pub fn drop_return(line: &mut Vec<u8>)
     ensures { line.new.items ≡ strip_carriage_return line.old.items }
 {
@@ -53,7 +54,7 @@ pub fn drop_return(line: &mut Vec<u8>)
     }
 }
 
-/// Hands the book the call of a line, and adds what is written to it.
+/// Applies the call of a line to the book, and adds the text of its answers.
 #[tactic(auto, unfolding(account_book::specs::Run::line_answered))]
 fn answer_line(
     alloc: Global,
@@ -63,7 +64,8 @@ fn answer_line(
     line: &[u8],
     out: &mut Vec<u8>,
 ) -> Result<(), ReplayFault>
-    ensures took { OnOk result (Took (line_answered reserves number book.old line.now) book.new out.old.items out.new.items) }
+    ensures took { OnOk result
+        (Took (line_answered reserves number book.old line.now) book.new out.old.items out.new.items) }
     ensures fault { IfErr result (λ e. HasFault (line_answered reserves number book.old line.now) e) }
 {
     if line.len() > LINE_LIMIT {
@@ -81,9 +83,9 @@ fn answer_line(
     }
 }
 
-/// Takes the line of a number: the first one may say form 2; the next one, and else the first, is
-/// the configuration, which opens the book; the book takes each other one. What a line writes is
-/// added to the text.
+/// Plays the line with a number. The first line may be that of form 2; then the second line is the
+/// configuration, otherwise the first one. It opens the book. Each other line is a call. What the line
+/// writes is added to the text.
 pub fn take_line(
     alloc: Global,
     number: u64,
@@ -91,7 +93,8 @@ pub fn take_line(
     line: &[u8],
     out: &mut Vec<u8>,
 ) -> Result<(), ReplayFault>
-    ensures took { OnOk result (Took (line_taken number (seen progress.old) line.now) (seen progress.new) out.old.items out.new.items) }
+    ensures took { OnOk result
+        (Took (line_taken number (seen progress.old) line.now) (seen progress.new) out.old.items out.new.items) }
     ensures fault { IfErr result (λ e. HasFault (line_taken number (seen progress.old) line.now) e) }
 {
     match progress {
@@ -121,7 +124,7 @@ pub fn take_line(
     }
 }
 
-/// The fault of a line that is too long.
+/// Returns the fault of a line that is too long.
 pub fn overlong(number: u64, progress: &Progress) -> ReplayFault
     ensures { (line : List ℕ) → line_limit < length line
         → HasFault (line_taken number (seen progress.now) line) result }

@@ -1,6 +1,7 @@
 //! Replays a script from a reader to a writer.
 
-ghost use Rattle.std.specs.Prelude.{◌≡◌, ◌+◌, ◌<◌, ◌≤◌, ◌^◌, ◌∷◌, [], ◌++◌, List, ℕ, Option, Some, None, length, position, MatchOption, IfOk, IfErr, IfSome, OnOk, vec_len, ◌==◌};
+ghost use Rattle.std.specs.Prelude.{◌≡◌, ◌+◌, ◌<◌, ◌≤◌, ◌^◌, ◌∷◌, [], ◌++◌, List, ℕ, Option, Some, None, length};
+ghost use Rattle.std.specs.Prelude.{position, MatchOption, IfOk, IfErr, IfSome, OnOk, vec_len, ◌==◌};
 ghost use Rattle.std.specs.Io.KnownBytes.{IsAtEnd};
 ghost use Rattle.std.specs.Str.Lines.{lines};
 ghost use Rattle.script_replay.specs.Replays.{IsOpen, Played, Ended, StoppedAt, Replays, Stops};
@@ -14,28 +15,29 @@ use lambda_wire::WireFault;
 use std::alloc::{AllocError, Global};
 use std::io::{self, Read, Write};
 
-/// Where a replay stands.
+/// The state of a replay.
 #[derive(Drop)]
 struct Player {
-    /// Where it stands between two lines.
+    /// Its state between two lines.
     progress: Progress,
-    /// How many lines were taken.
+    /// How many lines were played.
     line: u64,
-    /// What was read of the next line.
+    /// The part of the next line that was read.
     pending: Vec<u8>,
-    /// What a line writes; its memory serves the next line again.
+    /// The text that a line writes; its memory is used again for the next line.
     answers: Vec<u8>,
 }
 
-/// Takes what was read so far as the next line, and writes what it is answered.
+/// Plays what was read so far as the next line, and writes its answers.
 fn play_line<W: Write>(
     alloc: Global,
     player: &mut Player,
     writer: &mut W,
 ) -> Result<(), ReplayFault>
     requires line { player.old.line + 1 < 2 ^ 64 }
-    ensures played { OnOk result (Played (player.old.line + 1) (seen player.old.progress) (seen player.new.progress) (player.old.pending.items ∷ [])
-        (W.contents writer.old) (W.contents writer.new)) }
+    ensures played { OnOk result
+        (Played (player.old.line + 1) (seen player.old.progress) (seen player.new.progress)
+        (player.old.pending.items ∷ []) (W.contents writer.old) (W.contents writer.new)) }
     ensures next { OnOk result ((player.new.line ≡ player.old.line + 1) × (player.new.pending.items ≡ [])) }
     ensures stopped { IfErr result (λ e. (rest : List (List ℕ))
         → StoppedAt (player.old.line + 1) (seen player.old.progress)
@@ -55,12 +57,13 @@ fn play_line<W: Write>(
     Ok(())
 }
 
-/// Keeps bytes of the next line, in which no line ends.
+/// Keeps bytes of the next line, which don't contain a line feed.
 fn keep(player: &mut Player, bytes: &[u8]) -> Result<(), ReplayFault>
     requires free { IsOpen bytes.now }
     requires pending { IsOpen player.old.pending.items }
     requires line { player.old.line + 1 < 2 ^ 64 }
-    ensures kept { OnOk result (stand player.new ≡ record (stand player.old) { pending = player.old.pending.items ++ bytes.now }) }
+    ensures kept { OnOk result
+        (stand player.new ≡ record (stand player.old) { pending = player.old.pending.items ++ bytes.now }) }
     ensures stopped { IfErr result (λ e. (old : Option (List ℕ)) (rest : List ℕ)
         → StoppedAt (player.old.line + 1) (seen player.old.progress)
         (lines (player.old.pending.items ++ (bytes.now ++ rest))) old old e) }
@@ -73,14 +76,14 @@ fn keep(player: &mut Player, bytes: &[u8]) -> Result<(), ReplayFault>
     Ok(())
 }
 
-/// Where the first line feed is.
+/// Returns the index of the first line feed.
 fn line_feed_at(bytes: &[u8]) -> Option<usize>
     ensures { result ≡ position (λ b. b == 10) bytes.now }
 {
     bytes.iter().position(|b| *b == b'\n')
 }
 
-/// The first line that ends in the bytes, without its line feed, and what follows it.
+/// Splits the bytes at their first line feed, if they have one.
 fn cut_line(bytes: &[u8]) -> Option<(&[u8], &[u8])>
     ensures { MatchOption result (IsOpen bytes.now) (λ cut. EndsLine bytes.now cut.0.now cut.1.now) }
 {
@@ -88,7 +91,7 @@ fn cut_line(bytes: &[u8]) -> Option<(&[u8], &[u8])>
     Some((&bytes[..end], &bytes[end + 1..]))
 }
 
-/// Takes a piece of the script.
+/// Plays a piece of the script.
 fn feed<W: Write>(
     alloc: Global,
     player: &mut Player,
@@ -112,15 +115,16 @@ fn feed<W: Write>(
     keep(player, rest)
 }
 
-/// Takes what was read after the last line feed, if anything was.
+/// Plays what was read after the last line feed, if anything was.
 fn play_last<W: Write>(
     alloc: Global,
     player: &mut Player,
     writer: &mut W,
 ) -> Result<(), ReplayFault>
     requires line { player.old.line + 1 < 2 ^ 64 }
-    ensures ok { OnOk result (Played (player.old.line + 1) (seen player.old.progress) (seen player.new.progress) (last_lines player.old.pending.items)
-        (W.contents writer.old) (W.contents writer.new)) }
+    ensures ok { OnOk result
+        (Played (player.old.line + 1) (seen player.old.progress) (seen player.new.progress)
+        (last_lines player.old.pending.items) (W.contents writer.old) (W.contents writer.new)) }
     ensures stopped { IfErr result
         (λ e. StoppedAt (player.old.line + 1) (seen player.old.progress) (last_lines player.old.pending.items)
         (W.contents writer.old) (W.contents writer.new) e) }
@@ -131,10 +135,11 @@ fn play_last<W: Write>(
     play_line(alloc, player, writer)
 }
 
-/// Takes the end of the input. Without a configuration there is no text, which is no JSON.
+/// Plays the end of the input. Without a configuration its text is empty, which isn't JSON.
 fn finish<W: Write>(alloc: Global, player: &mut Player, writer: &mut W) -> Result<(), ReplayFault>
     requires line { player.old.line + 1 < 2 ^ 64 }
-    ensures ok { OnOk result (Ended (player.old.line + 1) (seen player.old.progress) (last_lines player.old.pending.items) None
+    ensures ok { OnOk result
+        (Ended (player.old.line + 1) (seen player.old.progress) (last_lines player.old.pending.items) None
         (W.contents writer.old) (W.contents writer.new)) }
     ensures stopped { IfErr result
         (λ e. StoppedAt (player.old.line + 1) (seen player.old.progress) (last_lines player.old.pending.items)
@@ -148,7 +153,7 @@ fn finish<W: Write>(alloc: Global, player: &mut Player, writer: &mut W) -> Resul
     }
 }
 
-/// So many zeros.
+/// Returns a buffer of this many zeros.
 fn buffer(alloc: Global, size: usize) -> Result<Vec<u8>, AllocError>
     ensures { IfOk result (λ v. vec_len v ≡ size) }
 {
@@ -158,7 +163,7 @@ fn buffer(alloc: Global, size: usize) -> Result<Vec<u8>, AllocError>
 /// How many bytes are read at once.
 const PIECE: usize = 65536;
 
-/// Replays by pieces of the size of this one.
+/// Replays in pieces of the size of this buffer.
 fn replay_by<R: Read, W: Write>(
     alloc: Global,
     reader: &mut R,
@@ -193,16 +198,16 @@ fn replay_by<R: Read, W: Write>(
     Err(ReplayFault::Read)
 }
 
-/// Replays the script that the reader gives, and writes the answers and nothing else. Where the
-/// first line is `form 2`, the script is of form 2, in which lines may be `reserve`, and the second
-/// line is the configuration; else the first one is. Each other line that is neither empty nor a
-/// comment is a call. What a line is answered is written before the next one is taken.
+/// Replays the script that the reader gives, and writes the answers and nothing else. If the first
+/// line is `form 2`, the script is of form 2: it may have `reserve` lines, and its second line is the
+/// configuration. Otherwise the first line is the configuration. Each other line that is neither empty
+/// nor a comment is a call. The answers of a line are written before the next line is played.
 ///
-/// The errors are `Config` and `Wire` where the configuration has the fault; `Script` where a line
-/// stands for no call, or has more than 20,000,000 bytes; `Read` where the reader failed or was
-/// called 2^32 times; `Write` where the writer failed or took nothing; and `OutOfMemory`. All that
-/// the lines before it were answered is written then; at `Write`, a front of it. At `Read` these are
-/// all whole lines that the reader gave.
+/// # Errors
+/// `Config` and `Wire` if the configuration has the fault; `Script` if a line isn't a call or has more
+/// than 20,000,000 bytes; `Read` if the reader failed or was called 2^32 times; `Write` if the writer
+/// failed or accepted nothing; and `OutOfMemory`. The answers of all lines before the fault are then
+/// written; at `Write`, a prefix of them. At `Read` these are all whole lines that the reader gave.
 pub fn replay<R: Read, W: Write>(
     alloc: Global,
     reader: &mut R,

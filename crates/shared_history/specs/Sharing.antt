@@ -11,7 +11,7 @@ abbrev pub no_line : TableId
 no_line = record { words = 0; slots = 0; views_name = 0; atom = 0; block = 0; offset = 0; slot_names = [] }
 
 module _ {A : Type 0} where
-  -- A history goes on where another one ends: that is a beginning of it.
+  -- A history extends another one, which is a beginning of it.
   abbrev pub Extends : List A → List A → Type 0
   Extends beginning history = (newer : List A) × (history ≡ newer ++ beginning)
 
@@ -40,16 +40,18 @@ module _ {A : Type 0} where
 
   -- There is one history, of which one token at most is the pen, and each other has seen a beginning.
   abbrev pub Shared : List (View A) → Type 0
-  Shared views = (place : ℕ) × (history : List A) × ((number : ℕ) (v : View A) → get_elem? views number ≡ some v → Fits place history number v)
+  Shared views = (place : ℕ) × (history : List A)
+      × ((number : ℕ) (v : View A) → get_elem? views number ≡ some v → Fits place history number v)
 
-  -- the pen wrote on, until the history was this one
+  -- the pen extended the history to this one
   abbrev pub Wrote : List A → Me (Unit {0}) (View A) → Me (Unit {0}) (View A) → Type 0
   Wrote history before after = after ≡ (pen_view history, before.1)
 
-  -- the pen found that what it heard is a beginning
+  -- the pen found that what it learned is a beginning
   abbrev pub Compared : Me (Unit {0}) (View A) → Me (Unit {0}) (View A) → Type 0
   Compared before after = (after ≡ (pen_view before.0.all, before.1)) × Extends before.0.seen before.0.all
 
-  -- a token found that what it was told and what it has seen agree
+  -- a token found that what it learned and what it has seen agree
   abbrev pub Agreed : Me (Unit {0}) (View A) → Me (Unit {0}) (View A) → Type 0
-  Agreed before after = (after ≡ (front_view before.0.seen, before.1)) × (Extends before.0.seen before.0.all ⊎ Extends before.0.all before.0.seen)
+  Agreed before after = (after ≡ (front_view before.0.seen, before.1))
+      × (Extends before.0.seen before.0.all ⊎ Extends before.0.all before.0.seen)

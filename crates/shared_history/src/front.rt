@@ -8,7 +8,7 @@ use crate::view::View;
 use atomic_table::{Join, Play, Seat, Split};
 use std::marker::{Model, PhantomData};
 
-/// A copy knows what it is copied from.
+/// A copy has seen as much as its original.
 struct Copies;
 
 impl<T> Split<View<T>> for Copies {
@@ -19,7 +19,7 @@ impl<T> Split<View<T>> for Copies {
     ghost right = { λ v. front_view v.seen };
 }
 
-/// A token hears what another one has seen.
+/// A token learns what another one has seen.
 struct Hears;
 
 impl<T> Join<View<T>> for Hears {
@@ -31,7 +31,7 @@ impl<T> Join<View<T>> for Hears {
     ghost spent = { front_view [] };
 }
 
-/// A token compares what it was told with what it has seen.
+/// A token compares what it learned with what it has seen.
 struct Compares;
 
 impl<T> Play<(), View<T>> for Compares {
@@ -59,7 +59,7 @@ impl<T, N: Naming> Model for Front<T, N> {
 }
 
 impl<T, N: Naming> Front<T, N> {
-    /// The token of a seat that has seen a beginning.
+    /// Returns the token of a seat that has seen a beginning.
     pub(crate) fn of(seat: Seat<(), View<T>>) -> Front<T, N>
         requires { (seat.table_id ≡ N.line) × (seat.me ≡ (front_view seat.me.0.seen, [])) }
         ensures { result ≡ seat.me.0.seen }
@@ -70,7 +70,7 @@ impl<T, N: Naming> Front<T, N> {
         }
     }
 
-    /// A seat that has seen as much.
+    /// Returns a seat that has seen as much.
     pub(crate) fn copy(&mut self, line: &Line<T, N>) -> Seat<(), View<T>>
         ensures line { result.table_id ≡ N.line }
         ensures seen { result.me ≡ (front_view self.old, []) }
@@ -79,15 +79,15 @@ impl<T, N: Naming> Front<T, N> {
         line.table.shared.split_seat::<Copies>(&mut self.seat)
     }
 
-    /// Another token that has seen as much. It takes no memory.
+    /// Returns another token that has seen as much. It takes no memory.
     pub fn again(&mut self, line: &Line<T, N>) -> Front<T, N>
         ensures { (result ≡ self.old) × (self.new ≡ self.old) }
     {
         Front::of(self.copy(line))
     }
 
-    /// Of what two tokens have seen, one is a beginning of the other: there is one history. It takes no
-    /// memory.
+    /// Shows that of what two tokens have seen, one is a beginning of the other: there is one history. It
+    /// takes no memory.
     pub fn agree(&mut self, line: &Line<T, N>, other: &mut Front<T, N>)
         ensures one { Extends self.old other.old ⊎ Extends other.old self.old }
         ensures same { (self.new ≡ self.old) × (other.new ≡ other.old) }

@@ -8,7 +8,7 @@ use atomic_table::{Seat, Table};
 use std::alloc::{AllocError, Global};
 use std::marker::{Brand, Model, PhantomData};
 
-/// Stands for a history in its tokens' types, so that only what belongs to one history meets.
+/// Names a history in its tokens' types, so that tokens of two histories cannot be mixed.
 pub trait Naming {
     ghost use Rattle.atomic_table.specs.Seated.{TableId};
 
@@ -16,14 +16,14 @@ pub trait Naming {
     ghost line: { TableId };
 }
 
-/// A caller that names `Brand` picks the line in its proof; this one stands where none is picked.
+/// A caller that names `Brand` picks the line in its proof; this is the line if none is picked.
 impl Naming for Brand {
     ghost use Rattle.shared_history.specs.Sharing.{no_line};
 
     ghost line = { no_line };
 }
 
-/// A line and its pen, which no type stands for yet. Contracts see the line's name.
+/// A line and its pen, which no type names yet. Contracts see the line's name.
 #[derive(Drop)]
 pub struct Opened<T> {
     table: Table<(), View<T>, (), Shares<T>, Global>,
@@ -39,17 +39,19 @@ impl<T> Model for Opened<T> {
 
     ghost view = { λ o. o.table.shared.table_id };
 
-    ghost invariant = { λ o. (o.pen.table_id ≡ o.table.shared.table_id) × (o.pen.me ≡ (pen_view [], [])) × (0 < o.table.shared.table_id.words) };
+    ghost invariant = { λ o. (o.pen.table_id ≡ o.table.shared.table_id)
+        × (o.pen.me ≡ (pen_view [], []))
+        × (0 < o.table.shared.table_id.words) };
 }
 
 impl<T> Opened<T> {
-    /// A history without an entry. The only error is want of memory.
+    /// Returns a history without an entry. The only error is lack of memory.
     pub fn new(alloc: Global) -> Result<Opened<T>, AllocError> {
         let (table, pen) = Table::of_words(alloc, &[0], &())?;
         Ok(Opened { table, pen })
     }
 
-    /// The line and the pen of the history, under its name.
+    /// Returns the line and the pen of the history, under its name.
     pub fn named<N: Naming>(self) -> (Line<T, N>, Pen<T, N>)
         requires { self ≡ N.line }
         ensures { result.1 ≡ [] }
@@ -59,7 +61,7 @@ impl<T> Opened<T> {
     }
 }
 
-/// What the threads of a history share. It tells nothing by itself; contracts see its name.
+/// The word that the threads of a history share. Contracts see its name.
 #[derive(Drop)]
 pub struct Line<T, N: Naming> {
     pub(crate) table: Table<(), View<T>, (), Shares<T>, Global>,
@@ -78,7 +80,7 @@ impl<T, N: Naming> Model for Line<T, N> {
 }
 
 impl<T, N: Naming> Line<T, N> {
-    /// The line that `N` names.
+    /// Returns the line that `N` names.
     fn of(table: Table<(), View<T>, (), Shares<T>, Global>) -> Line<T, N>
         requires { (table.shared.table_id ≡ N.line) × (0 < table.shared.table_id.words) }
     {

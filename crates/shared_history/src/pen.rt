@@ -9,7 +9,7 @@ use crate::view::View;
 use atomic_table::{Join, Play, Seat, Split};
 use std::marker::{Brand, Model, PhantomData};
 
-/// Where a history is read off.
+/// A value that has a history.
 pub trait Source<X, T> {
     ghost use Rattle.std.specs.Prelude.{List};
 
@@ -61,7 +61,7 @@ impl<T> Split<View<T>> for Lets {
     ghost right = { λ v. front_view v.all };
 }
 
-/// The pen hears what another token has seen.
+/// The pen learns what another token has seen.
 struct Hears;
 
 impl<T> Join<View<T>> for Hears {
@@ -93,7 +93,7 @@ impl<T, N: Naming> Model for Pen<T, N> {
 }
 
 impl<T, N: Naming> Pen<T, N> {
-    /// The pen of a history without an entry.
+    /// Returns the pen of a history without an entry.
     pub(crate) fn of(seat: Seat<(), View<T>>) -> Pen<T, N>
         requires { (seat.table_id ≡ N.line) × (seat.me ≡ (pen_view [], [])) }
         ensures { result ≡ [] }
@@ -104,7 +104,7 @@ impl<T, N: Naming> Pen<T, N> {
         }
     }
 
-    /// Writes on, until the history is the one that this value has. It takes no memory.
+    /// Extends the history to the one that this value has. It takes no memory.
     pub fn write<X, M: Source<X, T>>(&mut self, line: &Line<T, N>, about: &X)
         requires { Extends self.old (M.history about.now) }
         ensures { self.new ≡ M.history about.now }
@@ -119,7 +119,7 @@ impl<T, N: Naming> Pen<T, N> {
         line.table.shared.load::<Writes<W>>(&mut self.seat, 0);
     }
 
-    /// A token that has seen all that was written. It takes no memory.
+    /// Returns a token that has seen all that was written. It takes no memory.
     pub fn front(&mut self, line: &Line<T, N>) -> Front<T, N>
         ensures all { result ≡ self.old }
         ensures same { self.new ≡ self.old }

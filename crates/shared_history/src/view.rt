@@ -8,7 +8,7 @@ use std::marker::PhantomData;
 pub struct View<T> {
     /// Whether it is the pen, which knows the whole history.
     pub keeps: bool,
-    /// The history, where it is the pen; else a beginning of it.
+    /// The history, if it is the pen; otherwise a beginning of it.
     pub all: LinkedList<T>,
     /// A beginning of the history, which was seen.
     pub seen: LinkedList<T>,

@@ -4,7 +4,8 @@ use Rattle.usage_ledger.specs.declared.counts.Counts.{Counts}
 
 -- the counts with these numbers
 abbrev pub counts : ℕ → ℕ → ℕ → ℕ → Counts
-counts calls admitted throttled failed = record { calls = calls; admitted = admitted; throttled = throttled; failed = failed }
+counts calls admitted throttled failed =
+    record { calls = calls; admitted = admitted; throttled = throttled; failed = failed }
 
 -- nothing was counted
 abbrev pub no_counts : Counts

@@ -1,4 +1,4 @@
--- What is handed back where two tallies are not joined.
+-- What is handed back if two tallies are not joined.
 use Rattle.std.specs.Prelude.{◌≡◌}
 use Rattle.usage_ledger.specs.Tallies.{Held, Tallied}
 use Rattle.usage_ledger.specs.declared.join_fault.JoinFault.{JoinFault}

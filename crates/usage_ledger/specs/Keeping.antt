@@ -17,11 +17,11 @@ kept receipts calls = record { receipts = receipts; calls = calls }
 abbrev pub nothing : Kept
 nothing = kept [] []
 
--- one more receipt, behind the others
+-- one more receipt, after the others
 abbrev pub with_receipt : Kept → ℕ → Answer → Kept
 with_receipt old ticket answer = kept (old.receipts ++ (ticket, answer) ∷ []) old.calls
 
--- one more call, behind the others
+-- one more call, after the others
 abbrev pub with_call : Kept → ℕ → Head → Kept
 with_call old ticket head = kept old.receipts (old.calls ++ (ticket, head) ∷ [])
 
@@ -30,10 +30,10 @@ abbrev pub Steps : {X : Type 0} → (Kept → ℕ → X → Kept → Type 0) →
 Steps step old [] new = new ≡ old
 Steps step old (pair ∷ pairs) new = (between : Kept) × step old pair.0 pair.1 between × Steps step between pairs new
 
--- more receipts, behind the others
+-- more receipts, after the others
 abbrev pub with_receipts : Kept → List (ℕ × Answer) → Kept
 with_receipts old receipts = kept (old.receipts ++ receipts) old.calls
 
--- more calls, behind the others
+-- more calls, after the others
 abbrev pub with_calls : Kept → List (ℕ × Head) → Kept
 with_calls old calls = kept old.receipts (old.calls ++ calls)

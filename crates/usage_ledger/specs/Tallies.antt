@@ -24,7 +24,7 @@ held shared joined kept = record { parts = shared.parts; joined = joined; counts
 abbrev pub fresh : ℕ → Held
 fresh parts = record { parts = parts; joined = false; counts = no_counts; kept = nothing }
 
--- A tally: what it holds, and beside it for how many more receipts and calls it has room.
+-- A tally: what it holds, and for how many more receipts and calls it has room.
 pub record Tallied : Type 0 where
   pub held : Held
   pub spare_notes : ℕ

@@ -4,7 +4,7 @@
 /// failed.
 #[derive(Clone, Copy, Debug, PartialEq, Eq)]
 pub struct Counts {
-    /// The entries of the history that somebody called: all but the expiries.
+    /// The entries of the history that are calls: all except the expiries.
     pub calls: u64,
     /// The Invokes that were placed in an environment.
     pub admitted: u64,

@@ -5,12 +5,12 @@ use thiserror::Error;
 /// Why two tallies were not joined. Both are handed back as they were.
 #[derive(Debug, Drop, Error)]
 pub enum JoinFault<T> {
-    /// Memory for what the other one keeps was refused.
+    /// There was no memory for what the other one keeps.
     #[error("out of memory")]
     OutOfMemory {
-        /// The tally that was to take over the other one.
+        /// The tally that should have taken over the other one.
         one: T,
-        /// The tally that was to be taken over.
+        /// The tally that should have been taken over.
         other: T,
     },
 }

@@ -1,4 +1,4 @@
-//! What a tally keeps of the steps that it was handed to.
+//! What a tally keeps of its steps.
 
 ghost use Rattle.std.specs.Prelude.{◌≡◌, ◌+◌, ◌<◌, ◌≤◌, ℕ, Bool, OnOk};
 ghost use Rattle.call_types.specs.declared.answer.Answer.{Answer as Given};
@@ -9,40 +9,38 @@ use call_types::{Answer, Head, Ticket};
 use std::alloc::{AllocError, Global};
 
 /// What a tally keeps: receipts, which are the answers that were given in its steps, and the heads
-/// of the calls that were made by it, each with its ticket and in the order of their happening.
-/// Room for them is made before a step, so that to note one takes no memory.
+/// of the calls that were made by it, each with its ticket and in the order of the steps. Room for
+/// them is made before a step, so that to note one takes no memory.
 pub trait Keep: Drop {
     /// What is kept now.
     ghost holds: { Self → Kept };
 
-    /// For how many more receipts it has room.
+    /// The number of further receipts for which it has room.
     ghost spare_notes: { Self → ℕ };
 
-    /// For how many more calls it has room.
+    /// The number of further calls for which it has room.
     ghost spare_calls: { Self → ℕ };
 
-    /// What a note does to what is kept: what was kept, the ticket, its answer, what is kept then.
+    /// How a note changes what is kept: what was kept, the ticket, its answer, what is kept then.
     ghost notes: { Kept → ℕ → Given → Kept → Type 0 };
 
-    /// What a call that was made does to what is kept: what was kept, the ticket, the call's head,
-    /// what is kept then.
+    /// How a call changes what is kept: what was kept, the ticket, the call's head, what is kept then.
     ghost makes: { Kept → ℕ → Made → Kept → Type 0 };
 
     /// The value of `ALL`, for contracts.
     ghost ALL: { Bool };
 
-    /// Whether it claims to keep every receipt and every call: a settlement holds it to that, and
-    /// looks for those that are missing.
+    /// Whether it claims to keep every receipt and every call. A settlement then looks for missing ones.
     const ALL: bool;
 
     /// Keeps nothing.
     fn empty(alloc: Global) -> Self
         ensures { holds result ≡ nothing };
 
-    /// Makes room for so many more receipts and as many more calls.
+    /// Makes room for `n` more receipts and `n` more calls. What is kept stays the same.
     ///
     /// # Errors
-    /// Only where memory is refused. What is kept is as before in any case.
+    /// Only if memory is refused.
     fn room(&mut self, n: usize) -> Result<(), AllocError>
         ensures same { holds self.new ≡ holds self.old }
         ensures notes { OnOk result (n ≤ spare_notes self.new) }
@@ -62,11 +60,11 @@ pub trait Keep: Drop {
         ensures left { spare_calls self.old ≤ spare_calls self.new + 1 }
         ensures notes { spare_notes self.old ≤ spare_notes self.new };
 
-    /// The receipts, in the order in which they were noted.
+    /// Returns the receipts, in the order in which they were noted.
     fn kept(&self) -> &[(Ticket, Answer)]
         ensures { result.now ≡ (holds self.now).receipts };
 
-    /// The calls, in the order in which they were made.
+    /// Returns the calls, in the order in which they were made.
     fn calls(&self) -> &[(Ticket, Head)]
         ensures { result.now ≡ (holds self.now).calls };
 }

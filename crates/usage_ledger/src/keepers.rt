@@ -58,8 +58,7 @@ impl Keep for KeepAll {
     }
 }
 
-/// Keeps nothing: a service that runs for long, and whose callers have their own record, needs no
-/// receipts.
+/// Keeps nothing: for a service that runs for long, and whose callers have their own records.
 #[derive(Drop)]
 pub struct KeepNone;
 

@@ -6,8 +6,8 @@ use std::alloc::{AllocError, Global};
 use std::marker::{Brand, Model, PhantomData};
 use std::sync::ledger::{Blank, Ledger};
 
-/// Stands for the ledgers and the history of one account in its types, so that only what belongs to
-/// one account meets. Each of the four ledgers has 2^32 parts.
+/// Names the ledgers and the history of one account in its types, so that those of two accounts cannot
+/// be mixed. Each of the four ledgers has 2^32 parts.
 pub trait Ledgers {
     ghost use Rattle.usage_ledger.specs.Ledgers.{Names};
 
@@ -16,7 +16,7 @@ pub trait Ledgers {
     ghost names: { Names };
 }
 
-/// A caller that names `Brand` picks the names in its proof; these stand where none are picked.
+/// A caller that names `Brand` picks the names in its proof; these are the names if none are picked.
 impl Ledgers for Brand {
     ghost use Rattle.shared_history.specs.Sharing.{no_line};
     ghost use Rattle.usage_ledger.specs.Ledgers.{names};
@@ -113,11 +113,12 @@ impl Model for Blanks {
 
     ghost view = { λ b. names b.calls.name b.admitted.name b.throttled.name b.failed.name b.history };
 
-    ghost invariant = { λ b. (b.calls.parts ≡ 2 ^ 32) × (b.admitted.parts ≡ 2 ^ 32) × (b.throttled.parts ≡ 2 ^ 32) × (b.failed.parts ≡ 2 ^ 32) };
+    ghost invariant = { λ b. (b.calls.parts ≡ 2 ^ 32) × (b.admitted.parts ≡ 2 ^ 32)
+        × (b.throttled.parts ≡ 2 ^ 32) × (b.failed.parts ≡ 2 ^ 32) };
 }
 
 impl Blanks {
-    /// New ledgers and a new history, which no type stands for yet. The only error is want of memory.
+    /// Returns new ledgers and a new history, which no type names yet. The only error is lack of memory.
     pub fn new(alloc: Global) -> Result<Blanks, AllocError> {
         Ok(Blanks {
             calls: Blank::new(1 << 32),

@@ -1,5 +1,5 @@
-//! What each thread of an account counted and was told: shares of four counts, whose sum is the
-//! total, and beside them the answers that were given and the calls that were made.
+//! What each thread of an account counted and noted: shares of four counts, whose sum is the total,
+//! and the answers that were given and the calls that were made.
 #![tactic(auto)]
 
 mod counts;

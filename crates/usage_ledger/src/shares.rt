@@ -31,11 +31,12 @@ impl<L: Ledgers> Model for Shares<L> {
       counts = counts s.calls.amount s.admitted.amount s.throttled.amount s.failed.amount;
     } };
 
-    ghost invariant = { λ s. (s.calls.parts ≡ s.parts) × (s.admitted.parts ≡ s.parts) × (s.throttled.parts ≡ s.parts) × (s.failed.parts ≡ s.parts) × (0 < s.parts) };
+    ghost invariant = { λ s. (s.calls.parts ≡ s.parts) × (s.admitted.parts ≡ s.parts)
+        × (s.throttled.parts ≡ s.parts) × (s.failed.parts ≡ s.parts) × (0 < s.parts) };
 }
 
 impl<L: Ledgers> Shares<L> {
-    /// The shares that have all parts, before anything was counted.
+    /// Returns the shares that have all parts, before anything was counted.
     pub(crate) fn all(
         calls: Share<Calls<L>>,
         admitted: Share<Admitted<L>>,
@@ -57,14 +58,14 @@ impl<L: Ledgers> Shares<L> {
         }
     }
 
-    /// How many parts it has of each ledger.
+    /// Returns the number of its parts of each ledger.
     pub(crate) fn parts(&self) -> u64
         ensures { result ≡ self.now.parts }
     {
         self.parts
     }
 
-    /// Gives one part of each away, and nothing that was counted.
+    /// Splits off one part of each ledger, and none of the counts.
     pub(crate) fn split(&mut self) -> Shares<L>
         requires { 2 ≤ self.old.parts }
         ensures new { result ≡ record { parts = 1; counts = no_counts } }
@@ -82,7 +83,8 @@ impl<L: Ledgers> Shares<L> {
 
     /// Takes over other shares.
     pub(crate) fn merge(&mut self, other: Shares<L>)
-        ensures { self.new ≡ record { parts = self.old.parts + other.parts; counts = plus self.old.counts other.counts } }
+        ensures { self.new
+            ≡ record { parts = self.old.parts + other.parts; counts = plus self.old.counts other.counts } }
     {
         let Shares {
             parts,

@@ -1,4 +1,4 @@
-//! What one thread counted and was told.
+//! What one thread counted and noted.
 
 ghost use Rattle.std.specs.Prelude.{◌≡◌, ◌+◌, ◌-◌, ◌<◌, ◌≤◌, ◌^◌, true, length, OnOk, IfOk, IfErr};
 ghost use Rattle.usage_ledger.specs.Counts.{plus};
@@ -15,9 +15,9 @@ use std::fmt;
 use std::marker::Model;
 use std::sync::ledger::Share;
 
-/// A share of each of the four counts of one account, and what was kept of the steps that it was
-/// handed to. The type parameter `L` names the account's ledgers, so that only what belongs to one
-/// account meets. Contracts see what it holds, and beside it for how much more it has room.
+/// A share of each of the four counts of one account, and what it keeps of its steps. The type
+/// parameter `L` names the account's ledgers, so that tallies of two accounts cannot be mixed. Contracts
+/// see what it holds, and for how much more it has room.
 #[derive(Drop)]
 pub struct Tally<K: Keep, L: Ledgers> {
     alloc: Global,
@@ -50,7 +50,7 @@ impl<K: Keep, L: Ledgers> fmt::Debug for Tally<K, L> {
 }
 
 impl<K: Keep, L: Ledgers> Tally<K, L> {
-    /// The tally that has all parts, before anything was counted or kept.
+    /// Returns the tally that has all parts, before anything was counted or kept.
     pub(crate) fn all(
         alloc: Global,
         calls: Share<Calls<L>>,
@@ -72,36 +72,36 @@ impl<K: Keep, L: Ledgers> Tally<K, L> {
         }
     }
 
-    /// How many of the 2^32 parts of each ledger it has, at least one.
+    /// Returns the number of its parts of each ledger, from 1 to 2^32.
     pub fn parts(&self) -> u64
         ensures { result ≡ self.now.held.parts }
     {
         self.shares.parts()
     }
 
-    /// Whether a join made it, so that what it keeps may be out of the order of its happening.
+    /// Whether it was made by a join, so that what it keeps may not be in the order of the steps.
     pub fn joined(&self) -> bool
         ensures { result ≡ self.now.held.joined }
     {
         self.joined
     }
 
-    /// The receipts that it keeps, each with its ticket.
+    /// Returns the receipts that it keeps, each with its ticket.
     pub fn kept(&self) -> &[(Ticket, Answer)]
         ensures { result.now ≡ self.now.held.kept.receipts }
     {
         self.keep.kept()
     }
 
-    /// The heads of the calls that it keeps, each with its ticket.
+    /// Returns the heads of the calls that it keeps, each with its ticket.
     pub fn calls(&self) -> &[(Ticket, Head)]
         ensures { result.now ≡ self.now.held.kept.calls }
     {
         self.keep.calls()
     }
 
-    /// A new tally with one of its parts. It has counted nothing and keeps nothing; what this one
-    /// counted and keeps stays.
+    /// Splits off a tally with one part, which has counted and kept nothing. What this one counted and
+    /// keeps stays.
     pub fn split(&mut self) -> Tally<K, L>
         requires { 2 ≤ self.old.held.parts }
         ensures new { result.held ≡ fresh 1 }
@@ -115,15 +115,18 @@ impl<K: Keep, L: Ledgers> Tally<K, L> {
         }
     }
 
-    /// The sums of two tallies. What the other one keeps is noted behind what this one keeps.
+    /// Adds up two tallies. What the other one keeps comes after what this one keeps.
     ///
     /// # Errors
-    /// Only where memory is refused; both come back in the fault.
+    /// Only if memory is refused; the fault has both tallies.
     pub fn join(self, other: Tally<K, L>) -> Result<Tally<K, L>, JoinFault<Tally<K, L>>>
         ensures parts { IfOk result (λ t. t.held.parts ≡ self.held.parts + other.held.parts) }
         ensures counts { IfOk result (λ t. t.held.counts ≡ plus self.held.counts other.held.counts) }
         ensures joined { IfOk result (λ t. t.held.joined ≡ true) }
-        ensures kept { IfOk result (λ t. (between : Kept) × Steps K.notes self.held.kept other.held.kept.receipts between × Steps K.makes between other.held.kept.calls t.held.kept) }
+        ensures kept { IfOk result
+            (λ t. (between : Kept)
+            × Steps K.notes self.held.kept other.held.kept.receipts between
+            × Steps K.makes between other.held.kept.calls t.held.kept) }
         ensures back { IfErr result (HandsBack self.held other.held) }
     {
         let mut one = self;
@@ -139,17 +142,22 @@ impl<K: Keep, L: Ledgers> Tally<K, L> {
 
     /// Takes over the shares of another tally, and drops what that one keeps.
     pub fn absorb(&mut self, other: Tally<K, L>)
-        ensures { self.new ≡ with_held self.old (record { parts = self.old.held.parts + other.held.parts; joined = true; counts = plus self.old.held.counts other.held.counts; kept = self.old.held.kept }) }
+        ensures { self.new ≡ with_held self.old (record {
+          parts = self.old.held.parts + other.held.parts;
+          joined = true;
+          counts = plus self.old.held.counts other.held.counts;
+          kept = self.old.held.kept;
+        }) }
     {
         let Tally { shares, .. } = other;
         self.shares.merge(shares);
         self.joined = true;
     }
 
-    /// Makes room for so many more receipts and as many more calls.
+    /// Makes room for `n` more receipts and `n` more calls. What it holds stays the same.
     ///
     /// # Errors
-    /// Only where memory is refused. What it holds is as before in any case.
+    /// Only if memory is refused.
     pub fn room(&mut self, n: usize) -> Result<(), AllocError>
         ensures same { self.new.held ≡ self.old.held }
         ensures ok { OnOk result ((n ≤ self.new.spare_notes) × (n ≤ self.new.spare_calls)) }

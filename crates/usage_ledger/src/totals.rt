@@ -10,8 +10,8 @@ use std::alloc::Global;
 use std::marker::Model;
 use std::sync::ledger::Book;
 
-/// The books of an account's four ledgers: what all its tallies counted together. They take no
-/// bytes; contracts see four counts.
+/// The totals of an account's four ledgers: what all its tallies counted together. They take no bytes;
+/// contracts see four counts.
 #[derive(Drop)]
 pub struct Totals<L: Ledgers> {
     calls: Book<Calls<L>>,
@@ -42,8 +42,7 @@ pub struct Start<K: Keep, L: Ledgers> {
     pub pen: Pen<L>,
 }
 
-/// What a new account begins with. Each blank becomes the ledger that `L` names, and the history the one
-/// that it names.
+/// Returns what a new account begins with. The blank ledgers and history become those that `L` names.
 pub fn root<K: Keep, L: Ledgers>(alloc: Global, blanks: Blanks) -> Start<K, L>
     requires { blanks ≡ L.names }
     ensures totals { result.totals ≡ no_counts }
@@ -78,10 +77,11 @@ pub fn root<K: Keep, L: Ledgers>(alloc: Global, blanks: Blanks) -> Start<K, L>
 }
 
 impl<L: Ledgers> Totals<L> {
-    /// Counts what a step adds, here and in the tally that was handed to it.
+    /// Counts what a step adds, here and in the step's tally.
     pub fn count<K: Keep>(&mut self, tally: &mut Tally<K, L>, rises: Counts)
         ensures totals { self.new ≡ plus self.old rises }
-        ensures tally { tally.new ≡ with_held tally.old (record tally.old.held { counts = plus tally.old.held.counts rises }) }
+        ensures tally { tally.new
+            ≡ with_held tally.old (record tally.old.held { counts = plus tally.old.held.counts rises }) }
     {
         let shares = &mut tally.shares;
         self.calls.add(&mut shares.calls, rises.calls);

@@ -33,7 +33,8 @@ impl Model for Driven {
 
     ghost view = { λ d. d.environment };
 
-    ghost invariant = { λ d. (d.environment.stand.events ≤ 24 * d.calls) × (d.environment.stand.registrations ≤ d.calls) × (d.calls ≤ 1000) };
+    ghost invariant = { λ d. (d.environment.stand.events ≤ 24 * d.calls) × (d.environment.stand.registrations ≤ d.calls)
+        × (d.calls ≤ 1000) };
 }
 
 /// Whether a call brings no name, or one of at most 128 bytes.

@@ -237,7 +237,7 @@ impl Opens for Environment {
 /// |---|---|
 /// | `{..}` | nothing; the account whose calls are made, and no extensions |
 /// | `register NAME EVENTS COUNT` | `registered`, or why not; the events are `i`, `s`, `is` or `-` |
-/// | `take TICKET ANSWER REASON CALL` | the answers to parked Nexts at a script's call, which has this ticket and answer, and closes the environment for this reason |
+/// | `take TICKET ANSWER REASON CALL` | the answers to parked Nexts at a call: ticket, answer, reason to close |
 /// | `invoke TICKET DEADLINE` | the answers where an invocation begins |
 /// | `admits NAME`, `lacks NAME` | whether the name may be registered, and is free |
 /// | `unregistered NAMES` | how many of the names are free |

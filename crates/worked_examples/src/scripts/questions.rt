@@ -8,7 +8,7 @@ use case_tables::value_of;
 ///
 /// | Line | What the answer says |
 /// |---|---|
-/// | `entries` | for each ticket, and the one past the end: the entry's moment, its place, the count in its request identifier, and the answer to the ticket |
+/// | `entries` | for each ticket, and the one past the end: its moment, place, request count and answer |
 /// | `opening` | the history's text before its first entry |
 /// | `history T` | that of the entry with a ticket |
 /// | `render T` | the reply to a ticket: its status, its headers, and behind `=` its body |
