@@ -1,30 +1,30 @@
 -- What the pen writes at a step, and what is seen of it.
 use Rattle.std.proofs.lemmas.List.{append-nil}
-use Rattle.std.proofs.Common.{◌≡◌, ℕ, ◌+◌, ◌^◌, ◌↔◌, Bool, true, false, List, [], ◌∷◌, ◌++◌, Option, length}
+use Rattle.std.proofs.Common.{◌≡◌, ℕ, ◌+◌, ◌↔◌, true, false, List, [], ◌∷◌, ◌++◌, Option, length}
 use Rattle.std.proofs.Common.{sym, ap, ◌∙◌, subst, arith, refl}
 use Rattle.account_book.specs.Premature.{premature}
 use Rattle.account_book.specs.Reached.{IsReached}
-use Rattle.account_book.specs.declared.book.Refusal.{Refusal}
 use Rattle.account_book.specs.declared.book.Refusal.TheVariants.{JournalFull}
 use Rattle.arn_ids.specs.declared.config.Config.{Config}
-use Rattle.call_model.specs.Counts.{full, calls}
+use Rattle.call_model.specs.Counts.{full}
 use Rattle.call_model.specs.History.{call_of}
 use Rattle.call_model.specs.Next.{added, next, entry_of, moment_at, expiries, due}
 use Rattle.call_model.proofs.AfterEntry.{call_of_new}
-use Rattle.call_types.specs.Heads.{head_of}
 use Rattle.call_types.specs.Within.{IsWithin}
 use Rattle.call_types.specs.declared.answer.Answer.{Answer}
 use Rattle.call_types.specs.declared.call.Call.{Call}
 use Rattle.call_types.specs.declared.call.Entry.{Entry}
 use Rattle.call_types.specs.declared.head.Head.{Head}
 use Rattle.shared_history.specs.Sharing.{Extends}
-use Rattle.usage_ledger.specs.Keeping.{Kept, Steps}
+use Rattle.usage_ledger.specs.Keeping.{Kept}
 use Rattle.usage_ledger.specs.Tallies.{Held}
 use Rattle.account_lock.specs.Bells.{given}
-use Rattle.account_lock.specs.Desks.{held_after}
-use Rattle.account_lock.specs.Offers.{is_premature, IsBack, IfRefused}
-use Rattle.account_lock.specs.Shown.{IsTaken, Sees}
+use Rattle.account_lock.specs.Desks.{Opened}
+use Rattle.account_lock.specs.Shown.{Sees}
+use Rattle.account_lock.specs.Steps.{IsHandedBack, IsRefusal, IsStep}
 use Rattle.account_lock.specs.Submits.{IsDeclined, IsTurnedAway, Took}
+use Rattle.account_lock.specs.declared.desk.Refused.{Refused as Back}
+use Rattle.account_lock.specs.declared.desk.Step.{Step}
 use Rattle.account_lock.specs.declared.offering.Declined.{Declined}
 use Rattle.account_lock.specs.declared.offering.Declined.TheVariants.{Premature, Refused}
 use Rattle.account_lock.proofs.Stepping.{next_is, one_call_within}
@@ -60,59 +60,59 @@ sees {before = before} c m reached is shown later = record {
 }
 
 -- A step of a desk took its call, by the other names; and what holds of the history before it holds there too.
-module _ {notes : Kept → ℕ → Answer → Kept → Type 0} {makes : Kept → ℕ → Head → Kept → Type 0}
+module _ {B : Type 0} {notes : Kept → ℕ → Answer → Kept → Type 0} {makes : Kept → ℕ → Head → Kept → Type 0}
     (Q : Config → List Entry → Type 0) where
-  pub took : {config other : Config} {limit most : ℕ} {had h written now_there front : List Entry}
-      {before after : Held} (now : ℕ) (call : Call) (ticket : ℕ) → config ≡ other → limit ≡ most
-      → IsReached config limit h → h ≡ written → Extends had written → full config limit h call ≡ false
-      → now_there ≡ next config h now call → ticket + 1 ≡ length now_there → front ≡ now_there → IsWithin other call
-      → after ≡ held_after (added config h now call) before after.kept
-      → (between : Kept) × Steps notes before.kept (given (added config h now call)) between
-      × makes between ticket (head_of call) after.kept
-      → Q config h
-      → (t : Took other most notes makes had before now call ticket front after) × Q other t.taken.before
-  took {config} {other} {limit} {most} {had} {h} {before = before} {after = after} now call ticket c m reached is later
-      room step at shown within counts keeps q =
-      renamed (λ k n l. (t : Took k n notes makes had before now call ticket l after) × Q k t.taken.before)
-      c m (sym (shown ∙ step)) (
+  pub took : {other : Config} {most : ℕ} {had written front : List Entry} {before after : Held} {now : ℕ} {call : Call}
+      {bell : Option B} {step : Step B} {left : Opened B} (desk : Opened B) → desk.book.config ≡ other
+      → desk.book.max_entries ≡ most → IsReached desk.book.config desk.book.max_entries desk.book.history
+      → desk.book.history ≡ written → Extends had written → front ≡ left.book.history → IsWithin other call
+      → IsStep notes makes desk before now call bell step left after → Q desk.book.config desk.book.history
+      → (t : Took other most notes makes had before now call step.ticket front after) × Q other t.taken.before
+  took {had = had} {before = before} {after = after} {now = now} {call = call} {step = step} desk c m reached is later shown
+      within made q =
+      let config = desk.book.config in
+      let h = desk.book.history in
+      let gone = ap (λ d. d.book.history) made.taken in
+      let newest = made.newest ∙ ap length gone in
+      renamed (λ k n l. (t : Took k n notes makes had before now call step.ticket l after) × Q k t.taken.before)
+      c m (sym (shown ∙ gone)) (
         record {
           taken = record {
             before = h;
             sees = record { later = subst (Extends had) (sym is) later; reached = reached };
-            room = room;
+            room = made.room;
             goes_on = refl;
-            newest = at ∙ ap length step;
-            stands = stands config h now call ticket (at ∙ ap length step);
+            newest = newest;
+            stands = stands config h now call step.ticket newest;
           };
-          counted = ap (λ (t : Held). t.counts.calls) counts ∙ ap (λ (n : ℕ). before.counts.calls + n)
+          counted = ap (λ (t : Held). t.counts.calls) made.counts ∙ ap (λ (n : ℕ). before.counts.calls + n)
               (one_call_within config h now call (subst (λ (k : Config). IsWithin k call) (sym c) within));
-          parts = (ap (λ (t : Held). t.parts) counts, ap (λ (t : Held). t.joined) counts);
-          keeps = (given (added config h now call), keeps.0, keeps.1, keeps.2);
+          parts = (ap (λ (t : Held). t.parts) made.counts, ap (λ (t : Held). t.joined) made.counts);
+          keeps = (given (added config h now call), made.keeps.0, made.keeps.1, made.keeps.2);
         },
         q,
       )
 
 -- a refusal of a desk
-pub turned_away : {config other : Config} {limit most : ℕ} {had h front : List Entry} (call : Call) (refusal : Refusal)
-    → config ≡ other → limit ≡ most → h ≡ front → Sees other most had front
-    → (refusal ≡ JournalFull) ↔ (full config limit h call ≡ true) → IsTurnedAway other most had call refusal front
-turned_away call refusal c m shown seen exactly = record {
+pub turned_away : {B : Type 0} {other : Config} {most : ℕ} {had front : List Entry} {call : Call} {bell : Option B} {back : Back B}
+    (desk : Opened B) → desk.book.config ≡ other → desk.book.max_entries ≡ most → desk.book.history ≡ front → Sees other most had front
+    → IsRefusal desk call bell back → IsTurnedAway other most had call back.refusal front
+turned_away {call = call} {back = back} desk c m shown seen refused = record {
   sees = seen;
-  exactly = renamed (λ k n l. (refusal ≡ JournalFull) ↔ (full k n l call ≡ true)) c m shown exactly;
+  exactly = renamed (λ k n l. (back.refusal ≡ JournalFull) ↔ (full k n l call ≡ true)) c m shown refused.1;
 }
 
--- a call that a desk declined
-pub declined : {B : Type 0} {config other : Config} {limit most : ℕ} {had h front : List Entry} (now : ℕ) (call : Call)
-    (bell : Option B) (back : Declined B) → config ≡ other → limit ≡ most → h ≡ front → Sees other most had front → IsBack call bell back
-    → is_premature back ≡ premature config h now call
-    → IfRefused back (λ refusal. (refusal ≡ JournalFull) ↔ (full config limit h call ≡ true))
+-- a call that a desk handed back
+pub declined : {B : Type 0} {other : Config} {most : ℕ} {had front : List Entry} (now : ℕ) (call : Call) (bell : Option B)
+    (back : Declined B) (desk : Opened B) → desk.book.config ≡ other → desk.book.max_entries ≡ most
+    → desk.book.history ≡ front → Sees other most had front → IsHandedBack desk now call bell back
     → IsDeclined other most had now call bell back front
-declined now call bell (Premature other its) c m shown seen back early exactly =
-    (back.0, back.1, seen, renamed (λ k n l. premature k l now call ≡ true) c m shown (sym early))
-declined now call bell (Refused refused) c m shown seen back early exactly = (
-  back,
-  turned_away call refused.refusal c m shown seen exactly,
-  renamed (λ k n l. premature k l now call ≡ false) c m shown (sym early),
+declined now call bell (Premature other its) desk c m shown seen back =
+    (back.0, back.1, seen, renamed (λ k n l. premature k l now call ≡ true) c m shown back.2)
+declined now call bell (Refused refused) desk c m shown seen back = (
+  back.0.0,
+  turned_away desk c m shown seen back.0,
+  renamed (λ k n l. premature k l now call ≡ false) c m shown back.1,
 )
 
 -- nothing is a beginning of every history

@@ -5,8 +5,8 @@ pub mod Looks
 pub mod Failing
 pub mod Gathered
 pub mod Marking
-pub mod Offers
 pub mod Shown
 pub mod Settlement
+pub mod Steps
 pub mod Submits
 pub mod Tallying

@@ -8,8 +8,13 @@ use Rattle.call_model.specs.Counts.{full}
 use Rattle.call_model.specs.History.{call_of}
 use Rattle.call_model.specs.Next.{next}
 use Rattle.script.specs.AnswerText.{entry_text}
+use Rattle.account_book.specs.Book.{Kept}
 use Rattle.account_book.specs.Reached.{IsReached}
 use Rattle.shared_history.specs.Sharing.{Extends}
+
+-- a book with this configuration, salt, greatest number of entries and history
+abbrev pub book_of : Config → ℕ → ℕ → List Entry → Kept
+book_of config salt most h = record { config = config; salt = salt; max_entries = most; history = h }
 
 -- What a thread sees under the lock: a history that calls led to, each of which a book of at most so many entries
 -- takes, and that goes on where the one ends that it saw before.

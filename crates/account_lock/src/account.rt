@@ -27,15 +27,15 @@ ghost use Rattle.account_lock.specs.Shown.{IsTextOf, Sees};
 ghost use Rattle.account_lock.specs.Submits.{IsDeclined, IsTurnedAway, Took};
 ghost use Rattle.account_lock.specs.declared.fault.SettleFault.TheVariants.{TallyMissing};
 
+use crate::locked::Locked;
 use crate::{Bell, Declined, Desk, Look, Refused, Settled, Step, Unsettled};
 use account_book::{Book, Life, OpenFault};
 use arn_ids::{Checked, FnNo};
-use call_model::{Call, Entry, Stats, Ticket};
+use call_model::{Call, Stats, Ticket};
 use lambda_wire::Reply;
 use script::Draft;
-use shared_history::Source;
 use std::alloc::{AllocError, Global};
-use std::marker::{Brand, Model};
+use std::marker::Brand;
 use std::sync::{Arc, Mutex, Wait};
 use usage_ledger::{Blanks, Front, Keep, Ledgers, Line, Pen, Start, Tally, root};
 
@@ -67,40 +67,12 @@ impl Identity for Brand {
     ghost most = { 0 };
 }
 
-/// What lies under the lock: a desk whose configuration, salt and limit are those that its type names, and
-/// the pen of the history, which is the desk's. Contracts see the history.
-#[derive(Drop)]
-struct Locked<S: Identity, B> {
-    desk: Desk<B, S>,
-    pen: Pen<S>,
-}
-
-impl<S: Identity, B> Model for Locked<S, B> {
-    ghost use Rattle.std.specs.Prelude.{◌≡◌, List};
-    ghost use Rattle.call_types.specs.declared.call.Entry.{Entry};
-
-    ghost Value = { List Entry };
-
-    ghost view = { λ l. l.pen };
-
-    ghost invariant = { λ l.
-        (l.desk.book.config ≡ S.config) × (l.desk.book.salt ≡ S.salt) × (l.desk.book.history ≡ l.pen)
-        × (l.desk.book.max_entries ≡ S.most) };
-}
-
 /// One account, which threads share: its desk, of which one thread at a time makes a step or reads. What
 /// they see is of one history: each has seen a beginning of it.
 #[derive(Drop)]
 pub struct Account<S: Identity, B> {
     locked: Mutex<Locked<S, B>>,
     line: Line<S>,
-}
-
-/// The pen writes what stands in the desk's book.
-struct OfDesk;
-
-impl<B, L: Ledgers> Source<Desk<B, L>, Entry> for OfDesk {
-    ghost history = { λ desk. desk.book.history };
 }
 
 /// Rings the bells of a step, once the lock is free, and gives the call's ticket.
@@ -121,186 +93,6 @@ fn finish(draft: Option<Draft>) -> Result<Option<Vec<u8>>, AllocError>
     match draft {
         None => Ok(None),
         Some(draft) => Ok(Some(draft.finish()?)),
-    }
-}
-
-impl<S: Identity, B: Bell> Locked<S, B> {
-    /// One step of the desk, which the pen writes; and another token that has seen it.
-    fn apply<K: Keep>(
-        &mut self,
-        line: &Line<S>,
-        tally: &mut Tally<K, S>,
-        front: &mut Front<S>,
-        now: u64,
-        call: Call,
-        bell: Option<B>,
-    ) -> Result<(Step<B>, Front<S>), Refused<B>>
-        requires moment { now < 2 ^ 53 }
-        requires within { IsWithin S.config call }
-        ensures taken { IfOk result (λ step. Took S.config S.most K.notes K.makes
-            front.old tally.old.held now call step.0.ticket step.1 tally.new.held) }
-        ensures seen { IfOk result (λ step. front.new ≡ step.1) }
-        ensures refused { IfErr result (λ back. (back.bell ≡ bell) × (tally.new.held ≡ tally.old.held)
-            × IsTurnedAway S.config S.most front.old call back.refusal front.new) }
-    {
-        self.desk.facts();
-        self.pen.show(line, front);
-        let step = match self.desk.apply(tally, now, call, bell) {
-            Ok(step) => step,
-            Err(refused) => return Err(refused),
-        };
-        self.pen.write::<Desk<B, S>, OfDesk>(line, &self.desk);
-        *front = self.pen.front(line);
-        Ok((step, self.pen.front(line)))
-    }
-
-    /// The same of a call that is offered.
-    fn offer<K: Keep>(
-        &mut self,
-        line: &Line<S>,
-        tally: &mut Tally<K, S>,
-        front: &mut Front<S>,
-        now: u64,
-        call: Call,
-        bell: Option<B>,
-    ) -> Result<(Step<B>, Front<S>), Declined<B>>
-        requires moment { now < 2 ^ 53 }
-        requires within { IsWithin S.config call }
-        ensures taken { IfOk result (λ step. (took : Took S.config S.most K.notes K.makes
-            front.old tally.old.held now call step.0.ticket step.1 tally.new.held)
-            × (premature S.config took.taken.before now call ≡ false)) }
-        ensures seen { IfOk result (λ step. front.new ≡ step.1) }
-        ensures declined { IfErr result (λ back. (tally.new.held ≡ tally.old.held)
-            × IsDeclined S.config S.most front.old now call bell back front.new) }
-    {
-        self.desk.facts();
-        self.pen.show(line, front);
-        let step = match self.desk.offer(tally, now, call, bell) {
-            Ok(step) => step,
-            Err(declined) => return Err(declined),
-        };
-        self.pen.write::<Desk<B, S>, OfDesk>(line, &self.desk);
-        *front = self.pen.front(line);
-        Ok((step, self.pen.front(line)))
-    }
-
-    /// A Tick that is taken only while no deadline is running.
-    fn tick_at_rest<K: Keep>(
-        &mut self,
-        line: &Line<S>,
-        tally: &mut Tally<K, S>,
-        front: &mut Front<S>,
-        now: u64,
-    ) -> Result<Option<Step<B>>, Refused<B>>
-        requires moment { now < 2 ^ 53 }
-        ensures taken { IfOk result (λ made. IfSome made (λ step. (took : Took S.config S.most K.notes K.makes
-            front.old tally.old.held now Tick step.ticket front.new tally.new.held)
-            × (at_rest S.config took.taken.before ≡ true))) }
-        ensures none { IfOk result (λ made. IfNone made ((tally.new.held ≡ tally.old.held)
-            × Sees S.config S.most front.old front.new × (at_rest S.config front.new ≡ false))) }
-        ensures refused { IfErr result (λ back. (tally.new.held ≡ tally.old.held)
-            × IsTurnedAway S.config S.most front.old Tick back.refusal front.new
-            × (at_rest S.config front.new ≡ true)) }
-    {
-        self.desk.facts();
-        self.pen.show(line, front);
-        let step = match self.desk.tick_at_rest(tally, now) {
-            Ok(Some(step)) => step,
-            Ok(None) => return Ok(None),
-            Err(refused) => return Err(refused),
-        };
-        self.pen.write::<Desk<B, S>, OfDesk>(line, &self.desk);
-        *front = self.pen.front(line);
-        Ok(Some(step))
-    }
-
-    /// A token that has seen the history as it is.
-    fn front(&mut self, line: &Line<S>) -> Front<S>
-        ensures { Sees S.config S.most [] result }
-    {
-        self.desk.facts();
-        self.pen.front(line)
-    }
-
-    fn look(&mut self, line: &Line<S>, front: &mut Front<S>, ticket: Ticket) -> Look
-        ensures seen { Sees S.config S.most front.old front.new }
-        ensures value { result ≡ look_of (answer_of front.new ticket) }
-    {
-        self.desk.facts();
-        self.pen.show(line, front);
-        self.desk.look(ticket)
-    }
-
-    fn due(&mut self, line: &Line<S>, front: &mut Front<S>, now: u64) -> bool
-        ensures seen { Sees S.config S.most front.old front.new }
-        ensures value { result ≡ is_some (first (due S.config front.new now)) }
-    {
-        self.desk.facts();
-        self.pen.show(line, front);
-        self.desk.due(now)
-    }
-
-    fn stats(&mut self, line: &Line<S>, front: &mut Front<S>) -> Stats
-        ensures seen { Sees S.config S.most front.old front.new }
-        ensures value { result ≡ stats S.config front.new }
-    {
-        self.desk.facts();
-        self.pen.show(line, front);
-        self.desk.stats()
-    }
-
-    fn life(&mut self, line: &Line<S>, front: &mut Front<S>) -> Life
-        ensures seen { Sees S.config S.most front.old front.new }
-        ensures value { result ≡ life S.config front.new }
-    {
-        self.desk.facts();
-        self.pen.show(line, front);
-        self.desk.life()
-    }
-
-    fn reservation(&mut self, line: &Line<S>, front: &mut Front<S>, function: FnNo) -> Option<u32>
-        requires from_one { 1 ≤ function }
-        requires there { function ≤ length S.config.functions }
-        ensures seen { Sees S.config S.most front.old front.new }
-        ensures value { result ≡ reservation S.config front.new function }
-    {
-        self.desk.facts();
-        self.pen.show(line, front);
-        self.desk.reservation(function)
-    }
-
-    fn render(
-        &mut self,
-        line: &Line<S>,
-        front: &mut Front<S>,
-        ticket: Ticket,
-    ) -> Result<Option<Reply>, AllocError>
-        ensures seen { Sees S.config S.most front.old front.new }
-        ensures text { IfOk result (λ reply. reply ≡ reply_text S.config S.salt front.new ticket) }
-    {
-        self.desk.facts();
-        self.pen.show(line, front);
-        self.desk.render(ticket)
-    }
-
-    fn history(
-        &mut self,
-        line: &Line<S>,
-        front: &mut Front<S>,
-        ticket: Ticket,
-    ) -> Result<Option<Draft>, AllocError>
-        ensures seen { Sees S.config S.most front.old front.new }
-        ensures text { IfOk result (λ draft. IsTextOf S.config S.salt ticket draft front.new) }
-    {
-        self.desk.facts();
-        self.pen.show(line, front);
-        self.desk.history(ticket)
-    }
-
-    fn opening(&self) -> Result<Vec<u8>, AllocError>
-        ensures { IfOk result (λ text. text.items ≡ opening_text S.config S.salt S.most) }
-    {
-        self.desk.opening()
     }
 }
 
@@ -483,7 +275,7 @@ impl<S: Identity, B: Bell> Account<S, B> {
         ensures seen { Sees S.config S.most front.old front.new }
         ensures value { result ≡ look_of (answer_of front.new ticket) }
     {
-        self.locked.lock(rt).look(&self.line, front, ticket)
+        Look::of(self.locked.lock(rt).read(&self.line, front).answer(ticket))
     }
 
     /// Whether an environment is due at a moment in milliseconds, by the history as it is, which the token
@@ -492,7 +284,7 @@ impl<S: Identity, B: Bell> Account<S, B> {
         ensures seen { Sees S.config S.most front.old front.new }
         ensures value { result ≡ is_some (first (due S.config front.new now)) }
     {
-        self.locked.lock(rt).due(&self.line, front, now)
+        self.locked.lock(rt).read(&self.line, front).due(now)
     }
 
     /// The counts of the history as it is, which the token then has seen.
@@ -500,7 +292,7 @@ impl<S: Identity, B: Bell> Account<S, B> {
         ensures seen { Sees S.config S.most front.old front.new }
         ensures value { result ≡ stats S.config front.new }
     {
-        self.locked.lock(rt).stats(&self.line, front)
+        self.locked.lock(rt).read(&self.line, front).stats()
     }
 
     /// How far the service has come to its end, by the history as it is, which the token then has seen.
@@ -508,7 +300,7 @@ impl<S: Identity, B: Bell> Account<S, B> {
         ensures seen { Sees S.config S.most front.old front.new }
         ensures value { result ≡ life S.config front.new }
     {
-        self.locked.lock(rt).life(&self.line, front)
+        self.locked.lock(rt).read(&self.line, front).life()
     }
 
     /// A function's reservation in force, none where it has none, by the history as it is, which the token
@@ -521,7 +313,8 @@ impl<S: Identity, B: Bell> Account<S, B> {
     {
         self.locked
             .lock(rt)
-            .reservation(&self.line, front, function)
+            .read(&self.line, front)
+            .reservation(function)
     }
 
     /// What the client of the call with a ticket gets, in the history as it is, which the token then has
@@ -537,7 +330,7 @@ impl<S: Identity, B: Bell> Account<S, B> {
         ensures seen { Sees S.config S.most front.old front.new }
         ensures text { IfOk result (λ reply. reply ≡ reply_text S.config S.salt front.new ticket) }
     {
-        self.locked.lock(rt).render(&self.line, front, ticket)
+        self.locked.lock(rt).read(&self.line, front).render(ticket)
     }
 
     /// The text of the history before its first entry.
@@ -563,7 +356,7 @@ impl<S: Identity, B: Bell> Account<S, B> {
         ensures text { IfOk result (λ text.
             IsTextOf S.config S.salt ticket (option_map (λ bytes. bytes.items) text) front.new) }
     {
-        let draft = self.locked.lock(rt).history(&self.line, front, ticket);
+        let draft = self.locked.lock(rt).read(&self.line, front).history(ticket);
         finish(draft?)
     }
 

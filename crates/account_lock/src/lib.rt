@@ -10,6 +10,7 @@ mod desk;
 mod fault;
 pub mod laws;
 mod least;
+mod locked;
 mod marks;
 mod offering;
 mod receipts;

@@ -1,14 +1,9 @@
 //! A call that is offered: it is taken, unless it is premature.
 
-ghost use Rattle.std.specs.Prelude.{◌≡◌, ◌+◌, ◌<◌, ◌^◌, ◌↔◌, true, false, length, IfOk, IfErr, MatchResult};
-ghost use Rattle.call_types.specs.Heads.{head_of};
+ghost use Rattle.std.specs.Prelude.{◌≡◌, ◌<◌, ◌^◌, false, IfOk, IfErr, OnErr};
 ghost use Rattle.call_types.specs.Within.{IsWithin};
-ghost use Rattle.account_book.specs.declared.book.Refusal.TheVariants.{JournalFull};
-ghost use Rattle.usage_ledger.specs.Keeping.{Steps, Kept};
-ghost use Rattle.account_lock.specs.Bells.{given};
-ghost use Rattle.account_lock.specs.Desks.{added_to, handed_out, held_after, after_step, is_full};
 ghost use Rattle.account_lock.specs.Desks.{comes_early};
-ghost use Rattle.account_lock.specs.Offers.{is_premature, IsBack, IfRefused};
+ghost use Rattle.account_lock.specs.Steps.{IsHandedBack, IsStep};
 
 use crate::{Bell, Desk, Refused, Step};
 use call_model::Call;
@@ -45,22 +40,11 @@ impl<B: Bell, L: Ledgers> Desk<B, L> {
     ) -> Result<Step<B>, Declined<B>>
         requires moment { now < 2 ^ 53 }
         requires within { IsWithin self.old.book.config call }
-        ensures premature { MatchResult result (λ step. comes_early self.old.book now call ≡ false)
-            (λ declined. is_premature declined ≡ comes_early self.old.book now call) }
-        ensures step { IfOk result (λ step. self.new ≡ after_step self.old now call step.ticket bell) }
-        ensures ticket { IfOk result (λ step. step.ticket + 1 ≡ length self.new.book.history) }
-        ensures rings { IfOk result (λ step. step.rings.items
-            ≡ handed_out self.old now call step.ticket bell) }
-        ensures counts { IfOk result (λ step. tally.new.held
-            ≡ held_after (added_to self.old.book now call) tally.old.held tally.new.held.kept) }
-        ensures kept { IfOk result (λ step. (between : Kept)
-            × Steps K.notes tally.old.held.kept (given (added_to self.old.book now call)) between
-            × K.makes between step.ticket (head_of call) tally.new.held.kept) }
-        ensures declined { IfErr result (λ declined.
-            IsBack call bell declined × (self.new ≡ self.old) × (tally.new.held ≡ tally.old.held)) }
-        ensures full { MatchResult result (λ step. is_full self.old.book call ≡ false)
-            (λ declined. IfRefused declined
-            (λ refusal. (refusal ≡ JournalFull) ↔ (is_full self.old.book call ≡ true))) }
+        ensures taken { IfOk result (λ step. IsStep K.notes K.makes
+            self.old tally.old.held now call bell step self.new tally.new.held
+            × (comes_early self.old.book now call ≡ false)) }
+        ensures declined { IfErr result (λ back. IsHandedBack self.old now call bell back) }
+        ensures same { OnErr result ((self.new ≡ self.old) × (tally.new.held ≡ tally.old.held)) }
     {
         if self.book.is_premature(now, &call) {
             return Err(Declined::Premature { call, bell });

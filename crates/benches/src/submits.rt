@@ -209,7 +209,7 @@ fn park<L: Ledgers>(
     }
     for other in 0..parked as u32 {
         let env = OWN + other + 1;
-        if env > desk.config().environments() {
+        if env > desk.book().config().environments() {
             return false;
         }
         if !apply_once(desk, tally, Call::RuntimeNext { env }) {
@@ -291,7 +291,7 @@ fn run<R: Wait + Threads + Clock + Sync, S: Identity + Send + Sync>(
             if !park(&mut desk, &mut tally, parked) {
                 return None;
             }
-            if desk.config().functions().len() < 8 || desk.config().environments() < 8 {
+            if desk.book().config().functions().len() < 8 || desk.book().config().environments() < 8 {
                 return None;
             }
             applies(rt, alloc, &mut desk, &mut tally, turns)

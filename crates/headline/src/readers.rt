@@ -32,7 +32,7 @@ pub fn of_desk<B: Bell, L: Ledgers>(desk: &Desk<B, L>) -> Stats
 {
     desk.facts();
     laws::headline();
-    desk.stats()
+    desk.book().stats()
 }
 
 /// The counts of a running account, by its history as it is, which the token then has seen: it goes on where

@@ -1,10 +1,10 @@
-use Rattle.std.proofs.Common.{◌++◌, length, ap, ◌∙◌, arith}
+use Rattle.std.proofs.Common.{◌++◌, length, ap, ◌∙◌, sym, arith}
 use Rattle.usage_ledger.specs.Counts.{plus}
 use Rattle.usage_ledger.specs.Keeping.{Steps}
 use Rattle.usage_ledger.specs.Tallies.{Held}
 use Rattle.account_lock.specs.Bells.{rings_of, bells_after, own_bell, given}
 use Rattle.account_lock.specs.Counting.{counts_of}
-use Rattle.account_lock.specs.Desks.{opened, added_to, all_bells, after_step}
+use Rattle.account_lock.specs.Desks.{opened, added_to, all_bells, after_step, is_full}
 use Rattle.account_lock.proofs.AfterCall.{behind, within, risen_by, rise_by, rising_by, desk_kept}
 use Rattle.account_lock.proofs.desk.Desk.apply.Goals as goal
 
@@ -43,8 +43,8 @@ invariant_of-self-2 g c =
     (c.serve_step.ensures.bells ∙ (λ i. bells_after (new i) (all i)))
     (c.serve_step.ensures.totals ∙ ap (plus old.totals) rose)
 
-pub returns-clause-step : goal.returns-clause-step
-returns-clause-step g c =
+pub returns-clause-taken : goal.returns-clause-taken
+returns-clause-taken g c =
     let old = c.self.inside in
     let step = c.in-Ok-take.ensures.step in
     let t = c.in-Ok-take.ticket in
@@ -54,37 +54,25 @@ returns-clause-step g c =
     let all = c.store.ensures.items ∙ ap (λ bells. bells ++ own_bell t c.args.bell) c.make_room.ensures.same.0 in
     let left = c.serve_step.ensures.bells ∙ (λ i. bells_after (new i) (all i)) in
     let sums = c.serve_step.ensures.totals ∙ ap (plus old.totals) rose in
-    (λ i. opened (step i) (left i) (sums i)) ∙ ap (λ d. after_step d c.args.now c.args.call t c.args.bell) c.self.view_is
-
-pub returns-clause-rings : goal.returns-clause-rings
-returns-clause-rings g c =
-    let old = c.self.inside in
-    let t = c.in-Ok-take.ticket in
-    let new = behind old.book c.take.new.self c.args.now c.args.call c.len-start.result c.in-Ok-take.ensures.step c.len-start.ensures.value in
-    let all = c.store.ensures.items ∙ ap (λ bells. bells ++ own_bell t c.args.bell) c.make_room.ensures.same.0 in
     let none = c.in-Ok.ensures.rings.0 in
-    c.serve_step.ensures.rings ∙ (λ i. none i ++ rings_of (new i) (all i))
-    ∙ ap (λ d. rings_of (given (added_to d.book c.args.now c.args.call)) (all_bells d t c.args.bell)) c.self.view_is
-
-pub returns-clause-counts : goal.returns-clause-counts
-returns-clause-counts g c =
-    let old = c.self.inside in
-    let w = rw (← c.self.view_is) at c.requires.within in
-    let rose = rise_by old.book c.take.new.self c.args.now c.args.call c.stats-before.result c.stats-before.ensures c.in-Ok-take.ensures.step w in
     let was = c.make_room.ensures.same.1 in
     let k = c.made.new.self.held.kept in
-    c.made.ensures.same
-    ∙ ap (λ (s : Held). record s { kept = k }) c.serve_step.ensures.held
-    ∙ (λ i. record (was i) { counts = plus (was i).counts (rose i); kept = k })
-    ∙ ap (λ d. record c.args.tally.now.held { counts = plus c.args.tally.now.held.counts (counts_of (added_to d.book c.args.now c.args.call)); kept = k }) c.self.view_is
-
-pub returns-clause-kept : goal.returns-clause-kept
-returns-clause-kept g c =
-    let old = c.self.inside in
-    let new = behind old.book c.take.new.self c.args.now c.args.call c.len-start.result c.in-Ok-take.ensures.step c.len-start.ensures.value in
     let answers = new ∙ ap (λ d. given (added_to d.book c.args.now c.args.call)) c.self.view_is in
-    let from = ap (λ (s : Held). s.kept) c.make_room.ensures.same.1 in (
-      c.serve_step.new.tally.held.kept,
-      coe 0 1 (i. Steps g.K.Keep.notes (from i) (answers i) c.serve_step.new.tally.held.kept) c.serve_step.ensures.kept,
-      rw (← c.head-head.ensures) c.made.ensures.kept,
-    )
+    record {
+      room = ap (λ d. is_full d.book c.args.call) (sym c.self.view_is) ∙ sym c.if-full.ensures;
+      taken = (λ i. opened (step i) (left i) (sums i)) ∙ ap (λ d. after_step d c.args.now c.args.call t c.args.bell) c.self.view_is;
+      newest = c.in-Ok-take.ensures.ticket;
+      rings =
+          c.serve_step.ensures.rings ∙ (λ i. none i ++ rings_of (new i) (all i))
+          ∙ ap (λ d. rings_of (given (added_to d.book c.args.now c.args.call)) (all_bells d t c.args.bell)) c.self.view_is;
+      counts =
+          c.made.ensures.same
+          ∙ ap (λ (s : Held). record s { kept = k }) c.serve_step.ensures.held
+          ∙ (λ i. record (was i) { counts = plus (was i).counts (rose i); kept = k })
+          ∙ ap (λ d. record c.args.tally.now.held { counts = plus c.args.tally.now.held.counts (counts_of (added_to d.book c.args.now c.args.call)); kept = k }) c.self.view_is;
+      keeps = (
+        c.serve_step.new.tally.held.kept,
+        coe 0 1 (i. Steps g.K.Keep.notes (was i).kept (answers i) c.serve_step.new.tally.held.kept) c.serve_step.ensures.kept,
+        rw (← c.head-head.ensures) c.made.ensures.kept,
+      );
+    }

@@ -1,5 +1,5 @@
 use Rattle.account_lock.proofs.Written.{sees, none}
-use Rattle.account_lock.proofs.account.Locked.front.Goals as goal
+use Rattle.account_lock.proofs.locked.Locked.front.Goals as goal
 
 pub returns : goal.returns
 returns g c =

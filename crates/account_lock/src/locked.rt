@@ -1,0 +1,163 @@
+//! What lies under an account's lock.
+
+ghost use Rattle.std.specs.Prelude.{◌≡◌, ◌<◌, ◌^◌, [], true, false, IfOk, IfErr, IfSome, IfNone};
+ghost use Rattle.account_book.specs.HistoryText.{opening_text};
+ghost use Rattle.account_book.specs.Premature.{premature};
+ghost use Rattle.call_types.specs.Within.{IsWithin};
+ghost use Rattle.call_types.specs.declared.call.Call.TheVariants.{Tick};
+ghost use Rattle.account_lock.specs.Desks.{at_rest};
+ghost use Rattle.account_lock.specs.Shown.{Sees, book_of};
+ghost use Rattle.account_lock.specs.Submits.{IsDeclined, IsTurnedAway, Took};
+
+use crate::{Bell, Declined, Desk, Identity, Refused, Step};
+use account_book::Book;
+use call_model::{Call, Entry};
+use shared_history::Source;
+use std::alloc::AllocError;
+use std::marker::Model;
+use usage_ledger::{Front, Keep, Ledgers, Line, Pen, Tally};
+/// What lies under the lock: a desk whose configuration, salt and limit are those that its type names, and
+/// the pen of the history, which is the desk's. Contracts see the history.
+#[derive(Drop)]
+pub(crate) struct Locked<S: Identity, B> {
+    pub(crate) desk: Desk<B, S>,
+    pub(crate) pen: Pen<S>,
+}
+
+impl<S: Identity, B> Model for Locked<S, B> {
+    ghost use Rattle.std.specs.Prelude.{◌≡◌, List};
+    ghost use Rattle.call_types.specs.declared.call.Entry.{Entry};
+
+    ghost Value = { List Entry };
+
+    ghost view = { λ l. l.pen };
+
+    ghost invariant = { λ l.
+        (l.desk.book.config ≡ S.config) × (l.desk.book.salt ≡ S.salt) × (l.desk.book.history ≡ l.pen)
+        × (l.desk.book.max_entries ≡ S.most) };
+}
+
+/// The pen writes what stands in the desk's book.
+struct OfDesk;
+
+impl<B, L: Ledgers> Source<Desk<B, L>, Entry> for OfDesk {
+    ghost history = { λ desk. desk.book.history };
+}
+
+impl<S: Identity, B: Bell> Locked<S, B> {
+    /// One step of the desk, which the pen writes; and another token that has seen it.
+    pub(crate) fn apply<K: Keep>(
+        &mut self,
+        line: &Line<S>,
+        tally: &mut Tally<K, S>,
+        front: &mut Front<S>,
+        now: u64,
+        call: Call,
+        bell: Option<B>,
+    ) -> Result<(Step<B>, Front<S>), Refused<B>>
+        requires moment { now < 2 ^ 53 }
+        requires within { IsWithin S.config call }
+        ensures taken { IfOk result (λ step. Took S.config S.most K.notes K.makes
+            front.old tally.old.held now call step.0.ticket step.1 tally.new.held) }
+        ensures seen { IfOk result (λ step. front.new ≡ step.1) }
+        ensures refused { IfErr result (λ back. (back.bell ≡ bell) × (tally.new.held ≡ tally.old.held)
+            × IsTurnedAway S.config S.most front.old call back.refusal front.new) }
+    {
+        self.desk.facts();
+        self.pen.show(line, front);
+        let step = match self.desk.apply(tally, now, call, bell) {
+            Ok(step) => step,
+            Err(refused) => return Err(refused),
+        };
+        self.pen.write::<Desk<B, S>, OfDesk>(line, &self.desk);
+        *front = self.pen.front(line);
+        Ok((step, self.pen.front(line)))
+    }
+
+    /// The same of a call that is offered.
+    pub(crate) fn offer<K: Keep>(
+        &mut self,
+        line: &Line<S>,
+        tally: &mut Tally<K, S>,
+        front: &mut Front<S>,
+        now: u64,
+        call: Call,
+        bell: Option<B>,
+    ) -> Result<(Step<B>, Front<S>), Declined<B>>
+        requires moment { now < 2 ^ 53 }
+        requires within { IsWithin S.config call }
+        ensures taken { IfOk result (λ step. (took : Took S.config S.most K.notes K.makes
+            front.old tally.old.held now call step.0.ticket step.1 tally.new.held)
+            × (premature S.config took.taken.before now call ≡ false)) }
+        ensures seen { IfOk result (λ step. front.new ≡ step.1) }
+        ensures declined { IfErr result (λ back. (tally.new.held ≡ tally.old.held)
+            × IsDeclined S.config S.most front.old now call bell back front.new) }
+    {
+        self.desk.facts();
+        self.pen.show(line, front);
+        let step = match self.desk.offer(tally, now, call, bell) {
+            Ok(step) => step,
+            Err(declined) => return Err(declined),
+        };
+        self.pen.write::<Desk<B, S>, OfDesk>(line, &self.desk);
+        *front = self.pen.front(line);
+        Ok((step, self.pen.front(line)))
+    }
+
+    /// A Tick that is taken only while no deadline is running.
+    pub(crate) fn tick_at_rest<K: Keep>(
+        &mut self,
+        line: &Line<S>,
+        tally: &mut Tally<K, S>,
+        front: &mut Front<S>,
+        now: u64,
+    ) -> Result<Option<Step<B>>, Refused<B>>
+        requires moment { now < 2 ^ 53 }
+        ensures taken { IfOk result (λ made. IfSome made (λ step. (took : Took S.config S.most K.notes K.makes
+            front.old tally.old.held now Tick step.ticket front.new tally.new.held)
+            × (at_rest S.config took.taken.before ≡ true))) }
+        ensures none { IfOk result (λ made. IfNone made ((tally.new.held ≡ tally.old.held)
+            × Sees S.config S.most front.old front.new × (at_rest S.config front.new ≡ false))) }
+        ensures refused { IfErr result (λ back. (tally.new.held ≡ tally.old.held)
+            × IsTurnedAway S.config S.most front.old Tick back.refusal front.new
+            × (at_rest S.config front.new ≡ true)) }
+    {
+        self.desk.facts();
+        self.pen.show(line, front);
+        let step = match self.desk.tick_at_rest(tally, now) {
+            Ok(Some(step)) => step,
+            Ok(None) => return Ok(None),
+            Err(refused) => return Err(refused),
+        };
+        self.pen.write::<Desk<B, S>, OfDesk>(line, &self.desk);
+        *front = self.pen.front(line);
+        Ok(Some(step))
+    }
+
+    /// A token that has seen the history as it is.
+    pub(crate) fn front(&mut self, line: &Line<S>) -> Front<S>
+        ensures { Sees S.config S.most [] result }
+    {
+        self.desk.facts();
+        self.pen.front(line)
+    }
+
+    /// Shows a token the history as it is, and hands on the book that has it.
+    pub(crate) fn read(&mut self, line: &Line<S>, front: &mut Front<S>) -> &Book
+        ensures seen { Sees S.config S.most front.old front.new }
+        ensures book { result.now ≡ book_of S.config S.salt S.most front.new }
+    {
+        self.desk.facts();
+        self.pen.show(line, front);
+        self.desk.book()
+    }
+
+    /// The text of the history before its first entry.
+    ///
+    /// The only error is want of memory.
+    pub(crate) fn opening(&self) -> Result<Vec<u8>, AllocError>
+        ensures { IfOk result (λ text. text.items ≡ opening_text S.config S.salt S.most) }
+    {
+        self.desk.book().opening()
+    }
+}
