@@ -18,7 +18,7 @@ use crate::{Bell, Desk, SettleFault};
 use account_book::Book;
 use call_model::{Answer, Stats};
 use std::alloc::Global;
-use usage_ledger::{Front, Keep, Ledgers, Tally, Totals};
+use usage_ledger::{Keep, Ledgers, Tally, Token, Totals};
 
 /// A settled account: what was counted is what its book says.
 #[derive(Drop)]
@@ -37,7 +37,7 @@ pub struct Unsettled<L: Ledgers> {
     /// The first fault that holds.
     pub fault: SettleFault,
     /// The token: the fault is one of the history that it has seen.
-    pub front: Front<L>,
+    pub token: Token<L>,
 }
 
 /// Whether the tallies have all parts.
