@@ -31,7 +31,8 @@ module _ {Y V : Type 0} where
 
   -- how many of these places have a connection at an environment's port
   abbrev pub count_of_environments : List (Slot Y V) → ℕ
-  count_of_environments slots = fold (λ count slot. if is_for_environment slot.running then count + 1 else count) 0 slots
+  count_of_environments slots =
+      fold (λ count slot. if is_for_environment slot.running then count + 1 else count) 0 slots
 
   -- A newcomer at such a port may have a place of so many: at an environment's one that is not kept for the account's.
   abbrev pub admits : ℕ → PortKind → List (Slot Y V) → Bool

@@ -1,14 +1,15 @@
 -- What is seen of connections at one look a second, and what follows from it.
-use Rattle.std.specs.Prelude.{ℕ, ◌+◌, ◌-◌, ◌/◌, ◌^◌, ◌==◌, min, Bool, true, false, ◌&&◌, nat_lt, if◌then◌else◌, Option, Some, None}
+use Rattle.std.specs.Prelude.{ℕ, ◌+◌, ◌-◌, ◌/◌, ◌^◌, ◌==◌, min, Bool, true, false, ◌&&◌, nat_lt, if◌then◌else◌, Option}
+use Rattle.std.specs.Prelude.{Some, None}
 use Rattle.http_connection.specs.Pulses.{is_unserved, is_between, is_same, is_in_stage_of}
 use Rattle.http_connection.specs.Limits.{has_outstayed}
 use Rattle.http_connection.specs.declared.pulse.Told.{Told}
 use Rattle.http_connection.specs.declared.limits.PortKind.{PortKind}
 use Rattle.http_connection.specs.declared.limits.PortKind.TheVariants.{Account, Environment}
-use Rattle.connection_places.specs.declared.seen.Seen.{Seen}
+use Rattle.connection_places.specs.declared.observation.Observation.{Observation}
 
 -- of a connection that has just come in
-abbrev pub first_seen : PortKind → Told → Seen
+abbrev pub first_seen : PortKind → Told → Observation
 first_seen kind told = record { kind = kind; told = told; still = 0; whole = 0; unasked = 0 }
 
 -- so many looks more, if it is so still
@@ -20,7 +21,7 @@ abbrev pub is_unasked : Told → Told → Bool
 is_unasked told before = is_unserved told.awaited && (told.answers == before.answers)
 
 -- what is seen so many looks later
-abbrev pub seen_later : Seen → Told → ℕ → Seen
+abbrev pub seen_later : Observation → Told → ℕ → Observation
 seen_later seen told looks = record {
   kind = seen.kind;
   told = told;
@@ -30,7 +31,7 @@ seen_later seen told looks = record {
 }
 
 -- It has stood for longer than it may.
-abbrev pub is_over : Seen → Bool
+abbrev pub is_over : Observation → Bool
 is_over seen = has_outstayed seen.kind seen.told seen.still seen.whole
 
 abbrev pub is_of_environment : PortKind → Bool
@@ -39,7 +40,7 @@ is_of_environment Environment = true
 
 -- For how many looks a connection at the account's port has been without a complete request, if it may make room: it is
 -- between two requests, or was sending one at a look too.
-abbrev pub spare_looks : Seen → Option ℕ
+abbrev pub spare_looks : Observation → Option ℕ
 spare_looks seen =
     if is_of_environment seen.kind then None
     else if is_between seen.told.awaited then Some seen.unasked

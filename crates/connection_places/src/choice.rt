@@ -25,7 +25,7 @@ fn better(best: Best, at: usize, looks: Option<u32>) -> Best
     }
 }
 
-/// How many places of so many are kept for the account's port.
+/// How many of `most` places are kept for the account's port.
 pub(crate) fn reserve_of(most: usize) -> usize
     ensures { result ≡ spec.reserve_of most }
 {
@@ -80,8 +80,8 @@ fn count_of_environments<Y, V>(slots: &[Slot<Y, V>]) -> usize
     count
 }
 
-/// Whether a newcomer at such a port may have one of so many places: at an environment's one that is not
-/// kept for the account's.
+/// Whether a newcomer at a port of this kind may have one of `most` places: at an environment's port, one that is
+/// not kept for the account's.
 pub(crate) fn admits<Y, V>(most: usize, kind: PortKind, slots: &[Slot<Y, V>]) -> bool
     ensures { result ≡ choice.admits most kind slots.now }
 {

@@ -1,4 +1,4 @@
-//! Where a thread waits for what it is to do next.
+//! The mailbox in which a thread gets what it does next.
 
 ghost use Rattle.std.specs.Prelude.{◌≡◌, IfErr};
 
@@ -37,7 +37,7 @@ impl<V: Drop> Mailbox<V> {
     /// Puts this in.
     ///
     /// # Errors
-    /// Where the mailbox is closed, or full, it comes back.
+    /// If the mailbox is closed or full, it comes back.
     pub(crate) fn put(&self, rt: &impl Wait, next: V) -> Result<(), V>
         ensures { IfErr result (λ back. back ≡ next) }
     {
@@ -51,8 +51,8 @@ impl<V: Drop> Mailbox<V> {
         Ok(())
     }
 
-    /// Takes out what comes next. Where nothing does for so long, or nothing is there and the mailbox
-    /// is closed, there is nothing, and it is closed from then on.
+    /// Takes out what comes next. If nothing comes for that long, or nothing is there and the mailbox is
+    /// closed, returns nothing, and the mailbox is closed from then on.
     pub(crate) fn take<R: Wait + Clock>(&self, rt: &R, patience: Duration) -> Option<V> {
         let letter = self.letter.lock(rt);
         let (mut letter, _) = self

@@ -18,20 +18,20 @@ pub(crate) struct End {
 /// The connections that have ended.
 pub(crate) type Ended = Mutex<Vec<End>>;
 
-/// What the thread of a place has of it: its number, the tally of its connections, the mailbox into
-/// which the next one is put, and where it is told that one has ended.
+/// What the thread of a place has of it: its number, the tally of its connections, the mailbox into which the
+/// next one is put, and the list in which it notes that one has ended.
 #[derive(Drop)]
 pub struct Post<Y, V> {
     pub(crate) at: usize,
     /// The tally of the connections of its place.
     pub tally: Arc<Mutex<Y>>,
-    /// Where the next connection comes from.
+    /// The mailbox from which the next connection comes.
     pub mailbox: Arc<Mailbox<V>>,
     pub(crate) ended: Arc<Ended>,
 }
 
 impl<Y, V: Drop> Post<Y, V> {
-    /// Tells that its connection has ended, and whether the thread leaves. (Room for it stands ready.)
+    /// Notes that its connection has ended, and whether the thread leaves. (There is room for it.)
     fn tell(&self, rt: &impl Wait, has_left: bool) {
         let end = End {
             at: self.at,
@@ -40,14 +40,13 @@ impl<Y, V: Drop> Post<Y, V> {
         let _ = self.ended.lock(rt).push(end);
     }
 
-    /// Tells that its connection has ended, and waits for the next one. Where there is none the thread
-    /// has to end.
+    /// Notes that its connection has ended, and waits for the next one. If none comes, the thread has to end.
     pub fn next<R: Wait + Clock>(&self, rt: &R) -> Option<V> {
         self.tell(rt, false);
         self.mailbox.take(rt, Duration::from_secs(KEPT))
     }
 
-    /// Tells that its connection has ended, and that the thread leaves.
+    /// Notes that its connection has ended, and that the thread leaves.
     pub fn leave(&self, rt: &impl Wait) {
         self.mailbox.close(rt);
         self.tell(rt, true);
@@ -59,7 +58,7 @@ impl<Y, V: Drop> Post<Y, V> {
 pub struct Worker<V> {
     /// Its handle.
     pub thread: JoinHandle<()>,
-    /// Where its next connection is put.
+    /// The mailbox into which its next connection is put.
     pub mailbox: Arc<Mailbox<V>>,
 }
 

@@ -1,6 +1,6 @@
-//! What is known of a connection that is open, beside its thread.
+//! What is known of an open connection outside its thread.
 
-use crate::seen::Seen;
+use crate::observation::Observation;
 use futures::channel::oneshot::Sender;
 use http_connection::{PortKind, Pulse};
 use std::sync::Arc;
@@ -19,12 +19,12 @@ pub struct Enders {
 /// The signals that end a connection, and what is seen of it.
 #[derive(Drop)]
 pub struct Running {
-    // None once it was told so.
+    // None once it was sent.
     soft: Option<Sender<()>>,
     hard: Option<Sender<()>>,
     room: Option<Sender<()>>,
     pulse: Arc<Pulse>,
-    pub(crate) seen: Seen,
+    pub(crate) seen: Observation,
 }
 
 /// Sends a signal, unless it was sent before.
@@ -35,14 +35,14 @@ fn send(sender: &mut Option<Sender<()>>) {
 }
 
 impl Running {
-    /// A connection that has just begun at such a port.
+    /// A connection that has just begun at a port of this kind.
     pub fn new(enders: Enders, pulse: Arc<Pulse>, kind: PortKind) -> Running {
         let Enders { soft, hard, room } = enders;
         Running {
             soft: Some(soft),
             hard: Some(hard),
             room: Some(room),
-            seen: Seen::first(kind, pulse.told()),
+            seen: Observation::first(kind, pulse.told()),
             pulse,
         }
     }
@@ -61,7 +61,7 @@ impl Running {
         send(&mut self.room);
     }
 
-    /// Looks at the connection, so many looks behind the last one.
+    /// Looks at the connection, `looks` looks after the last one.
     pub(crate) fn look(&mut self, looks: u32) {
         self.seen = self.seen.later(self.pulse.told(), looks);
     }

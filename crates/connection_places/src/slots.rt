@@ -1,4 +1,4 @@
-//! Places for the connections that are open, as many as the limit at most.
+//! Places for the connections that are open, up to a limit.
 
 ghost use Rattle.std.specs.Prelude.{◌≡◌, ◌+◌, ◌<◌, nat_lt, vec_len, IfOk, IfErr};
 ghost use Rattle.connection_places.specs.Places.{Places};
@@ -24,7 +24,7 @@ pub(crate) struct Slot<Y, V> {
 }
 
 impl<Y, V: Drop> Slot<Y, V> {
-    /// Gives a connection to the thread that waits for one. Where none does it comes back, and a
+    /// Gives a connection to the thread that waits for one. If none waits, the connection comes back, and a
     /// thread that has ended is joined.
     fn offer<R: Wait + Threads>(&mut self, rt: &R, visit: V) -> Result<(), V>
         ensures { IfErr result (λ back. back ≡ visit) }
@@ -44,7 +44,7 @@ impl<Y, V: Drop> Slot<Y, V> {
         }
     }
 
-    /// Joins the thread where it has ended.
+    /// Joins the thread if it has ended.
     fn join_if_ended<R: Wait + Threads>(&mut self, rt: &R) {
         let Some(worker) = self.worker.take() else {
             return;
@@ -57,14 +57,13 @@ impl<Y, V: Drop> Slot<Y, V> {
     }
 }
 
-/// A thread has the tally of its place yet.
+/// A thread still has the tally of its place.
 #[derive(Clone, Copy, Debug, PartialEq, Eq)]
 pub struct StillShared;
 
 /// The places: by their type never more than there may be, so no more connections are open at once.
-/// Those that nobody has are `free`, the next to be taken last; room for each stands ready there and in
-/// `ended`, and in `gathered` for the tallies of all of them and two more, so that the end of the
-/// service wants no memory.
+/// Those that no connection has are `free`, the next to be taken last. `free` and `ended` have room for each, and
+/// `gathered` for the tallies of all of them and two more, so that the end of the service needs no memory.
 #[derive(Drop)]
 pub struct Slots<Y, V> {
     alloc: Global,
@@ -83,11 +82,12 @@ impl<Y, V> Model for Slots<Y, V> {
 
     ghost view = { λ s. record { most = s.most; made = length s.slots.items } };
 
-    ghost invariant = { λ s. (length s.slots.items ≤ s.most) × (vec_len s.gathered ≡ 0) × (length s.slots.items + 2 ≤ vec_capacity s.gathered) };
+    ghost invariant = { λ s. (length s.slots.items ≤ s.most) × (vec_len s.gathered ≡ 0)
+        × (length s.slots.items + 2 ≤ vec_capacity s.gathered) };
 }
 
 impl<Y: Drop, V: Drop> Slots<Y, V> {
-    /// No places yet, of which there may be `most`. The only error is want of memory.
+    /// No places yet, of which there may be `most`. The only error is that memory is refused.
     pub fn new(alloc: Global, most: u32) -> Result<Slots<Y, V>, AllocError>
         ensures { IfOk result (λ slots. slots ≡ record { most = most; made = 0 }) }
     {
@@ -119,10 +119,11 @@ impl<Y: Drop, V: Drop> Slots<Y, V> {
     /// Makes another place, with this tally, and takes it. There is room for one more.
     ///
     /// # Errors
-    /// Where memory is refused the tally comes back, and there is no other place.
+    /// If memory is refused, the tally comes back, and no place is made.
     pub fn add(&mut self, rt: &impl Wait, tally: Y) -> Result<usize, Y>
         requires { self.old.made < self.old.most }
-        ensures added { IfOk result (λ at. (at ≡ self.old.made) × (self.new ≡ record self.old { made = self.old.made + 1 })) }
+        ensures added { IfOk result
+            (λ at. (at ≡ self.old.made) × (self.new ≡ record self.old { made = self.old.made + 1 })) }
         ensures refused { IfErr result (λ _. self.new ≡ self.old) }
     {
         let at = self.slots.len();
@@ -153,7 +154,7 @@ impl<Y: Drop, V: Drop> Slots<Y, V> {
     /// A place, as a new thread has it.
     ///
     /// # Errors
-    /// `AllocError` where memory is refused, or there is no place of this number.
+    /// `AllocError` if memory is refused, or there is no place of this number.
     pub fn post(&self, at: usize) -> Result<Post<Y, V>, AllocError> {
         let Some(slot) = self.slots.get(at) else {
             return Err(AllocError);
@@ -166,8 +167,8 @@ impl<Y: Drop, V: Drop> Slots<Y, V> {
         })
     }
 
-    /// Gives a connection to the thread that waits for one at a place. Where none does, or there is no
-    /// place of this number, it comes back.
+    /// Gives a connection to the thread that waits for one at a place. If none waits, or there is no place of
+    /// this number, the connection comes back.
     pub fn offer<R: Wait + Threads>(&mut self, rt: &R, at: usize, visit: V) -> Result<(), V>
         ensures same { self.new ≡ self.old }
         ensures back { IfErr result (λ back. back ≡ visit) }
@@ -178,8 +179,8 @@ impl<Y: Drop, V: Drop> Slots<Y, V> {
         }
     }
 
-    /// Gives a place to a thread. Where there is no place of this number the thread is let go, and
-    /// nothing changes.
+    /// Gives a place to a thread. If there is no place of this number, the thread is dropped, and nothing
+    /// changes.
     pub fn employ(&mut self, at: usize, worker: Worker<V>)
         ensures { self.new ≡ self.old }
     {
@@ -188,8 +189,8 @@ impl<Y: Drop, V: Drop> Slots<Y, V> {
         }
     }
 
-    /// Notes the connection that a place which was taken now has. Where there is no place of this number
-    /// nothing changes.
+    /// Notes the connection that a place which was taken now has. If there is no place of this number, nothing
+    /// changes.
     pub fn fill(&mut self, at: usize, running: Running)
         ensures { self.new ≡ self.old }
     {
@@ -198,15 +199,15 @@ impl<Y: Drop, V: Drop> Slots<Y, V> {
         }
     }
 
-    /// Gives a place back that has no thread: it is taken behind those at which one waits, which want
-    /// no memory and no descriptors for another connection.
+    /// Gives a place back that has no thread: it is taken after those at which a thread waits, which need no
+    /// memory and no descriptors for another connection.
     pub fn give_back(&mut self, at: usize)
         ensures { self.new ≡ self.old }
     {
         let _ = self.free.insert(0, at);
     }
 
-    /// Sees out a connection that has ended: its place is free.
+    /// Removes a connection that has ended: its place is free.
     fn see_out(&mut self, end: End)
         ensures { self.new ≡ self.old }
     {
@@ -224,7 +225,7 @@ impl<Y: Drop, V: Drop> Slots<Y, V> {
         }
     }
 
-    /// Sees out the connections that have ended.
+    /// Removes the connections that have ended.
     pub fn reap(&mut self, rt: &impl Wait)
         ensures { self.new ≡ self.old }
     {
@@ -236,7 +237,7 @@ impl<Y: Drop, V: Drop> Slots<Y, V> {
         }
     }
 
-    /// Joins the threads that have waited in vain.
+    /// Joins the threads that have ended because no connection came.
     pub fn join_the_ended<R: Wait + Threads>(&mut self, rt: &R)
         ensures { self.new ≡ self.old }
     {
@@ -254,7 +255,7 @@ impl<Y: Drop, V: Drop> Slots<Y, V> {
         }
     }
 
-    /// Joins all threads, which were told to end.
+    /// Joins all threads, once they were told to end.
     pub fn join_all(&mut self, rt: &impl Threads)
         ensures { self.new ≡ self.old }
     {
@@ -282,8 +283,8 @@ impl<Y: Drop, V: Drop> Slots<Y, V> {
         }
     }
 
-    /// Looks at each connection, and tells each to end at once that has stood for longer than it may: so
-    /// nobody keeps a place who asks for nothing. Called once a second.
+    /// Looks at each connection, and ends at once each that has stood for longer than it may: so no peer keeps
+    /// a place without asking for something. Called once a second.
     pub fn end_the_idle(&mut self)
         ensures { self.new ≡ self.old }
     {
@@ -297,7 +298,7 @@ impl<Y: Drop, V: Drop> Slots<Y, V> {
         }
     }
 
-    /// Whether a newcomer at such a port may have a place: one in sixteen, and 64 at most, are kept for
+    /// Whether a newcomer at a port of this kind may have a place: one in sixteen, and 64 at most, are kept for
     /// the account's port.
     pub fn admits(&self, kind: PortKind) -> bool {
         admits(self.most, kind, self.slots.as_slice())
@@ -314,9 +315,9 @@ impl<Y: Drop, V: Drop> Slots<Y, V> {
         }
     }
 
-    /// Where no place is left, and some are kept for the account's port: asks the connection at that port
-    /// which has been longest without a complete request to make room. Gives whether there is one. It
-    /// ends if it serves no request when it is asked; its place is free once it has ended.
+    /// If no place is left, and some are kept for the account's port, asks the connection at that port which
+    /// has been longest without a complete request to make room. Returns whether there is one. It ends if it
+    /// serves no request when it is asked; its place is free once it has ended.
     pub fn ask_for_room(&mut self) -> bool
         ensures { self.new ≡ self.old }
     {
@@ -335,10 +336,10 @@ impl<Y: Drop, V: Drop> Slots<Y, V> {
         true
     }
 
-    /// These two tallies and those of all places, once every thread was joined.
+    /// These two tallies and those of all places, once every thread is joined.
     ///
     /// # Errors
-    /// `StillShared` where a thread has one yet; the tallies are then gone.
+    /// `StillShared` if a thread still has one; the tallies are then dropped.
     pub fn into_tallies(self, one: Y, other: Y) -> Result<Vec<Y>, StillShared>
         ensures all { IfOk result (λ tallies. vec_len tallies ≡ self.made + 2) }
     {

@@ -43,4 +43,5 @@ is_reached seconds None = false
 
 -- A connection has stood for longer than it may, without a byte or in its stage.
 abbrev pub has_outstayed : PortKind → Told → ℕ → ℕ → Bool
-has_outstayed kind told still whole = is_reached still (still_limit kind told.awaited) || is_reached whole (whole_limit told)
+has_outstayed kind told still whole = is_reached still (still_limit kind told.awaited)
+    || is_reached whole (whole_limit told)

@@ -50,7 +50,8 @@ is_between End = false
 
 -- Nothing has happened between the two.
 abbrev pub is_same : Told → Told → Bool
-is_same one other = (number_of one.awaited == number_of other.awaited) && (one.answers == other.answers) && (one.moved == other.moved)
+is_same one other = (number_of one.awaited == number_of other.awaited) && (one.answers == other.answers)
+    && (one.moved == other.moved)
 
 -- the same stage of the same exchange
 abbrev pub is_in_stage_of : Told → Told → Bool

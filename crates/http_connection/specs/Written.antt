@@ -69,7 +69,8 @@ module _ {B D X : Type 0} (yields : B → Runs (Result (Frame D) X)) (has : D �
       pub answered : List Asked
       pub later : List Asked
       pub came : heads_of (history last).taken ≡ answered ++ later
-      pub whole : AllZip (λ head written. (response : Response B) × answers head response × IsWhole head response written)
+      pub whole : AllZip
+          (λ head written. (response : Response B) × answers head response × IsWhole head response written)
           answered (history last).given.ended
       pub begun : IfSome (history last).given.begun
           (λ begun. IsOnly later (λ head. (response : Response B) × answers head response × IsBegun response begun))

@@ -86,7 +86,8 @@ impl EventLoop {
         B::Error: Into<anyhow::Error>,
         O: Park,
         requires can_call { V.can_call service }
-        requires bodies { (request : _) (future : _) → V.calls service request future → GivesBodies V.Future.gives B.can_poll future }
+        requires bodies { (request : _) (future : _) → V.calls service request future
+            → GivesBodies V.Future.gives B.can_poll future }
         ensures written { IfOk result (λ ended. IfSome ended
             (Written B.yields B.Data.converts (Gave V.calls V.Future.gives service))) }
     {

@@ -2,7 +2,8 @@
 //! it.
 
 ghost use Rattle.std.specs.Prelude.{◌≡◌, ◌<◌, ◌^◌};
-ghost use Rattle.http_connection.specs.Pulses.{number_of, told_of, stage_of, is_unserved, is_between, is_same, is_in_stage_of};
+ghost use Rattle.http_connection.specs.Pulses.{number_of, told_of, stage_of, is_unserved, is_between};
+ghost use Rattle.http_connection.specs.Pulses.{is_same, is_in_stage_of};
 ghost use Rattle.http_connection.specs.declared.pulse.Told.{Told};
 
 use std::sync::atomic::AtomicU64;

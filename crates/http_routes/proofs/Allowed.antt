@@ -25,7 +25,10 @@ use Rattle.http_routes.specs.Paths.{name_of, qualifier_of, from_of}
 use Rattle.http_routes.specs.Heads.{header, extension_name, trace_of, asks_for_account, is_synchronous}
 use Rattle.http_routes.specs.Identifiers.{request_of, extension_of}
 use Rattle.http_routes.specs.Names.{invoked, reserved}
-use Rattle.http_routes.specs.Refusals.{not_found, wrong_ticket, wrong_method, wrong_request, unknown_extension, missing_header, too_large, unreadable_registration, wrong_event, malformed_name, unknown_function, wrong_invocation_type, payload_too_large, unreadable_payload, unreadable_reservation}
+use Rattle.http_routes.specs.Refusals.{refusal_words, fault_of, reply_of, refused, wrong_method}
+use Rattle.lambda_wire.specs.declared.body_writer.InvokeFault.{InvokeFault}
+use Rattle.http_routes.specs.declared.refusals.Cause.{Cause}
+use Rattle.http_routes.specs.declared.refusals.Cause.TheVariants as cause
 use Rattle.http_routes.specs.EnvironmentDecisions.{submitted, response, failure, registered, register, ext_next, ext_report, has_error_type, on_environment_route, at_environment, environment_decision}
 use Rattle.http_routes.specs.AccountDecisions.{about, by_payload, invoke, reserve, set_reservation, show_reservation, show_from, show_history, environment_of, with_method, spindown, at_account, account_decision}
 use Rattle.http_routes.specs.Decisions.{Served, IsPortOf, decision_on, decision}
@@ -41,65 +44,17 @@ use Rattle.http_routes.proofs.Within.{Gives, Reads, environment_within, IsTarget
 
 -- refusals need nothing
 
-not_found-allowed : (config : Config) → IsAllowed config not_found
-unfolding not_found
-not_found-allowed config = tt
+reply-allowed : (config : Config) (f : Option InvokeFault) (words : ℕ × List ℕ × List ℕ) → IsAllowed config (reply_of f words)
+reply-allowed config None words = tt
+reply-allowed config (Some f) words = tt
 
-wrong_ticket-allowed : (config : Config) → IsAllowed config wrong_ticket
-unfolding wrong_ticket
-wrong_ticket-allowed config = tt
+refused-allowed : (config : Config) (c : Cause) → IsAllowed config (refused c)
+unfolding refused
+refused-allowed config c = reply-allowed config (fault_of c) (refusal_words c)
 
 wrong_method-allowed : (config : Config) (methods : FieldValue) → IsAllowed config (wrong_method methods)
 unfolding wrong_method
 wrong_method-allowed config methods = tt
-
-wrong_request-allowed : (config : Config) → IsAllowed config wrong_request
-unfolding wrong_request
-wrong_request-allowed config = tt
-
-unknown_extension-allowed : (config : Config) → IsAllowed config unknown_extension
-unfolding unknown_extension
-unknown_extension-allowed config = tt
-
-missing_header-allowed : (config : Config) → IsAllowed config missing_header
-unfolding missing_header
-missing_header-allowed config = tt
-
-too_large-allowed : (config : Config) → IsAllowed config too_large
-unfolding too_large
-too_large-allowed config = tt
-
-unreadable_registration-allowed : (config : Config) → IsAllowed config unreadable_registration
-unfolding unreadable_registration
-unreadable_registration-allowed config = tt
-
-wrong_event-allowed : (config : Config) → IsAllowed config wrong_event
-unfolding wrong_event
-wrong_event-allowed config = tt
-
-malformed_name-allowed : (config : Config) → IsAllowed config malformed_name
-unfolding malformed_name
-malformed_name-allowed config = tt
-
-unknown_function-allowed : (config : Config) → IsAllowed config unknown_function
-unfolding unknown_function
-unknown_function-allowed config = tt
-
-wrong_invocation_type-allowed : (config : Config) → IsAllowed config wrong_invocation_type
-unfolding wrong_invocation_type
-wrong_invocation_type-allowed config = tt
-
-payload_too_large-allowed : (config : Config) → IsAllowed config payload_too_large
-unfolding payload_too_large
-payload_too_large-allowed config = tt
-
-unreadable_payload-allowed : (config : Config) → IsAllowed config unreadable_payload
-unfolding unreadable_payload
-unreadable_payload-allowed config = tt
-
-unreadable_reservation-allowed : (config : Config) → IsAllowed config unreadable_reservation
-unfolding unreadable_reservation
-unreadable_reservation-allowed config = tt
 
 -- a decision by a test
 decided : (config : Config) (b : Bool) (x y : Decision) → IsAllowed config x → IsAllowed config y → IsAllowed config (cond b x y)
@@ -117,10 +72,10 @@ by_length config body x y h k = go (nat_lt longest_body (length body)) refl
 -- the environments' ports
 
 submitted-allowed : (config : Config) (body : List ℕ) (made : Call) → (is_body body ≡ true → IsWithin config made) → IsAllowed config (submitted body made)
-submitted-allowed config body made h = by_length config body too_large (Submit made) (too_large-allowed config) h
+submitted-allowed config body made h = by_length config body (refused cause.TooLarge) (Submit made) (refused-allowed config cause.TooLarge) h
 
 response-allowed : (config : Config) (e : ℕ) (body : List ℕ) (o : Option ℕ) → IsEnv config e → Gives o IsCount → IsAllowed config (response e body o)
-response-allowed config e body None env h = wrong_request-allowed config
+response-allowed config e body None env h = refused-allowed config cause.WrongRequest
 response-allowed config e body (Some id) env h = go (nat_lt longest_body (length body)) refl
   where
     go : (b : Bool) → nat_lt longest_body (length body) ≡ b → IsAllowed config (Submit (cond b (call.ResponseTooLarge e id) (call.Response e id body)))
@@ -128,30 +83,30 @@ response-allowed config e body (Some id) env h = go (nat_lt longest_body (length
     go false l = (env, h.holds, short (length body) l)
 
 failure-allowed : (config : Config) (e : ℕ) (body : List ℕ) (o : Option ℕ) → IsEnv config e → Gives o IsCount → IsAllowed config (failure e body o)
-failure-allowed config e body None env h = wrong_request-allowed config
+failure-allowed config e body None env h = refused-allowed config cause.WrongRequest
 failure-allowed config e body (Some id) env h = submitted-allowed config body (call.Failure e id body) (λ b. (env, h.holds, b))
 
 registered-allowed : (config : Config) (e : ℕ) (name : List ℕ) (account : Bool) (r : Result Events WireFault) → IsEnv config e → is_label name ≡ true → IsAllowed config (registered e name account r)
 registered-allowed config e name account (Ok events) env h = (env, h)
-registered-allowed config e name account (Err wire.TooLong) env h = too_large-allowed config
-registered-allowed config e name account (Err wire.NotJson) env h = unreadable_registration-allowed config
-registered-allowed config e name account (Err wire.BadShape) env h = unreadable_registration-allowed config
-registered-allowed config e name account (Err wire.BadEvent) env h = wrong_event-allowed config
-registered-allowed config e name account (Err wire.OutOfMemory) env h = unreadable_registration-allowed config
+registered-allowed config e name account (Err wire.TooLong) env h = refused-allowed config cause.TooLarge
+registered-allowed config e name account (Err wire.NotJson) env h = refused-allowed config cause.UnreadableRegistration
+registered-allowed config e name account (Err wire.BadShape) env h = refused-allowed config cause.UnreadableRegistration
+registered-allowed config e name account (Err wire.BadEvent) env h = refused-allowed config cause.WrongEvent
+registered-allowed config e name account (Err wire.OutOfMemory) env h = refused-allowed config cause.UnreadableRegistration
 
 register-allowed : (config : Config) (e : ℕ) (account : Bool) (body : List ℕ) (o : Option (List ℕ)) → IsEnv config e → Gives o (λ name. is_label name ≡ true) → IsAllowed config (register e account body o)
-register-allowed config e account body None env h = missing_header-allowed config
+register-allowed config e account body None env h = refused-allowed config cause.MissingHeader
 register-allowed config e account body (Some name) env h = registered-allowed config e name account (read_events body) env h.holds
 
 ext_next-allowed : (config : Config) (e : ℕ) (body : List ℕ) (o : Option ℕ) → IsEnv config e → Gives o IsCount → IsAllowed config (ext_next e body o)
-ext_next-allowed config e body None env h = unknown_extension-allowed config
+ext_next-allowed config e body None env h = refused-allowed config cause.UnknownExtension
 ext_next-allowed config e body (Some x) env h = submitted-allowed config body (call.ExtNext e x) (λ b. (env, h.holds))
 
 ext_report-allowed : (config : Config) (has_type : Bool) (body : List ℕ) (made : ℕ → Call) (o : Option ℕ)
     → ((x : ℕ) → IsCount x → is_body body ≡ true → IsWithin config (made x)) → Gives o IsCount → IsAllowed config (ext_report has_type body made o)
-ext_report-allowed config has_type body made None within h = unknown_extension-allowed config
+ext_report-allowed config has_type body made None within h = refused-allowed config cause.UnknownExtension
 ext_report-allowed config has_type body made (Some x) within h =
-    decided config has_type (submitted body (made x)) missing_header (submitted-allowed config body (made x) (within x h.holds)) (missing_header-allowed config)
+    decided config has_type (submitted body (made x)) (refused cause.MissingHeader) (submitted-allowed config body (made x) (within x h.holds)) (refused-allowed config cause.MissingHeader)
 
 on_environment_route-allowed : (config : Config) (salt e : ℕ) (p : Parts) (body : List ℕ) (route : EnvironmentRoute) → IsEnv config e → IsAllowed config (on_environment_route config salt e p body route)
 unfolding on_environment_route
@@ -170,7 +125,7 @@ on_environment_route-allowed config salt e p body environment.ExtExitFailure env
     ext_report-allowed config (has_error_type p) body (λ x. call.ExtExitFailure e x body) (extension_of salt e p) (λ x h b. (env, h, b)) (extension_within salt e p)
 
 at_environment-allowed : (config : Config) (salt e : ℕ) (p : Parts) (body : List ℕ) (o : Option EnvironmentRoute) → IsEnv config e → IsAllowed config (at_environment config salt e p body o)
-at_environment-allowed config salt e p body None env = not_found-allowed config
+at_environment-allowed config salt e p body None env = refused-allowed config cause.NotFound
 at_environment-allowed config salt e p body (Some route) env =
     decided config (is_environment_method route p.method) (on_environment_route config salt e p body route) (wrong_method (environment_methods route))
     (on_environment_route-allowed config salt e p body route env) (wrong_method-allowed config (environment_methods route))
@@ -184,24 +139,24 @@ environment_decision-allowed config salt e p body env = at_environment-allowed c
 by_payload-allowed : (config : Config) (f : ℕ) (qualified : Bool) (trace : Option (List ℕ)) (r : Result (List ℕ) WireFault)
     → IsFunction config f → IsTrace trace → Reads r (λ payload. is_body payload ≡ true) → IsAllowed config (by_payload f qualified trace r)
 by_payload-allowed config f qualified trace (Ok payload) is_f is_t h = (is_f, is_t, h.holds)
-by_payload-allowed config f qualified trace (Err wire.TooLong) is_f is_t h = payload_too_large-allowed config
-by_payload-allowed config f qualified trace (Err wire.NotJson) is_f is_t h = unreadable_payload-allowed config
-by_payload-allowed config f qualified trace (Err wire.BadShape) is_f is_t h = unreadable_payload-allowed config
-by_payload-allowed config f qualified trace (Err wire.BadEvent) is_f is_t h = unreadable_payload-allowed config
-by_payload-allowed config f qualified trace (Err wire.OutOfMemory) is_f is_t h = unreadable_payload-allowed config
+by_payload-allowed config f qualified trace (Err wire.TooLong) is_f is_t h = refused-allowed config cause.PayloadTooLarge
+by_payload-allowed config f qualified trace (Err wire.NotJson) is_f is_t h = refused-allowed config cause.UnreadablePayload
+by_payload-allowed config f qualified trace (Err wire.BadShape) is_f is_t h = refused-allowed config cause.UnreadablePayload
+by_payload-allowed config f qualified trace (Err wire.BadEvent) is_f is_t h = refused-allowed config cause.UnreadablePayload
+by_payload-allowed config f qualified trace (Err wire.OutOfMemory) is_f is_t h = refused-allowed config cause.UnreadablePayload
 
 invoke-allowed : (config : Config) (p : Parts) (body : List ℕ) (f : ℕ) (qualified : Bool) → IsFunction config f → IsAllowed config (invoke p body f qualified)
 invoke-allowed config p body f qualified is_f =
-    decided config (is_synchronous p) (by_payload f qualified (trace_of p) (read_payload body)) wrong_invocation_type
-    (by_payload-allowed config f qualified (trace_of p) (read_payload body) is_f (trace_within p) (payload_within body)) (wrong_invocation_type-allowed config)
+    decided config (is_synchronous p) (by_payload f qualified (trace_of p) (read_payload body)) (refused cause.WrongInvocationType)
+    (by_payload-allowed config f qualified (trace_of p) (read_payload body) is_f (trace_within p) (payload_within body)) (refused-allowed config cause.WrongInvocationType)
 
 reserve-allowed : (config : Config) (f : ℕ) (r : Result ℕ WireFault) → IsFunction config f → Reads r (λ n. n ≤ greatest_reservation) → IsAllowed config (reserve f r)
 reserve-allowed config f (Ok count) is_f h = (is_f, h.holds)
-reserve-allowed config f (Err wire.TooLong) is_f h = payload_too_large-allowed config
-reserve-allowed config f (Err wire.NotJson) is_f h = unreadable_reservation-allowed config
-reserve-allowed config f (Err wire.BadShape) is_f h = unreadable_reservation-allowed config
-reserve-allowed config f (Err wire.BadEvent) is_f h = unreadable_reservation-allowed config
-reserve-allowed config f (Err wire.OutOfMemory) is_f h = unreadable_reservation-allowed config
+reserve-allowed config f (Err wire.TooLong) is_f h = refused-allowed config cause.PayloadTooLarge
+reserve-allowed config f (Err wire.NotJson) is_f h = refused-allowed config cause.UnreadableReservation
+reserve-allowed config f (Err wire.BadShape) is_f h = refused-allowed config cause.UnreadableReservation
+reserve-allowed config f (Err wire.BadEvent) is_f h = refused-allowed config cause.UnreadableReservation
+reserve-allowed config f (Err wire.OutOfMemory) is_f h = refused-allowed config cause.UnreadableReservation
 
 set_reservation-allowed : (config : Config) (puts : Bool) (body : List ℕ) (f : ℕ) (qualified : Bool) → IsFunction config f → IsAllowed config (set_reservation puts body f qualified)
 set_reservation-allowed config puts body f qualified is_f =
@@ -209,19 +164,19 @@ set_reservation-allowed config puts body f qualified is_f =
 
 about-allowed : (config : Config) (t : Target) (then_do : ℕ → Bool → Decision) → IsTarget config t → ((f : ℕ) (q : Bool) → IsFunction config f → IsAllowed config (then_do f q)) → IsAllowed config (about t then_do)
 unfolding IsTarget
-about-allowed config target.Malformed then_do h k = malformed_name-allowed config
-about-allowed config target.Unknown then_do h k = unknown_function-allowed config
+about-allowed config target.Malformed then_do h k = refused-allowed config cause.MalformedName
+about-allowed config target.Unknown then_do h k = refused-allowed config cause.UnknownFunction
 about-allowed config (target.Function f q) then_do h k = k f q h
 
 with_method-allowed : (config : Config) (route : AccountRoute) (p : Parts) (d : Decision) → IsAllowed config d → IsAllowed config (with_method route p d)
 with_method-allowed config route p d h = decided config (is_account_method route p.method) d (wrong_method (account_methods route)) h (wrong_method-allowed config (account_methods route))
 
 spindown-allowed : (config : Config) (p : Parts) (o : Option ℕ) → Gives o (IsEnv config) → IsAllowed config (spindown p o)
-spindown-allowed config p None h = not_found-allowed config
+spindown-allowed config p None h = refused-allowed config cause.NotFound
 spindown-allowed config p (Some e) h = with_method-allowed config account.Spindown p (Submit (call.Spindown e)) h.holds
 
 show_from-allowed : (config : Config) (ticket : Option ℕ) → IsAllowed config (show_from ticket)
-show_from-allowed config None = wrong_ticket-allowed config
+show_from-allowed config None = refused-allowed config cause.WrongTicket
 show_from-allowed config (Some ticket) = tt
 
 show_history-allowed : (config : Config) (from : Option (List ℕ)) → IsAllowed config (show_history from)
@@ -229,7 +184,7 @@ show_history-allowed config None = tt
 show_history-allowed config (Some text) = show_from-allowed config (number_in greatest_ticket text)
 
 at_account-allowed : (config : Config) (p : Parts) (body : List ℕ) (o : Option AccountRoute) → IsAllowed config (at_account config p body o)
-at_account-allowed config p body None = not_found-allowed config
+at_account-allowed config p body None = refused-allowed config cause.NotFound
 at_account-allowed config p body (Some account.Invoke) =
     with_method-allowed config account.Invoke p _
     (about-allowed config (invoked config (name_of p) (qualifier_of p)) (invoke p body) (invoked_within config (name_of p) (qualifier_of p)) (invoke-allowed config p body))

@@ -12,7 +12,8 @@ use Rattle.lambda_wire.specs.declared.fault.WireFault.TheVariants.{TooLong}
 use Rattle.decisions.specs.Decisions.{IsForTooLong}
 use Rattle.decisions.specs.declared.decide.Decision.{Decision}
 use Rattle.http_routes.specs.Routes.{environment_rows, account_rows, route_in, is_put}
-use Rattle.http_routes.specs.Refusals.{too_large}
+use Rattle.http_routes.specs.Refusals.{refused}
+use Rattle.http_routes.specs.declared.refusals.Cause.TheVariants.{TooLarge}
 use Rattle.http_routes.specs.Paths.{name_of, qualifier_of}
 use Rattle.http_routes.specs.Heads.{asks_for_account, extension_name}
 use Rattle.http_routes.specs.Names.{invoked, reserved}
@@ -44,7 +45,7 @@ events_long : (body : List ℕ) → longest_body < length body → read_events b
 unfolding read_events
 events_long body h = rw (long body h) refl
 
-submitted_long : (body : List ℕ) (made : Call) → longest_body < length body → submitted body made ≡ too_large
+submitted_long : (body : List ℕ) (made : Call) → longest_body < length body → submitted body made ≡ refused TooLarge
 submitted_long body made h = rw (long body h) refl
 
 module _ (a b : List ℕ) (la : longest_body < length a) (lb : longest_body < length b) where

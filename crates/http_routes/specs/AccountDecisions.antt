@@ -17,39 +17,43 @@ use Rattle.http_routes.specs.Routes.{account_rows, route_in, is_account_method, 
 use Rattle.http_routes.specs.Paths.{path_part, name_of, qualifier_of, from_of}
 use Rattle.http_routes.specs.Heads.{trace_of, is_synchronous}
 use Rattle.http_routes.specs.Names.{invoked, reserved}
-use Rattle.http_routes.specs.Refusals.{not_found, wrong_ticket, wrong_method, malformed_name, unknown_function, wrong_invocation_type, payload_too_large, unreadable_payload, unreadable_reservation}
+use Rattle.http_routes.specs.Refusals.{refused, wrong_method}
+use Rattle.http_routes.specs.declared.refusals.Cause.TheVariants as cause
 use Rattle.http_routes.specs.declared.names.Target.{Target}
 use Rattle.http_routes.specs.declared.names.Target.TheVariants.{Malformed, Unknown, Function}
 use Rattle.http_routes.specs.declared.routes.AccountRoute.{AccountRoute}
-use Rattle.http_routes.specs.declared.routes.AccountRoute.TheVariants.{Invoke, Concurrency, ReadConcurrency, Stop, Spindown, Stats, History}
+use Rattle.http_routes.specs.declared.routes.AccountRoute.TheVariants.{Invoke, Concurrency, ReadConcurrency, Stop}
+use Rattle.http_routes.specs.declared.routes.AccountRoute.TheVariants.{Spindown, Stats, History}
 
 -- what is done about a function
 abbrev pub about : Target → (ℕ → Bool → Decision) → Decision
-about Malformed then_do = malformed_name
-about Unknown then_do = unknown_function
+about Malformed then_do = refused cause.MalformedName
+about Unknown then_do = refused cause.UnknownFunction
 about (Function f qualified) then_do = then_do f qualified
 
 -- Invoke, with the payload that its body is; no reading of a body is a want of memory
 abbrev pub by_payload : ℕ → Bool → Option (List ℕ) → Result (List ℕ) WireFault → Decision
 by_payload f qualified trace (Ok payload) = Submit (call.Invoke f qualified trace payload)
-by_payload f qualified trace (Err TooLong) = payload_too_large
-by_payload f qualified trace (Err NotJson) = unreadable_payload
-by_payload f qualified trace (Err BadShape) = unreadable_payload
-by_payload f qualified trace (Err BadEvent) = unreadable_payload
-by_payload f qualified trace (Err OutOfMemory) = unreadable_payload
+by_payload f qualified trace (Err TooLong) = refused cause.PayloadTooLarge
+by_payload f qualified trace (Err NotJson) = refused cause.UnreadablePayload
+by_payload f qualified trace (Err BadShape) = refused cause.UnreadablePayload
+by_payload f qualified trace (Err BadEvent) = refused cause.UnreadablePayload
+by_payload f qualified trace (Err OutOfMemory) = refused cause.UnreadablePayload
 
 -- Invoke of a function
 abbrev pub invoke : Parts → List ℕ → ℕ → Bool → Decision
-invoke p body f qualified = if is_synchronous p then by_payload f qualified (trace_of p) (read_payload body) else wrong_invocation_type
+invoke p body f qualified =
+    if is_synchronous p then by_payload f qualified (trace_of p) (read_payload body)
+    else refused cause.WrongInvocationType
 
 -- PutFunctionConcurrency, with the count that its body asks for
 abbrev pub reserve : ℕ → Result ℕ WireFault → Decision
 reserve f (Ok count) = Submit (call.Reserve f (Some count))
-reserve f (Err TooLong) = payload_too_large
-reserve f (Err NotJson) = unreadable_reservation
-reserve f (Err BadShape) = unreadable_reservation
-reserve f (Err BadEvent) = unreadable_reservation
-reserve f (Err OutOfMemory) = unreadable_reservation
+reserve f (Err TooLong) = refused cause.PayloadTooLarge
+reserve f (Err NotJson) = refused cause.UnreadableReservation
+reserve f (Err BadShape) = refused cause.UnreadableReservation
+reserve f (Err BadEvent) = refused cause.UnreadableReservation
+reserve f (Err OutOfMemory) = refused cause.UnreadableReservation
 
 -- PutFunctionConcurrency, or else DeleteFunctionConcurrency, whose body isn't looked at
 abbrev pub set_reservation : Bool → List ℕ → ℕ → Bool → Decision
@@ -65,16 +69,17 @@ environment_of config p = option_and_then (env_in config) (path_part 3 (uri_path
 
 -- a request with a method that its route has
 abbrev pub with_method : AccountRoute → Parts → Decision → Decision
-with_method route p decision = if is_account_method route p.method then decision else wrong_method (account_methods route)
+with_method route p decision =
+    if is_account_method route p.method then decision else wrong_method (account_methods route)
 
 -- an environment is taken down; one that isn't there is no path
 abbrev pub spindown : Parts → Option ℕ → Decision
-spindown p None = not_found
+spindown p None = refused cause.NotFound
 spindown p (Some e) = with_method Spindown p (Submit (call.Spindown e))
 
 -- the history from a ticket on
 abbrev pub show_from : Option ℕ → Decision
-show_from None = wrong_ticket
+show_from None = refused cause.WrongTicket
 show_from (Some ticket) = Show (shown.History (Some ticket))
 
 -- The history: from the ticket that the query's first `from` is, or whole if the query has none. A ticket is decimal,
@@ -85,10 +90,13 @@ show_history (Some text) = show_from (number_in greatest_ticket text)
 
 -- What is done on a route. The bodies of this service's own routes aren't looked at.
 abbrev pub at_account : Config → Parts → List ℕ → Option AccountRoute → Decision
-at_account config p body None = not_found
-at_account config p body (Some Invoke) = with_method Invoke p (about (invoked config (name_of p) (qualifier_of p)) (invoke p body))
-at_account config p body (Some Concurrency) = with_method Concurrency p (about (reserved config (name_of p)) (set_reservation (is_put p.method) body))
-at_account config p body (Some ReadConcurrency) = with_method ReadConcurrency p (about (reserved config (name_of p)) show_reservation)
+at_account config p body None = refused cause.NotFound
+at_account config p body (Some Invoke) =
+    with_method Invoke p (about (invoked config (name_of p) (qualifier_of p)) (invoke p body))
+at_account config p body (Some Concurrency) =
+    with_method Concurrency p (about (reserved config (name_of p)) (set_reservation (is_put p.method) body))
+at_account config p body (Some ReadConcurrency) =
+    with_method ReadConcurrency p (about (reserved config (name_of p)) show_reservation)
 at_account config p body (Some Stop) = with_method Stop p (Submit call.Stop)
 at_account config p body (Some Spindown) = spindown p (environment_of config p)
 at_account config p body (Some Stats) = with_method Stats p (Show shown.Stats)

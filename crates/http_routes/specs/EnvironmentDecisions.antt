@@ -17,9 +17,12 @@ use Rattle.decisions.specs.declared.decide.Decision.TheVariants.{Submit}
 use Rattle.http_routes.specs.Routes.{environment_rows, route_in, is_environment_method, environment_methods}
 use Rattle.http_routes.specs.Heads.{has_header, extension_name, asks_for_account}
 use Rattle.http_routes.specs.Identifiers.{request_of, extension_of}
-use Rattle.http_routes.specs.Refusals.{not_found, wrong_method, wrong_request, unknown_extension, missing_header, too_large, unreadable_registration, wrong_event}
+use Rattle.http_routes.specs.Refusals.{refused, wrong_method}
+use Rattle.http_routes.specs.declared.refusals.Cause.TheVariants as cause
 use Rattle.http_routes.specs.declared.routes.EnvironmentRoute.{EnvironmentRoute}
-use Rattle.http_routes.specs.declared.routes.EnvironmentRoute.TheVariants.{Next, Response, Failure, InitFailure, Register, ExtNext, ExtInitFailure, ExtExitFailure}
+use Rattle.http_routes.specs.declared.routes.EnvironmentRoute.TheVariants.{Next, Response, Failure, InitFailure}
+use Rattle.http_routes.specs.declared.routes.EnvironmentRoute.TheVariants.{Register, ExtNext, ExtInitFailure}
+use Rattle.http_routes.specs.declared.routes.EnvironmentRoute.TheVariants.{ExtExitFailure}
 
 -- a body has at most 6,291,456 bytes (Lambda quotas: invocation payload)
 abbrev pub is_too_long : List ℕ → Bool
@@ -27,40 +30,40 @@ is_too_long body = nat_lt longest_body (length body)
 
 -- a call whose body isn't too long
 abbrev pub submitted : List ℕ → Call → Decision
-submitted body made = if is_too_long body then too_large else Submit made
+submitted body made = if is_too_long body then refused cause.TooLarge else Submit made
 
 -- Invocation response: one that is too long is a call of its own, without its bytes
 abbrev pub response : ℕ → List ℕ → Option ℕ → Decision
-response e body None = wrong_request
+response e body None = refused cause.WrongRequest
 response e body (Some id) = Submit (if is_too_long body then call.ResponseTooLarge e id else call.Response e id body)
 
 -- Invocation error
 abbrev pub failure : ℕ → List ℕ → Option ℕ → Decision
-failure e body None = wrong_request
+failure e body None = refused cause.WrongRequest
 failure e body (Some id) = submitted body (call.Failure e id body)
 
 -- Register, with the events that its body asks for; no reading of a body is a want of memory
 abbrev pub registered : ℕ → List ℕ → Bool → Result Events WireFault → Decision
 registered e name account (Ok events) = Submit (call.Register e name events.invoke events.shutdown account)
-registered e name account (Err TooLong) = too_large
-registered e name account (Err NotJson) = unreadable_registration
-registered e name account (Err BadShape) = unreadable_registration
-registered e name account (Err BadEvent) = wrong_event
-registered e name account (Err OutOfMemory) = unreadable_registration
+registered e name account (Err TooLong) = refused cause.TooLarge
+registered e name account (Err NotJson) = refused cause.UnreadableRegistration
+registered e name account (Err BadShape) = refused cause.UnreadableRegistration
+registered e name account (Err BadEvent) = refused cause.WrongEvent
+registered e name account (Err OutOfMemory) = refused cause.UnreadableRegistration
 
 abbrev pub register : ℕ → Bool → List ℕ → Option (List ℕ) → Decision
-register e account body None = missing_header
+register e account body None = refused cause.MissingHeader
 register e account body (Some name) = registered e name account (read_events body)
 
 -- Next
 abbrev pub ext_next : ℕ → List ℕ → Option ℕ → Decision
-ext_next e body None = unknown_extension
+ext_next e body None = refused cause.UnknownExtension
 ext_next e body (Some x) = submitted body (call.ExtNext e x)
 
 -- Init error, Exit error: the header with the error's type must be there, whatever it says
 abbrev pub ext_report : Bool → List ℕ → (ℕ → Call) → Option ℕ → Decision
-ext_report has_type body made None = unknown_extension
-ext_report has_type body made (Some x) = if has_type then submitted body (made x) else missing_header
+ext_report has_type body made None = refused cause.UnknownExtension
+ext_report has_type body made (Some x) = if has_type then submitted body (made x) else refused cause.MissingHeader
 
 -- whether the header with an error's type is there (Extensions API, Init error, Exit error)
 abbrev pub has_error_type : Parts → Bool
@@ -74,15 +77,19 @@ on_environment_route config salt e p body Failure = failure e body (request_of s
 on_environment_route config salt e p body InitFailure = submitted body (call.InitFailure e body)
 on_environment_route config salt e p body Register = register e (asks_for_account p) body (extension_name p)
 on_environment_route config salt e p body ExtNext = ext_next e body (extension_of salt e p)
-on_environment_route config salt e p body ExtInitFailure = ext_report (has_error_type p) body (λ x. call.ExtInitFailure e x body) (extension_of salt e p)
-on_environment_route config salt e p body ExtExitFailure = ext_report (has_error_type p) body (λ x. call.ExtExitFailure e x body) (extension_of salt e p)
+on_environment_route config salt e p body ExtInitFailure =
+    ext_report (has_error_type p) body (λ x. call.ExtInitFailure e x body) (extension_of salt e p)
+on_environment_route config salt e p body ExtExitFailure =
+    ext_report (has_error_type p) body (λ x. call.ExtExitFailure e x body) (extension_of salt e p)
 
 -- What is done on a route.
 abbrev pub at_environment : Config → ℕ → ℕ → Parts → List ℕ → Option EnvironmentRoute → Decision
-at_environment config salt e p body None = not_found
+at_environment config salt e p body None = refused cause.NotFound
 at_environment config salt e p body (Some route) =
-    if is_environment_method route p.method then on_environment_route config salt e p body route else wrong_method (environment_methods route)
+    if is_environment_method route p.method then on_environment_route config salt e p body route
+    else wrong_method (environment_methods route)
 
 -- What is done with a request on the port of environment e.
 unfoldable pub environment_decision : Config → ℕ → ℕ → Parts → List ℕ → Decision
-environment_decision config salt e p body = at_environment config salt e p body (route_in environment_rows (uri_path p.uri))
+environment_decision config salt e p body =
+    at_environment config salt e p body (route_in environment_rows (uri_path p.uri))

@@ -1,5 +1,6 @@
 -- The headers of a request that are looked at. Of a header that stands more than once, the first counts.
-use Rattle.std.specs.Prelude.{ℕ, Bool, true, false, ◌==◌, if◌then◌else◌, List, [], ◌∷◌, codes, bytes_eq, Option, Some, None, option_map, option_and_then, is_some, reverse}
+use Rattle.std.specs.Prelude.{ℕ, Bool, true, false, ◌==◌, if◌then◌else◌, List, [], ◌∷◌, codes, bytes_eq, Option, Some}
+use Rattle.std.specs.Prelude.{None, option_map, option_and_then, is_some, reverse}
 use Rattle.std.specs.List.{list_all, list_any, slice_split}
 use Rattle.http.specs.HeaderMap.{get}
 use Rattle.http.specs.Token.{is_visible_or_blank}
@@ -59,4 +60,5 @@ asks_for_account p = passes_or false (lists (codes "accountId")) (header (codes 
 
 -- an invocation whose caller waits for it, as a caller does who doesn't say how (Lambda API, Invoke: InvocationType)
 abbrev pub is_synchronous : Parts → Bool
-is_synchronous p = passes_or true (λ kind. bytes_eq kind (codes "RequestResponse")) (header (codes "x-amz-invocation-type") p)
+is_synchronous p =
+    passes_or true (λ kind. bytes_eq kind (codes "RequestResponse")) (header (codes "x-amz-invocation-type") p)

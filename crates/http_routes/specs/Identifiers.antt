@@ -31,7 +31,8 @@ identifier_in text = option_and_then parts_of (parsed text)
 
 -- the count in the identifier of a function's invocation
 abbrev pub request_count : ℕ → ℕ → List ℕ → Option ℕ
-request_count salt function text = option_and_then (λ id. of_request id.kind (count_of salt function id)) (identifier_in text)
+request_count salt function text =
+    option_and_then (λ id. of_request id.kind (count_of salt function id)) (identifier_in text)
 
 -- the count in the identifier of an environment's extension
 abbrev pub extension_count : ℕ → ℕ → List ℕ → Option ℕ
@@ -43,4 +44,5 @@ request_of salt function p = option_and_then (request_count salt function) (path
 
 -- the extension that a head names (Extensions API: Lambda-Extension-Identifier)
 abbrev pub extension_of : ℕ → ℕ → Parts → Option ℕ
-extension_of salt env p = option_and_then (extension_count salt env) (header_text (codes "lambda-extension-identifier") p)
+extension_of salt env p =
+    option_and_then (extension_count salt env) (header_text (codes "lambda-extension-identifier") p)

@@ -1,5 +1,6 @@
 -- Which function a request to the Lambda API is about.
-use Rattle.std.specs.Prelude.{ℕ, Bool, ◌||◌, ◌==◌, if◌then◌else◌, List, Option, Some, None, Result, Ok, Err, is_some, count_by}
+use Rattle.std.specs.Prelude.{ℕ, Bool, ◌||◌, ◌==◌, if◌then◌else◌, List, Option, Some, None, Result, Ok, Err}
+use Rattle.std.specs.Prelude.{is_some, count_by}
 use Rattle.arn_ids.specs.Grammar.{is_latest, is_qualifier, is_none_or, named_in}
 use Rattle.arn_ids.specs.Environments.{number_named}
 use Rattle.arn_ids.specs.declared.config.Config.{Config}

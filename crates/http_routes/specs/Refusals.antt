@@ -1,69 +1,66 @@
 -- Replies that refuse a request before there is a call.
-use Rattle.std.specs.Prelude.{[], ◌∷◌, ◌++◌, codes}
+use Rattle.std.specs.Prelude.{ℕ, List, [], ◌∷◌, ◌++◌, codes, Option, Some, None}
 use Rattle.http_header.specs.FieldValue.{FieldValue}
 use Rattle.lambda_wire.specs.Headers.{json_headers}
 use Rattle.lambda_wire.specs.Replies.{fault_reply, invoke_fault_reply}
-use Rattle.lambda_wire.specs.declared.body_writer.InvokeFault.TheVariants.{User, NotFound}
+use Rattle.lambda_wire.specs.declared.body_writer.InvokeFault.{InvokeFault}
+use Rattle.lambda_wire.specs.declared.body_writer.InvokeFault.TheVariants as fault
 use Rattle.decisions.specs.declared.decide.Decision.{Decision}
 use Rattle.decisions.specs.declared.decide.Decision.TheVariants.{Reply}
+use Rattle.http_routes.specs.declared.refusals.Cause.{Cause}
+use Rattle.http_routes.specs.declared.refusals.Cause.TheVariants.{NotFound, WrongTicket, WrongRequest, UnknownExtension}
+use Rattle.http_routes.specs.declared.refusals.Cause.TheVariants.{MissingHeader, TooLarge, UnreadableRegistration}
+use Rattle.http_routes.specs.declared.refusals.Cause.TheVariants.{WrongEvent, MalformedName, UnknownFunction}
+use Rattle.http_routes.specs.declared.refusals.Cause.TheVariants.{WrongInvocationType, PayloadTooLarge}
+use Rattle.http_routes.specs.declared.refusals.Cause.TheVariants.{UnreadablePayload, UnreadableReservation}
 
--- No route has the path.
-unfoldable pub not_found : Decision
-not_found = Reply (fault_reply 404 (codes "No such resource") (codes "NotFound"))
+-- The status, the type and the message of a refusal (Runtime API: InvalidRequestID, 413; Extensions API: 403; Lambda API:
+-- InvalidParameterValueException, ResourceNotFoundException, RequestTooLargeException, InvalidRequestContentException).
+abbrev pub refusal_words : Cause → ℕ × List ℕ × List ℕ
+refusal_words NotFound = (404, codes "NotFound", codes "No such resource")
+refusal_words WrongTicket = (400, codes "InvalidTicket", codes "from is not a ticket")
+refusal_words WrongRequest = (400, codes "InvalidRequestID", codes "Not the open invocation")
+refusal_words UnknownExtension = (403, codes "Extension.UnknownIdentifier", codes "Extension is not registered here")
+refusal_words MissingHeader = (400, codes "MissingHeader", codes "A required header is missing")
+refusal_words TooLarge = (413, codes "RequestEntityTooLarge", codes "Payload exceeds 6291456 bytes")
+refusal_words UnreadableRegistration = (400, codes "InvalidRequestFormat", codes "Body is not readable")
+refusal_words WrongEvent = (400, codes "InvalidEventType", codes "Event is not INVOKE or SHUTDOWN")
+refusal_words MalformedName =
+    (400, codes "InvalidParameterValueException", codes "Function name or qualifier is malformed")
+refusal_words UnknownFunction = (404, codes "ResourceNotFoundException", codes "Function not found")
+refusal_words WrongInvocationType =
+    (400, codes "InvalidParameterValueException", codes "Invocation type is not RequestResponse")
+refusal_words PayloadTooLarge = (413, codes "RequestTooLargeException", codes "Payload exceeds 6291456 bytes")
+refusal_words UnreadablePayload = (400, codes "InvalidRequestContentException", codes "Payload is not JSON")
+refusal_words UnreadableReservation = (400, codes "InvalidRequestContentException", codes "Body is not readable")
 
--- What the history is to begin with is no ticket.
-unfoldable pub wrong_ticket : Decision
-wrong_ticket = Reply (fault_reply 400 (codes "from is not a ticket") (codes "InvalidTicket"))
+-- whose fault it is, which replies of the Lambda API say; none of the Runtime API and the Extensions API
+abbrev pub fault_of : Cause → Option InvokeFault
+fault_of NotFound = None
+fault_of WrongTicket = None
+fault_of WrongRequest = None
+fault_of UnknownExtension = None
+fault_of MissingHeader = None
+fault_of TooLarge = None
+fault_of UnreadableRegistration = None
+fault_of WrongEvent = None
+fault_of MalformedName = Some fault.User
+fault_of UnknownFunction = Some fault.NotFound
+fault_of WrongInvocationType = Some fault.User
+fault_of PayloadTooLarge = Some fault.User
+fault_of UnreadablePayload = Some fault.User
+fault_of UnreadableReservation = Some fault.User
+
+-- in the form of the API whose reply it is
+abbrev pub reply_of : Option InvokeFault → ℕ × List ℕ × List ℕ → Decision
+reply_of None words = Reply (fault_reply words.0 words.2 words.1)
+reply_of (Some fault) words = Reply (invoke_fault_reply words.0 words.1 fault words.2)
+
+-- The reply to a request that is refused.
+unfoldable pub refused : Cause → Decision
+refused cause = reply_of (fault_of cause) (refusal_words cause)
 
 -- The route has other methods, and the reply says which (RFC 9110, section 15.5.6).
 unfoldable pub wrong_method : FieldValue → Decision
 wrong_method methods = Reply (record (fault_reply 405 (codes "Method not allowed") (codes "MethodNotAllowed"))
     { headers = json_headers ++ (codes "allow", methods) ∷ [] })
-
--- The path names no invocation of this environment's function (Runtime API: InvalidRequestID).
-unfoldable pub wrong_request : Decision
-wrong_request = Reply (fault_reply 400 (codes "Not the open invocation") (codes "InvalidRequestID"))
-
--- The head names no extension of this environment (Extensions API: 403).
-unfoldable pub unknown_extension : Decision
-unknown_extension = Reply (fault_reply 403 (codes "Extension is not registered here") (codes "Extension.UnknownIdentifier"))
-
--- A header is absent, or out of its form.
-unfoldable pub missing_header : Decision
-missing_header = Reply (fault_reply 400 (codes "A required header is missing") (codes "MissingHeader"))
-
--- The body is longer than 6,291,456 bytes (Runtime API: 413).
-unfoldable pub too_large : Decision
-too_large = Reply (fault_reply 413 (codes "Payload exceeds 6291456 bytes") (codes "RequestEntityTooLarge"))
-
--- A registration is no JSON of its form.
-unfoldable pub unreadable_registration : Decision
-unreadable_registration = Reply (fault_reply 400 (codes "Body is not readable") (codes "InvalidRequestFormat"))
-
--- A registration asks for an event that there isn't.
-unfoldable pub wrong_event : Decision
-wrong_event = Reply (fault_reply 400 (codes "Event is not INVOKE or SHUTDOWN") (codes "InvalidEventType"))
-
--- A name or a qualifier is out of its form (Lambda API: InvalidParameterValueException).
-unfoldable pub malformed_name : Decision
-malformed_name = Reply (invoke_fault_reply 400 (codes "InvalidParameterValueException") User (codes "Function name or qualifier is malformed"))
-
--- The function or its version isn't there (Lambda API: ResourceNotFoundException).
-unfoldable pub unknown_function : Decision
-unknown_function = Reply (invoke_fault_reply 404 (codes "ResourceNotFoundException") NotFound (codes "Function not found"))
-
--- The caller doesn't wait for the invocation.
-unfoldable pub wrong_invocation_type : Decision
-wrong_invocation_type = Reply (invoke_fault_reply 400 (codes "InvalidParameterValueException") User (codes "Invocation type is not RequestResponse"))
-
--- The payload is longer than 6,291,456 bytes (Lambda API: RequestTooLargeException).
-unfoldable pub payload_too_large : Decision
-payload_too_large = Reply (invoke_fault_reply 413 (codes "RequestTooLargeException") User (codes "Payload exceeds 6291456 bytes"))
-
--- The payload is no JSON (Lambda API: InvalidRequestContentException).
-unfoldable pub unreadable_payload : Decision
-unreadable_payload = Reply (invoke_fault_reply 400 (codes "InvalidRequestContentException") User (codes "Payload is not JSON"))
-
--- A reservation is no JSON of its form.
-unfoldable pub unreadable_reservation : Decision
-unreadable_reservation = Reply (invoke_fault_reply 400 (codes "InvalidRequestContentException") User (codes "Body is not readable"))

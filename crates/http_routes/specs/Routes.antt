@@ -8,9 +8,12 @@ use Rattle.matchit.specs.Seek.{first}
 use Rattle.matchit.specs.declared.error.InsertError.{InsertError}
 use Rattle.http_header.specs.FieldValue.{FieldValue, plain_value}
 use Rattle.http_routes.specs.declared.routes.EnvironmentRoute.{EnvironmentRoute}
-use Rattle.http_routes.specs.declared.routes.EnvironmentRoute.TheVariants.{Next, Response, Failure, InitFailure, Register, ExtNext, ExtInitFailure, ExtExitFailure}
+use Rattle.http_routes.specs.declared.routes.EnvironmentRoute.TheVariants.{Next, Response, Failure, InitFailure}
+use Rattle.http_routes.specs.declared.routes.EnvironmentRoute.TheVariants.{Register, ExtNext, ExtInitFailure}
+use Rattle.http_routes.specs.declared.routes.EnvironmentRoute.TheVariants.{ExtExitFailure}
 use Rattle.http_routes.specs.declared.routes.AccountRoute.{AccountRoute}
-use Rattle.http_routes.specs.declared.routes.AccountRoute.TheVariants.{Invoke, Concurrency, ReadConcurrency, Stop, Spindown, Stats, History}
+use Rattle.http_routes.specs.declared.routes.AccountRoute.TheVariants.{Invoke, Concurrency, ReadConcurrency, Stop}
+use Rattle.http_routes.specs.declared.routes.AccountRoute.TheVariants.{Spindown, Stats, History}
 
 -- the rows of a router
 abbrev pub RowsFor : Type 0 → Type 0
@@ -44,7 +47,8 @@ with_extension_rows rows =
 unfoldable pub environment_rows : RowsFor EnvironmentRoute
 environment_rows = with_extension_rows (with_runtime_rows [])
 
--- the rows with those of the Lambda API (Invoke, PutFunctionConcurrency and DeleteFunctionConcurrency, GetFunctionConcurrency)
+-- the rows with those of the Lambda API (Invoke; PutFunctionConcurrency and DeleteFunctionConcurrency;
+-- GetFunctionConcurrency)
 unfoldable pub with_lambda_rows : RowsFor AccountRoute → RowsFor AccountRoute
 with_lambda_rows rows =
     with_route (codes "/2019-09-30/functions/{name}/concurrency") ReadConcurrency

@@ -10,10 +10,7 @@ ghost use Rattle.http_routes.specs.Routes.{account_rows, is_put};
 use crate::heads::{is_synchronous, trace};
 use crate::names::{Target, invoked, reserved};
 use crate::path::{from_of, path_part};
-use crate::refusals::{
-    malformed_name, not_found, payload_too_large, unknown_function, unreadable_payload,
-    unreadable_reservation, wrong_invocation_type, wrong_method, wrong_ticket,
-};
+use crate::refusals::{Cause, refused, wrong_method};
 use crate::routes::{AccountRoute, account_route};
 use arn_ids::{Checked, EnvNo, FnNo, read_environment, read_number};
 use bytes::Bytes;
@@ -36,7 +33,7 @@ fn invoke(
     ensures { IfOk result (λ d. d ≡ spec.invoke parts.now body.now function qualified) }
 {
     if !is_synchronous(parts) {
-        return wrong_invocation_type(alloc);
+        return refused(alloc, Cause::WrongInvocationType);
     }
     match read_invoke_body(alloc, scratch, body) {
         Ok(body) => Ok(Decision::Submit(Call::Invoke {
@@ -45,9 +42,9 @@ fn invoke(
             trace: trace(alloc, parts)?,
             body,
         })),
-        Err(WireFault::TooLong) => payload_too_large(alloc),
+        Err(WireFault::TooLong) => refused(alloc, Cause::PayloadTooLarge),
         Err(WireFault::NotJson | WireFault::BadShape | WireFault::BadEvent) => {
-            unreadable_payload(alloc)
+            refused(alloc, Cause::UnreadablePayload)
         }
         Err(WireFault::OutOfMemory) => Err(AllocError),
     }
@@ -62,9 +59,9 @@ fn reserve(alloc: Global, body: &Bytes, function: FnNo) -> Result<Decision, Allo
             function,
             count: Some(count),
         })),
-        Err(WireFault::TooLong) => payload_too_large(alloc),
+        Err(WireFault::TooLong) => refused(alloc, Cause::PayloadTooLarge),
         Err(WireFault::NotJson | WireFault::BadShape | WireFault::BadEvent) => {
-            unreadable_reservation(alloc)
+            refused(alloc, Cause::UnreadableReservation)
         }
         Err(WireFault::OutOfMemory) => Err(AllocError),
     }
@@ -78,11 +75,13 @@ fn on_invoke(
     parts: &Parts,
     body: &Bytes,
 ) -> Result<Decision, AllocError>
-    ensures { IfOk result (λ d. d ≡ spec.about (names.invoked config.now (paths.name_of parts.now) (paths.qualifier_of parts.now)) (spec.invoke parts.now body.now)) }
+    ensures { IfOk result (λ d. d
+        ≡ spec.about (names.invoked config.now (paths.name_of parts.now) (paths.qualifier_of parts.now))
+        (spec.invoke parts.now body.now)) }
 {
     match invoked(alloc, config, parts)? {
-        Target::Malformed => malformed_name(alloc),
-        Target::Unknown => unknown_function(alloc),
+        Target::Malformed => refused(alloc, Cause::MalformedName),
+        Target::Unknown => refused(alloc, Cause::UnknownFunction),
         Target::Function {
             function,
             qualified,
@@ -97,11 +96,13 @@ fn on_concurrency(
     parts: &Parts,
     body: &Bytes,
 ) -> Result<Decision, AllocError>
-    ensures { IfOk result (λ d. d ≡ spec.about (names.reserved config.now (paths.name_of parts.now)) (spec.set_reservation (is_put parts.now.method) body.now)) }
+    ensures { IfOk result (λ d. d
+        ≡ spec.about (names.reserved config.now (paths.name_of parts.now))
+        (spec.set_reservation (is_put parts.now.method) body.now)) }
 {
     match reserved(alloc, config, parts)? {
-        Target::Malformed => malformed_name(alloc),
-        Target::Unknown => unknown_function(alloc),
+        Target::Malformed => refused(alloc, Cause::MalformedName),
+        Target::Unknown => refused(alloc, Cause::UnknownFunction),
         Target::Function { function, .. } => {
             if parts.method.as_str() == "PUT" {
                 return reserve(alloc, body, function);
@@ -120,11 +121,12 @@ fn on_read_concurrency(
     config: &Checked,
     parts: &Parts,
 ) -> Result<Decision, AllocError>
-    ensures { IfOk result (λ d. d ≡ spec.about (names.reserved config.now (paths.name_of parts.now)) spec.show_reservation) }
+    ensures { IfOk result (λ d. d
+        ≡ spec.about (names.reserved config.now (paths.name_of parts.now)) spec.show_reservation) }
 {
     match reserved(alloc, config, parts)? {
-        Target::Malformed => malformed_name(alloc),
-        Target::Unknown => unknown_function(alloc),
+        Target::Malformed => refused(alloc, Cause::MalformedName),
+        Target::Unknown => refused(alloc, Cause::UnknownFunction),
         Target::Function { function, .. } => { Ok(Decision::Show(Shown::Reservation { function })) }
     }
 }
@@ -141,7 +143,7 @@ fn spindown(alloc: Global, config: &Checked, parts: &Parts) -> Result<Decision, 
     ensures { IfOk result (λ d. d ≡ spec.spindown parts.now (spec.environment_of config.now parts.now)) }
 {
     let Some(env) = environment_of(config, parts) else {
-        return not_found(alloc);
+        return refused(alloc, Cause::NotFound);
     };
     if !AccountRoute::Spindown.allows(parts.method.as_str()) {
         return wrong_method(alloc, AccountRoute::Spindown.methods());
@@ -158,7 +160,7 @@ fn show_history(alloc: Global, parts: &Parts) -> Result<Decision, AllocError>
     };
     match read_number(text.as_str().as_bytes(), u64::MAX) {
         Some(ticket) => Ok(Decision::Show(Shown::History { from: Some(ticket) })),
-        None => wrong_ticket(alloc),
+        None => refused(alloc, Cause::WrongTicket),
     }
 }
 
@@ -205,6 +207,6 @@ pub(crate) fn account_decision(
 {
     match account_route(router, parts.uri.path()) {
         Some(route) => on_route(alloc, scratch, config, parts, body, route),
-        None => not_found(alloc),
+        None => refused(alloc, Cause::NotFound),
     }
 }

@@ -8,10 +8,7 @@ ghost use Rattle.http_routes.specs.Routes.{environment_rows};
 
 use crate::heads::{asks_for_account, extension_name, has_error_type};
 use crate::identifiers::{extension_of, request_of};
-use crate::refusals::{
-    missing_header, not_found, too_large, unknown_extension, unreadable_registration, wrong_event,
-    wrong_method, wrong_request,
-};
+use crate::refusals::{Cause, refused, wrong_method};
 use crate::routes::{EnvironmentRoute, environment_route};
 use arn_ids::{Checked, EnvNo, LONGEST_BODY, Text};
 use bytes::Bytes;
@@ -33,7 +30,7 @@ fn submitted(alloc: Global, body: &Bytes, call: Call) -> Result<Decision, AllocE
     ensures { IfOk result (λ d. d ≡ spec.submitted body.now call) }
 {
     if is_too_long(body) {
-        return too_large(alloc);
+        return refused(alloc, Cause::TooLarge);
     }
     Ok(Decision::Submit(call))
 }
@@ -48,7 +45,7 @@ fn response(
     ensures { IfOk result (λ d. d ≡ spec.response env body.now id) }
 {
     let Some(id) = id else {
-        return wrong_request(alloc);
+        return refused(alloc, Cause::WrongRequest);
     };
     if is_too_long(body) {
         return Ok(Decision::Submit(Call::ResponseTooLarge { env, id }));
@@ -62,10 +59,10 @@ fn failure(alloc: Global, env: EnvNo, body: &Bytes, id: Option<u64>) -> Result<D
     ensures { IfOk result (λ d. d ≡ spec.failure env body.now id) }
 {
     let Some(id) = id else {
-        return wrong_request(alloc);
+        return refused(alloc, Cause::WrongRequest);
     };
     if is_too_long(body) {
-        return too_large(alloc);
+        return refused(alloc, Cause::TooLarge);
     }
     let body = body.clone()?;
     Ok(Decision::Submit(Call::Failure { env, id, body }))
@@ -76,7 +73,7 @@ fn init_failure(alloc: Global, env: EnvNo, body: &Bytes) -> Result<Decision, All
     ensures { IfOk result (λ d. d ≡ spec.submitted body.now (calls.InitFailure env body.now)) }
 {
     if is_too_long(body) {
-        return too_large(alloc);
+        return refused(alloc, Cause::TooLarge);
     }
     let body = body.clone()?;
     Ok(Decision::Submit(Call::InitFailure { env, body }))
@@ -93,7 +90,7 @@ fn register(
     ensures { IfOk result (λ d. d ≡ spec.register env account body.now name) }
 {
     let Some(name) = name else {
-        return missing_header(alloc);
+        return refused(alloc, Cause::MissingHeader);
     };
     match read_register(alloc, body.as_slice()) {
         Ok(events) => Ok(Decision::Submit(Call::Register {
@@ -103,9 +100,12 @@ fn register(
             shutdown: events.shutdown,
             account,
         })),
-        Err(WireFault::TooLong) => too_large(alloc),
-        Err(WireFault::NotJson | WireFault::BadShape) => unreadable_registration(alloc),
-        Err(WireFault::BadEvent) => wrong_event(alloc),
+        Err(WireFault::TooLong) => refused(alloc, Cause::TooLarge),
+        Err(WireFault::NotJson | WireFault::BadShape) => refused(
+            alloc,
+            Cause::UnreadableRegistration,
+        ),
+        Err(WireFault::BadEvent) => refused(alloc, Cause::WrongEvent),
         Err(WireFault::OutOfMemory) => Err(AllocError),
     }
 }
@@ -121,7 +121,7 @@ fn ext_next(
 {
     match ext {
         Some(ext) => submitted(alloc, body, Call::ExtNext { env, ext }),
-        None => unknown_extension(alloc),
+        None => refused(alloc, Cause::UnknownExtension),
     }
 }
 
@@ -136,13 +136,13 @@ fn ext_init_failure(
     ensures { IfOk result (λ d. d ≡ spec.ext_report has_type body.now (λ x. calls.ExtInitFailure env x body.now) ext) }
 {
     let Some(ext) = ext else {
-        return unknown_extension(alloc);
+        return refused(alloc, Cause::UnknownExtension);
     };
     if !has_type {
-        return missing_header(alloc);
+        return refused(alloc, Cause::MissingHeader);
     }
     if is_too_long(body) {
-        return too_large(alloc);
+        return refused(alloc, Cause::TooLarge);
     }
     let body = body.clone()?;
     Ok(Decision::Submit(Call::ExtInitFailure { env, ext, body }))
@@ -159,13 +159,13 @@ fn ext_exit_failure(
     ensures { IfOk result (λ d. d ≡ spec.ext_report has_type body.now (λ x. calls.ExtExitFailure env x body.now) ext) }
 {
     let Some(ext) = ext else {
-        return unknown_extension(alloc);
+        return refused(alloc, Cause::UnknownExtension);
     };
     if !has_type {
-        return missing_header(alloc);
+        return refused(alloc, Cause::MissingHeader);
     }
     if is_too_long(body) {
-        return too_large(alloc);
+        return refused(alloc, Cause::TooLarge);
     }
     let body = body.clone()?;
     Ok(Decision::Submit(Call::ExtExitFailure { env, ext, body }))
@@ -231,7 +231,7 @@ pub(crate) fn environment_decision(
     ensures { IfOk result (λ d. d ≡ spec.environment_decision config.now salt env parts.now body.now) }
 {
     let Some(route) = environment_route(router, parts.uri.path()) else {
-        return not_found(alloc);
+        return refused(alloc, Cause::NotFound);
     };
     if !route.allows(parts.method.as_str()) {
         return wrong_method(alloc, route.methods());

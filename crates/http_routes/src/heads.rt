@@ -1,6 +1,8 @@
 //! The headers of a request. Of a header that stands more than once, the first counts.
 
 ghost use Rattle.std.specs.Prelude.{◌≡◌, ◌==◌, ◌∷◌, codes, bytes_eq, option_map, IfOk, position, reverse};
+ghost use Rattle.std.specs.List.{list_any};
+ghost use Rattle.http.specs.HeaderMap.{keys};
 ghost use Rattle.http.specs.Token.{lowercase};
 ghost use Rattle.arn_ids.specs.Words.{is_word, is_printable as is_printable_byte};
 ghost use Rattle.http_routes.specs.Heads as spec;
@@ -8,16 +10,36 @@ ghost use Rattle.http_routes.specs.Views.{parts_left};
 
 use arn_ids::{Text, is_printable_word};
 use http::request::Parts;
+use http_header::HeaderName;
 use std::alloc::{AllocError, Global};
 
 const LONGEST_EXTENSION_NAME: usize = 128;
 
 const LONGEST_TRACE: usize = 256;
 
-/// The bytes of the first header of a name.
-fn header<'p>(parts: &'p Parts, name: &str) -> Option<&'p [u8]>
-    ensures { option_map (λ t. t.now) result ≡ spec.header (lowercase name.now) parts.now }
+/// Whether a header's name is this one.
+fn is_named(key: &HeaderName, name: &str) -> bool
+    ensures { result ≡ bytes_eq key.now name.now }
 {
+    key.as_bytes() == name.as_bytes()
+}
+
+/// Whether there is a header of a name. (To compare all names takes less than to find one by its hash.)
+fn has_name(parts: &Parts, name: &str) -> bool
+    ensures { result ≡ list_any (λ key. bytes_eq key name.now) (keys parts.now.headers) }
+{
+    parts.headers.keys().any(|key| is_named(key, name))
+}
+
+/// The bytes of the first header of a name, which is given in lower case. Few requests have one.
+#[tactic(auto, using(crate::proofs::HeadLemmas::no_header))]
+fn header<'p>(parts: &'p Parts, name: &str) -> Option<&'p [u8]>
+    requires { lowercase name.now ≡ name.now }
+    ensures { option_map (λ t. t.now) result ≡ spec.header name.now parts.now }
+{
+    if !has_name(parts, name) {
+        return None;
+    }
     let value = parts.headers.get(name)?;
     Some(value.as_bytes())
 }

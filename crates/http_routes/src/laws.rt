@@ -2,8 +2,11 @@
 
 ghost use Rattle.std.specs.Prelude.{◌≡◌, codes, Some, length};
 ghost use Rattle.http_routes.specs.Routes.{environment_rows, account_rows, route_in};
-ghost use Rattle.http_routes.specs.declared.routes.EnvironmentRoute.TheVariants.{Next, Response, Failure, InitFailure, Register, ExtNext, ExtInitFailure, ExtExitFailure};
-ghost use Rattle.http_routes.specs.declared.routes.AccountRoute.TheVariants.{Invoke, Concurrency, ReadConcurrency, Stop, Spindown, Stats, History};
+ghost use Rattle.http_routes.specs.declared.routes.EnvironmentRoute.TheVariants.{Next, Response, Failure, InitFailure};
+ghost use Rattle.http_routes.specs.declared.routes.EnvironmentRoute.TheVariants.{Register, ExtNext, ExtInitFailure};
+ghost use Rattle.http_routes.specs.declared.routes.EnvironmentRoute.TheVariants.{ExtExitFailure};
+ghost use Rattle.http_routes.specs.declared.routes.AccountRoute.TheVariants.{Invoke, Concurrency, ReadConcurrency};
+ghost use Rattle.http_routes.specs.declared.routes.AccountRoute.TheVariants.{Stop, Spindown, Stats, History};
 
 /// The tables are whole: each route has its row, and a path of each finds it.
 pub fn routes()
@@ -14,12 +17,15 @@ pub fn routes()
     ensures init_failure { route_in environment_rows (codes "/2018-06-01/runtime/init/error") ≡ Some InitFailure }
     ensures register { route_in environment_rows (codes "/2020-01-01/extension/register") ≡ Some Register }
     ensures ext_next { route_in environment_rows (codes "/2020-01-01/extension/event/next") ≡ Some ExtNext }
-    ensures ext_init_failure { route_in environment_rows (codes "/2020-01-01/extension/init/error") ≡ Some ExtInitFailure }
-    ensures ext_exit_failure { route_in environment_rows (codes "/2020-01-01/extension/exit/error") ≡ Some ExtExitFailure }
+    ensures ext_init_failure { route_in environment_rows (codes "/2020-01-01/extension/init/error")
+        ≡ Some ExtInitFailure }
+    ensures ext_exit_failure { route_in environment_rows (codes "/2020-01-01/extension/exit/error")
+        ≡ Some ExtExitFailure }
     ensures account_routes { length account_rows ≡ 7 }
     ensures invoke { route_in account_rows (codes "/2015-03-31/functions/f/invocations") ≡ Some Invoke }
     ensures concurrency { route_in account_rows (codes "/2017-10-31/functions/f/concurrency") ≡ Some Concurrency }
-    ensures read_concurrency { route_in account_rows (codes "/2019-09-30/functions/f/concurrency") ≡ Some ReadConcurrency }
+    ensures read_concurrency { route_in account_rows (codes "/2019-09-30/functions/f/concurrency")
+        ≡ Some ReadConcurrency }
     ensures stop { route_in account_rows (codes "/_local/stop") ≡ Some Stop }
     ensures spindown { route_in account_rows (codes "/_local/env/1/spindown") ≡ Some Spindown }
     ensures stats { route_in account_rows (codes "/_local/stats") ≡ Some Stats }

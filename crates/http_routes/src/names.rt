@@ -73,7 +73,8 @@ fn by_name(
     qualifier: Option<&str>,
     name: &str,
 ) -> Result<Target, AllocError>
-    ensures { IfOk result (λ target. target ≡ spec.by_name config.now (option_map text_of qualifier.entry) (grammar.named_in config.now.home name.now)) }
+    ensures { IfOk result (λ target. target
+        ≡ spec.by_name config.now (option_map text_of qualifier.entry) (grammar.named_in config.now.home name.now)) }
 {
     match FunctionName::parse(alloc, config.home(), name) {
         Ok(named) => Ok(at_version(config, qualifier, named)),
@@ -91,7 +92,8 @@ fn invoked_by(
     name: Option<&str>,
     qualifier: Option<&str>,
 ) -> Result<Target, AllocError>
-    ensures { IfOk result (λ target. target ≡ spec.invoked config.now (option_map text_of name.entry) (option_map text_of qualifier.entry)) }
+    ensures { IfOk result (λ target. target
+        ≡ spec.invoked config.now (option_map text_of name.entry) (option_map text_of qualifier.entry)) }
 {
     let Some(name) = name else {
         return Ok(Target::Malformed);
@@ -105,7 +107,8 @@ fn invoked_by(
 /// The function that an Invoke is about, by the name of its path and the first `Qualifier` of its
 /// query (Lambda API, Invoke).
 pub(crate) fn invoked(alloc: Global, config: &Checked, parts: &Parts) -> Result<Target, AllocError>
-    ensures { IfOk result (λ target. target ≡ spec.invoked config.now (paths.name_of parts.now) (paths.qualifier_of parts.now)) }
+    ensures { IfOk result (λ target. target
+        ≡ spec.invoked config.now (paths.name_of parts.now) (paths.qualifier_of parts.now)) }
 {
     let name = name_of(alloc, parts)?;
     let qualifier = qualifier_of(alloc, parts)?;

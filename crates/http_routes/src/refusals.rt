@@ -5,7 +5,6 @@ ghost use Rattle.std.specs.List.{list_all};
 ghost use Rattle.http_header.specs.Token.{is_value_byte};
 ghost use Rattle.lambda_wire.specs.Replies as replies;
 ghost use Rattle.http_routes.specs.Refusals as spec;
-ghost use Rattle.decisions.specs.declared.decide.Decision.TheVariants as decisions;
 
 use arn_ids::Row;
 use decisions::Decision;
@@ -13,42 +12,137 @@ use http_header::{HeaderName, HeaderValue};
 use lambda_wire::{InvokeFault, Reply, fault_reply, invoke_fault_reply};
 use std::alloc::{AllocError, Global};
 
-fn refused(alloc: Global, status: u16, kind: &str, message: &str) -> Result<Decision, AllocError>
-    ensures { IfOk result (λ d. d ≡ decisions.Reply (replies.fault_reply status message.now kind.now)) }
+/// Why a request is refused before there is a call.
+#[derive(Clone, Copy, Debug, PartialEq, Eq)]
+pub(crate) enum Cause {
+    /// No route has the path.
+    NotFound,
+    /// What the history is to begin with is not a ticket.
+    WrongTicket,
+    /// The path names no invocation of this environment's function.
+    WrongRequest,
+    /// The head names no extension of this environment.
+    UnknownExtension,
+    /// A header is absent, or out of its form.
+    MissingHeader,
+    /// The body is longer than 6,291,456 bytes.
+    TooLarge,
+    /// A registration is not JSON of its form.
+    UnreadableRegistration,
+    /// A registration asks for an event that does not exist.
+    WrongEvent,
+    /// A name or a qualifier is out of its form.
+    MalformedName,
+    /// The function or its version is not there.
+    UnknownFunction,
+    /// The caller does not wait for the invocation.
+    WrongInvocationType,
+    /// The payload is longer than 6,291,456 bytes.
+    PayloadTooLarge,
+    /// The payload is not JSON.
+    UnreadablePayload,
+    /// A reservation is not JSON of its form.
+    UnreadableReservation,
+}
+
+/// The status, the type and the message of a refusal.
+fn refusal_words(cause: Cause) -> (u16, &'static str, &'static str)
+    ensures status { result.0 ≡ (spec.refusal_words cause).0 }
+    ensures kind { result.1.now ≡ (spec.refusal_words cause).1 }
+    ensures message { result.2.now ≡ (spec.refusal_words cause).2 }
+    ensures printed { list_all is_value_byte result.1.now ≡ true }
 {
-    Ok(Decision::Reply(fault_reply(alloc, status, message, kind)?))
+    match cause {
+        Cause::NotFound => (404, "NotFound", "No such resource"),
+        Cause::WrongTicket => (400, "InvalidTicket", "from is not a ticket"),
+        Cause::WrongRequest => (400, "InvalidRequestID", "Not the open invocation"),
+        Cause::UnknownExtension => (
+            403,
+            "Extension.UnknownIdentifier",
+            "Extension is not registered here",
+        ),
+        Cause::MissingHeader => (400, "MissingHeader", "A required header is missing"),
+        Cause::TooLarge => (
+            413,
+            "RequestEntityTooLarge",
+            "Payload exceeds 6291456 bytes",
+        ),
+        Cause::UnreadableRegistration => (400, "InvalidRequestFormat", "Body is not readable"),
+        Cause::WrongEvent => (400, "InvalidEventType", "Event is not INVOKE or SHUTDOWN"),
+        Cause::MalformedName => (
+            400,
+            "InvalidParameterValueException",
+            "Function name or qualifier is malformed",
+        ),
+        Cause::UnknownFunction => (404, "ResourceNotFoundException", "Function not found"),
+        Cause::WrongInvocationType => (
+            400,
+            "InvalidParameterValueException",
+            "Invocation type is not RequestResponse",
+        ),
+        Cause::PayloadTooLarge => (
+            413,
+            "RequestTooLargeException",
+            "Payload exceeds 6291456 bytes",
+        ),
+        Cause::UnreadablePayload => (400, "InvalidRequestContentException", "Payload is not JSON"),
+        Cause::UnreadableReservation => (
+            400,
+            "InvalidRequestContentException",
+            "Body is not readable",
+        ),
+    }
+}
+
+/// Whose fault it is, which replies of the Lambda API say; none of the Runtime API and the Extensions API.
+fn fault_of(cause: Cause) -> Option<InvokeFault>
+    ensures { result ≡ spec.fault_of cause }
+{
+    match cause {
+        Cause::NotFound
+        | Cause::WrongTicket
+        | Cause::WrongRequest
+        | Cause::UnknownExtension
+        | Cause::MissingHeader
+        | Cause::TooLarge
+        | Cause::UnreadableRegistration
+        | Cause::WrongEvent => None,
+        Cause::UnknownFunction => Some(InvokeFault::NotFound),
+        Cause::MalformedName
+        | Cause::WrongInvocationType
+        | Cause::PayloadTooLarge
+        | Cause::UnreadablePayload
+        | Cause::UnreadableReservation => Some(InvokeFault::User),
+    }
 }
 
 fn refused_by_api(
     alloc: Global,
     status: u16,
     kind: &str,
-    form: InvokeFault,
+    fault: InvokeFault,
     message: &str,
-) -> Result<Decision, AllocError>
+) -> Result<Reply, AllocError>
     requires { list_all is_value_byte kind.now ≡ true }
-    ensures { IfOk result (λ d. d ≡ decisions.Reply (replies.invoke_fault_reply status kind.now form message.now)) }
+    ensures { IfOk result (λ reply. reply ≡ replies.invoke_fault_reply status kind.now fault message.now) }
 {
-    Ok(Decision::Reply(invoke_fault_reply(alloc, status, kind, form, message)?))
+    invoke_fault_reply(alloc, status, kind, fault, message)
 }
 
-/// No route has the path.
-#[tactic(auto, unfolding(crate::specs::Refusals::not_found))]
-pub(crate) fn not_found(alloc: Global) -> Result<Decision, AllocError>
-    ensures { IfOk result (λ d. d ≡ spec.not_found) }
+/// The reply to a request that is refused.
+#[tactic(auto, unfolding(crate::specs::Refusals::refused))]
+pub(crate) fn refused(alloc: Global, cause: Cause) -> Result<Decision, AllocError>
+    ensures { IfOk result (λ d. d ≡ spec.refused cause) }
 {
-    refused(alloc, 404, "NotFound", "No such resource")
+    let (status, kind, message) = refusal_words(cause);
+    let reply = match fault_of(cause) {
+        Some(fault) => refused_by_api(alloc, status, kind, fault, message)?,
+        None => fault_reply(alloc, status, message, kind)?,
+    };
+    Ok(Decision::Reply(reply))
 }
 
-/// What the history is to begin with is no ticket.
-#[tactic(auto, unfolding(crate::specs::Refusals::wrong_ticket))]
-pub(crate) fn wrong_ticket(alloc: Global) -> Result<Decision, AllocError>
-    ensures { IfOk result (λ d. d ≡ spec.wrong_ticket) }
-{
-    refused(alloc, 400, "InvalidTicket", "from is not a ticket")
-}
-
-/// The route has other methods, and the reply says which.
+/// The reply that names the methods of a route which has not that of the request.
 #[tactic(auto, unfolding(crate::specs::Refusals::wrong_method))]
 pub(crate) fn wrong_method(alloc: Global, methods: HeaderValue) -> Result<Decision, AllocError>
     ensures { IfOk result (λ d. d ≡ spec.wrong_method methods) }
@@ -65,151 +159,4 @@ pub(crate) fn wrong_method(alloc: Global, methods: HeaderValue) -> Result<Decisi
         headers: Row::new(headers),
         body,
     }))
-}
-
-/// The path names no invocation of this environment's function.
-#[tactic(auto, unfolding(crate::specs::Refusals::wrong_request))]
-pub(crate) fn wrong_request(alloc: Global) -> Result<Decision, AllocError>
-    ensures { IfOk result (λ d. d ≡ spec.wrong_request) }
-{
-    refused(alloc, 400, "InvalidRequestID", "Not the open invocation")
-}
-
-/// The head names no extension of this environment.
-#[tactic(auto, unfolding(crate::specs::Refusals::unknown_extension))]
-pub(crate) fn unknown_extension(alloc: Global) -> Result<Decision, AllocError>
-    ensures { IfOk result (λ d. d ≡ spec.unknown_extension) }
-{
-    refused(
-        alloc,
-        403,
-        "Extension.UnknownIdentifier",
-        "Extension is not registered here",
-    )
-}
-
-/// A header is absent, or out of its form.
-#[tactic(auto, unfolding(crate::specs::Refusals::missing_header))]
-pub(crate) fn missing_header(alloc: Global) -> Result<Decision, AllocError>
-    ensures { IfOk result (λ d. d ≡ spec.missing_header) }
-{
-    refused(alloc, 400, "MissingHeader", "A required header is missing")
-}
-
-/// The body is longer than 6,291,456 bytes.
-#[tactic(auto, unfolding(crate::specs::Refusals::too_large))]
-pub(crate) fn too_large(alloc: Global) -> Result<Decision, AllocError>
-    ensures { IfOk result (λ d. d ≡ spec.too_large) }
-{
-    refused(
-        alloc,
-        413,
-        "RequestEntityTooLarge",
-        "Payload exceeds 6291456 bytes",
-    )
-}
-
-/// A registration is no JSON of its form.
-#[tactic(auto, unfolding(crate::specs::Refusals::unreadable_registration))]
-pub(crate) fn unreadable_registration(alloc: Global) -> Result<Decision, AllocError>
-    ensures { IfOk result (λ d. d ≡ spec.unreadable_registration) }
-{
-    refused(alloc, 400, "InvalidRequestFormat", "Body is not readable")
-}
-
-/// A registration asks for an event that there isn't.
-#[tactic(auto, unfolding(crate::specs::Refusals::wrong_event))]
-pub(crate) fn wrong_event(alloc: Global) -> Result<Decision, AllocError>
-    ensures { IfOk result (λ d. d ≡ spec.wrong_event) }
-{
-    refused(
-        alloc,
-        400,
-        "InvalidEventType",
-        "Event is not INVOKE or SHUTDOWN",
-    )
-}
-
-/// A name or a qualifier is out of its form.
-#[tactic(auto, unfolding(crate::specs::Refusals::malformed_name))]
-pub(crate) fn malformed_name(alloc: Global) -> Result<Decision, AllocError>
-    ensures { IfOk result (λ d. d ≡ spec.malformed_name) }
-{
-    refused_by_api(
-        alloc,
-        400,
-        "InvalidParameterValueException",
-        InvokeFault::User,
-        "Function name or qualifier is malformed",
-    )
-}
-
-/// The function or its version isn't there.
-#[tactic(auto, unfolding(crate::specs::Refusals::unknown_function))]
-pub(crate) fn unknown_function(alloc: Global) -> Result<Decision, AllocError>
-    ensures { IfOk result (λ d. d ≡ spec.unknown_function) }
-{
-    refused_by_api(
-        alloc,
-        404,
-        "ResourceNotFoundException",
-        InvokeFault::NotFound,
-        "Function not found",
-    )
-}
-
-/// The caller doesn't wait for the invocation.
-#[tactic(auto, unfolding(crate::specs::Refusals::wrong_invocation_type))]
-pub(crate) fn wrong_invocation_type(alloc: Global) -> Result<Decision, AllocError>
-    ensures { IfOk result (λ d. d ≡ spec.wrong_invocation_type) }
-{
-    refused_by_api(
-        alloc,
-        400,
-        "InvalidParameterValueException",
-        InvokeFault::User,
-        "Invocation type is not RequestResponse",
-    )
-}
-
-/// The payload is longer than 6,291,456 bytes.
-#[tactic(auto, unfolding(crate::specs::Refusals::payload_too_large))]
-pub(crate) fn payload_too_large(alloc: Global) -> Result<Decision, AllocError>
-    ensures { IfOk result (λ d. d ≡ spec.payload_too_large) }
-{
-    refused_by_api(
-        alloc,
-        413,
-        "RequestTooLargeException",
-        InvokeFault::User,
-        "Payload exceeds 6291456 bytes",
-    )
-}
-
-/// The payload is no JSON.
-#[tactic(auto, unfolding(crate::specs::Refusals::unreadable_payload))]
-pub(crate) fn unreadable_payload(alloc: Global) -> Result<Decision, AllocError>
-    ensures { IfOk result (λ d. d ≡ spec.unreadable_payload) }
-{
-    refused_by_api(
-        alloc,
-        400,
-        "InvalidRequestContentException",
-        InvokeFault::User,
-        "Payload is not JSON",
-    )
-}
-
-/// A reservation is no JSON of its form.
-#[tactic(auto, unfolding(crate::specs::Refusals::unreadable_reservation))]
-pub(crate) fn unreadable_reservation(alloc: Global) -> Result<Decision, AllocError>
-    ensures { IfOk result (λ d. d ≡ spec.unreadable_reservation) }
-{
-    refused_by_api(
-        alloc,
-        400,
-        "InvalidRequestContentException",
-        InvokeFault::User,
-        "Body is not readable",
-    )
 }

@@ -3,7 +3,10 @@
 ghost use Rattle.std.specs.Prelude.{◌≡◌, ◌≢◌, ◌<◌, ◌++◌, ◌∷◌, All, IfOk, IsTrue, MatchOption, OnOk, Some};
 ghost use Rattle.http_routes.specs.declared.routes.AccountRoute.TheVariants.{Invoke};
 ghost use Rattle.http_routes.specs.declared.routes.EnvironmentRoute.TheVariants.{Response};
-ghost use Rattle.http_routes.specs.Routes.{with_route, with_runtime_rows, with_extension_rows, environment_rows, with_lambda_rows, with_local_rows, account_rows, route_in, is_environment_method, environment_methods, is_account_method, account_methods};
+ghost use Rattle.http_routes.specs.Routes.{with_route, with_runtime_rows, with_extension_rows, environment_rows};
+ghost use Rattle.http_routes.specs.Routes.{with_lambda_rows, with_local_rows, account_rows, route_in};
+ghost use Rattle.http_routes.specs.Routes.{is_environment_method, environment_methods};
+ghost use Rattle.http_routes.specs.Routes.{is_account_method, account_methods};
 
 use http_header::HeaderValue;
 use matchit::{InsertError, Router};

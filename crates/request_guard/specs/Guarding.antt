@@ -5,7 +5,8 @@ use Rattle.request_guard.specs.Hosts.{has_malformed_host, has_served_host}
 use Rattle.request_guard.specs.Pages.{is_from_page}
 use Rattle.request_guard.specs.Codings.{is_plainly_coded}
 use Rattle.request_guard.specs.declared.refusal.Refusal.{Refusal}
-use Rattle.request_guard.specs.declared.refusal.Refusal.TheVariants.{MalformedHost, FromPage, ForeignHost, ForeignCoding}
+use Rattle.request_guard.specs.declared.refusal.Refusal.TheVariants.{MalformedHost, FromPage}
+use Rattle.request_guard.specs.declared.refusal.Refusal.TheVariants.{ForeignHost, ForeignCoding}
 
 -- Why a request of this head is refused, the first cause that holds. The names are those that are listed.
 abbrev pub refusal_of : List ℕ → Parts → Option Refusal

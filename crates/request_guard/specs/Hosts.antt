@@ -1,5 +1,6 @@
 -- The host that a request names, and the hosts that are listed beside the local ones.
-use Rattle.std.specs.Prelude.{ℕ, Bool, true, false, not, ◌&&◌, ◌||◌, ◌==◌, nat_lt, if◌then◌else◌, List, [], ◌∷◌, length, codes, Option, Some, None, option_map}
+use Rattle.std.specs.Prelude.{ℕ, Bool, true, false, not, ◌&&◌, ◌||◌, ◌==◌, nat_lt, if◌then◌else◌, List, [], ◌∷◌, length}
+use Rattle.std.specs.Prelude.{codes, Option, Some, None, option_map}
 use Rattle.std.specs.Char.{is_ascii_alphanumeric}
 use Rattle.std.specs.List.{list_all, list_any, slice_split}
 use Rattle.http.specs.HeaderMap.{get, get_all}
@@ -56,7 +57,7 @@ is_served listed (Some text) = is_literal text || is_local listed (relative (nam
 abbrev pub has_served_host : List ℕ → Parts → Bool
 has_served_host listed p = is_served listed (host_text p)
 
--- a host of this name is one that this service answers for; one without a name is an address in brackets, or there is none
+-- This service answers for a host of this name. Without a name it is an address in brackets, or there is no host.
 abbrev pub serves : List ℕ → Option (List ℕ) → Bool
 serves listed None = true
 serves listed (Some name) = is_local listed (relative name)

@@ -1,5 +1,6 @@
 -- The text of a host in a request, and the names that are local.
-use Rattle.std.specs.Prelude.{ℕ, ◌-◌, Bool, true, false, not, ◌&&◌, ◌||◌, ◌==◌, nat_lt, if◌then◌else◌, List, [], ◌∷◌, length, take, drop, reverse, codes, unwrap_or, position}
+use Rattle.std.specs.Prelude.{ℕ, ◌-◌, Bool, true, false, not, ◌&&◌, ◌||◌, ◌==◌, nat_lt, if◌then◌else◌, List, [], ◌∷◌}
+use Rattle.std.specs.Prelude.{length, take, drop, reverse, codes, unwrap_or, position}
 use Rattle.std.specs.Char.{is_ascii_digit, is_ascii_hexdigit, is_ascii_alphanumeric}
 use Rattle.std.specs.List.{list_all, list_any, slice_split}
 use Rattle.std.specs.Str.{str_eq_ignore_ascii_case}
@@ -34,11 +35,14 @@ abbrev pub closes : List ℕ → Bool
 closes [] = false
 closes (b ∷ port) = b == 93 && is_port_part port
 
+-- what follows the bracket that begins an address: the address, the bracket that ends it, and perhaps a port
+abbrev pub is_address : List ℕ → Bool
+is_address rest = nat_lt 0 (passed is_address_byte rest) && closes (drop (passed is_address_byte rest) rest)
+
 -- an address in brackets and perhaps a port
 abbrev pub is_literal : List ℕ → Bool
 is_literal [] = false
-is_literal (b ∷ rest) =
-    b == 91 && nat_lt 0 (passed is_address_byte rest) && closes (drop (passed is_address_byte rest) rest)
+is_literal (b ∷ rest) = b == 91 && is_address rest
 
 -- the rest behind a dot at the front
 abbrev pub past_dot : List ℕ → List ℕ

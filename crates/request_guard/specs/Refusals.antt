@@ -6,9 +6,10 @@ use Rattle.lambda_wire.specs.declared.reply.Reply.{Reply}
 use Rattle.request_guard.specs.declared.refusal.Api.{Api}
 use Rattle.request_guard.specs.declared.refusal.Api.TheVariants.{Lambda, Runtime}
 use Rattle.request_guard.specs.declared.refusal.Refusal.{Refusal}
-use Rattle.request_guard.specs.declared.refusal.Refusal.TheVariants.{MalformedHost, FromPage, ForeignHost, ForeignCoding, BrokenBody, OutOfMemory}
+use Rattle.request_guard.specs.declared.refusal.Refusal.TheVariants.{MalformedHost, FromPage, ForeignHost}
+use Rattle.request_guard.specs.declared.refusal.Refusal.TheVariants.{ForeignCoding, BrokenBody, OutOfMemory}
 
--- The connection ends behind the reply, whatever is left of the request. (Behind a body that is broken it ends by itself.)
+-- The connection ends behind the reply, whatever is left of the request. (Behind a broken body it ends by itself.)
 abbrev pub closes : Refusal → Bool
 closes MalformedHost = false
 closes FromPage = false
@@ -19,18 +20,23 @@ closes OutOfMemory = true
 
 -- on a port of the Lambda API
 abbrev pub lambda_reply : Refusal → Reply
-lambda_reply MalformedHost = invoke_fault_reply 400 (codes "InvalidParameterValueException") User (codes "Host is malformed")
-lambda_reply FromPage = invoke_fault_reply 403 (codes "AccessDeniedException") User (codes "Web pages may not call this service")
-lambda_reply ForeignHost = invoke_fault_reply 403 (codes "AccessDeniedException") User (codes "Host is neither local nor in LAMBDA_LOCAL_HOSTS")
+lambda_reply MalformedHost = invoke_fault_reply 400 (codes "InvalidParameterValueException") User
+    (codes "Host is malformed")
+lambda_reply FromPage = invoke_fault_reply 403 (codes "AccessDeniedException") User
+    (codes "Web pages may not call this service")
+lambda_reply ForeignHost = invoke_fault_reply 403 (codes "AccessDeniedException") User
+    (codes "Host is neither local nor in LAMBDA_LOCAL_HOSTS")
 lambda_reply ForeignCoding = fault_reply 501 (codes "Transfer coding not supported") (codes "NotImplemented")
-lambda_reply BrokenBody = invoke_fault_reply 400 (codes "InvalidRequestContentException") User (codes "Body is malformed")
+lambda_reply BrokenBody = invoke_fault_reply 400 (codes "InvalidRequestContentException") User
+    (codes "Body is malformed")
 lambda_reply OutOfMemory = invoke_fault_reply 500 (codes "ServiceException") Service (codes "Out of memory")
 
 -- on a port of the Runtime API and the Extensions API
 abbrev pub runtime_reply : Refusal → Reply
 runtime_reply MalformedHost = fault_reply 400 (codes "Host is malformed") (codes "InvalidHost")
 runtime_reply FromPage = fault_reply 403 (codes "Web pages may not call this service") (codes "AccessDenied")
-runtime_reply ForeignHost = fault_reply 403 (codes "Host is neither local nor in LAMBDA_LOCAL_HOSTS") (codes "AccessDenied")
+runtime_reply ForeignHost = fault_reply 403 (codes "Host is neither local nor in LAMBDA_LOCAL_HOSTS")
+    (codes "AccessDenied")
 runtime_reply ForeignCoding = fault_reply 501 (codes "Transfer coding not supported") (codes "NotImplemented")
 runtime_reply BrokenBody = fault_reply 400 (codes "Body is malformed") (codes "InvalidRequestFormat")
 runtime_reply OutOfMemory = fault_reply 500 (codes "Out of memory") (codes "OutOfMemory")

@@ -91,7 +91,8 @@ impl Hosts {
 
 /// The first field `Host`, and whether there is another one.
 fn host_fields(parts: &Parts) -> (Option<&[u8]>, bool)
-    ensures first { option_map (λ t. t.now) result.0 ≡ option_map (λ v. v.bytes) (get parts.now.headers (codes "host")) }
+    ensures first { option_map (λ t. t.now) result.0
+        ≡ option_map (λ v. v.bytes) (get parts.now.headers (codes "host")) }
     ensures several { result.1 ≡ spec.are_several (get_all parts.now.headers (codes "host")) }
 {
     let mut hosts = parts.headers.get_all(header::HOST).iter();
@@ -103,7 +104,8 @@ fn host_fields(parts: &Parts) -> (Option<&[u8]>, bool)
 
 /// What names the host: the authority of the target, else the field `Host` (RFC 9112, section 3.2.2).
 fn host_text<'p>(parts: &'p Parts, field: Option<&'p [u8]>) -> Option<&'p [u8]>
-    ensures { option_map (λ t. t.now) result ≡ spec.or_else (uri_authority parts.now.uri) (option_map (λ t. t.now) field.entry) }
+    ensures { option_map (λ t. t.now) result
+        ≡ spec.or_else (uri_authority parts.now.uri) (option_map (λ t. t.now) field.entry) }
 {
     match parts.uri.authority() {
         Some(authority) => Some(authority.as_str().as_bytes()),

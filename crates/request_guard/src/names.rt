@@ -1,6 +1,6 @@
 //! The text of a host in a request, and the names that are local.
 
-ghost use Rattle.std.specs.Prelude.{◌≡◌, ◌≤◌, ◌==◌, ◌∷◌, ◌&&◌, not, nat_lt, is_some, IfSome, length, drop, position};
+ghost use Rattle.std.specs.Prelude.{◌≡◌, ◌≤◌, ◌==◌, ◌∷◌, not, is_some, IfSome, length, position};
 ghost use Rattle.std.specs.List.{list_all, slice_split};
 ghost use Rattle.std.specs.Char.{is_ascii_digit};
 ghost use Rattle.request_guard.specs.Names as spec;
@@ -96,9 +96,10 @@ fn closes(text: &[u8]) -> bool
     }
 }
 
-/// Whether it is what stands behind the bracket that begins an address.
+/// Whether it is what follows the bracket that begins an address: the address, the bracket that ends it, and
+/// perhaps a port.
 fn is_address(rest: &[u8]) -> bool
-    ensures { result ≡ (nat_lt 0 (spec.passed spec.is_address_byte rest.now) && spec.closes (drop (spec.passed spec.is_address_byte rest.now) rest.now)) }
+    ensures { result ≡ spec.is_address rest.now }
 {
     let length = address_length(rest);
     length > 0 && closes(&rest[length..])

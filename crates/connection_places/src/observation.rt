@@ -1,4 +1,4 @@
-//! What is seen of a connection, at one look a second.
+//! What is seen of a connection: one look a second.
 
 ghost use Rattle.std.specs.Prelude.{◌≡◌};
 ghost use Rattle.connection_places.specs.Looks as spec;
@@ -7,7 +7,7 @@ use http_connection::{PortKind, Told, has_outstayed};
 
 /// What was seen of a connection at the last look, and for how many looks it has been so.
 #[derive(Clone, Copy, Drop)]
-pub(crate) struct Seen {
+pub(crate) struct Observation {
     pub(crate) kind: PortKind,
     told: Told,
     // Without a byte.
@@ -18,12 +18,12 @@ pub(crate) struct Seen {
     unasked: u32,
 }
 
-impl Seen {
-    /// Of a connection that has just come in at such a port.
-    pub(crate) fn first(kind: PortKind, told: Told) -> Seen
+impl Observation {
+    /// Of a connection that has just come in at a port of this kind.
+    pub(crate) fn first(kind: PortKind, told: Told) -> Observation
         ensures { result ≡ spec.first_seen kind told }
     {
-        Seen {
+        Observation {
             kind,
             told,
             still: 0,
@@ -32,12 +32,12 @@ impl Seen {
         }
     }
 
-    /// What is seen so many looks later, at none of which it told anything but this.
-    pub(crate) fn later(self, told: Told, looks: u32) -> Seen
+    /// What is seen `looks` looks later, if it has said only this meanwhile.
+    pub(crate) fn later(self, told: Told, looks: u32) -> Observation
         ensures { result ≡ spec.seen_later self told looks }
     {
         let is_unasked = told.is_unserved() && told.answers == self.told.answers;
-        Seen {
+        Observation {
             kind: self.kind,
             told,
             still: counted(told.is_same(self.told), self.still, looks),
@@ -73,7 +73,7 @@ impl Seen {
     }
 }
 
-/// So many looks more if it is so still, else none.
+/// `looks` more than before if it is still so, else none.
 fn counted(is_still_so: bool, before: u32, looks: u32) -> u32
     ensures { result ≡ spec.counted is_still_so before looks }
 {
