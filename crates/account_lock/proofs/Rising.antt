@@ -37,9 +37,9 @@ rises-push (x ∷ pairs) pair t r last = (
   rises-push pairs pair t r.1 (λ e. let l = last e in omega arith),
 )
 
-rises-front : {X : Type 0} (pairs : List (ℕ × X)) (pair : ℕ × X) (t : ℕ) → Rises (pairs ++ pair ∷ []) t → Rises pairs t
-rises-front [] pair t r = tt
-rises-front (x ∷ pairs) pair t r = ((λ lt. omega (arith, r.0 lt, times-push t pairs pair)), rises-front pairs pair t r.1)
+rises-token : {X : Type 0} (pairs : List (ℕ × X)) (pair : ℕ × X) (t : ℕ) → Rises (pairs ++ pair ∷ []) t → Rises pairs t
+rises-token [] pair t r = tt
+rises-token (x ∷ pairs) pair t r = ((λ lt. omega (arith, r.0 lt, times-push t pairs pair)), rises-token pairs pair t r.1)
 
 is_last : {X : Type 0} (pairs : List (ℕ × X)) (pair : ℕ × X) (t : ℕ) → Rises (pairs ++ pair ∷ []) t → pair.0 ≡ t → highest pairs ≤ t
 is_last [] pair t r e = omega arith
@@ -58,7 +58,7 @@ rising_more {X = X} pairs i d top f g at is p q =
     subst (λ (xs : List (ℕ × X)). FirstFailure (Rises xs) (lesser f g)) (sym (take_more pairs i d at))
     (same (λ t. Rises (take i pairs) t × ((get_or pairs i d).0 ≡ t → top ≤ t)) (Rises (take i pairs ++ get_or pairs i d ∷ [])) (lesser f g)
     (λ t w. rises-push (take i pairs) (get_or pairs i d) t w.0 (λ e. let l = w.1 e in omega arith))
-    (λ t w. (rises-front (take i pairs) (get_or pairs i d) t w, (λ e. let l = is_last (take i pairs) (get_or pairs i d) t w e in omega arith)))
+    (λ t w. (rises-token (take i pairs) (get_or pairs i d) t w, (λ e. let l = is_last (take i pairs) (get_or pairs i d) t w e in omega arith)))
     (both (Rises (take i pairs)) (λ t. (get_or pairs i d).0 ≡ t → top ≤ t) f g p q))
 
 -- and of the highest ticket

@@ -47,13 +47,13 @@ stands config h now call ticket at =
     newest entry (es ++ h) ticket at
 
 -- what holds of a desk holds by the other names of its configuration, its limit and its history
-pub renamed : (P : Config → ℕ → List Entry → Type 0) {config other : Config} {limit most : ℕ} {h front : List Entry}
-    → config ≡ other → limit ≡ most → h ≡ front → P config limit h → P other most front
+pub renamed : (P : Config → ℕ → List Entry → Type 0) {config other : Config} {limit most : ℕ} {h token : List Entry}
+    → config ≡ other → limit ≡ most → h ≡ token → P config limit h → P other most token
 renamed P c m f holds = coe 0 1 (i. P (c i) (m i) (f i)) holds
 
 -- what is seen of a desk
-pub sees : {config other : Config} {limit most : ℕ} {h written before front : List Entry} → config ≡ other
-    → limit ≡ most → IsReached config limit h → h ≡ written → front ≡ written → Extends before written → Sees other most before front
+pub sees : {config other : Config} {limit most : ℕ} {h written before token : List Entry} → config ≡ other
+    → limit ≡ most → IsReached config limit h → h ≡ written → token ≡ written → Extends before written → Sees other most before token
 sees {before = before} c m reached is shown later = record {
   later = subst (Extends before) (sym shown) later;
   reached = renamed (λ k n l. IsReached k n l) c m (is ∙ sym shown) reached;
@@ -62,12 +62,12 @@ sees {before = before} c m reached is shown later = record {
 -- A step of a desk took its call, by the other names; and what holds of the history before it holds there too.
 module _ {B : Type 0} {notes : Kept → ℕ → Answer → Kept → Type 0} {makes : Kept → ℕ → Head → Kept → Type 0}
     (Q : Config → List Entry → Type 0) where
-  pub took : {other : Config} {most : ℕ} {had written front : List Entry} {before after : Held} {now : ℕ} {call : Call}
+  pub took : {other : Config} {most : ℕ} {had written token : List Entry} {before after : Held} {now : ℕ} {call : Call}
       {bell : Option B} {step : Step B} {left : Opened B} (desk : Opened B) → desk.book.config ≡ other
       → desk.book.max_entries ≡ most → IsReached desk.book.config desk.book.max_entries desk.book.history
-      → desk.book.history ≡ written → Extends had written → front ≡ left.book.history → IsWithin other call
+      → desk.book.history ≡ written → Extends had written → token ≡ left.book.history → IsWithin other call
       → IsStep notes makes desk before now call bell step left after → Q desk.book.config desk.book.history
-      → (t : Took other most notes makes had before now call step.ticket front after) × Q other t.taken.before
+      → (t : Took other most notes makes had before now call step.ticket token after) × Q other t.taken.before
   took {had = had} {before = before} {after = after} {now = now} {call = call} {step = step} desk c m reached is later shown
       within made q =
       let config = desk.book.config in
@@ -94,19 +94,19 @@ module _ {B : Type 0} {notes : Kept → ℕ → Answer → Kept → Type 0} {mak
       )
 
 -- a refusal of a desk
-pub turned_away : {B : Type 0} {other : Config} {most : ℕ} {had front : List Entry} {call : Call} {bell : Option B} {back : Back B}
-    (desk : Opened B) → desk.book.config ≡ other → desk.book.max_entries ≡ most → desk.book.history ≡ front → Sees other most had front
-    → IsRefusal desk call bell back → IsTurnedAway other most had call back.refusal front
+pub turned_away : {B : Type 0} {other : Config} {most : ℕ} {had token : List Entry} {call : Call} {bell : Option B} {back : Back B}
+    (desk : Opened B) → desk.book.config ≡ other → desk.book.max_entries ≡ most → desk.book.history ≡ token → Sees other most had token
+    → IsRefusal desk call bell back → IsTurnedAway other most had call back.refusal token
 turned_away {call = call} {back = back} desk c m shown seen refused = record {
   sees = seen;
   exactly = renamed (λ k n l. (back.refusal ≡ JournalFull) ↔ (full k n l call ≡ true)) c m shown refused.1;
 }
 
 -- a call that a desk handed back
-pub declined : {B : Type 0} {other : Config} {most : ℕ} {had front : List Entry} (now : ℕ) (call : Call) (bell : Option B)
+pub declined : {B : Type 0} {other : Config} {most : ℕ} {had token : List Entry} (now : ℕ) (call : Call) (bell : Option B)
     (back : Declined B) (desk : Opened B) → desk.book.config ≡ other → desk.book.max_entries ≡ most
-    → desk.book.history ≡ front → Sees other most had front → IsHandedBack desk now call bell back
-    → IsDeclined other most had now call bell back front
+    → desk.book.history ≡ token → Sees other most had token → IsHandedBack desk now call bell back
+    → IsDeclined other most had now call bell back token
 declined now call bell (Premature other its) desk c m shown seen back =
     (back.0, back.1, seen, renamed (λ k n l. premature k l now call ≡ true) c m shown back.2)
 declined now call bell (Refused refused) desk c m shown seen back = (

@@ -37,7 +37,7 @@ use script::Draft;
 use std::alloc::{AllocError, Global};
 use std::marker::Brand;
 use std::sync::{Arc, Mutex, Wait};
-use usage_ledger::{Blanks, Front, Keep, Ledgers, Line, Pen, Start, Tally, root};
+use usage_ledger::{Blanks, Keep, Ledgers, Pen, Spine, Start, Tally, Token, root};
 
 /// Names an account's ledgers, history, configuration, salt and limit in its type, so that callers know
 /// them without taking the lock.
@@ -71,7 +71,7 @@ impl Identity for Brand {
 #[derive(Drop)]
 pub struct Account<S: Identity, B> {
     locked: Mutex<Locked<S, B>>,
-    line: Line<S>,
+    spine: Spine<S>,
 }
 
 /// Rings the bells of a step after the lock is released, and returns the call's ticket.
@@ -124,15 +124,15 @@ impl<S: Identity, B: Bell> Account<S, B> {
         let Start {
             totals,
             tally,
-            line,
+            spine,
             pen,
         } = root(alloc, blanks);
         let desk = Desk::open(alloc, book, totals);
-        Ok((Account::share(desk, line, pen), tally))
+        Ok((Account::share(desk, spine, pen), tally))
     }
 
     /// Puts a desk behind a lock, with the pen that has written its history.
-    pub fn share(desk: Desk<B, S>, line: Line<S>, pen: Pen<S>) -> Account<S, B>
+    pub fn share(desk: Desk<B, S>, spine: Spine<S>, pen: Pen<S>) -> Account<S, B>
         requires configured { desk.book.config ≡ S.config }
         requires salted { desk.book.salt ≡ S.salt }
         requires limited { desk.book.max_entries ≡ S.most }
@@ -140,7 +140,7 @@ impl<S: Identity, B: Bell> Account<S, B> {
     {
         Account {
             locked: Mutex::new(Locked { desk, pen }),
-            line,
+            spine,
         }
     }
 
@@ -155,25 +155,25 @@ impl<S: Identity, B: Bell> Account<S, B> {
         &self,
         rt: &impl Wait,
         tally: &mut Tally<K, S>,
-        front: &mut Front<S>,
+        token: &mut Token<S>,
         now: u64,
         call: Call,
         bell: Option<B>,
-    ) -> Result<(Ticket, Front<S>), Refused<B>>
+    ) -> Result<(Ticket, Token<S>), Refused<B>>
         requires moment { now < 2 ^ 53 }
         requires within { IsWithin S.config call }
         ensures taken { IfOk result (λ taken. Took S.config S.most K.notes K.makes
-            front.old tally.old.held now call taken.0 taken.1 tally.new.held) }
-        ensures seen { IfOk result (λ taken. front.new ≡ taken.1) }
+            token.old tally.old.held now call taken.0 taken.1 tally.new.held) }
+        ensures seen { IfOk result (λ taken. token.new ≡ taken.1) }
         ensures refused { IfErr result (λ back. (back.bell ≡ bell) × (tally.new.held ≡ tally.old.held)
-            × IsTurnedAway S.config S.most front.old call back.refusal front.new) }
+            × IsTurnedAway S.config S.most token.old call back.refusal token.new) }
     {
         let step = self
             .locked
             .lock(rt)
-            .apply(&self.line, tally, front, now, call, bell);
+            .apply(&self.spine, tally, token, now, call, bell);
         match step {
-            Ok((step, front)) => Ok((ring_out(step), front)),
+            Ok((step, token)) => Ok((ring_out(step), token)),
             Err(refused) => Err(refused),
         }
     }
@@ -188,26 +188,26 @@ impl<S: Identity, B: Bell> Account<S, B> {
         &self,
         rt: &impl Wait,
         tally: &mut Tally<K, S>,
-        front: &mut Front<S>,
+        token: &mut Token<S>,
         now: u64,
         call: Call,
         bell: Option<B>,
-    ) -> Result<(Ticket, Front<S>), Declined<B>>
+    ) -> Result<(Ticket, Token<S>), Declined<B>>
         requires moment { now < 2 ^ 53 }
         requires within { IsWithin S.config call }
         ensures taken { IfOk result (λ taken. (took : Took S.config S.most K.notes K.makes
-            front.old tally.old.held now call taken.0 taken.1 tally.new.held)
+            token.old tally.old.held now call taken.0 taken.1 tally.new.held)
             × (premature S.config took.taken.before now call ≡ false)) }
-        ensures seen { IfOk result (λ taken. front.new ≡ taken.1) }
+        ensures seen { IfOk result (λ taken. token.new ≡ taken.1) }
         ensures declined { IfErr result (λ back. (tally.new.held ≡ tally.old.held)
-            × IsDeclined S.config S.most front.old now call bell back front.new) }
+            × IsDeclined S.config S.most token.old now call bell back token.new) }
     {
         let step = self
             .locked
             .lock(rt)
-            .offer(&self.line, tally, front, now, call, bell);
+            .offer(&self.spine, tally, token, now, call, bell);
         match step {
-            Ok((step, front)) => Ok((ring_out(step), front)),
+            Ok((step, token)) => Ok((ring_out(step), token)),
             Err(declined) => Err(declined),
         }
     }
@@ -222,23 +222,23 @@ impl<S: Identity, B: Bell> Account<S, B> {
         &self,
         rt: &impl Wait,
         tally: &mut Tally<K, S>,
-        front: &mut Front<S>,
+        token: &mut Token<S>,
         now: u64,
     ) -> Result<Option<Ticket>, Refused<B>>
         requires moment { now < 2 ^ 53 }
         ensures taken { IfOk result (λ made. IfSome made (λ ticket. (took : Took S.config S.most K.notes K.makes
-            front.old tally.old.held now Tick ticket front.new tally.new.held)
+            token.old tally.old.held now Tick ticket token.new tally.new.held)
             × (at_rest S.config took.taken.before ≡ true))) }
         ensures none { IfOk result (λ made. IfNone made ((tally.new.held ≡ tally.old.held)
-            × Sees S.config S.most front.old front.new × (at_rest S.config front.new ≡ false))) }
+            × Sees S.config S.most token.old token.new × (at_rest S.config token.new ≡ false))) }
         ensures refused { IfErr result (λ back. (tally.new.held ≡ tally.old.held)
-            × IsTurnedAway S.config S.most front.old Tick back.refusal front.new
-            × (at_rest S.config front.new ≡ true)) }
+            × IsTurnedAway S.config S.most token.old Tick back.refusal token.new
+            × (at_rest S.config token.new ≡ true)) }
     {
         let made = self
             .locked
             .lock(rt)
-            .tick_at_rest(&self.line, tally, front, now);
+            .tick_at_rest(&self.spine, tally, token, now);
         match made {
             Ok(Some(step)) => Ok(Some(ring_out(step))),
             Ok(None) => Ok(None),
@@ -247,73 +247,73 @@ impl<S: Identity, B: Bell> Account<S, B> {
     }
 
     /// Returns a token that has seen the history as it is.
-    pub fn front(&self, rt: &impl Wait) -> Front<S>
+    pub fn token(&self, rt: &impl Wait) -> Token<S>
         ensures { Sees S.config S.most [] result }
     {
-        self.locked.lock(rt).front(&self.line)
+        self.locked.lock(rt).token(&self.spine)
     }
 
     /// Returns another token that has seen as much. It takes no lock.
-    pub fn again(&self, front: &mut Front<S>) -> Front<S>
-        ensures { (result ≡ front.old) × (front.new ≡ front.old) }
+    pub fn again(&self, token: &mut Token<S>) -> Token<S>
+        ensures { (result ≡ token.old) × (token.new ≡ token.old) }
     {
-        front.again(&self.line)
+        token.again(&self.spine)
     }
 
     /// States that of what two tokens have seen, one is a beginning of the other: the account has one
     /// history.
-    pub fn agree(&self, one: &mut Front<S>, other: &mut Front<S>)
+    pub fn agree(&self, one: &mut Token<S>, other: &mut Token<S>)
         ensures agree { Extends one.old other.old ⊎ Extends other.old one.old }
         ensures same { (one.new ≡ one.old) × (other.new ≡ other.old) }
     {
-        one.agree(&self.line, other);
+        one.agree(&self.spine, other);
     }
 
     /// Returns what a ticket was answered, in the history as it is, which the token has then seen.
-    pub fn look(&self, rt: &impl Wait, front: &mut Front<S>, ticket: Ticket) -> Look
-        ensures seen { Sees S.config S.most front.old front.new }
-        ensures value { result ≡ look_of (answer_of front.new ticket) }
+    pub fn look(&self, rt: &impl Wait, token: &mut Token<S>, ticket: Ticket) -> Look
+        ensures seen { Sees S.config S.most token.old token.new }
+        ensures value { result ≡ look_of (answer_of token.new ticket) }
     {
-        Look::of(self.locked.lock(rt).read(&self.line, front).answer(ticket))
+        Look::of(self.locked.lock(rt).read(&self.spine, token).answer(ticket))
     }
 
     /// Returns whether an environment is due at a moment in milliseconds, so that a `Tick` expires it, in the
     /// history as it is, which the token has then seen.
-    pub fn due(&self, rt: &impl Wait, front: &mut Front<S>, now: u64) -> bool
-        ensures seen { Sees S.config S.most front.old front.new }
-        ensures value { result ≡ is_some (first (due S.config front.new now)) }
+    pub fn due(&self, rt: &impl Wait, token: &mut Token<S>, now: u64) -> bool
+        ensures seen { Sees S.config S.most token.old token.new }
+        ensures value { result ≡ is_some (first (due S.config token.new now)) }
     {
-        self.locked.lock(rt).read(&self.line, front).due(now)
+        self.locked.lock(rt).read(&self.spine, token).due(now)
     }
 
     /// Returns the counts of the history as it is, which the token has then seen.
-    pub fn stats(&self, rt: &impl Wait, front: &mut Front<S>) -> Stats
-        ensures seen { Sees S.config S.most front.old front.new }
-        ensures value { result ≡ stats S.config front.new }
+    pub fn stats(&self, rt: &impl Wait, token: &mut Token<S>) -> Stats
+        ensures seen { Sees S.config S.most token.old token.new }
+        ensures value { result ≡ stats S.config token.new }
     {
-        self.locked.lock(rt).read(&self.line, front).stats()
+        self.locked.lock(rt).read(&self.spine, token).stats()
     }
 
     /// Returns how far the service's shutdown has come, in the history as it is, which the token has then
     /// seen.
-    pub fn life(&self, rt: &impl Wait, front: &mut Front<S>) -> Life
-        ensures seen { Sees S.config S.most front.old front.new }
-        ensures value { result ≡ life S.config front.new }
+    pub fn life(&self, rt: &impl Wait, token: &mut Token<S>) -> Life
+        ensures seen { Sees S.config S.most token.old token.new }
+        ensures value { result ≡ life S.config token.new }
     {
-        self.locked.lock(rt).read(&self.line, front).life()
+        self.locked.lock(rt).read(&self.spine, token).life()
     }
 
     /// Returns a function's reservation in force, if it has one, in the history as it is, which the token has
     /// then seen. (GetFunctionConcurrency)
-    pub fn reservation(&self, rt: &impl Wait, front: &mut Front<S>, function: FnNo) -> Option<u32>
+    pub fn reservation(&self, rt: &impl Wait, token: &mut Token<S>, function: FnNo) -> Option<u32>
         requires from_one { 1 ≤ function }
         requires there { function ≤ length S.config.functions }
-        ensures seen { Sees S.config S.most front.old front.new }
-        ensures value { result ≡ reservation S.config front.new function }
+        ensures seen { Sees S.config S.most token.old token.new }
+        ensures value { result ≡ reservation S.config token.new function }
     {
         self.locked
             .lock(rt)
-            .read(&self.line, front)
+            .read(&self.spine, token)
             .reservation(function)
     }
 
@@ -324,13 +324,13 @@ impl<S: Identity, B: Bell> Account<S, B> {
     pub fn render(
         &self,
         rt: &impl Wait,
-        front: &mut Front<S>,
+        token: &mut Token<S>,
         ticket: Ticket,
     ) -> Result<Option<Reply>, AllocError>
-        ensures seen { Sees S.config S.most front.old front.new }
-        ensures text { IfOk result (λ reply. reply ≡ reply_text S.config S.salt front.new ticket) }
+        ensures seen { Sees S.config S.most token.old token.new }
+        ensures text { IfOk result (λ reply. reply ≡ reply_text S.config S.salt token.new ticket) }
     {
-        self.locked.lock(rt).read(&self.line, front).render(ticket)
+        self.locked.lock(rt).read(&self.spine, token).render(ticket)
     }
 
     /// Returns the text of the history before its first entry.
@@ -349,14 +349,18 @@ impl<S: Identity, B: Bell> Account<S, B> {
     pub fn history(
         &self,
         rt: &impl Wait,
-        front: &mut Front<S>,
+        token: &mut Token<S>,
         ticket: Ticket,
     ) -> Result<Option<Vec<u8>>, AllocError>
-        ensures seen { Sees S.config S.most front.old front.new }
+        ensures seen { Sees S.config S.most token.old token.new }
         ensures text { IfOk result (λ text.
-            IsTextOf S.config S.salt ticket (option_map (λ bytes. bytes.items) text) front.new) }
+            IsTextOf S.config S.salt ticket (option_map (λ bytes. bytes.items) text) token.new) }
     {
-        let draft = self.locked.lock(rt).read(&self.line, front).history(ticket);
+        let draft = self
+            .locked
+            .lock(rt)
+            .read(&self.spine, token)
+            .history(ticket);
         finish(draft?)
     }
 
@@ -373,20 +377,20 @@ impl<S: Identity, B: Bell> Account<S, B> {
         ensures settled { IfOk result (λ settled. IsSettled K.ALL settled.book.history tallies.items) }
         ensures tally { IfOk result (λ settled. (settled.tally.held.parts ≡ 2 ^ 32)
             × (settled.tally.held.counts ≡ counts_of settled.book.history)) }
-        ensures seen { IfErr result (λ back. Sees S.config S.most [] back.front) }
-        ensures fault { IfErr result (λ back. IsFault K.ALL back.fault back.front tallies.items) }
+        ensures seen { IfErr result (λ back. Sees S.config S.most [] back.token) }
+        ensures fault { IfErr result (λ back. IsFault K.ALL back.fault back.token tallies.items) }
         ensures counted { IfErr result
-            (λ back. back.fault ≢ TallyMissing → counts_in tallies.items ≡ counts_of back.front) }
+            (λ back. back.fault ≢ TallyMissing → counts_in tallies.items ≡ counts_of back.token) }
         ensures nothing { IfErr result (λ back.
             K.ALL ≡ false → list_all keeps_nothing tallies.items ≡ true → back.fault ≡ TallyMissing) }
     {
-        let Account { locked, line } = self;
+        let Account { locked, spine } = self;
         let Locked { desk, mut pen } = locked.into_inner();
         desk.facts();
-        let front = pen.front(&line);
+        let token = pen.token(&spine);
         match desk.settle(tallies) {
             Ok(settled) => Ok(settled),
-            Err(fault) => Err(Unsettled { fault, front }),
+            Err(fault) => Err(Unsettled { fault, token }),
         }
     }
 

@@ -15,7 +15,7 @@ use call_model::{Call, Entry};
 use shared_history::Source;
 use std::alloc::AllocError;
 use std::marker::Model;
-use usage_ledger::{Front, Keep, Ledgers, Line, Pen, Tally};
+use usage_ledger::{Keep, Ledgers, Pen, Spine, Tally, Token};
 /// What the lock protects: a desk with the configuration, salt and limit that its type names, and the pen
 /// that has written the desk's history. Contracts see the history.
 #[derive(Drop)]
@@ -48,107 +48,107 @@ impl<S: Identity, B: Bell> Locked<S, B> {
     /// Makes one step of the desk, which the pen writes, and returns it with another token that has seen it.
     pub(crate) fn apply<K: Keep>(
         &mut self,
-        line: &Line<S>,
+        spine: &Spine<S>,
         tally: &mut Tally<K, S>,
-        front: &mut Front<S>,
+        token: &mut Token<S>,
         now: u64,
         call: Call,
         bell: Option<B>,
-    ) -> Result<(Step<B>, Front<S>), Refused<B>>
+    ) -> Result<(Step<B>, Token<S>), Refused<B>>
         requires moment { now < 2 ^ 53 }
         requires within { IsWithin S.config call }
         ensures taken { IfOk result (λ step. Took S.config S.most K.notes K.makes
-            front.old tally.old.held now call step.0.ticket step.1 tally.new.held) }
-        ensures seen { IfOk result (λ step. front.new ≡ step.1) }
+            token.old tally.old.held now call step.0.ticket step.1 tally.new.held) }
+        ensures seen { IfOk result (λ step. token.new ≡ step.1) }
         ensures refused { IfErr result (λ back. (back.bell ≡ bell) × (tally.new.held ≡ tally.old.held)
-            × IsTurnedAway S.config S.most front.old call back.refusal front.new) }
+            × IsTurnedAway S.config S.most token.old call back.refusal token.new) }
     {
         self.desk.facts();
-        self.pen.show(line, front);
+        self.pen.show(spine, token);
         let step = match self.desk.apply(tally, now, call, bell) {
             Ok(step) => step,
             Err(refused) => return Err(refused),
         };
-        self.pen.write::<Desk<B, S>, OfDesk>(line, &self.desk);
-        *front = self.pen.front(line);
-        Ok((step, self.pen.front(line)))
+        self.pen.write::<Desk<B, S>, OfDesk>(spine, &self.desk);
+        *token = self.pen.token(spine);
+        Ok((step, self.pen.token(spine)))
     }
 
     /// Does the same with a call that is offered.
     pub(crate) fn offer<K: Keep>(
         &mut self,
-        line: &Line<S>,
+        spine: &Spine<S>,
         tally: &mut Tally<K, S>,
-        front: &mut Front<S>,
+        token: &mut Token<S>,
         now: u64,
         call: Call,
         bell: Option<B>,
-    ) -> Result<(Step<B>, Front<S>), Declined<B>>
+    ) -> Result<(Step<B>, Token<S>), Declined<B>>
         requires moment { now < 2 ^ 53 }
         requires within { IsWithin S.config call }
         ensures taken { IfOk result (λ step. (took : Took S.config S.most K.notes K.makes
-            front.old tally.old.held now call step.0.ticket step.1 tally.new.held)
+            token.old tally.old.held now call step.0.ticket step.1 tally.new.held)
             × (premature S.config took.taken.before now call ≡ false)) }
-        ensures seen { IfOk result (λ step. front.new ≡ step.1) }
+        ensures seen { IfOk result (λ step. token.new ≡ step.1) }
         ensures declined { IfErr result (λ back. (tally.new.held ≡ tally.old.held)
-            × IsDeclined S.config S.most front.old now call bell back front.new) }
+            × IsDeclined S.config S.most token.old now call bell back token.new) }
     {
         self.desk.facts();
-        self.pen.show(line, front);
+        self.pen.show(spine, token);
         let step = match self.desk.offer(tally, now, call, bell) {
             Ok(step) => step,
             Err(declined) => return Err(declined),
         };
-        self.pen.write::<Desk<B, S>, OfDesk>(line, &self.desk);
-        *front = self.pen.front(line);
-        Ok((step, self.pen.front(line)))
+        self.pen.write::<Desk<B, S>, OfDesk>(spine, &self.desk);
+        *token = self.pen.token(spine);
+        Ok((step, self.pen.token(spine)))
     }
 
     /// Takes a Tick, but only while no deadline is running.
     pub(crate) fn tick_at_rest<K: Keep>(
         &mut self,
-        line: &Line<S>,
+        spine: &Spine<S>,
         tally: &mut Tally<K, S>,
-        front: &mut Front<S>,
+        token: &mut Token<S>,
         now: u64,
     ) -> Result<Option<Step<B>>, Refused<B>>
         requires moment { now < 2 ^ 53 }
         ensures taken { IfOk result (λ made. IfSome made (λ step. (took : Took S.config S.most K.notes K.makes
-            front.old tally.old.held now Tick step.ticket front.new tally.new.held)
+            token.old tally.old.held now Tick step.ticket token.new tally.new.held)
             × (at_rest S.config took.taken.before ≡ true))) }
         ensures none { IfOk result (λ made. IfNone made ((tally.new.held ≡ tally.old.held)
-            × Sees S.config S.most front.old front.new × (at_rest S.config front.new ≡ false))) }
+            × Sees S.config S.most token.old token.new × (at_rest S.config token.new ≡ false))) }
         ensures refused { IfErr result (λ back. (tally.new.held ≡ tally.old.held)
-            × IsTurnedAway S.config S.most front.old Tick back.refusal front.new
-            × (at_rest S.config front.new ≡ true)) }
+            × IsTurnedAway S.config S.most token.old Tick back.refusal token.new
+            × (at_rest S.config token.new ≡ true)) }
     {
         self.desk.facts();
-        self.pen.show(line, front);
+        self.pen.show(spine, token);
         let step = match self.desk.tick_at_rest(tally, now) {
             Ok(Some(step)) => step,
             Ok(None) => return Ok(None),
             Err(refused) => return Err(refused),
         };
-        self.pen.write::<Desk<B, S>, OfDesk>(line, &self.desk);
-        *front = self.pen.front(line);
+        self.pen.write::<Desk<B, S>, OfDesk>(spine, &self.desk);
+        *token = self.pen.token(spine);
         Ok(Some(step))
     }
 
     /// Returns a token that has seen the history as it is.
-    pub(crate) fn front(&mut self, line: &Line<S>) -> Front<S>
+    pub(crate) fn token(&mut self, spine: &Spine<S>) -> Token<S>
         ensures { Sees S.config S.most [] result }
     {
         self.desk.facts();
-        self.pen.front(line)
+        self.pen.token(spine)
     }
 
     /// Shows a token the history as it is, and returns the book that has it.
-    pub(crate) fn read(&mut self, line: &Line<S>, front: &mut Front<S>) -> &Book
-        ensures seen { Sees S.config S.most front.old front.new }
-        ensures book { result.now ≡ book_of S.config S.salt S.most front.new }
+    pub(crate) fn read(&mut self, spine: &Spine<S>, token: &mut Token<S>) -> &Book
+        ensures seen { Sees S.config S.most token.old token.new }
+        ensures book { result.now ≡ book_of S.config S.salt S.most token.new }
     {
         self.desk.facts();
-        self.pen.show(line, front);
+        self.pen.show(spine, token);
         self.desk.book()
     }
 

@@ -18,7 +18,7 @@ use crate::{Bell, Desk, SettleFault};
 use account_book::Book;
 use call_model::{Answer, Stats};
 use std::alloc::Global;
-use usage_ledger::{Front, Keep, Ledgers, Tally, Totals};
+use usage_ledger::{Keep, Ledgers, Tally, Token, Totals};
 
 /// A settled account: its tallies have counted what its book counts.
 #[derive(Drop)]
@@ -37,7 +37,7 @@ pub struct Unsettled<L: Ledgers> {
     /// The first fault that holds.
     pub fault: SettleFault,
     /// A token that has seen the history in which the fault is found.
-    pub front: Front<L>,
+    pub token: Token<L>,
 }
 
 /// Returns whether the tallies have all parts.

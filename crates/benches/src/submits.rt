@@ -117,7 +117,7 @@ fn work<S: Identity>(
 {
     let Job { tally, env } = job;
     let mut tally = tally;
-    let mut front = account.front(rt);
+    let mut token = account.token(rt);
     if env < 1 || env > OWN {
         return None;
     }
@@ -126,7 +126,7 @@ fn work<S: Identity>(
         for part in 0..3 {
             let call = call(alloc, env, part, turn)?;
             if account
-                .submit(rt, &mut tally, &mut front, 0, call, Some(Quiet))
+                .submit(rt, &mut tally, &mut token, 0, call, Some(Quiet))
                 .is_ok()
             {
                 taken = taken.saturating_add(1);
@@ -291,7 +291,9 @@ fn run<R: Wait + Threads + Clock + Sync, S: Identity + Send + Sync>(
             if !park(&mut desk, &mut tally, parked) {
                 return None;
             }
-            if desk.book().config().functions().len() < 8 || desk.book().config().environments() < 8 {
+            if desk.book().config().functions().len() < 8
+                || desk.book().config().environments() < 8
+            {
                 return None;
             }
             applies(rt, alloc, &mut desk, &mut tally, turns)

@@ -14,7 +14,7 @@ use account_book::Book;
 use account_lock::{Account, Bell, Desk, Identity, Settled, Unsettled};
 use call_model::Stats;
 use std::sync::Wait;
-use usage_ledger::{Front, Keep, Ledgers, Tally};
+use usage_ledger::{Keep, Ledgers, Tally, Token};
 
 /// Returns the counts of a book; the headline holds of its history with them.
 pub fn of_book(book: &Book) -> Stats
@@ -40,13 +40,13 @@ pub fn of_desk<B: Bell, L: Ledgers>(desk: &Desk<B, L>) -> Stats
 pub fn of_account<S: Identity, B: Bell>(
     account: &Account<S, B>,
     rt: &impl Wait,
-    front: &mut Front<S>,
+    token: &mut Token<S>,
 ) -> Stats
-    ensures seen { Sees S.config S.most front.old front.new }
-    ensures headline { Headline S.config front.new result }
+    ensures seen { Sees S.config S.most token.old token.new }
+    ensures headline { Headline S.config token.new result }
 {
     laws::seen();
-    account.stats(rt, front)
+    account.stats(rt, token)
 }
 
 /// Settles an account, which no thread shares any more: the headline holds of its history, and all tallies
@@ -66,10 +66,10 @@ pub fn settle<S: Identity, B: Bell, K: Keep>(
     ensures settled { IfOk result (λ settled. IsSettled K.ALL settled.book.history tallies.items) }
     ensures tally { IfOk result (λ settled. (settled.tally.held.parts ≡ 2 ^ 32)
         × (settled.tally.held.counts ≡ counts_of settled.book.history)) }
-    ensures seen { IfErr result (λ back. Sees S.config S.most [] back.front) }
-    ensures fault { IfErr result (λ back. IsFault K.ALL back.fault back.front tallies.items) }
+    ensures seen { IfErr result (λ back. Sees S.config S.most [] back.token) }
+    ensures fault { IfErr result (λ back. IsFault K.ALL back.fault back.token tallies.items) }
     ensures counted { IfErr result
-        (λ back. back.fault ≢ TallyMissing → counts_in tallies.items ≡ counts_of back.front) }
+        (λ back. back.fault ≢ TallyMissing → counts_in tallies.items ≡ counts_of back.token) }
     ensures nothing { IfErr result (λ back.
         K.ALL ≡ false → list_all keeps_nothing tallies.items ≡ true → back.fault ≡ TallyMissing) }
 {

@@ -28,7 +28,7 @@ use std::alloc::{AllocError, AllocGlobal};
 use std::net::TcpStream;
 use std::sync::{Arc, Mutex, Wait};
 use std::{io, thread, time};
-use usage_ledger::{Front as Token, Keep, Ledgers, Tally};
+use usage_ledger::{Keep, Ledgers, Tally, Token};
 
 /// The stack of a thread, in bytes. The deepest chain of calls takes some 80 KB.
 const STACK: usize = 512 * 1024;
@@ -76,7 +76,7 @@ impl<S: Identity> Tools<S> {
             Ok(event_loop) => Ok(Tools {
                 event_loop,
                 sides: Sides::new(),
-                token: account.front(rt),
+                token: account.token(rt),
             }),
             Err(fault) => Err(fault),
         }

@@ -17,7 +17,7 @@ use std::sync::{Arc, Wait};
 use std::thread::JoinHandle;
 use std::time::Duration;
 use std::{thread, time};
-use usage_ledger::{Front, Keep, Tally};
+use usage_ledger::{Keep, Tally, Token};
 
 /// How many milliseconds pass between two looks whether something is due.
 const BEAT: u64 = 50;
@@ -47,14 +47,14 @@ fn catch_up<S: Identity, N: Clock, K: Keep>(
     account: &Account<S, OneShotBell>,
     clock: &N,
     tally: &mut Tally<K, S>,
-    front: &mut Front<S>,
+    token: &mut Token<S>,
 ) {
     let lag = clock.lag();
     if lag <= MOST_LAG {
         return;
     }
     let now = clock.now().saturating_add(lag).min(GREATEST_MOMENT);
-    if let Ok(Some(_taken)) = account.tick_at_rest(rt, tally, front, now) {
+    if let Ok(Some(_taken)) = account.tick_at_rest(rt, tally, token, now) {
         clock.set_forward(lag);
     }
 }
@@ -65,13 +65,13 @@ fn tick<S: Identity, N: Clock, K: Keep>(
     account: &Account<S, OneShotBell>,
     clock: &N,
     tally: &mut Tally<K, S>,
-    front: &mut Front<S>,
+    token: &mut Token<S>,
 ) -> Option<Refusal> {
     let now = moment(clock);
-    if !account.due(rt, front, now) {
+    if !account.due(rt, token, now) {
         return None;
     }
-    match account.submit(rt, tally, front, now, Call::Tick, None) {
+    match account.submit(rt, tally, token, now, Call::Tick, None) {
         Ok(_) => None,
         Err(refused) => Some(refused.refusal),
     }
@@ -108,13 +108,13 @@ fn tick_on<R: Wait + time::Clock, S: Identity, N: Clock, K: Keep>(
     is_over: &AtomicBool,
 ) -> Tally<K, S> {
     let mut tally = tally;
-    let mut front = account.front(rt);
+    let mut token = account.token(rt);
     let mut refused = 0;
     for _ in rt.forever() {
-        catch_up(rt, account, clock, &mut tally, &mut front);
-        refused = refused_after(refused, tick(rt, account, clock, &mut tally, &mut front));
-        notices.note(account.stats(rt, &mut front).entries);
-        if has_ended(account.life(rt, &mut front), refused) {
+        catch_up(rt, account, clock, &mut tally, &mut token);
+        refused = refused_after(refused, tick(rt, account, clock, &mut tally, &mut token));
+        notices.note(account.stats(rt, &mut token).entries);
+        if has_ended(account.life(rt, &mut token), refused) {
             is_over.store(true, SeqCst);
         }
         if is_over.load(SeqCst) {

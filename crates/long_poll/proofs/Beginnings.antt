@@ -86,7 +86,7 @@ module _ {R S D N K L : Type 0} {service : Service.Ghosts S K L} {decider : Deci
   begun_submitted head body call made (Replied reply) h = (decision.Submit call, made, inr h)
   begun_submitted head body call made (Dozes held) h = (rw h.0 made, h.1)
   begun_submitted head body call made (AsksForHistory from) h = absurd h
-  begun_submitted head body call made (Parked ticket heard front) h = (call, made, h)
+  begun_submitted head body call made (Parked ticket heard token) h = (call, made, h)
 
   module _ {B P E : Type 0} (yields : B → Runs (Result (Frame P) E)) (reads : P → List ℕ → Type 0)
       {H : Type 0} (shows : Option ℕ → H → Type 0) where
@@ -120,7 +120,7 @@ module _ {R S D N K L : Type 0} {service : Service.Ghosts S K L} {decider : Deci
     gives_answer (Holding held) ticket heard seen h (Err OutOfMemory) rendered = tt
     gives_answer (Holding held) ticket heard seen h (Err BodyFailed) rendered = absurd rendered
     gives_answer Submitting ticket heard seen h r rendered = absurd h
-    gives_answer (Waiting t heard' front) ticket heard seen h r rendered = absurd h
+    gives_answer (Waiting t heard' token) ticket heard seen h r rendered = absurd h
 
     -- it has its reply
     pub gives_reply : (stage : Stage B L) (reply : Reply)
@@ -129,7 +129,7 @@ module _ {R S D N K L : Type 0} {service : Service.Ghosts S K L} {decider : Deci
     gives_reply (Collecting parts collecting) reply h = h
     gives_reply (Holding held) reply h = inr h
     gives_reply Submitting reply h = absurd h
-    gives_reply (Waiting t heard front) reply h = absurd h
+    gives_reply (Waiting t heard token) reply h = absurd h
 
     -- it has none
     pub gives_fault : (stage : Stage B L) (fault : ExchangeFault)
@@ -142,7 +142,7 @@ module _ {R S D N K L : Type 0} {service : Service.Ghosts S K L} {decider : Deci
     gives_fault (Holding held) OutOfMemory h = tt
     gives_fault (Holding held) BellLost h = absurd h
     gives_fault Submitting fault h = absurd h
-    gives_fault (Waiting t heard front) fault h = absurd h
+    gives_fault (Waiting t heard token) fault h = absurd h
 
     -- its call is held back, and this came of it in the end
     pub gives_held : (stage : Stage B L) (held : Dozing)
@@ -159,7 +159,7 @@ module _ {R S D N K L : Type 0} {service : Service.Ghosts S K L} {decider : Deci
     gives_held (Collecting parts collecting) held h (Err BodyFailed) came = absurd came
     gives_held (Holding before) held h r came = rw (← h.0) came
     gives_held Submitting held h r came = absurd h
-    gives_held (Waiting t heard front) held h r came = absurd h
+    gives_held (Waiting t heard token) held h r came = absurd h
 
   module _ {B P E : Type 0} (yields : B → Runs (Result (Frame P) E)) (reads : P → List ℕ → Type 0) where
     -- a call that is held back can be submitted
@@ -169,7 +169,7 @@ module _ {R S D N K L : Type 0} {service : Service.Ghosts S K L} {decider : Deci
         whatever_body reads (yields collecting.body) parts collecting.held _ (λ body b. b.1) h
     holds_held (Holding before) held h = h.1
     holds_held Submitting held h = absurd h
-    holds_held (Waiting t heard front) held h = absurd h
+    holds_held (Waiting t heard token) held h = absurd h
 
   module _ {B P E : Type 0} (yields : B → Runs (Result (Frame P) E)) (reads : P → List ℕ → Type 0) (s : S) where
     -- it asks for the history, and this shows it
@@ -184,4 +184,4 @@ module _ {R S D N K L : Type 0} {service : Service.Ghosts S K L} {decider : Deci
     gives_history (Collecting parts collecting) from h (Err fault) is = rw is tt
     gives_history (Holding held) from h r is = absurd h
     gives_history Submitting from h r is = absurd h
-    gives_history (Waiting t heard front) from h r is = absurd h
+    gives_history (Waiting t heard token) from h r is = absurd h

@@ -12,7 +12,7 @@ use Rattle.account_lock.specs.declared.desk.Look.TheVariants.{Given, Waiting}
 -- history.
 abbrev pub found : {R S H K L : Type 0} → Service.Ghosts S K L → Poll R S H K L → Look → Type 0
 found service poll look =
-    (then : List Entry) × service.looks (arc_value poll.service) poll.front poll.ticket look then
+    (then : List Entry) × service.looks (arc_value poll.service) poll.token poll.ticket look then
 
 -- An answer is what a look gives. Where the bell was lost, something was heard, and a look found that the
 -- ticket waits.

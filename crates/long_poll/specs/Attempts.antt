@@ -23,7 +23,7 @@ abbrev pub IsNearer : {L : Type 0} → ℕ → Begun L → Type 0
 IsNearer left (Replied reply) = Unit {0}
 IsNearer left (Dozes held) = held.left < left
 IsNearer left (AsksForHistory from) = Unit {0}
-IsNearer left (Parked ticket heard front) = Unit {0}
+IsNearer left (Parked ticket heard token) = Unit {0}
 
 module _ {R S D N K L : Type 0} {service : Service.Ghosts S K L} {decider : Decide.Ghosts D}
     {keep : Keep.Ghosts K} (connection : Connection R S D N K L service decider keep)

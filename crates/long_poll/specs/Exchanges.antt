@@ -148,7 +148,7 @@ module _ {R S D N K L : Type 0} {service : Service.Ghosts S K L} {decider : Deci
     IsBegun call (Replied reply) = IsRefusal call reply
     IsBegun call (Dozes held) = (held.call ≡ call) × IsHeld held
     IsBegun call (AsksForHistory from) = ⊥
-    IsBegun call (Parked ticket heard front) = IsParked call ticket heard front
+    IsBegun call (Parked ticket heard token) = IsParked call ticket heard token
 
     -- The reply to a request, by what is done with it.
     abbrev pub IsReply : Decision → Reply → Type 0
@@ -161,8 +161,8 @@ module _ {R S D N K L : Type 0} {service : Service.Ghosts S K L} {decider : Deci
     HasBegun head body (Replied reply) = (made : Decision) × Decides head body made × IsReply made reply
     HasBegun head body (Dozes held) = Decides head body (decision.Submit held.call) × IsHeld held
     HasBegun head body (AsksForHistory from) = Decides head body (decision.Show (History from))
-    HasBegun head body (Parked ticket heard front) =
-        (call : Call) × Decides head body (decision.Submit call) × IsParked call ticket heard front
+    HasBegun head body (Parked ticket heard token) =
+        (call : Call) × Decides head body (decision.Submit call) × IsParked call ticket heard token
 
     -- What comes of a call once it was held back: it is submitted.
     abbrev pub ComesOfCall : {H : Type 0} → Call → Result (Outcome H) ExchangeFault → Type 0

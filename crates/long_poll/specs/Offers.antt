@@ -8,7 +8,7 @@ use Rattle.call_types.specs.declared.call.Entry.{Entry}
 use Rattle.usage_ledger.specs.Tallies.{Held}
 use Rattle.long_poll.specs.declared.bell.OneShotBell.{OneShotBell}
 
--- What comes back of a submit: the ticket, with the history that its front has seen; or why it was refused.
+-- What comes back of a submit: the ticket, with the history that its token has seen; or why it was refused.
 abbrev pub CameBack : Type 0
 CameBack = Result (ℕ × List Entry) (Refused OneShotBell)
 

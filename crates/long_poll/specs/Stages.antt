@@ -23,28 +23,28 @@ abbrev pub IsStarting : {B L : Type 0} → (Dozing → Type 0) → (B → Type 0
 IsStarting is_held can_poll (Collecting parts collecting) = can_poll collecting.body
 IsStarting is_held can_poll (Holding held) = is_held held
 IsStarting is_held can_poll Submitting = ⊥
-IsStarting is_held can_poll (Waiting ticket heard front) = ⊥
+IsStarting is_held can_poll (Waiting ticket heard token) = ⊥
 
 -- its call is held back
 abbrev pub IsHolding : {B L : Type 0} → (Dozing → Type 0) → Stage B L → Type 0
 IsHolding is_held (Collecting parts collecting) = ⊥
 IsHolding is_held (Holding held) = is_held held
 IsHolding is_held Submitting = ⊥
-IsHolding is_held (Waiting ticket heard front) = ⊥
+IsHolding is_held (Waiting ticket heard token) = ⊥
 
 -- its answer is awaited
 abbrev pub IsWaiting : {B L : Type 0} → Stage B L → Type 0
 IsWaiting (Collecting parts collecting) = ⊥
 IsWaiting (Holding held) = ⊥
 IsWaiting Submitting = ⊥
-IsWaiting (Waiting ticket heard front) = Unit {0}
+IsWaiting (Waiting ticket heard token) = Unit {0}
 
 -- it can be polled
 abbrev pub CanGoOn : {B L : Type 0} → (Dozing → Type 0) → (B → Type 0) → Stage B L → Type 0
 CanGoOn is_held can_poll (Collecting parts collecting) = can_poll collecting.body
 CanGoOn is_held can_poll (Holding held) = is_held held
 CanGoOn is_held can_poll Submitting = ⊥
-CanGoOn is_held can_poll (Waiting ticket heard front) = Unit {0}
+CanGoOn is_held can_poll (Waiting ticket heard token) = Unit {0}
 
 -- The sources that it waits for: those of its body, or that of its bell. While its call is held back it waits for none,
 -- and asks to be polled again.
@@ -52,7 +52,7 @@ abbrev pub WaitsFor : {B L : Type 0} → (B → ℕ → Type 0) → Stage B L �
 WaitsFor needs (Collecting parts collecting) source = needs collecting.body source
 WaitsFor needs (Holding held) source = ⊥
 WaitsFor needs Submitting source = ⊥
-WaitsFor needs (Waiting ticket heard front) source = source ≡ hears_at heard
+WaitsFor needs (Waiting ticket heard token) source = source ≡ hears_at heard
 
 module _ {R S D N K L : Type 0} {service : Service.Ghosts S K L} {decider : Decide.Ghosts D}
     {keep : Keep.Ghosts K} (connection : Connection R S D N K L service decider keep)
@@ -64,7 +64,7 @@ module _ {R S D N K L : Type 0} {service : Service.Ghosts S K L} {decider : Deci
       Exchanges connection clock shows reads (yields collecting.body) parts collecting.held
   GivesFrom shows (Holding held) = ComesOfCall connection clock held.call
   GivesFrom shows Submitting = λ r. ⊥
-  GivesFrom shows (Waiting ticket heard front) = Awaits (shown connection front) ticket
+  GivesFrom shows (Waiting ticket heard token) = Awaits (shown connection token) ticket
 
   -- What it has come to once its body was collected, or its call was held back for another pause.
   abbrev pub StartsFrom : Stage B L → Result (Begun L) ExchangeFault → Type 0
@@ -78,4 +78,4 @@ module _ {R S D N K L : Type 0} {service : Service.Ghosts S K L} {decider : Deci
   StartsFrom (Holding held) (Err OutOfMemory) = Unit {0}
   StartsFrom (Holding held) (Err BellLost) = ⊥
   StartsFrom Submitting begun = ⊥
-  StartsFrom (Waiting ticket heard front) begun = ⊥
+  StartsFrom (Waiting ticket heard token) begun = ⊥

@@ -11,7 +11,7 @@ use Rattle.account_lock.specs.Submits.{IsTurnedAway, Took}
 use Rattle.account_lock.specs.declared.desk.Refused.{Refused}
 
 -- What the account says of a call that was taken, and of one that was refused, by what its caller had seen of the
--- history, and has seen then. A front comes with the ticket, and has seen as much.
+-- history, and has seen then. A token comes with the ticket, and has seen as much.
 abbrev pub Submits : {B : Type 0} → Config → ℕ → (Kept → ℕ → Answer → Kept → Type 0)
     → (Kept → ℕ → Head → Kept → Type 0)
     → List Entry → Held → ℕ → Call → Option B → Result (ℕ × List Entry) (Refused B) → List Entry → Held → Type 0

@@ -28,7 +28,7 @@ use std::cell::Cell;
 use std::sync::{Arc, Mutex, Wait};
 use std::time::Duration;
 use std::{thread, time};
-use usage_ledger::{Front, Keep, Ledgers, Tally};
+use usage_ledger::{Keep, Ledgers, Tally, Token};
 
 /// The first pause between two looks whether a call is still premature, in microseconds. A runtime that
 /// is on its way to its next invocation wants no longer as a rule, and its caller waits no longer then.
@@ -51,7 +51,7 @@ pub struct Connection<R, S: Service<K, L>, D: Decide, N, K: Keep, L: Ledgers> {
     open: Arc<OpenPoll>,
     patience: u32,
     // The token, which has seen the history as far as the requests before; none while one of them has it.
-    seen: Cell<Option<Front<L>>>,
+    seen: Cell<Option<Token<L>>>,
     // The room in which payloads are read, by one decision at a time.
     scratch: Cell<PayloadScratch>,
     ghost agree: { S.serves (arc_value service) ≡ D.decides_for (arc_value decider) },
@@ -82,12 +82,12 @@ pub(crate) enum Begun<L: Ledgers> {
     AsksForHistory {
         from: Option<Ticket>,
     },
-    /// Its call was submitted, and something is heard once its ticket is answered. The front has seen
+    /// Its call was submitted, and something is heard once its ticket is answered. The token has seen
     /// the history up to the call.
     Parked {
         ticket: Ticket,
         heard: Heard,
-        front: Front<L>,
+        token: Token<L>,
     },
 }
 
@@ -95,7 +95,7 @@ pub(crate) enum Begun<L: Ledgers> {
 #[derive(Drop)]
 enum Attempt<L: Ledgers> {
     /// It was submitted, and this came back.
-    Made(Result<(Ticket, Front<L>), Refused<OneShotBell>>),
+    Made(Result<(Ticket, Token<L>), Refused<OneShotBell>>),
     /// It was premature, and comes back with its bell.
     HeldBack(Call, OneShotBell),
 }
@@ -134,7 +134,7 @@ impl<
         decider: Arc<D>,
         clock: Arc<N>,
         tally: Arc<Mutex<Tally<K, L>>>,
-        front: Front<L>,
+        token: Token<L>,
         open: Arc<OpenPoll>,
         patience: u32,
     ) -> Connection<R, S, D, N, K, L>
@@ -150,7 +150,7 @@ impl<
             tally,
             open,
             patience,
-            seen: Cell::new(Some(front)),
+            seen: Cell::new(Some(token)),
             scratch: Cell::new(PayloadScratch::new()),
         }
     }
@@ -161,10 +161,10 @@ impl<
     }
 
     /// The connection's token, to be put back. If a request has it, another one that has seen the history.
-    fn token(&self) -> Front<L> {
+    fn token(&self) -> Token<L> {
         match self.seen.take() {
-            Some(front) => front,
-            None => self.service.front(&self.rt),
+            Some(token) => token,
+            None => self.service.token(&self.rt),
         }
     }
 
@@ -173,17 +173,17 @@ impl<
         &self,
         call: Call,
         bell: OneShotBell,
-    ) -> Result<(Ticket, Front<L>), Refused<OneShotBell>>
+    ) -> Result<(Ticket, Token<L>), Refused<OneShotBell>>
         requires { IsWithin (S.serves (arc_value self.now.service)) call }
         ensures { SubmittedWith self.now N.Clock bell call result }
     {
-        let mut front = self.token();
+        let mut token = self.token();
         let mut tally = self.tally.lock(&self.rt);
         let now = moment(&*self.clock);
         let came = self
             .service
-            .submit(&self.rt, &mut tally, &mut front, now, call, Some(bell));
-        self.seen.set(Some(front));
+            .submit(&self.rt, &mut tally, &mut token, now, call, Some(bell));
+        self.seen.set(Some(token));
         came
     }
 
@@ -192,13 +192,13 @@ impl<
         requires { IsWithin (S.serves (arc_value self.now.service)) call }
         ensures { IsAttempt self.now N.Clock bell call result }
     {
-        let mut front = self.token();
+        let mut token = self.token();
         let mut tally = self.tally.lock(&self.rt);
         let now = moment(&*self.clock);
         let came = self
             .service
-            .offer(&self.rt, &mut tally, &mut front, now, call, Some(bell));
-        self.seen.set(Some(front));
+            .offer(&self.rt, &mut tally, &mut token, now, call, Some(bell));
+        self.seen.set(Some(token));
         match came {
             Ok(taken) => Attempt::Made(Ok(taken)),
             Err(Declined::Refused(refused)) => Attempt::Made(Err(refused)),
@@ -273,14 +273,14 @@ impl<
                 is_invoke,
                 refused.refusal,
             )?)),
-            Attempt::Made(Ok((ticket, front))) => {
+            Attempt::Made(Ok((ticket, token))) => {
                 if is_next {
                     self.open.note(ticket);
                 }
                 Ok(Begun::Parked {
                     ticket,
                     heard,
-                    front,
+                    token,
                 })
             }
         }
@@ -310,9 +310,9 @@ impl<
     fn stats(&self) -> Stats
         ensures { Counts self.now result }
     {
-        let mut front = self.token();
-        let stats = self.service.stats(&self.rt, &mut front);
-        self.seen.set(Some(front));
+        let mut token = self.token();
+        let stats = self.service.stats(&self.rt, &mut token);
+        self.seen.set(Some(token));
         stats
     }
 
@@ -321,9 +321,9 @@ impl<
         requires { IsFunction (S.serves (arc_value self.now.service)) function }
         ensures { Reserves self.now function result }
     {
-        let mut front = self.token();
-        let count = self.service.reservation(&self.rt, &mut front, function);
-        self.seen.set(Some(front));
+        let mut token = self.token();
+        let count = self.service.reservation(&self.rt, &mut token, function);
+        self.seen.set(Some(token));
         count
     }
 
@@ -360,10 +360,10 @@ impl<
     }
 
     /// Renders the answer of a ticket. The note of a Next is taken back.
-    fn render(&self, front: &mut Front<L>, ticket: Ticket) -> Result<Reply, ExchangeFault>
-        ensures { Renders (shown self.now front.old) ticket result }
+    fn render(&self, token: &mut Token<L>, ticket: Ticket) -> Result<Reply, ExchangeFault>
+        ensures { Renders (shown self.now token.old) ticket result }
     {
-        match self.service.render(&self.rt, front, ticket) {
+        match self.service.render(&self.rt, token, ticket) {
             Err(AllocError) => Err(ExchangeFault::OutOfMemory),
             Ok(None) => Err(ExchangeFault::BellLost),
             Ok(Some(reply)) => {
@@ -378,23 +378,23 @@ impl<
     pub(crate) fn poll_render<H: Future>(
         &self,
         heard: &mut H,
-        front: &mut Front<L>,
+        token: &mut Token<L>,
         ticket: Ticket,
         cx: &mut Context<'_>,
     ) -> Poll<Result<Reply, ExchangeFault>>
     where
         H::Output: Drop,
         requires { H.can_poll heard.old }
-        ensures value { IfReady result (RendersOnce (H.gives heard.old) (shown self.now front.old) ticket) }
+        ensures value { IfReady result (RendersOnce (H.gives heard.old) (shown self.now token.old) ticket) }
         ensures again { OnPending result (H.can_poll heard.new) }
         ensures same { OnPending result (KeepsTo H.gives heard.old heard.new) }
         ensures registered { OnPending result (Covers cx.new (H.needs heard.new)) }
         ensures kept { Keeps cx.old cx.new }
-        ensures front { OnPending result (front.new ≡ front.old) }
+        ensures token { OnPending result (token.new ≡ token.old) }
     {
         match heard.poll(cx) {
             Poll::Pending => Poll::Pending,
-            Poll::Ready(_) => Poll::Ready(self.render(front, ticket)),
+            Poll::Ready(_) => Poll::Ready(self.render(token, ticket)),
         }
     }
 }

@@ -24,7 +24,7 @@ use http::request::Parts;
 use http_body::Body;
 use std::sync::{Arc, Wait};
 use std::{mem, time};
-use usage_ledger::{Front, Keep, Ledgers};
+use usage_ledger::{Keep, Ledgers, Token};
 
 /// Where an exchange stands.
 #[derive(Drop)]
@@ -38,11 +38,11 @@ enum Stage<B, L: Ledgers> {
     Holding(Dozing),
     /// The call that was held back is being looked at, within one poll.
     Submitting,
-    /// The call was submitted, and its answer is awaited. The front has seen the history up to the call.
+    /// The call was submitted, and its answer is awaited. The token has seen the history up to the call.
     Waiting {
         ticket: Ticket,
         heard: Heard,
-        front: Front<L>,
+        token: Token<L>,
     },
 }
 
@@ -125,14 +125,14 @@ where
     }
 
     /// From now on the answer of this ticket is awaited. What was collected is let go.
-    fn park(&mut self, ticket: Ticket, heard: Heard, front: Front<L>)
-        ensures stage { self.new.stage ≡ stage.Waiting ticket heard front }
+    fn park(&mut self, ticket: Ticket, heard: Heard, token: Token<L>)
+        ensures stage { self.new.stage ≡ stage.Waiting ticket heard token }
         ensures connection { self.new.connection ≡ self.old.connection }
     {
         self.stage = Stage::Waiting {
             ticket,
             heard,
-            front,
+            token,
         };
     }
 
@@ -165,8 +165,8 @@ where
             Stage::Waiting {
                 ticket,
                 heard,
-                front,
-            } => match self.connection.poll_render(heard, front, *ticket, cx) {
+                token,
+            } => match self.connection.poll_render(heard, token, *ticket, cx) {
                 Poll::Pending => Poll::Pending,
                 Poll::Ready(Ok(reply)) => Poll::Ready(Ok(Outcome::Reply(reply))),
                 Poll::Ready(Err(fault)) => Poll::Ready(Err(fault)),
@@ -214,10 +214,10 @@ where
                 Begun::Parked {
                     ticket,
                     heard,
-                    front,
+                    token,
                 },
             ) => {
-                self.park(ticket, heard, front);
+                self.park(ticket, heard, token);
                 self.poll_answer(cx)
             }
         }

@@ -12,7 +12,7 @@ use http_body::{Body, Frame};
 use std::alloc::AllocError;
 use std::marker::PhantomData;
 use std::sync::{Arc, Wait};
-use usage_ledger::{Front, Keep, Ledgers, Tally};
+use usage_ledger::{Keep, Ledgers, Tally, Token};
 
 /// Which text comes next.
 #[derive(Clone, Copy)]
@@ -51,7 +51,7 @@ pub struct HistoryBody<R, S, K: Keep, L: Ledgers> {
     rt: R,
     service: Arc<S>,
     stage: Stage,
-    front: Front<L>,
+    token: Token<L>,
     of: PhantomData<Tally<K, L>>,
 }
 
@@ -60,22 +60,22 @@ impl<R: Wait + Drop, S: Service<K, L>, K: Keep, L: Ledgers> HistoryBody<R, S, K,
     /// the last entry it is empty. It takes no memory.
     pub fn new(rt: R, service: Arc<S>, from: Option<Ticket>) -> HistoryBody<R, S, K, L>
         ensures stands { (result.service ≡ service) × (result.stage ≡ first_stage from) }
-        ensures seen { S.shows (arc_value service) result.front }
+        ensures seen { S.shows (arc_value service) result.token }
     {
-        let front = service.front(&rt);
+        let token = service.token(&rt);
         HistoryBody {
             rt,
             service,
             stage: stage_from(from),
-            front,
+            token,
             of: PhantomData,
         }
     }
 
     /// The text before the first entry.
     fn opening(&mut self) -> Result<Frame<Bytes>, AllocError>
-        ensures value { Answers S.Service (arc_value self.old.service) self.old.front
-            Stage.Opening (Some result) self.new.front }
+        ensures value { Answers S.Service (arc_value self.old.service) self.old.token
+            Stage.Opening (Some result) self.new.token }
         ensures stage { self.new.stage ≡ behind Stage.Opening result }
         ensures same { self.new.service ≡ self.old.service }
     {
@@ -87,14 +87,14 @@ impl<R: Wait + Drop, S: Service<K, L>, K: Keep, L: Ledgers> HistoryBody<R, S, K,
 
     /// The text of an entry, none behind the last.
     fn entry(&mut self, ticket: Ticket) -> Result<Option<Frame<Bytes>>, AllocError>
-        ensures value { Answers S.Service (arc_value self.old.service) self.old.front
-            (Stage.Entry ticket) (answer_of result) self.new.front }
+        ensures value { Answers S.Service (arc_value self.old.service) self.old.token
+            (Stage.Entry ticket) (answer_of result) self.new.token }
         ensures stage { IfSome (answer_of result)
             (λ answer. self.new.stage ≡ behind (Stage.Entry ticket) answer) }
         ensures same { self.new.service ≡ self.old.service }
     {
         self.stage = Stage::Ended;
-        let Some(text) = self.service.history(&self.rt, &mut self.front, ticket)? else {
+        let Some(text) = self.service.history(&self.rt, &mut self.token, ticket)? else {
             return Ok(None);
         };
         let text = piece(text)?;
@@ -114,7 +114,7 @@ impl<R: Wait + Drop, S: Service<K, L>, K: Keep, L: Ledgers> Body for HistoryBody
 
     type Error = AllocError;
 
-    ghost yields = { λ b. Frames S.Service (arc_value b.service) b.front b.stage };
+    ghost yields = { λ b. Frames S.Service (arc_value b.service) b.token b.stage };
 
     fn poll_frame(
         &mut self,

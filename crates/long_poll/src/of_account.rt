@@ -12,9 +12,9 @@ use call_model::{Call, Stats, Ticket};
 use lambda_wire::Reply;
 use std::alloc::AllocError;
 use std::sync::Wait;
-use usage_ledger::{Front, Keep, Tally};
+use usage_ledger::{Keep, Tally, Token};
 
-// A submit gives a front that has seen the history which the call made. What is read with it is of a
+// A submit gives a token that has seen the history which the call made. What is read with it is of a
 // history that goes on where that one ends.
 impl<S: Identity + Drop, K: Keep> Service<K, S> for Account<S, OneShotBell> {
     ghost serves = { λ _. S.config };
@@ -39,41 +39,41 @@ impl<S: Identity + Drop, K: Keep> Service<K, S> for Account<S, OneShotBell> {
         &self,
         rt: &R,
         tally: &mut Tally<K, S>,
-        front: &mut Front<S>,
+        token: &mut Token<S>,
         now: u64,
         call: Call,
         bell: Option<OneShotBell>,
-    ) -> Result<(Ticket, Front<S>), Refused<OneShotBell>> {
-        Account::submit(self, rt, tally, front, now, call, bell)
+    ) -> Result<(Ticket, Token<S>), Refused<OneShotBell>> {
+        Account::submit(self, rt, tally, token, now, call, bell)
     }
 
     fn offer<R: Wait>(
         &self,
         rt: &R,
         tally: &mut Tally<K, S>,
-        front: &mut Front<S>,
+        token: &mut Token<S>,
         now: u64,
         call: Call,
         bell: Option<OneShotBell>,
-    ) -> Result<(Ticket, Front<S>), Declined<OneShotBell>> {
-        Account::offer(self, rt, tally, front, now, call, bell)
+    ) -> Result<(Ticket, Token<S>), Declined<OneShotBell>> {
+        Account::offer(self, rt, tally, token, now, call, bell)
     }
 
-    fn front<R: Wait>(&self, rt: &R) -> Front<S> {
-        Account::front(self, rt)
+    fn token<R: Wait>(&self, rt: &R) -> Token<S> {
+        Account::token(self, rt)
     }
 
-    fn look<R: Wait>(&self, rt: &R, front: &mut Front<S>, ticket: Ticket) -> Look {
-        Account::look(self, rt, front, ticket)
+    fn look<R: Wait>(&self, rt: &R, token: &mut Token<S>, ticket: Ticket) -> Look {
+        Account::look(self, rt, token, ticket)
     }
 
     fn render<R: Wait>(
         &self,
         rt: &R,
-        front: &mut Front<S>,
+        token: &mut Token<S>,
         ticket: Ticket,
     ) -> Result<Option<Reply>, AllocError> {
-        Account::render(self, rt, front, ticket)
+        Account::render(self, rt, token, ticket)
     }
 
     fn opening<R: Wait>(&self, rt: &R) -> Result<Vec<u8>, AllocError> {
@@ -83,17 +83,17 @@ impl<S: Identity + Drop, K: Keep> Service<K, S> for Account<S, OneShotBell> {
     fn history<R: Wait>(
         &self,
         rt: &R,
-        front: &mut Front<S>,
+        token: &mut Token<S>,
         ticket: Ticket,
     ) -> Result<Option<Vec<u8>>, AllocError> {
-        Account::history(self, rt, front, ticket)
+        Account::history(self, rt, token, ticket)
     }
 
-    fn stats<R: Wait>(&self, rt: &R, front: &mut Front<S>) -> Stats {
-        Account::stats(self, rt, front)
+    fn stats<R: Wait>(&self, rt: &R, token: &mut Token<S>) -> Stats {
+        Account::stats(self, rt, token)
     }
 
-    fn reservation<R: Wait>(&self, rt: &R, front: &mut Front<S>, function: FnNo) -> Option<u32> {
-        Account::reservation(self, rt, front, function)
+    fn reservation<R: Wait>(&self, rt: &R, token: &mut Token<S>, function: FnNo) -> Option<u32> {
+        Account::reservation(self, rt, token, function)
     }
 }

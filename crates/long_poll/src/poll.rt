@@ -11,7 +11,7 @@ use futures::task;
 use futures::task::Context;
 use std::marker::PhantomData;
 use std::sync::{Arc, Wait};
-use usage_ledger::{Front, Keep, Ledgers, Tally};
+use usage_ledger::{Keep, Ledgers, Tally, Token};
 
 /// The bell rang or was lost, and the ticket still waited.
 #[derive(Clone, Copy, Debug, PartialEq, Eq)]
@@ -24,29 +24,29 @@ pub struct Poll<R, S, H, K: Keep, L: Ledgers> {
     service: Arc<S>,
     ticket: Ticket,
     heard: H,
-    front: Front<L>,
+    token: Token<L>,
     of: PhantomData<Tally<K, L>>,
 }
 
 impl<R: Wait + Drop, S: Service<K, L>, H: Future, K: Keep, L: Ledgers> Poll<R, S, H, K, L> {
     /// Waits for the answer of a ticket by what is heard once there is one, as the `Heard` of the
-    /// bell that went with its call. The front is the one that came with the ticket. It takes no memory.
+    /// bell that went with its call. The token is the one that came with the ticket. It takes no memory.
     pub fn new(
         rt: R,
         service: Arc<S>,
         ticket: Ticket,
         heard: H,
-        front: Front<L>,
+        token: Token<L>,
     ) -> Poll<R, S, H, K, L>
         ensures service { result.service ≡ service }
-        ensures ticket { (result.ticket ≡ ticket) × (result.heard ≡ heard) × (result.front ≡ front) }
+        ensures ticket { (result.ticket ≡ ticket) × (result.heard ≡ heard) × (result.token ≡ token) }
     {
         Poll {
             rt,
             service,
             ticket,
             heard,
-            front,
+            token,
             of: PhantomData,
         }
     }
@@ -70,7 +70,7 @@ where
             task::Poll::Pending => task::Poll::Pending,
             task::Poll::Ready(_) => match self
                 .service
-                .look(&self.rt, &mut self.front, self.ticket)
+                .look(&self.rt, &mut self.token, self.ticket)
             {
                 Look::Given(answer) => task::Poll::Ready(Ok(answer)),
                 Look::Waiting => task::Poll::Ready(Err(BellLost)),

@@ -19,19 +19,19 @@ use call_model::{Call, Stats, Ticket};
 use lambda_wire::Reply;
 use std::alloc::AllocError;
 use std::sync::Wait;
-use usage_ledger::{Front, Keep, Ledgers, Tally};
+use usage_ledger::{Keep, Ledgers, Tally, Token};
 
 /// An account that connections share. Each method has a relation of its arguments and its answer,
 /// which the implementer names. The type parameters are a tally's: what it keeps, and its ledgers. A
-/// front is a token that has seen a beginning of the account's history. Each submit and each reading takes
-/// one, and shows it the history as it is then, which goes on where the one ends that the front had seen; a
+/// token is a token that has seen a beginning of the account's history. Each submit and each reading takes
+/// one, and shows it the history as it is then, which goes on where the one ends that the token had seen; a
 /// submit gives another one that has seen it up to the call.
 pub trait Service<K: Keep, L: Ledgers>: Drop {
     /// The configuration that it serves.
     ghost serves: { Self → Config };
 
     /// What was seen of the history, what the tally held, the moment, the call, its bell, what came back, and
-    /// what is seen and what the tally holds then. A ticket comes with the history that its front has seen.
+    /// what is seen and what the tally holds then. A ticket comes with the history that its token has seen.
     ghost submits: { Self → List Entry → Held → ℕ → Called → Option Rings → CameBack → List Entry → Held → Type 0 };
 
     /// What is seen of the history.
@@ -64,14 +64,14 @@ pub trait Service<K: Keep, L: Ledgers>: Drop {
         &self,
         rt: &R,
         tally: &mut Tally<K, L>,
-        front: &mut Front<L>,
+        token: &mut Token<L>,
         now: u64,
         call: Call,
         bell: Option<OneShotBell>,
-    ) -> Result<(Ticket, Front<L>), Refused<OneShotBell>>
+    ) -> Result<(Ticket, Token<L>), Refused<OneShotBell>>
         requires moment { now < 2 ^ 53 }
         requires within { IsWithin (serves self.now) call }
-        ensures { submits self.now front.old tally.old.held now call bell result front.new tally.new.held };
+        ensures { submits self.now token.old tally.old.held now call bell result token.new tally.new.held };
 
     /// Submits a call unless it is premature: an Invoke that would be throttled while an environment
     /// that stands in its way is about to be ready again.
@@ -82,22 +82,22 @@ pub trait Service<K: Keep, L: Ledgers>: Drop {
         &self,
         rt: &R,
         tally: &mut Tally<K, L>,
-        front: &mut Front<L>,
+        token: &mut Token<L>,
         now: u64,
         call: Call,
         bell: Option<OneShotBell>,
-    ) -> Result<(Ticket, Front<L>), Declined<OneShotBell>>
+    ) -> Result<(Ticket, Token<L>), Declined<OneShotBell>>
         requires moment { now < 2 ^ 53 }
         requires within { IsWithin (serves self.now) call }
-        ensures { Offers (submits self.now) front.old tally.old.held now call bell result front.new tally.new.held };
+        ensures { Offers (submits self.now) token.old tally.old.held now call bell result token.new tally.new.held };
 
     /// A token that has seen the history as it is.
-    fn front<R: Wait>(&self, rt: &R) -> Front<L>
+    fn token<R: Wait>(&self, rt: &R) -> Token<L>
         ensures { shows self.now result };
 
     /// What a ticket was answered.
-    fn look<R: Wait>(&self, rt: &R, front: &mut Front<L>, ticket: Ticket) -> Look
-        ensures { looks self.now front.old ticket result front.new };
+    fn look<R: Wait>(&self, rt: &R, token: &mut Token<L>, ticket: Ticket) -> Look
+        ensures { looks self.now token.old ticket result token.new };
 
     /// What the client of the call with a ticket gets, none while the ticket has no answer.
     ///
@@ -105,10 +105,10 @@ pub trait Service<K: Keep, L: Ledgers>: Drop {
     fn render<R: Wait>(
         &self,
         rt: &R,
-        front: &mut Front<L>,
+        token: &mut Token<L>,
         ticket: Ticket,
     ) -> Result<Option<Reply>, AllocError>
-        ensures { IfOk result (λ reply. renders self.now front.old ticket reply front.new) };
+        ensures { IfOk result (λ reply. renders self.now token.old ticket reply token.new) };
 
     /// The text of the history before its first entry. The only error is want of memory.
     fn opening<R: Wait>(&self, rt: &R) -> Result<Vec<u8>, AllocError>
@@ -119,18 +119,18 @@ pub trait Service<K: Keep, L: Ledgers>: Drop {
     fn history<R: Wait>(
         &self,
         rt: &R,
-        front: &mut Front<L>,
+        token: &mut Token<L>,
         ticket: Ticket,
     ) -> Result<Option<Vec<u8>>, AllocError>
         ensures { IfOk result (λ text.
-            tells self.now front.old ticket (option_map (λ bytes. bytes.items) text) front.new) };
+            tells self.now token.old ticket (option_map (λ bytes. bytes.items) text) token.new) };
 
     /// The counts.
-    fn stats<R: Wait>(&self, rt: &R, front: &mut Front<L>) -> Stats
-        ensures { counts self.now front.old result front.new };
+    fn stats<R: Wait>(&self, rt: &R, token: &mut Token<L>) -> Stats
+        ensures { counts self.now token.old result token.new };
 
     /// The reservation in force of a function, by its number from 1, none where it has none.
-    fn reservation<R: Wait>(&self, rt: &R, front: &mut Front<L>, function: FnNo) -> Option<u32>
+    fn reservation<R: Wait>(&self, rt: &R, token: &mut Token<L>, function: FnNo) -> Option<u32>
         requires { IsFunction (serves self.now) function }
-        ensures { reserves self.now front.old function result front.new };
+        ensures { reserves self.now token.old function result token.new };
 }

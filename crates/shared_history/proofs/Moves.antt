@@ -6,7 +6,7 @@ use Rattle.atomic_table.specs.Table.{State, Me, Allows, Splits, Joins, keeps}
 use Rattle.atomic_table.proofs.Lists.{at_set, at_snoc, set_again}
 use Rattle.std.proofs.lemmas.List.{append-nil}
 use Rattle.shared_history.specs.declared.view.View.{View}
-use Rattle.shared_history.specs.Sharing.{Extends, pen_view, front_view, heard, told, Fits, Shared, Wrote, Compared, Agreed}
+use Rattle.shared_history.specs.Sharing.{Extends, pen_view, token_view, heard, told, Fits, Shared, Wrote, Compared, Agreed}
 
 off : false ≡ true → ⊥
 off e = true≢false (sym e)
@@ -52,8 +52,8 @@ module _ {A : Type 0} where
       (at_set views by j w u e)
 
   -- a token that isn't the pen
-  fits_front : (place number : ℕ) (history b : List A) → Extends b history → Fits place history number (front_view b)
-  fits_front place number history b p = record { knows = λ k. absurd (off k); begins = extends_none history; saw = p }
+  fits_token : (place number : ℕ) (history b : List A) → Extends b history → Fits place history number (token_view b)
+  fits_token place number history b p = record { knows = λ k. absurd (off k); begins = extends_none history; saw = p }
 
   fits_pen : (place number : ℕ) (history : List A) → number ≡ place → Fits place history number (pen_view history)
   fits_pen place number history same = record { knows = λ k. (same, refl); begins = extends_self history; saw = extends_none history }
@@ -88,9 +88,9 @@ module _ {A : Type 0} where
       )
 
   pub compares : (all b : List A) (slots id word : ℕ)
-      → Allows all_holds slots id (heard (pen_view all) (front_view b), []) word (λ n. n) (λ n. Compared (heard (pen_view all) (front_view b), []))
+      → Allows all_holds slots id (heard (pen_view all) (token_view b), []) word (λ n. n) (λ n. Compared (heard (pen_view all) (token_view b), []))
   compares all b slots id word s h n at lt =
-      let was = h.2 id (heard (pen_view all) (front_view b)) at in
+      let was = h.2 id (heard (pen_view all) (token_view b)) at in
       let mine = was.knows refl in (
         pen_view all,
         keeps,
@@ -105,52 +105,52 @@ module _ {A : Type 0} where
       )
 
   pub agrees : (b c : List A) (slots id word : ℕ)
-      → Allows all_holds slots id (told (front_view b) (front_view c), []) word (λ n. n) (λ n. Agreed (told (front_view b) (front_view c), []))
+      → Allows all_holds slots id (told (token_view b) (token_view c), []) word (λ n. n) (λ n. Agreed (told (token_view b) (token_view c), []))
   agrees b c slots id word s h n at lt =
-      let was = h.2 id (told (front_view b) (front_view c)) at in (
-        front_view b,
+      let was = h.2 id (told (token_view b) (token_view c)) at in (
+        token_view b,
         keeps,
         tt,
-        (h.0, h.1, fits_set h.0 h.1 s.views id (front_view b) (λ j u apart e. h.2 j u e) (fits_front h.0 id h.1 b was.saw)),
+        (h.0, h.1, fits_set h.0 h.1 s.views id (token_view b) (λ j u apart e. h.2 j u e) (fits_token h.0 id h.1 b was.saw)),
         (refl, comparable b c h.1 was.saw was.begins),
       )
 
   -- a new token has seen a beginning
   splits_to : (id : ℕ) (v : View A) (b : List A) → ((place number : ℕ) (history : List A) → Fits place history number v → Extends b history)
-      → Splits all_holds id v v (front_view b)
+      → Splits all_holds id v v (token_view b)
   splits_to id v b sees s h at = (
     h.0,
     h.1,
     λ j u e. ⊎_elim
         (λ was. h.2 j u (subst (λ l. get_elem? l j ≡ some u) (set_again s.views id v at) was))
-        (λ (same : front_view b ≡ u). subst (Fits h.0 h.1 j) same (fits_front h.0 j h.1 b (sees h.0 id h.1 (h.2 id v at))))
-        (at_snoc (set s.views id v) (front_view b) u j e),
+        (λ (same : token_view b ≡ u). subst (Fits h.0 h.1 j) same (fits_token h.0 j h.1 b (sees h.0 id h.1 (h.2 id v at))))
+        (at_snoc (set s.views id v) (token_view b) u j e),
   )
 
-  pub lets : (id : ℕ) (v : View A) → Splits all_holds id v v (front_view v.all)
+  pub lets : (id : ℕ) (v : View A) → Splits all_holds id v v (token_view v.all)
   lets id v = splits_to id v v.all (λ place number history f. f.begins)
 
-  pub copies : (id : ℕ) (v : View A) → Splits all_holds id v v (front_view v.seen)
+  pub copies : (id : ℕ) (v : View A) → Splits all_holds id v v (token_view v.seen)
   copies id v = splits_to id v v.seen (λ place number history f. f.saw)
 
   -- a token takes in what another one has seen, which is spent
   joins_to : (id other : ℕ) (v w both : View A)
       → ((place : ℕ) (history : List A) → Fits place history id v → Fits place history other w → Fits place history id both)
-      → Joins all_holds id v other w both (front_view [])
+      → Joins all_holds id v other w both (token_view [])
   joins_to id other v w both fits s h at apart there =
       let theirs = ⊎_elim (λ (t : (other ≡ id) × (both ≡ w)). absurd (apart t.0)) (λ (t : (other ≢ id) × (get_elem? s.views other ≡ some w)). h.2 other w t.1) (at_set s.views id other both w there) in
       let mine = fits h.0 h.1 (h.2 id v at) theirs in (
         h.0,
         h.1,
-        fits_set h.0 h.1 (set s.views id both) other (front_view [])
+        fits_set h.0 h.1 (set s.views id both) other (token_view [])
             (λ j u _ e. fits_set h.0 h.1 s.views id both (λ i y _ was. h.2 i y was) mine j u e)
-            (fits_front h.0 other h.1 [] (extends_none h.1)),
+            (fits_token h.0 other h.1 [] (extends_none h.1)),
       )
 
-  pub hears : (id other : ℕ) (v w : View A) → Joins all_holds id v other w (heard v w) (front_view [])
+  pub hears : (id other : ℕ) (v w : View A) → Joins all_holds id v other w (heard v w) (token_view [])
   hears id other v w = joins_to id other v w (heard v w) (λ place history f g. record { knows = f.knows; begins = f.begins; saw = g.saw })
 
-  pub is_told : (id other : ℕ) (v w : View A) → Joins all_holds id v other w (told v w) (front_view [])
+  pub is_told : (id other : ℕ) (v w : View A) → Joins all_holds id v other w (told v w) (token_view [])
   is_told id other v w = joins_to id other v w (told v w) (λ place history f g. record { knows = λ k. absurd (off k); begins = g.saw; saw = f.saw })
 
   -- the moves, of a token that knows this
@@ -159,12 +159,12 @@ module _ {A : Type 0} where
   writes_as history all more slots id word me is =
       subst (λ (m : Known A). Allows all_holds slots id m word (λ n. n) (λ n. Wrote history m)) (sym is) (writes history all more slots id word)
 
-  pub compares_as : (all b : List A) (slots id word : ℕ) (me : Known A) → me ≡ (heard (pen_view all) (front_view b), [])
+  pub compares_as : (all b : List A) (slots id word : ℕ) (me : Known A) → me ≡ (heard (pen_view all) (token_view b), [])
       → Allows all_holds slots id me word (λ n. n) (λ n. Compared me)
   compares_as all b slots id word me is =
       subst (λ (m : Known A). Allows all_holds slots id m word (λ n. n) (λ n. Compared m)) (sym is) (compares all b slots id word)
 
-  pub agrees_as : (b d : List A) (slots id word : ℕ) (me : Known A) → me ≡ (told (front_view b) (front_view d), [])
+  pub agrees_as : (b d : List A) (slots id word : ℕ) (me : Known A) → me ≡ (told (token_view b) (token_view d), [])
       → Allows all_holds slots id me word (λ n. n) (λ n. Agreed me)
   agrees_as b d slots id word me is =
       subst (λ (m : Known A). Allows all_holds slots id m word (λ n. n) (λ n. Agreed m)) (sym is) (agrees b d slots id word)

@@ -6,9 +6,9 @@ use Rattle.atomic_table.specs.Seated.{TableId}
 use Rattle.atomic_table.specs.Table.{Me}
 use Rattle.shared_history.specs.declared.view.View.{View}
 
--- the name of no line
-abbrev pub no_line : TableId
-no_line = record { words = 0; slots = 0; views_name = 0; atom = 0; block = 0; offset = 0; slot_names = [] }
+-- the name of no spine
+abbrev pub no_spine : TableId
+no_spine = record { words = 0; slots = 0; views_name = 0; atom = 0; block = 0; offset = 0; slot_names = [] }
 
 module _ {A : Type 0} where
   -- A history goes on where another one ends: that is a beginning of it.
@@ -20,8 +20,8 @@ module _ {A : Type 0} where
   pen_view all = record { keeps = true; all = all; seen = [] }
 
   -- a token that has seen a beginning
-  abbrev pub front_view : List A → View A
-  front_view seen = record { keeps = false; all = []; seen = seen }
+  abbrev pub token_view : List A → View A
+  token_view seen = record { keeps = false; all = []; seen = seen }
 
   -- the pen with what another token has seen
   abbrev pub heard : View A → View A → View A
@@ -52,4 +52,4 @@ module _ {A : Type 0} where
 
   -- a token found that what it was told and what it has seen agree
   abbrev pub Agreed : Me (Unit {0}) (View A) → Me (Unit {0}) (View A) → Type 0
-  Agreed before after = (after ≡ (front_view before.0.seen, before.1)) × (Extends before.0.seen before.0.all ⊎ Extends before.0.all before.0.seen)
+  Agreed before after = (after ≡ (token_view before.0.seen, before.1)) × (Extends before.0.seen before.0.all ⊎ Extends before.0.all before.0.seen)

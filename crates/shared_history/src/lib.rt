@@ -4,12 +4,12 @@
 //! no bytes: a step of theirs is a plain load of that word.
 #![tactic(auto)]
 
-mod front;
-mod line;
 mod pen;
+mod spine;
+mod token;
 mod view;
 
-pub use front::Front;
-pub use line::{Line, Naming, Opened};
 pub use pen::{Pen, Source};
+pub use spine::{Naming, Opened, Spine};
+pub use token::Token;
 pub use view::{Shares, View};

@@ -3,8 +3,8 @@
 ghost use Rattle.std.specs.Prelude.{◌≡◌, []};
 ghost use Rattle.shared_history.specs.Sharing.{pen_view, Extends};
 
-use crate::front::Front;
-use crate::line::{Line, Naming};
+use crate::spine::{Naming, Spine};
+use crate::token::Token;
 use crate::view::View;
 use atomic_table::{Join, Play, Seat, Split};
 use std::marker::{Brand, Model, PhantomData};
@@ -54,23 +54,23 @@ impl<T> Play<(), View<T>> for Compares {
 struct Lets;
 
 impl<T> Split<View<T>> for Lets {
-    ghost use Rattle.shared_history.specs.Sharing.{front_view};
+    ghost use Rattle.shared_history.specs.Sharing.{token_view};
 
     ghost left = { λ v. v };
 
-    ghost right = { λ v. front_view v.all };
+    ghost right = { λ v. token_view v.all };
 }
 
 /// The pen hears what another token has seen.
 struct Hears;
 
 impl<T> Join<View<T>> for Hears {
-    ghost use Rattle.shared_history.specs.Sharing.{heard, front_view};
+    ghost use Rattle.shared_history.specs.Sharing.{heard, token_view};
     ghost use Rattle.std.specs.Prelude.{[]};
 
     ghost both = { λ v w. heard v w };
 
-    ghost spent = { front_view [] };
+    ghost spent = { token_view [] };
 }
 
 /// The one token that knows the whole history, and writes it. Contracts see the history, the newest
@@ -89,13 +89,13 @@ impl<T, N: Naming> Model for Pen<T, N> {
 
     ghost view = { λ p. p.seat.me.0.all };
 
-    ghost invariant = { λ p. (p.seat.table_id ≡ N.line) × (p.seat.me ≡ (pen_view p.seat.me.0.all, [])) };
+    ghost invariant = { λ p. (p.seat.table_id ≡ N.spine) × (p.seat.me ≡ (pen_view p.seat.me.0.all, [])) };
 }
 
 impl<T, N: Naming> Pen<T, N> {
     /// The pen of a history without an entry.
     pub(crate) fn of(seat: Seat<(), View<T>>) -> Pen<T, N>
-        requires { (seat.table_id ≡ N.line) × (seat.me ≡ (pen_view [], [])) }
+        requires { (seat.table_id ≡ N.spine) × (seat.me ≡ (pen_view [], [])) }
         ensures { result ≡ [] }
     {
         Pen {
@@ -105,37 +105,37 @@ impl<T, N: Naming> Pen<T, N> {
     }
 
     /// Writes on, until the history is the one that this value has. It takes no memory.
-    pub fn write<X, M: Source<X, T>>(&mut self, line: &Line<T, N>, about: &X)
+    pub fn write<X, M: Source<X, T>>(&mut self, spine: &Spine<T, N>, about: &X)
         requires { Extends self.old (M.history about.now) }
         ensures { self.new ≡ M.history about.now }
     {
-        self.write_as::<X, Brand>(line, about);
+        self.write_as::<X, Brand>(spine, about);
     }
 
-    fn write_as<X, W: Writing<T>>(&mut self, line: &Line<T, N>, _about: &X)
+    fn write_as<X, W: Writing<T>>(&mut self, spine: &Spine<T, N>, _about: &X)
         requires { Extends self.old W.history }
         ensures { self.new ≡ W.history }
     {
-        line.table.shared.load::<Writes<W>>(&mut self.seat, 0);
+        spine.table.shared.load::<Writes<W>>(&mut self.seat, 0);
     }
 
     /// A token that has seen all that was written. It takes no memory.
-    pub fn front(&mut self, line: &Line<T, N>) -> Front<T, N>
+    pub fn token(&mut self, spine: &Spine<T, N>) -> Token<T, N>
         ensures all { result ≡ self.old }
         ensures same { self.new ≡ self.old }
     {
-        Front::of(line.table.shared.split_seat::<Lets>(&mut self.seat))
+        Token::of(spine.table.shared.split_seat::<Lets>(&mut self.seat))
     }
 
     /// Shows all that was written to a token, which had seen a beginning of it. It takes no memory.
-    pub fn show(&mut self, line: &Line<T, N>, front: &mut Front<T, N>)
-        ensures all { front.new ≡ self.old }
-        ensures longer { Extends front.old self.old }
+    pub fn show(&mut self, spine: &Spine<T, N>, token: &mut Token<T, N>)
+        ensures all { token.new ≡ self.old }
+        ensures longer { Extends token.old self.old }
         ensures same { self.new ≡ self.old }
     {
-        let copy = front.copy(line);
-        line.table.shared.join_seat::<Hears>(&mut self.seat, copy);
-        line.table.shared.load::<Compares>(&mut self.seat, 0);
-        *front = self.front(line);
+        let copy = token.copy(spine);
+        spine.table.shared.join_seat::<Hears>(&mut self.seat, copy);
+        spine.table.shared.load::<Compares>(&mut self.seat, 0);
+        *token = self.token(spine);
     }
 }

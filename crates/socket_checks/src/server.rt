@@ -158,8 +158,8 @@ fn left_by<R: Machine, S: Identity + Drop>(
         account,
         mut tallies,
     } = hosted;
-    let mut front = account.front(rt);
-    let entries = account.stats(rt, &mut front).entries;
+    let mut token = account.token(rt);
+    let entries = account.stats(rt, &mut token).entries;
     if holds_back {
         hold_one_back(&mut tallies);
     }

@@ -2,15 +2,15 @@
 use Rattle.std.specs.Prelude.{ℕ}
 use Rattle.atomic_table.specs.Seated.{TableId}
 
--- The name of each of the four, and of the line of the history.
+-- The name of each of the four, and of the spine of the history.
 pub record Names : Type 0 where
   pub calls : ℕ
   pub admitted : ℕ
   pub throttled : ℕ
   pub failed : ℕ
-  pub line : TableId
+  pub spine : TableId
 
 -- the ledgers and the history with these names
 abbrev pub names : ℕ → ℕ → ℕ → ℕ → TableId → Names
-names calls admitted throttled failed line =
-    record { calls = calls; admitted = admitted; throttled = throttled; failed = failed; line = line }
+names calls admitted throttled failed spine =
+    record { calls = calls; admitted = admitted; throttled = throttled; failed = failed; spine = spine }

@@ -18,10 +18,10 @@ pub trait Ledgers {
 
 /// A caller that names `Brand` picks the names in its proof; these stand where none are picked.
 impl Ledgers for Brand {
-    ghost use Rattle.shared_history.specs.Sharing.{no_line};
+    ghost use Rattle.shared_history.specs.Sharing.{no_spine};
     ghost use Rattle.usage_ledger.specs.Ledgers.{names};
 
-    ghost names = { names 0 0 0 0 no_line };
+    ghost names = { names 0 0 0 0 no_spine };
 }
 
 /// The ledger of the calls.
@@ -50,17 +50,17 @@ pub struct History<L: Ledgers> {
 }
 
 impl<L: Ledgers> Naming for History<L> {
-    ghost line = { L.names.line };
+    ghost spine = { L.names.spine };
 }
 
 /// What the threads of an account share beside its lock, so that what they see is of one history.
-pub type Line<L> = shared_history::Line<Entry, History<L>>;
+pub type Spine<L> = shared_history::Spine<Entry, History<L>>;
 
 /// The token that writes the account's history. It lies under the lock.
 pub type Pen<L> = shared_history::Pen<Entry, History<L>>;
 
 /// A token that has seen a beginning of the account's history.
-pub type Front<L> = shared_history::Front<Entry, History<L>>;
+pub type Token<L> = shared_history::Token<Entry, History<L>>;
 
 impl<L: Ledgers> Ledger for Calls<L> {
     ghost use Rattle.std.specs.Prelude.{◌^◌};

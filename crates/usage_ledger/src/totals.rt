@@ -5,7 +5,7 @@ ghost use Rattle.usage_ledger.specs.Counts.{no_counts, plus};
 ghost use Rattle.usage_ledger.specs.Tallies.{fresh, with_held};
 
 use crate::ledgers::{Admitted, Calls, Failed, History, Throttled};
-use crate::{Blanks, Counts, Keep, Ledgers, Line, Pen, Tally};
+use crate::{Blanks, Counts, Keep, Ledgers, Pen, Spine, Tally};
 use std::alloc::Global;
 use std::marker::Model;
 use std::sync::ledger::Book;
@@ -36,8 +36,8 @@ pub struct Start<K: Keep, L: Ledgers> {
     pub totals: Totals<L>,
     /// The tally that has all parts.
     pub tally: Tally<K, L>,
-    /// The line of the history.
-    pub line: Line<L>,
+    /// The spine of the history.
+    pub spine: Spine<L>,
     /// The pen of the history, which has no entry.
     pub pen: Pen<L>,
 }
@@ -61,7 +61,7 @@ pub fn root<K: Keep, L: Ledgers>(alloc: Global, blanks: Blanks) -> Start<K, L>
     let (admitted, of_admitted) = admitted.open::<Admitted<L>>();
     let (throttled, of_throttled) = throttled.open::<Throttled<L>>();
     let (failed, of_failed) = failed.open::<Failed<L>>();
-    let (line, pen) = history.named::<History<L>>();
+    let (spine, pen) = history.named::<History<L>>();
     let totals = Totals {
         calls,
         admitted,
@@ -72,7 +72,7 @@ pub fn root<K: Keep, L: Ledgers>(alloc: Global, blanks: Blanks) -> Start<K, L>
     Start {
         totals,
         tally,
-        line,
+        spine,
         pen,
     }
 }

@@ -12,7 +12,7 @@ use case_tables::{CaseFault, Given};
 use std::alloc::Global;
 use std::sync::Wait;
 use std::thread::{self, Threads};
-use usage_ledger::{Front, Keep, Ledgers, Tally};
+use usage_ledger::{Keep, Ledgers, Tally, Token};
 
 /// How many milliseconds go by in a turn.
 const TURN: u64 = 500;
@@ -61,7 +61,7 @@ struct Worker<'a, R, S: Identity, K: Keep> {
     place: &'a Place<R, S>,
     bells: &'a Bells,
     tally: Tally<K, S>,
-    front: Front<S>,
+    token: Token<S>,
 }
 
 impl<R: Wait, S: Identity, K: Keep> Worker<'_, R, S, K> {
@@ -72,7 +72,7 @@ impl<R: Wait, S: Identity, K: Keep> Worker<'_, R, S, K> {
         let line = line.as_str().as_bytes();
         match self
             .place
-            .submit(&mut self.tally, &mut self.front, line, bell)
+            .submit(&mut self.tally, &mut self.token, line, bell)
         {
             Taken::At(ticket) => Ok(ticket),
             Taken::NoMemory => Err(CaseFault::Memory),
@@ -116,7 +116,7 @@ fn work<R: Wait, S: Identity, K: Keep>(
         place,
         bells,
         tally: job.tally,
-        front: place.account.front(&place.rt),
+        token: place.account.token(&place.rt),
     };
     match worker.all_turns(turns, job.env) {
         Ok(()) => Ok(worker.tally),

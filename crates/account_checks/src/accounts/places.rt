@@ -13,7 +13,7 @@ use lambda_wire::Reply;
 use script::read_call;
 use std::alloc::{AllocError, Global};
 use std::sync::{Arc, Wait};
-use usage_ledger::{Blanks, Front, Keep, Tally, root};
+use usage_ledger::{Blanks, Keep, Tally, Token, root};
 
 /// What became of a line.
 #[derive(Clone, Copy)]
@@ -83,7 +83,7 @@ impl<R: Wait, S: Identity> Place<R, S> {
     fn submit_once<K: Keep>(
         &self,
         tally: &mut Tally<K, S>,
-        front: &mut Front<S>,
+        token: &mut Token<S>,
         line: &[u8],
         bell: Option<Numbered>,
     ) -> Result<Taken, Refused<Numbered>> {
@@ -96,7 +96,7 @@ impl<R: Wait, S: Identity> Place<R, S> {
         let Some((now, call)) = read else {
             return Ok(Taken::NoCall);
         };
-        match self.account.submit(&self.rt, tally, front, now, call, bell) {
+        match self.account.submit(&self.rt, tally, token, now, call, bell) {
             Ok((ticket, _)) => Ok(Taken::At(ticket)),
             Err(refused) => Err(refused),
         }
@@ -108,13 +108,13 @@ impl<R: Wait, S: Identity> Place<R, S> {
     pub fn submit<K: Keep>(
         &self,
         tally: &mut Tally<K, S>,
-        front: &mut Front<S>,
+        token: &mut Token<S>,
         line: &[u8],
         bell: Numbered,
     ) -> Taken {
-        match self.submit_once(tally, front, line, Some(bell)) {
+        match self.submit_once(tally, token, line, Some(bell)) {
             Ok(taken) => taken,
-            Err(refused) => self.submit_again(tally, front, line, refused),
+            Err(refused) => self.submit_again(tally, token, line, refused),
         }
     }
 
@@ -123,39 +123,39 @@ impl<R: Wait, S: Identity> Place<R, S> {
     fn submit_again<K: Keep>(
         &self,
         tally: &mut Tally<K, S>,
-        front: &mut Front<S>,
+        token: &mut Token<S>,
         line: &[u8],
         refused: Refused<Numbered>,
     ) -> Taken {
         if refused.refusal != Refusal::OutOfMemory {
             return untaken(&refused);
         }
-        match self.submit_once(tally, front, line, refused.bell) {
+        match self.submit_once(tally, token, line, refused.bell) {
             Ok(taken) => taken,
             Err(refused) => untaken(&refused),
         }
     }
 
     /// The reservation of a function.
-    fn reservation(&self, front: &mut Front<S>, function: FnNo) -> Said {
+    fn reservation(&self, token: &mut Token<S>, function: FnNo) -> Said {
         if function < 1 || function as usize > self.config.functions().len() {
             return Said::NoFunction;
         }
-        Said::Reservation(self.account.reservation(&self.rt, front, function))
+        Said::Reservation(self.account.reservation(&self.rt, token, function))
     }
 
     /// Asks the account, with a token, which then has seen the history that was read.
-    pub fn ask(&self, front: &mut Front<S>, question: Question) -> Said {
+    pub fn ask(&self, token: &mut Token<S>, question: Question) -> Said {
         let (rt, account) = (&self.rt, &self.account);
         match question {
-            Question::Look(ticket) => Said::Look(account.look(rt, front, ticket)),
-            Question::Due(now) => Said::Due(account.due(rt, front, now)),
-            Question::Life => Said::Life(account.life(rt, front)),
-            Question::Stats => Said::Stats(account.stats(rt, front)),
-            Question::Reservation(function) => self.reservation(front, function),
-            Question::Render(ticket) => Said::Reply(account.render(rt, front, ticket)),
+            Question::Look(ticket) => Said::Look(account.look(rt, token, ticket)),
+            Question::Due(now) => Said::Due(account.due(rt, token, now)),
+            Question::Life => Said::Life(account.life(rt, token)),
+            Question::Stats => Said::Stats(account.stats(rt, token)),
+            Question::Reservation(function) => self.reservation(token, function),
+            Question::Render(ticket) => Said::Reply(account.render(rt, token, ticket)),
             Question::Opening => Said::Opening(account.opening(rt)),
-            Question::History(ticket) => Said::Entry(account.history(rt, front, ticket)),
+            Question::History(ticket) => Said::Entry(account.history(rt, token, ticket)),
         }
     }
 }

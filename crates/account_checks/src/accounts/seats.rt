@@ -15,14 +15,14 @@ use case_tables::CaseFault;
 use std::alloc::{AllocError, Global};
 use std::sync::Wait;
 use std::thread::Threads;
-use usage_ledger::{Front, Keep, Ledgers, Tally};
+use usage_ledger::{Keep, Ledgers, Tally, Token};
 
 /// An account with its tallies, with the one that is held back, and with the token by which the account
 /// is asked: each call that is taken gives a new one.
 #[derive(Drop)]
 pub struct Seats<R, S: Identity, K: Keep> {
     place: Place<R, S>,
-    front: Front<S>,
+    token: Token<S>,
     tallies: Vec<Tally<K, S>>,
     held_back: Option<Tally<K, S>>,
     way: Way,
@@ -120,7 +120,7 @@ impl<R: Wait + Drop, S: Identity + Drop, K: Keep> Seats<R, S, K> {
         let Opened { place, root } = opened;
         let tallies = first_of(place.alloc, root)?;
         Ok(Seats {
-            front: place.account.front(&place.rt),
+            token: place.account.token(&place.rt),
             place,
             tallies,
             held_back: None,
@@ -153,12 +153,12 @@ impl<R: Wait + Drop, S: Identity + Drop, K: Keep> Stand for Seats<R, S, K> {
     fn take(&mut self, seat: usize, line: &[u8], bell: Numbered) -> Result<Taken, SeatFault> {
         match self.tallies.get_mut(seat) {
             None => Err(SeatFault::NoTally),
-            Some(tally) => Ok(self.place.submit(tally, &mut self.front, line, bell)),
+            Some(tally) => Ok(self.place.submit(tally, &mut self.token, line, bell)),
         }
     }
 
     fn ask(&mut self, question: Question) -> Said {
-        self.place.ask(&mut self.front, question)
+        self.place.ask(&mut self.token, question)
     }
 
     fn join(&mut self) -> Result<(), SeatFault> {

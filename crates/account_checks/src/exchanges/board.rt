@@ -11,7 +11,7 @@ use std::alloc::{AllocError, Global};
 use std::sync::Wait;
 use std::sync::atomic::AtomicU64;
 use std::sync::atomic::Ordering::SeqCst;
-use usage_ledger::{Front, KeepNone, Tally};
+use usage_ledger::{KeepNone, Tally, Token};
 
 /// The ticket of every call that is taken.
 const TICKET: Ticket = 7;
@@ -27,7 +27,7 @@ pub enum Mood {
     Answers(u64),
 }
 
-/// Notes how many calls came, and the moment of the last one. Its fronts are those of an account that
+/// Notes how many calls came, and the moment of the last one. Its tokens are those of an account that
 /// takes none.
 #[derive(Drop)]
 pub struct Board<S: Identity> {
@@ -68,7 +68,7 @@ impl<S: Identity> Board<S> {
         rt: &R,
         now: u64,
         bell: Option<OneShotBell>,
-    ) -> Result<(Ticket, Front<S>), Refused<OneShotBell>> {
+    ) -> Result<(Ticket, Token<S>), Refused<OneShotBell>> {
         self.last.store(now, SeqCst);
         if let Mood::Refuses = self.mood {
             let refusal = Refusal::JournalFull;
@@ -79,7 +79,7 @@ impl<S: Identity> Board<S> {
                 bell.ring();
             }
         }
-        Ok((TICKET, self.account.front(rt)))
+        Ok((TICKET, self.account.token(rt)))
     }
 }
 
@@ -106,11 +106,11 @@ impl<S: Identity> Service<KeepNone, S> for Board<S> {
         &self,
         rt: &R,
         _tally: &mut Tally<KeepNone, S>,
-        _front: &mut Front<S>,
+        _token: &mut Token<S>,
         now: u64,
         _call: Call,
         bell: Option<OneShotBell>,
-    ) -> Result<(Ticket, Front<S>), Refused<OneShotBell>> {
+    ) -> Result<(Ticket, Token<S>), Refused<OneShotBell>> {
         self.submitted.fetch_add(1, SeqCst);
         self.take(rt, now, bell)
     }
@@ -119,11 +119,11 @@ impl<S: Identity> Service<KeepNone, S> for Board<S> {
         &self,
         rt: &R,
         _tally: &mut Tally<KeepNone, S>,
-        _front: &mut Front<S>,
+        _token: &mut Token<S>,
         now: u64,
         call: Call,
         bell: Option<OneShotBell>,
-    ) -> Result<(Ticket, Front<S>), Declined<OneShotBell>> {
+    ) -> Result<(Ticket, Token<S>), Declined<OneShotBell>> {
         let before = self.offered.fetch_add(1, SeqCst);
         if matches!(self.mood, Mood::Answers(count) if before < count) {
             return Err(Declined::Premature { call, bell });
@@ -134,11 +134,11 @@ impl<S: Identity> Service<KeepNone, S> for Board<S> {
         }
     }
 
-    fn front<R: Wait>(&self, rt: &R) -> Front<S> {
-        self.account.front(rt)
+    fn token<R: Wait>(&self, rt: &R) -> Token<S> {
+        self.account.token(rt)
     }
 
-    fn look<R: Wait>(&self, _rt: &R, _front: &mut Front<S>, _ticket: Ticket) -> Look {
+    fn look<R: Wait>(&self, _rt: &R, _token: &mut Token<S>, _ticket: Ticket) -> Look {
         match self.mood {
             Mood::Answers(_) => Look::Given(Answer::Done),
             _ => Look::Waiting,
@@ -148,7 +148,7 @@ impl<S: Identity> Service<KeepNone, S> for Board<S> {
     fn render<R: Wait>(
         &self,
         _rt: &R,
-        _front: &mut Front<S>,
+        _token: &mut Token<S>,
         ticket: Ticket,
     ) -> Result<Option<Reply>, AllocError> {
         match self.mood {
@@ -166,7 +166,7 @@ impl<S: Identity> Service<KeepNone, S> for Board<S> {
     fn history<R: Wait>(
         &self,
         _rt: &R,
-        _front: &mut Front<S>,
+        _token: &mut Token<S>,
         ticket: Ticket,
     ) -> Result<Option<Vec<u8>>, AllocError> {
         match ticket {
@@ -175,7 +175,7 @@ impl<S: Identity> Service<KeepNone, S> for Board<S> {
         }
     }
 
-    fn stats<R: Wait>(&self, _rt: &R, _front: &mut Front<S>) -> Stats {
+    fn stats<R: Wait>(&self, _rt: &R, _token: &mut Token<S>) -> Stats {
         Stats {
             entries: 1,
             admitted: 2,
@@ -185,7 +185,7 @@ impl<S: Identity> Service<KeepNone, S> for Board<S> {
         }
     }
 
-    fn reservation<R: Wait>(&self, _rt: &R, _front: &mut Front<S>, _function: FnNo) -> Option<u32> {
+    fn reservation<R: Wait>(&self, _rt: &R, _token: &mut Token<S>, _function: FnNo) -> Option<u32> {
         Some(6)
     }
 }

@@ -16,7 +16,7 @@ use long_poll::{Clock, Heard, OneShotBell, Service};
 use std::alloc::{AllocError, Global};
 use std::marker::PhantomData;
 use std::sync::Wait;
-use usage_ledger::{Front, KeepNone, Tally};
+use usage_ledger::{KeepNone, Tally, Token};
 
 /// A clock that stands.
 #[derive(Clone, Copy)]
@@ -33,7 +33,7 @@ impl Clock for At {
 pub struct Parked<S: Identity> {
     pub ticket: Ticket,
     pub heard: Heard,
-    pub front: Front<S>,
+    pub token: Token<S>,
 }
 
 /// Decides for a configuration that has an environment and a function.
@@ -126,12 +126,12 @@ impl<S: Identity> Rows<S> {
         let _of = &self.of;
         let (bell, heard) = OneShotBell::pair(alloc)?;
         let call = Call::RuntimeNext { env: 1 };
-        let mut seen = service.front(rt);
+        let mut seen = service.token(rt);
         match service.submit(rt, tally, &mut seen, 500, call, Some(bell)) {
-            Ok((ticket, front)) => Ok(Parked {
+            Ok((ticket, token)) => Ok(Parked {
                 ticket,
                 heard,
-                front,
+                token,
             }),
             Err(_) => Err(CaseFault::Memory),
         }

@@ -126,7 +126,7 @@ impl<
         open: Arc<OpenPoll>,
     ) -> Result<Arc<Connection<R, X, Rows<S>, At, KeepNone, S>>, AllocError> {
         let own = self.shared.again()?;
-        let front = own.service.front(&self.rt);
+        let token = own.service.token(&self.rt);
         let connection = Connection::new(
             self.rt,
             self.alloc,
@@ -134,7 +134,7 @@ impl<
             own.rows,
             clock,
             own.tally,
-            front,
+            token,
             open,
             self.patience,
         );
@@ -235,7 +235,7 @@ impl<
             service,
             parked.ticket,
             parked.heard,
-            parked.front,
+            parked.token,
         );
         finished(&self.rt, poll)
     }
@@ -244,11 +244,11 @@ impl<
     fn poll_lost(&self, part: &Part, given: &mut Given) -> Result<(), CaseFault> {
         let ticket = number_behind(part)?;
         let heard = heard_lost(self.alloc)?;
-        let front = self.shared.service.front(&self.rt);
+        let token = self.shared.service.token(&self.rt);
         let came = self.poll(Parked {
             ticket,
             heard,
-            front,
+            token,
         })?;
         push_poll(given, ticket, came);
         Ok(())

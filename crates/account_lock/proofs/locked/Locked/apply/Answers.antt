@@ -11,7 +11,7 @@ pub returns-clause-taken : goal.returns-clause-taken
 returns-clause-taken g c =
     (
     took (λ k l. Unit {0}) _ c.self.invariant.0 c.self.invariant.3 c.facts.ensures.reached c.self.invariant.2
-    c.show.ensures.longer (c.front-2.ensures.all ∙ (c.front.ensures.same ∙ c.write.ensures)) c.requires.within
+    c.show.ensures.longer (c.token-2.ensures.all ∙ (c.token.ensures.same ∙ c.write.ensures)) c.requires.within
     c.in-Ok.ensures.taken tt).0
 
 pub returns-in-Err-clause-refused : goal.returns-in-Err-clause-refused

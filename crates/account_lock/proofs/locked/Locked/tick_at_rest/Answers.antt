@@ -16,4 +16,4 @@ pub returns-clause-taken : goal.returns-clause-taken
 returns-clause-taken g c =
     let made = if_there _ c.in-Ok-Some.field-0-is c.in-Ok-Some.ensures.taken in
     took (λ k l. at_rest k l ≡ true) _ c.self.invariant.0 c.self.invariant.3 c.facts.ensures.reached
-    c.self.invariant.2 c.show.ensures.longer (c.front.ensures.all ∙ c.write.ensures) tt made.0 made.1
+    c.self.invariant.2 c.show.ensures.longer (c.token.ensures.all ∙ c.write.ensures) tt made.0 made.1

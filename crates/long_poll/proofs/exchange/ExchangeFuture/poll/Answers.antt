@@ -14,7 +14,7 @@ returns-in-Ok-Parked-clause-value g c =
     c.poll_answer-in-Ok-Parked.ensures.value in
     once_ready c.poll_answer-in-Ok-Parked.result
     (λ r h. gives_answer shared g.N.Clock g.B.Body.yields g.B.Data.Into.converts (ShowsFrom (arc_value shared.service))
-    c.args.self.now.stage c.in-Ok-Parked.ticket c.in-Ok-Parked.heard c.in-Ok-Parked.front (search rules) r h)
+    c.args.self.now.stage c.in-Ok-Parked.ticket c.in-Ok-Parked.heard c.in-Ok-Parked.token (search rules) r h)
     (rw (c.park.ensures.stage, c.park.ensures.connection, c.poll_start.ensures.connection) at came)
 
 pub returns-in-Ok-Parked-clause-same : goal.returns-in-Ok-Parked-clause-same
@@ -25,7 +25,7 @@ returns-in-Ok-Parked-clause-same g c =
     c.poll_answer-in-Ok-Parked.ensures.same in
     while_pending c.poll_answer-in-Ok-Parked.result
     (λ same x h. gives_answer shared g.N.Clock g.B.Body.yields g.B.Data.Into.converts (ShowsFrom (arc_value shared.service))
-    c.args.self.now.stage c.in-Ok-Parked.ticket c.in-Ok-Parked.heard c.in-Ok-Parked.front (search rules) x (same x h))
+    c.args.self.now.stage c.in-Ok-Parked.ticket c.in-Ok-Parked.heard c.in-Ok-Parked.token (search rules) x (same x h))
     (rw (c.park.ensures.stage, c.park.ensures.connection, c.poll_start.ensures.connection) at later)
 
 pub returns-in-Err-clause-value : goal.returns-in-Err-clause-value

@@ -10,4 +10,4 @@ transposed (Err e) = refl
 
 pub returns-in-Entry-clause-value : goal.returns-in-Entry-clause-value
 returns-in-Entry-clause-value g c =
-    (c.entry.new.self.front, rw (c.in-Entry.is, c.transpose.ensures, transposed c.entry.result) c.entry.ensures.value)
+    (c.entry.new.self.token, rw (c.in-Entry.is, c.transpose.ensures, transposed c.entry.result) c.entry.ensures.value)

@@ -6,4 +6,4 @@ use Rattle.shared_history.proofs.pen.Pen.write_as.Goals as goal
 pub load-requires : goal.load-requires
 load-requires g c =
     let more = subst (λ l. Extends l g.W.Writing.history) (sym c.self.view_is) c.requires in
-    (c.self.invariant.0 ∙ sym c.line.invariant.0, c.line.invariant.1, writes_as _ _ more _ _ _ _ c.self.invariant.1)
+    (c.self.invariant.0 ∙ sym c.spine.invariant.0, c.spine.invariant.1, writes_as _ _ more _ _ _ _ c.self.invariant.1)

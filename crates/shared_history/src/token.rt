@@ -1,9 +1,9 @@
 //! A token that has seen a beginning of the history.
 
 ghost use Rattle.std.specs.Prelude.{◌≡◌, ◌⊎◌, []};
-ghost use Rattle.shared_history.specs.Sharing.{front_view, Extends};
+ghost use Rattle.shared_history.specs.Sharing.{token_view, Extends};
 
-use crate::line::{Line, Naming};
+use crate::spine::{Naming, Spine};
 use crate::view::View;
 use atomic_table::{Join, Play, Seat, Split};
 use std::marker::{Model, PhantomData};
@@ -12,23 +12,23 @@ use std::marker::{Model, PhantomData};
 struct Copies;
 
 impl<T> Split<View<T>> for Copies {
-    ghost use Rattle.shared_history.specs.Sharing.{front_view};
+    ghost use Rattle.shared_history.specs.Sharing.{token_view};
 
     ghost left = { λ v. v };
 
-    ghost right = { λ v. front_view v.seen };
+    ghost right = { λ v. token_view v.seen };
 }
 
 /// A token hears what another one has seen.
 struct Hears;
 
 impl<T> Join<View<T>> for Hears {
-    ghost use Rattle.shared_history.specs.Sharing.{told, front_view};
+    ghost use Rattle.shared_history.specs.Sharing.{told, token_view};
     ghost use Rattle.std.specs.Prelude.{[]};
 
     ghost both = { λ v w. told v w };
 
-    ghost spent = { front_view [] };
+    ghost spent = { token_view [] };
 }
 
 /// A token compares what it was told with what it has seen.
@@ -42,58 +42,58 @@ impl<T> Play<(), View<T>> for Compares {
 
 /// A token that has seen a beginning of the history. Contracts see that beginning, the newest first.
 #[derive(Drop)]
-pub struct Front<T, N: Naming> {
+pub struct Token<T, N: Naming> {
     seat: Seat<(), View<T>>,
     of: PhantomData<N>,
 }
 
-impl<T, N: Naming> Model for Front<T, N> {
+impl<T, N: Naming> Model for Token<T, N> {
     ghost use Rattle.std.specs.Prelude.{◌≡◌, List, []};
-    ghost use Rattle.shared_history.specs.Sharing.{front_view};
+    ghost use Rattle.shared_history.specs.Sharing.{token_view};
 
     ghost Value = { List T };
 
     ghost view = { λ f. f.seat.me.0.seen };
 
-    ghost invariant = { λ f. (f.seat.table_id ≡ N.line) × (f.seat.me ≡ (front_view f.seat.me.0.seen, [])) };
+    ghost invariant = { λ f. (f.seat.table_id ≡ N.spine) × (f.seat.me ≡ (token_view f.seat.me.0.seen, [])) };
 }
 
-impl<T, N: Naming> Front<T, N> {
+impl<T, N: Naming> Token<T, N> {
     /// The token of a seat that has seen a beginning.
-    pub(crate) fn of(seat: Seat<(), View<T>>) -> Front<T, N>
-        requires { (seat.table_id ≡ N.line) × (seat.me ≡ (front_view seat.me.0.seen, [])) }
+    pub(crate) fn of(seat: Seat<(), View<T>>) -> Token<T, N>
+        requires { (seat.table_id ≡ N.spine) × (seat.me ≡ (token_view seat.me.0.seen, [])) }
         ensures { result ≡ seat.me.0.seen }
     {
-        Front {
+        Token {
             seat,
             of: PhantomData,
         }
     }
 
     /// A seat that has seen as much.
-    pub(crate) fn copy(&mut self, line: &Line<T, N>) -> Seat<(), View<T>>
-        ensures line { result.table_id ≡ N.line }
-        ensures seen { result.me ≡ (front_view self.old, []) }
+    pub(crate) fn copy(&mut self, spine: &Spine<T, N>) -> Seat<(), View<T>>
+        ensures spine { result.table_id ≡ N.spine }
+        ensures seen { result.me ≡ (token_view self.old, []) }
         ensures same { self.new ≡ self.old }
     {
-        line.table.shared.split_seat::<Copies>(&mut self.seat)
+        spine.table.shared.split_seat::<Copies>(&mut self.seat)
     }
 
     /// Another token that has seen as much. It takes no memory.
-    pub fn again(&mut self, line: &Line<T, N>) -> Front<T, N>
+    pub fn again(&mut self, spine: &Spine<T, N>) -> Token<T, N>
         ensures { (result ≡ self.old) × (self.new ≡ self.old) }
     {
-        Front::of(self.copy(line))
+        Token::of(self.copy(spine))
     }
 
     /// Of what two tokens have seen, one is a beginning of the other: there is one history. It takes no
     /// memory.
-    pub fn agree(&mut self, line: &Line<T, N>, other: &mut Front<T, N>)
+    pub fn agree(&mut self, spine: &Spine<T, N>, other: &mut Token<T, N>)
         ensures one { Extends self.old other.old ⊎ Extends other.old self.old }
         ensures same { (self.new ≡ self.old) × (other.new ≡ other.old) }
     {
-        let copy = other.copy(line);
-        line.table.shared.join_seat::<Hears>(&mut self.seat, copy);
-        line.table.shared.load::<Compares>(&mut self.seat, 0);
+        let copy = other.copy(spine);
+        spine.table.shared.join_seat::<Hears>(&mut self.seat, copy);
+        spine.table.shared.load::<Compares>(&mut self.seat, 0);
     }
 }

@@ -1,5 +1,5 @@
 use Rattle.shared_history.proofs.Moves.{begins}
-use Rattle.shared_history.proofs.line.Opened.new.Goals as goal
+use Rattle.shared_history.proofs.spine.Opened.new.Goals as goal
 
 pub of_words-requires : goal.of_words-requires
 of_words-requires g c = begins

@@ -12,18 +12,18 @@ use std::marker::{Brand, Model, PhantomData};
 pub trait Naming {
     ghost use Rattle.atomic_table.specs.Seated.{TableId};
 
-    /// The name of its line.
-    ghost line: { TableId };
+    /// The name of its spine.
+    ghost spine: { TableId };
 }
 
-/// A caller that names `Brand` picks the line in its proof; this one stands where none is picked.
+/// A caller that names `Brand` picks the spine in its proof; this one stands where none is picked.
 impl Naming for Brand {
-    ghost use Rattle.shared_history.specs.Sharing.{no_line};
+    ghost use Rattle.shared_history.specs.Sharing.{no_spine};
 
-    ghost line = { no_line };
+    ghost spine = { no_spine };
 }
 
-/// A line and its pen, which no type stands for yet. Contracts see the line's name.
+/// A spine and its pen, which no type stands for yet. Contracts see the spine's name.
 #[derive(Drop)]
 pub struct Opened<T> {
     table: Table<(), View<T>, (), Shares<T>, Global>,
@@ -49,24 +49,24 @@ impl<T> Opened<T> {
         Ok(Opened { table, pen })
     }
 
-    /// The line and the pen of the history, under its name.
-    pub fn named<N: Naming>(self) -> (Line<T, N>, Pen<T, N>)
-        requires { self ≡ N.line }
+    /// The spine and the pen of the history, under its name.
+    pub fn named<N: Naming>(self) -> (Spine<T, N>, Pen<T, N>)
+        requires { self ≡ N.spine }
         ensures { result.1 ≡ [] }
     {
         let Opened { table, pen } = self;
-        (Line::of(table), Pen::of(pen))
+        (Spine::of(table), Pen::of(pen))
     }
 }
 
 /// What the threads of a history share. It tells nothing by itself; contracts see its name.
 #[derive(Drop)]
-pub struct Line<T, N: Naming> {
+pub struct Spine<T, N: Naming> {
     pub(crate) table: Table<(), View<T>, (), Shares<T>, Global>,
     of: PhantomData<N>,
 }
 
-impl<T, N: Naming> Model for Line<T, N> {
+impl<T, N: Naming> Model for Spine<T, N> {
     ghost use Rattle.std.specs.Prelude.{◌≡◌, ◌<◌};
     ghost use Rattle.atomic_table.specs.Seated.{TableId};
 
@@ -74,15 +74,15 @@ impl<T, N: Naming> Model for Line<T, N> {
 
     ghost view = { λ l. l.table.shared.table_id };
 
-    ghost invariant = { λ l. (l.table.shared.table_id ≡ N.line) × (0 < l.table.shared.table_id.words) };
+    ghost invariant = { λ l. (l.table.shared.table_id ≡ N.spine) × (0 < l.table.shared.table_id.words) };
 }
 
-impl<T, N: Naming> Line<T, N> {
-    /// The line that `N` names.
-    fn of(table: Table<(), View<T>, (), Shares<T>, Global>) -> Line<T, N>
-        requires { (table.shared.table_id ≡ N.line) × (0 < table.shared.table_id.words) }
+impl<T, N: Naming> Spine<T, N> {
+    /// The spine that `N` names.
+    fn of(table: Table<(), View<T>, (), Shares<T>, Global>) -> Spine<T, N>
+        requires { (table.shared.table_id ≡ N.spine) × (0 < table.shared.table_id.words) }
     {
-        Line {
+        Spine {
             table,
             of: PhantomData,
         }
