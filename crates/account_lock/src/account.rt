@@ -39,8 +39,8 @@ use std::marker::Brand;
 use std::sync::{Arc, Mutex, Wait};
 use usage_ledger::{Blanks, Keep, Ledgers, Pen, Spine, Start, Tally, Token, root};
 
-/// Stands for the ledgers, the history, the configuration, the salt and the limit of an account in its
-/// type, so that callers know them without the lock.
+/// Names an account's ledgers, history, configuration, salt and limit in its type, so that callers know
+/// them without taking the lock.
 pub trait Identity: Ledgers {
     ghost use Rattle.std.specs.Prelude.{ℕ};
     ghost use Rattle.arn_ids.specs.declared.config.Config.{Config};
@@ -55,8 +55,7 @@ pub trait Identity: Ledgers {
     ghost most: { ℕ };
 }
 
-/// A caller that names `Brand` picks configuration, salt and limit in its proof; these are used if none are
-/// picked.
+/// A caller that names `Brand` chooses configuration, salt and limit in its proof; these are the defaults.
 impl Identity for Brand {
     ghost use Rattle.call_model.specs.Sample.{one};
 
@@ -67,15 +66,15 @@ impl Identity for Brand {
     ghost most = { 0 };
 }
 
-/// One account, which threads share: its desk, of which one thread at a time makes a step or reads. What
-/// they see is of one history: each has seen a beginning of it.
+/// One account that threads share: a desk on which one thread at a time makes a step or reads. All threads
+/// see one history: what each has seen is a beginning of it.
 #[derive(Drop)]
 pub struct Account<S: Identity, B> {
     locked: Mutex<Locked<S, B>>,
     spine: Spine<S>,
 }
 
-/// Rings the bells of a step, once the lock is free, and gives the call's ticket.
+/// Rings the bells of a step after the lock is released, and returns the call's ticket.
 fn ring_out<B: Bell>(step: Step<B>) -> Ticket
     ensures { result ≡ step.ticket }
 {
@@ -86,7 +85,7 @@ fn ring_out<B: Bell>(step: Step<B>) -> Ticket
     ticket
 }
 
-/// The text of an entry that was drafted under the lock.
+/// Returns the text of an entry that was drafted under the lock.
 fn finish(draft: Option<Draft>) -> Result<Option<Vec<u8>>, AllocError>
     ensures { IfOk result (λ text. option_map (λ bytes. bytes.items) text ≡ draft) }
 {
@@ -97,10 +96,9 @@ fn finish(draft: Option<Draft>) -> Result<Option<Vec<u8>>, AllocError>
 }
 
 impl<S: Identity, B: Bell> Account<S, B> {
-    /// A new account, of at most so many entries: from the environments and one to 2^32. Its
-    /// history is empty, and the tally has all parts of its four ledgers. Each blank becomes the
-    /// ledger that `S` names, and the history the one that it names. The account shares the
-    /// configuration with whoever else reads it.
+    /// Opens an account of at most `max_entries` entries: at least one more than it has environments, at
+    /// most 2^32. Its history is empty, and the tally has all parts of its four ledgers. The blanks become
+    /// the ledgers and the history that `S` names. The configuration is shared with its other readers.
     ///
     /// # Errors
     /// As `Book::open`: `EntriesOutOfRange`, else `OutOfMemory`.
@@ -146,13 +144,13 @@ impl<S: Identity, B: Bell> Account<S, B> {
         }
     }
 
-    /// One step of the desk under the lock; then its bells ring, with the lock free. The tally
-    /// counts the call, and notes its head at the ticket that is given back. The token has then seen the
-    /// history from its beginning to this call, and so has the one that comes with the ticket.
+    /// Submits a call: one step of the desk under the lock, whose bells ring after the lock is released.
+    /// The tally counts the call, and notes its head at the ticket that is returned. Both the caller's
+    /// token and the one that comes with the ticket have then seen the history up to this call.
     ///
     /// # Errors
-    /// As `Desk::apply`, by the history that the token has then seen; the tally is then as it was, and
-    /// the bell comes back.
+    /// As `Desk::apply`, for the history that the token has then seen. The tally is unchanged, and the bell
+    /// is returned.
     pub fn submit<K: Keep>(
         &self,
         rt: &impl Wait,
@@ -180,12 +178,12 @@ impl<S: Identity, B: Bell> Account<S, B> {
         }
     }
 
-    /// Submits a call unless it is premature ([`account_book::Book::is_premature`]): it is looked at,
-    /// and taken, under one lock.
+    /// Submits a call unless it is premature ([`account_book::Book::is_premature`]). The test and the step
+    /// happen under one lock.
     ///
     /// # Errors
-    /// As `Desk::offer`, by the history that the token has then seen; the tally is then as it was, and
-    /// the bell comes back, from a premature call with the call.
+    /// As `Desk::offer`, for the history that the token has then seen. The tally is unchanged, and the bell
+    /// is returned, with the call if that is premature.
     pub fn offer<K: Keep>(
         &self,
         rt: &impl Wait,
@@ -214,12 +212,12 @@ impl<S: Identity, B: Bell> Account<S, B> {
         }
     }
 
-    /// Submits a Tick at a moment in milliseconds, below 2^53, if no deadline is running: it is looked at,
-    /// and taken, under one lock. So nothing expires by it, however far ahead the moment is. None if a
-    /// deadline is running; nothing has changed then.
+    /// Submits a Tick at a moment in milliseconds, below 2^53, if no deadline is running, so that nothing
+    /// expires, however far ahead the moment is. The test and the step happen under one lock. Returns none
+    /// if a deadline is running; nothing has changed then.
     ///
     /// # Errors
-    /// As [`Desk::apply`], by the history that the token has then seen; the tally is then as it was.
+    /// As [`Desk::apply`], for the history that the token has then seen. The tally is unchanged.
     pub fn tick_at_rest<K: Keep>(
         &self,
         rt: &impl Wait,
@@ -248,21 +246,22 @@ impl<S: Identity, B: Bell> Account<S, B> {
         }
     }
 
-    /// A token that has seen the history as it is.
+    /// Returns a token that has seen the history as it is.
     pub fn token(&self, rt: &impl Wait) -> Token<S>
         ensures { Sees S.config S.most [] result }
     {
         self.locked.lock(rt).token(&self.spine)
     }
 
-    /// Another token that has seen as much. It takes no lock.
+    /// Returns another token that has seen as much. It takes no lock.
     pub fn again(&self, token: &mut Token<S>) -> Token<S>
         ensures { (result ≡ token.old) × (token.new ≡ token.old) }
     {
         token.again(&self.spine)
     }
 
-    /// Of what two tokens have seen, one is a beginning of the other: the account has one history.
+    /// States that of what two tokens have seen, one is a beginning of the other: the account has one
+    /// history.
     pub fn agree(&self, one: &mut Token<S>, other: &mut Token<S>)
         ensures agree { Extends one.old other.old ⊎ Extends other.old one.old }
         ensures same { (one.new ≡ one.old) × (other.new ≡ other.old) }
@@ -270,7 +269,7 @@ impl<S: Identity, B: Bell> Account<S, B> {
         one.agree(&self.spine, other);
     }
 
-    /// What a ticket was answered, in the history as it is, which the token then has seen.
+    /// Returns what a ticket was answered, in the history as it is, which the token has then seen.
     pub fn look(&self, rt: &impl Wait, token: &mut Token<S>, ticket: Ticket) -> Look
         ensures seen { Sees S.config S.most token.old token.new }
         ensures value { result ≡ look_of (answer_of token.new ticket) }
@@ -278,8 +277,8 @@ impl<S: Identity, B: Bell> Account<S, B> {
         Look::of(self.locked.lock(rt).read(&self.spine, token).answer(ticket))
     }
 
-    /// Whether an environment is due at a moment in milliseconds, by the history as it is, which the token
-    /// then has seen: a `Tick` then expires it.
+    /// Returns whether an environment is due at a moment in milliseconds, so that a `Tick` expires it, in the
+    /// history as it is, which the token has then seen.
     pub fn due(&self, rt: &impl Wait, token: &mut Token<S>, now: u64) -> bool
         ensures seen { Sees S.config S.most token.old token.new }
         ensures value { result ≡ is_some (first (due S.config token.new now)) }
@@ -287,7 +286,7 @@ impl<S: Identity, B: Bell> Account<S, B> {
         self.locked.lock(rt).read(&self.spine, token).due(now)
     }
 
-    /// The counts of the history as it is, which the token then has seen.
+    /// Returns the counts of the history as it is, which the token has then seen.
     pub fn stats(&self, rt: &impl Wait, token: &mut Token<S>) -> Stats
         ensures seen { Sees S.config S.most token.old token.new }
         ensures value { result ≡ stats S.config token.new }
@@ -295,7 +294,8 @@ impl<S: Identity, B: Bell> Account<S, B> {
         self.locked.lock(rt).read(&self.spine, token).stats()
     }
 
-    /// How far the service has come to its end, by the history as it is, which the token then has seen.
+    /// Returns how far the service's shutdown has come, in the history as it is, which the token has then
+    /// seen.
     pub fn life(&self, rt: &impl Wait, token: &mut Token<S>) -> Life
         ensures seen { Sees S.config S.most token.old token.new }
         ensures value { result ≡ life S.config token.new }
@@ -303,8 +303,8 @@ impl<S: Identity, B: Bell> Account<S, B> {
         self.locked.lock(rt).read(&self.spine, token).life()
     }
 
-    /// A function's reservation in force, none where it has none, by the history as it is, which the token
-    /// then has seen. (GetFunctionConcurrency)
+    /// Returns a function's reservation in force, if it has one, in the history as it is, which the token has
+    /// then seen. (GetFunctionConcurrency)
     pub fn reservation(&self, rt: &impl Wait, token: &mut Token<S>, function: FnNo) -> Option<u32>
         requires from_one { 1 ≤ function }
         requires there { function ≤ length S.config.functions }
@@ -317,10 +317,10 @@ impl<S: Identity, B: Bell> Account<S, B> {
             .reservation(function)
     }
 
-    /// What the client of the call with a ticket gets, in the history as it is, which the token then has
-    /// seen: the status, the headers and the body of its answer; none while it has none.
+    /// Returns the reply to the call with a ticket, in the history as it is, which the token has then seen:
+    /// the status, the headers and the body of its answer; none while the call has no answer.
     ///
-    /// The only error is want of memory.
+    /// The only error is lack of memory.
     pub fn render(
         &self,
         rt: &impl Wait,
@@ -333,19 +333,19 @@ impl<S: Identity, B: Bell> Account<S, B> {
         self.locked.lock(rt).read(&self.spine, token).render(ticket)
     }
 
-    /// The text of the history before its first entry.
+    /// Returns the text of the history before its first entry.
     ///
-    /// The only error is want of memory.
+    /// The only error is lack of memory.
     pub fn opening(&self, rt: &impl Wait) -> Result<Vec<u8>, AllocError>
         ensures { IfOk result (λ text. text.items ≡ opening_text S.config S.salt S.most) }
     {
         self.locked.lock(rt).opening()
     }
 
-    /// The text of the entry with a ticket, in the history as it is, which the token then has seen; none
-    /// past the end. Its bodies are escaped with the lock free.
+    /// Returns the text of the entry with a ticket, in the history as it is, which the token has then seen;
+    /// none past the end. Its bodies are escaped after the lock is released.
     ///
-    /// The only error is want of memory.
+    /// The only error is lack of memory.
     pub fn history(
         &self,
         rt: &impl Wait,
@@ -364,13 +364,13 @@ impl<S: Identity, B: Bell> Account<S, B> {
         finish(draft?)
     }
 
-    /// Adds the shares of all tallies up, and compares what they keep with the history, once no
-    /// thread shares the account.
+    /// Adds up the shares of all tallies, and compares what they keep with the history. It needs the account
+    /// to itself.
     ///
     /// # Errors
-    /// As `Desk::settle`; account and tallies are then gone. The fault comes with a token that has seen the
-    /// account's history, of which it is a fault, and if no tally was missing, the tallies have counted what
-    /// that history counts. Where nothing is kept and nothing need be, a missing tally is the only one.
+    /// As `Desk::settle`; account and tallies are consumed. The fault comes with a token that has seen the
+    /// whole history in which it is found. If no tally was missing, the tallies have counted what that
+    /// history counts. If nothing is kept, and nothing has to be, a missing tally is the only fault.
     pub fn settle<K: Keep>(self, tallies: Vec<Tally<K, S>>) -> Result<Settled<K, S>, Unsettled<S>>
         ensures book { IfOk result (λ settled.
             (settled.book.config ≡ S.config) × (settled.stats ≡ stats S.config settled.book.history)) }
@@ -394,7 +394,7 @@ impl<S: Identity, B: Bell> Account<S, B> {
         }
     }
 
-    /// The desk, once no thread shares the account.
+    /// Returns the desk.
     pub fn into_desk(self) -> Desk<B, S>
         ensures { result.book.config ≡ S.config }
     {

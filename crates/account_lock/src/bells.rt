@@ -1,4 +1,4 @@
-//! The bells of those who wait for an answer, in rising order of their tickets.
+//! The bells of the callers that wait for an answer, in increasing order of their tickets.
 
 ghost use Rattle.std.specs.Prelude.{◌≡◌, ◌+◌, ◌<◌, ◌≤◌, ◌++◌, true, false, nat_lt, length, vec_len};
 ghost use Rattle.std.specs.Prelude.{vec_capacity};
@@ -7,8 +7,8 @@ ghost use Rattle.account_lock.specs.Bells.{of_ticket, other_bells, own_bell, are
 
 use call_model::Ticket;
 
-/// What rings once a ticket is answered, so that whoever waits for it looks again. A bell rings
-/// at most once.
+/// Rings when a ticket is answered, so that the caller that waits for it looks again. A bell rings at most
+/// once.
 pub trait Bell: Drop {
     /// Rings it.
     fn ring(self);
@@ -25,7 +25,7 @@ pub(crate) fn store<B>(bells: &mut Vec<(Ticket, B)>, ticket: Ticket, bell: Optio
     }
 }
 
-/// Behind how many bells that of a ticket stands, if there is one: those of lower tickets.
+/// Returns the index of a ticket's bell, if it has one: the number of bells of lower tickets.
 fn find_bell<B>(bells: &[(Ticket, B)], ticket: Ticket) -> usize
     requires { are_rising bells.now ≡ true }
     ensures within { result ≤ length bells.now }
@@ -35,7 +35,7 @@ fn find_bell<B>(bells: &[(Ticket, B)], ticket: Ticket) -> usize
     bells.partition_point(|bell| bell.0 < ticket)
 }
 
-/// Moves the bell of a ticket, if there is one, to those that are to ring.
+/// Moves the bell of a ticket, if it has one, to those that will ring.
 pub(crate) fn take_bell<B>(bells: &mut Vec<(Ticket, B)>, ticket: Ticket, rings: &mut Vec<B>)
     requires rising { are_rising bells.old.items ≡ true }
     requires room { vec_len rings.old < vec_capacity rings.old }

@@ -1,4 +1,4 @@
-//! What the calls of tallies must be: the heads of the history's entries, each once and in order.
+//! The calls of tallies, which must be the heads of the history's entries, each once and in order.
 
 ghost use Rattle.std.specs.Prelude.{◌≡◌, ℕ, ◌≤◌, true, length, vec_len};
 ghost use Rattle.account_lock.specs.Failing.{FirstFailure};
@@ -11,7 +11,7 @@ use account_book::Book;
 use call_model::{Call, Head, Ticket};
 use usage_ledger::{Keep, Ledgers, Tally};
 
-/// The head of a call that somebody made; none of an expiry.
+/// Returns the head of a call; an expiry has none.
 fn made(call: &Call) -> Option<Head>
     ensures { result ≡ made call.now }
 {
@@ -22,7 +22,7 @@ fn made(call: &Call) -> Option<Head>
     }
 }
 
-/// The head of the call with a ticket; none past the end, and none of an expiry.
+/// Returns the head of the call with a ticket; past the end there is none, and an expiry has none.
 fn head_of_entry(book: &Book, ticket: Ticket) -> Option<Head>
     ensures { result ≡ head_at book.now.history ticket }
 {
@@ -55,14 +55,14 @@ impl Claim for Head {
     }
 }
 
-/// A ticket that is below the highest before it.
+/// Returns the ticket if it is below the highest before it.
 fn falls(highest: Ticket, ticket: Ticket) -> Option<Ticket>
     ensures { FirstFailure (λ t. ticket ≡ t → highest ≤ t) result }
 {
     if ticket < highest { Some(ticket) } else { None }
 }
 
-/// The least ticket that stands behind a greater one.
+/// Returns the least ticket that follows a greater one.
 fn fallen(calls: &[(Ticket, Head)]) -> Option<Ticket>
     ensures { FirstFailure (Rises calls.now) result }
 {
@@ -75,7 +75,7 @@ fn fallen(calls: &[(Ticket, Head)]) -> Option<Ticket>
     least
 }
 
-/// The same, if no join made the tally.
+/// Returns the same of a tally that no join made, and none of another.
 fn fallen_in<K: Keep, L: Ledgers>(tally: &Tally<K, L>) -> Option<Ticket>
     ensures { FirstFailure (RisesUnjoined tally.now) result }
 {
@@ -86,7 +86,7 @@ fn fallen_in<K: Keep, L: Ledgers>(tally: &Tally<K, L>) -> Option<Ticket>
     }
 }
 
-/// The same of all tallies.
+/// Returns the same of all tallies.
 fn order_differs<K: Keep, L: Ledgers>(tallies: &[Tally<K, L>]) -> Option<Ticket>
     ensures { FirstFailure (AllRise tallies.now) result }
 {
@@ -97,8 +97,7 @@ fn order_differs<K: Keep, L: Ledgers>(tallies: &[Tally<K, L>]) -> Option<Ticket>
     least
 }
 
-/// The least ticket of a call that somebody made and that has no mark, where all calls are said to be
-/// kept.
+/// Returns the least ticket of a call, expiries aside, that has no mark, if all calls should be kept.
 fn call_missing(book: &Book, marks: &[bool], all: bool) -> Option<Ticket>
     requires { length marks.now ≡ length book.now.history }
     ensures { FirstFailure (λ t. all ≡ true →
@@ -111,8 +110,8 @@ fn call_missing(book: &Book, marks: &[bool], all: bool) -> Option<Ticket>
     }
 }
 
-/// The least ticket at which what the tallies keep of its call is wrong; where all are kept, also
-/// that of a call of which nothing is kept. The marks are blank.
+/// Returns the least ticket at which what the tallies keep of its call is wrong, or missing if all calls
+/// should be kept. The marks are blank.
 pub(crate) fn call_differs<K: Keep, L: Ledgers>(
     book: &Book,
     marks: Vec<bool>,

@@ -1,5 +1,4 @@
-//! What tallies keep of tickets, against the history: the answers that were given, or the heads of the
-//! calls that were made.
+//! Comparing what tallies keep of tickets with the history: answers that were given, or heads of calls.
 
 ghost use Rattle.std.specs.Prelude.{◌≡◌, ◌≢◌, ℕ, ◌<◌, ◌≤◌, List, Option, Some, true, false, is_some, length};
 ghost use Rattle.std.specs.Prelude.{min, vec_len};
@@ -16,7 +15,7 @@ use account_book::Book;
 use call_model::Ticket;
 use usage_ledger::{Keep, Ledgers, Tally};
 
-/// What a tally may keep of a ticket, and the history has there.
+/// Something that a tally may keep of a ticket, and that the history has there.
 pub(crate) trait Claim {
     /// What a history has at a ticket.
     ghost wanted: { List Entry → ℕ → Option Self };
@@ -24,21 +23,21 @@ pub(crate) trait Claim {
     /// The part of what is kept.
     ghost part: { Kept → List (ℕ × Self) };
 
-    /// Whether the history has this at a ticket.
+    /// Returns whether the history has this at a ticket.
     fn stands(&self, book: &Book, ticket: Ticket) -> bool
         ensures yes { result ≡ true → wanted book.now.history ticket ≡ Some self.now }
         ensures no { result ≡ false → wanted book.now.history ticket ≢ Some self.now };
 
-    /// Whether the history has anything there.
+    /// Returns whether the history has anything there.
     fn is_wanted(book: &Book, ticket: Ticket) -> bool
         ensures { result ≡ is_some (wanted book.now.history ticket) };
 
-    /// What a tally keeps, each with its ticket.
+    /// Returns what a tally keeps, each item with its ticket.
     fn kept<K: Keep, L: Ledgers>(tally: &Tally<K, L>) -> &[(Ticket, Self)]
         ensures { result.now ≡ part tally.now.held.kept };
 }
 
-/// A ticket at which the history does not have this.
+/// Returns the pair's ticket if the history has something else there.
 fn unless_stands<C: Claim>(book: &Book, ticket: Ticket, claim: &C) -> Option<Ticket>
     ensures { FirstFailure (λ t. ticket ≡ t → C.wanted book.now.history t ≡ Some claim.now) result }
 {
@@ -49,7 +48,7 @@ fn unless_stands<C: Claim>(book: &Book, ticket: Ticket, claim: &C) -> Option<Tic
     }
 }
 
-/// The least ticket of these at which the history has something else.
+/// Returns the least ticket of the pairs at which the history has something else.
 fn wrong_pair<C: Claim>(book: &Book, pairs: &[(Ticket, C)]) -> Option<Ticket>
     ensures { FirstFailure (Agree (C.wanted book.now.history) pairs.now) result }
 {
@@ -60,7 +59,7 @@ fn wrong_pair<C: Claim>(book: &Book, pairs: &[(Ticket, C)]) -> Option<Ticket>
     wrong
 }
 
-/// The same of what all tallies keep.
+/// Returns the same of what all tallies keep.
 pub(crate) fn wrong_claim<C: Claim, K: Keep, L: Ledgers>(
     book: &Book,
     tallies: &[Tally<K, L>],
@@ -74,8 +73,7 @@ pub(crate) fn wrong_claim<C: Claim, K: Keep, L: Ledgers>(
     wrong
 }
 
-/// Sets the marks of the tickets of all that is kept; none is set before. Gives the least that stands
-/// twice.
+/// Marks the tickets of all that is kept, in blank marks, and returns the least ticket that occurs twice.
 pub(crate) fn mark_claims<C: Claim, K: Keep, L: Ledgers>(
     marks: &mut Vec<bool>,
     tallies: &[Tally<K, L>],
@@ -93,7 +91,7 @@ pub(crate) fn mark_claims<C: Claim, K: Keep, L: Ledgers>(
     twice
 }
 
-/// The least ticket at which the history has something, and that has no mark.
+/// Returns the least ticket at which the history has something, and that has no mark.
 pub(crate) fn unmarked<C: Claim>(book: &Book, marks: &[bool]) -> Option<Ticket>
     requires { length marks.now ≡ length book.now.history }
     ensures { FirstFailure (HasMark (C.wanted book.now.history) (length book.now.history) marks.now) result }

@@ -1,4 +1,4 @@
-//! The desk: the book, the bells of those who wait, and the totals of its ledgers.
+//! The desk: the book, the bells of the callers that wait, and the totals of its ledgers.
 
 ghost use Rattle.std.specs.Prelude.{◌≡◌, ◌<◌, ◌^◌, [], true, false, IfOk, IfErr, OnErr};
 ghost use Rattle.call_types.specs.Within.{IsWithin};
@@ -18,17 +18,17 @@ use std::alloc::Global;
 use std::marker::Model;
 use usage_ledger::{Keep, Ledgers, Tally, Totals};
 
-/// What a desk knows of a ticket.
+/// What is known of a ticket.
 #[derive(Clone, Copy, Debug, PartialEq, Eq)]
 pub enum Look {
     /// It has this answer.
     Given(Answer),
-    /// It has none yet; so it is too past the end of the history.
+    /// It has no answer yet, or is past the end of the history.
     Waiting,
 }
 
 impl Look {
-    /// What is known of a ticket that has this answer, or none.
+    /// Returns what is known of a ticket with this answer, or with none.
     pub fn of(answer: Option<Answer>) -> Look
         ensures { result ≡ look_of answer }
     {
@@ -39,7 +39,7 @@ impl Look {
     }
 }
 
-/// A step: its call's ticket, and the bells of the tickets that it answered.
+/// One step: the ticket of its call, and the bells of the tickets that it answered.
 #[derive(Drop)]
 pub struct Step<B> {
     /// The ticket of the call.
@@ -48,18 +48,18 @@ pub struct Step<B> {
     pub rings: Vec<B>,
 }
 
-/// Why a call was not taken, with the bell that its caller brought.
+/// Why a call was refused, with its caller's bell.
 #[derive(Drop)]
 pub struct Refused<B> {
-    /// Why it was not taken.
+    /// Why it was refused.
     pub refusal: Refusal,
     /// The caller's bell.
     pub bell: Option<B>,
 }
 
-/// The book of one account, the bells of those who wait for an answer, and the totals of its four
-/// ledgers. What its type keeps: the history is legal, each bell belongs to a ticket that waits,
-/// and the totals are what the history counts.
+/// The book of one account, the bells of the callers that wait for an answer, and the totals of its four
+/// ledgers. Its type guarantees that the history is legal, that each bell belongs to a ticket that waits,
+/// and that the totals are what the history counts.
 #[derive(Drop)]
 pub struct Desk<B, L: Ledgers> {
     pub(crate) alloc: Global,
@@ -79,7 +79,7 @@ impl<B, L: Ledgers> Model for Desk<B, L> {
 }
 
 impl<B: Bell, L: Ledgers> Desk<B, L> {
-    /// The desk of an empty book, before anything was counted.
+    /// Opens the desk of an empty book, before anything is counted.
     pub fn open(alloc: Global, book: Book, totals: Totals<L>) -> Desk<B, L>
         requires empty { book.history ≡ [] }
         requires none { totals ≡ no_counts }
@@ -94,13 +94,13 @@ impl<B: Bell, L: Ledgers> Desk<B, L> {
         }
     }
 
-    /// Takes a call at a moment in milliseconds, below 2^53, with the bell of whoever waits for its
-    /// answer. What the step counts moves the tally that is handed in, which also notes the answers
-    /// that were given, in their order, and the call's head.
+    /// Takes a call at a moment in milliseconds, below 2^53, with the bell of the caller that waits for
+    /// its answer. The caller's tally counts what the step counts, and notes the answers that were given,
+    /// in order, and then the call's head.
     ///
     /// # Errors
-    /// `JournalFull` where the book has no room for the call; else `OutOfMemory`. Desk and tally
-    /// are then as they were, and the bell comes back.
+    /// `JournalFull` if the book has no room for the call, otherwise `OutOfMemory`. Desk and tally are
+    /// unchanged, and the bell is returned.
     pub fn apply<K: Keep>(
         &mut self,
         tally: &mut Tally<K, L>,
@@ -152,17 +152,16 @@ impl<B: Bell, L: Ledgers> Desk<B, L> {
         Ok(Step { ticket, rings })
     }
 
-    /// The book, whose readers say what the account is like.
+    /// Returns the book, whose methods read the account.
     pub fn book(&self) -> &Book
         ensures { result.now ≡ self.now.book }
     {
         &self.book
     }
 
-    /// What its type keeps: its configuration, salt and greatest number of entries are ones that a book can
-    /// have; its history is one that calls led to, each of which its book took, so that
-    /// `account_book::laws::replays` applies to it; its bells belong to those who wait; and its totals are
-    /// what the history counts.
+    /// States what its type guarantees: a book can have its configuration, salt and limit of entries; its
+    /// history is one that calls led to, each of which a book takes, so that `account_book::laws::replays`
+    /// applies to it; its bells belong to tickets that wait; and its totals are what the history counts.
     pub fn facts(&self)
         ensures desk { IsDesk self.now }
         ensures booked { IsBooked self.now.book.config self.now.book.salt self.now.book.max_entries }

@@ -1,4 +1,4 @@
-//! What a settlement says, and what is seen of a call that was taken. Each function does nothing; its
+//! Laws of settling an account and of seeing a call that was taken. The functions do nothing; their
 //! clauses are the laws.
 
 ghost use Rattle.std.specs.Prelude.{◌≡◌, ◌<◌, ℕ, Bool, List, length};
@@ -12,14 +12,14 @@ ghost use Rattle.account_lock.specs.declared.fault.SettleFault.TheVariants.{OutO
 ghost use Rattle.account_lock.specs.Settlement.{IsSettled, IsFault};
 ghost use Rattle.account_lock.specs.Shown.{IsTaken, Sees};
 
-/// What is settled has no fault: an account settles exactly where none of the faults is there, want
-/// of memory aside.
+/// A settled account has no fault: an account settles exactly if none of the faults holds, lack of memory
+/// aside.
 pub fn settled_without_fault()
     ensures { (all : Bool) (h : List Entry) (tallies : List Tallied) (fault : SettleFault) →
         IsSettled all h tallies → IsFault all fault h tallies → fault ≡ OutOfMemory }
 {}
 
-/// Whoever submitted a call and then sees the history finds the call there, at its own ticket.
+/// A caller that submitted a call and then sees the history finds the call there, at its ticket.
 pub fn stands_where_it_was_taken()
     ensures there { (config : Config) (most : ℕ) (had : List Entry) (now : ℕ) (call : Call) (ticket : ℕ)
         (seen then : List Entry) →

@@ -5,7 +5,7 @@ ghost use Rattle.account_lock.specs.Failing.{lesser};
 
 use call_model::Ticket;
 
-/// The lesser of two tickets that may be there.
+/// Returns the lesser of two tickets, either of which may be missing.
 pub(crate) fn lesser(one: Option<Ticket>, other: Option<Ticket>) -> Option<Ticket>
     ensures { result ≡ lesser one other }
 {

@@ -1,5 +1,5 @@
-//! One account behind a lock: its book, the bells of those who wait for an answer, and the totals
-//! of what its threads counted.
+//! One account behind a lock: its book, the bells of the callers that wait for an answer, and the
+//! totals of what its threads counted.
 #![tactic(auto)]
 
 mod account;

@@ -16,8 +16,8 @@ use shared_history::Source;
 use std::alloc::AllocError;
 use std::marker::Model;
 use usage_ledger::{Keep, Ledgers, Pen, Spine, Tally, Token};
-/// What lies under the lock: a desk whose configuration, salt and limit are those that its type names, and
-/// the pen of the history, which is the desk's. Contracts see the history.
+/// What the lock protects: a desk with the configuration, salt and limit that its type names, and the pen
+/// that has written the desk's history. Contracts see the history.
 #[derive(Drop)]
 pub(crate) struct Locked<S: Identity, B> {
     pub(crate) desk: Desk<B, S>,
@@ -37,7 +37,7 @@ impl<S: Identity, B> Model for Locked<S, B> {
         × (l.desk.book.max_entries ≡ S.most) };
 }
 
-/// The pen writes what stands in the desk's book.
+/// The pen writes the history of the desk's book.
 struct OfDesk;
 
 impl<B, L: Ledgers> Source<Desk<B, L>, Entry> for OfDesk {
@@ -45,7 +45,7 @@ impl<B, L: Ledgers> Source<Desk<B, L>, Entry> for OfDesk {
 }
 
 impl<S: Identity, B: Bell> Locked<S, B> {
-    /// One step of the desk, which the pen writes; and another token that has seen it.
+    /// Makes one step of the desk, which the pen writes, and returns it with another token that has seen it.
     pub(crate) fn apply<K: Keep>(
         &mut self,
         spine: &Spine<S>,
@@ -74,7 +74,7 @@ impl<S: Identity, B: Bell> Locked<S, B> {
         Ok((step, self.pen.token(spine)))
     }
 
-    /// The same of a call that is offered.
+    /// Does the same with a call that is offered.
     pub(crate) fn offer<K: Keep>(
         &mut self,
         spine: &Spine<S>,
@@ -104,7 +104,7 @@ impl<S: Identity, B: Bell> Locked<S, B> {
         Ok((step, self.pen.token(spine)))
     }
 
-    /// A Tick that is taken only while no deadline is running.
+    /// Takes a Tick, but only while no deadline is running.
     pub(crate) fn tick_at_rest<K: Keep>(
         &mut self,
         spine: &Spine<S>,
@@ -134,7 +134,7 @@ impl<S: Identity, B: Bell> Locked<S, B> {
         Ok(Some(step))
     }
 
-    /// A token that has seen the history as it is.
+    /// Returns a token that has seen the history as it is.
     pub(crate) fn token(&mut self, spine: &Spine<S>) -> Token<S>
         ensures { Sees S.config S.most [] result }
     {
@@ -142,7 +142,7 @@ impl<S: Identity, B: Bell> Locked<S, B> {
         self.pen.token(spine)
     }
 
-    /// Shows a token the history as it is, and hands on the book that has it.
+    /// Shows a token the history as it is, and returns the book that has it.
     pub(crate) fn read(&mut self, spine: &Spine<S>, token: &mut Token<S>) -> &Book
         ensures seen { Sees S.config S.most token.old token.new }
         ensures book { result.now ≡ book_of S.config S.salt S.most token.new }
@@ -152,9 +152,9 @@ impl<S: Identity, B: Bell> Locked<S, B> {
         self.desk.book()
     }
 
-    /// The text of the history before its first entry.
+    /// Returns the text of the history before its first entry.
     ///
-    /// The only error is want of memory.
+    /// The only error is lack of memory.
     pub(crate) fn opening(&self) -> Result<Vec<u8>, AllocError>
         ensures { IfOk result (λ text. text.items ≡ opening_text S.config S.salt S.most) }
     {

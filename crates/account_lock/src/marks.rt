@@ -1,4 +1,4 @@
-//! A mark for each ticket of a history: whether what tallies keep has it.
+//! A mark for each ticket of a history, set if the tallies keep something of it.
 
 ghost use Rattle.std.specs.Prelude.{◌≡◌, ℕ, ◌+◌, ◌<◌, ◌≤◌, min, vec_len, IfOk};
 ghost use Rattle.account_lock.specs.Gathered.{times};
@@ -9,7 +9,7 @@ use crate::least::lesser;
 use call_model::Ticket;
 use std::alloc::{AllocError, Global};
 
-/// So many marks, none set.
+/// Returns blank marks, one for each of `count` tickets.
 pub(crate) fn blank_marks(alloc: Global, count: usize) -> Result<Vec<bool>, AllocError>
     ensures { IfOk result (λ marks. (vec_len marks ≡ count) × ((t : ℕ) → marked t marks.items ≡ 0)) }
 {
@@ -20,7 +20,7 @@ pub(crate) fn blank_marks(alloc: Global, count: usize) -> Result<Vec<bool>, Allo
     Ok(marks)
 }
 
-/// Sets the mark of a ticket; the ticket where it was set. A ticket past the marks has none.
+/// Sets the mark of a ticket, and returns the ticket if it was set before. A ticket past the marks has none.
 fn mark(marks: &mut Vec<bool>, ticket: Ticket) -> Option<Ticket>
     ensures len { vec_len marks.new ≡ vec_len marks.old }
     ensures marks { (t : ℕ) → t < vec_len marks.old →
@@ -39,7 +39,7 @@ fn mark(marks: &mut Vec<bool>, ticket: Ticket) -> Option<Ticket>
     None
 }
 
-/// Sets the marks of these pairs' tickets; the least that was set, or stands twice.
+/// Sets the marks of the pairs' tickets, and returns the least ticket that was marked before or occurs twice.
 pub(crate) fn mark_pairs<X>(marks: &mut Vec<bool>, pairs: &[(Ticket, X)]) -> Option<Ticket>
     ensures len { vec_len marks.new ≡ vec_len marks.old }
     ensures marks { (t : ℕ) → t < vec_len marks.old →

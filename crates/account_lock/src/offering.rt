@@ -9,10 +9,10 @@ use crate::{Bell, Desk, Refused, Step};
 use call_model::Call;
 use usage_ledger::{Keep, Ledgers, Tally};
 
-/// Why a call that was offered was not taken. Nothing has changed then.
+/// Why an offered call was not taken. Nothing has changed.
 #[derive(Drop)]
 pub enum Declined<B> {
-    /// It is premature: an environment is about to be ready that may take it. It comes back with its
+    /// It is premature: an environment that may take it is about to be ready. It is returned with its
     /// bell.
     Premature {
         /// The call.
@@ -20,7 +20,7 @@ pub enum Declined<B> {
         /// The caller's bell.
         bell: Option<B>,
     },
-    /// It was refused, as a call that is submitted.
+    /// It was refused, like a submitted call.
     Refused(Refused<B>),
 }
 
@@ -29,8 +29,8 @@ impl<B: Bell, L: Ledgers> Desk<B, L> {
     /// ([`account_book::Book::is_premature`]).
     ///
     /// # Errors
-    /// `Premature` exactly where it is, else as `apply`. Desk and tally are then as they were, and the
-    /// bell comes back, from a premature call with the call.
+    /// `Premature` exactly if it is, otherwise as `apply`. Desk and tally are unchanged, and the bell is
+    /// returned, with the call if that is premature.
     pub fn offer<K: Keep>(
         &mut self,
         tally: &mut Tally<K, L>,

@@ -1,4 +1,4 @@
-//! What the receipts of tallies must be: the answers of the history.
+//! The receipts of tallies, which must be the answers of the history.
 
 ghost use Rattle.std.specs.Prelude.{◌≡◌, ℕ, true, length, vec_len, IfSome, IfNone};
 ghost use Rattle.account_lock.specs.Failing.{FailsFirstAt, FirstFailure};
@@ -33,7 +33,7 @@ impl Claim for Answer {
     }
 }
 
-/// The least ticket that was answered and has no receipt. The marks are blank.
+/// Returns the least ticket that was answered and has no receipt. The marks are blank.
 fn first_missing<K: Keep, L: Ledgers>(
     book: &Book,
     marks: Vec<bool>,
@@ -49,8 +49,8 @@ fn first_missing<K: Keep, L: Ledgers>(
     unmarked::<Answer>(book, &marks)
 }
 
-/// The least ticket that was answered and has no receipt, where all receipts are said to be kept.
-/// The marks are blank.
+/// Returns the least ticket that was answered and has no receipt, if all receipts should be kept. The marks
+/// are blank.
 pub(crate) fn receipt_missing<K: Keep, L: Ledgers>(
     book: &Book,
     marks: Vec<bool>,

@@ -1,4 +1,4 @@
-//! A Tick that lets time pass only while the account rests.
+//! A Tick that lets time pass only while no deadline is running.
 
 ghost use Rattle.std.specs.Prelude.{◌≡◌, ◌<◌, ◌^◌, true, false, None, IfOk, IfErr, IfSome, IfNone, OnErr};
 ghost use Rattle.call_types.specs.declared.call.Call.TheVariants.{Tick};
@@ -11,13 +11,12 @@ use call_model::Call;
 use usage_ledger::{Keep, Ledgers, Tally};
 
 impl<B: Bell, L: Ledgers> Desk<B, L> {
-    /// Takes a Tick at a moment in milliseconds, below 2^53, if no deadline is running: nothing then
-    /// expires, however far ahead the moment is. So time that passed unseen, as while the machine
-    /// slept, can be made up for. None exactly if a deadline is running; desk and tally are then as
-    /// they were.
+    /// Takes a Tick at a moment in milliseconds, below 2^53, if no deadline is running, so that nothing
+    /// expires, however far ahead the moment is. This catches up on time that passed unseen, as while the
+    /// machine slept. Returns none exactly if a deadline is running; desk and tally are then unchanged.
     ///
     /// # Errors
-    /// As [`Desk::apply`]; desk and tally are then as they were.
+    /// As [`Desk::apply`]. Desk and tally are unchanged.
     pub fn tick_at_rest<K: Keep>(
         &mut self,
         tally: &mut Tally<K, L>,

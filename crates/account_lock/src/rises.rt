@@ -6,8 +6,8 @@ ghost use Rattle.usage_ledger.specs.Counts.{counts};
 use call_model::Stats;
 use usage_ledger::Counts;
 
-/// What a step counts, from what the account shows before and after it: one call, since nobody
-/// calls an expiry, and by how much the other counts have risen.
+/// Returns what a step counts, given the account's counts before and after it: one call, since an expiry
+/// is not a call, and the increase of each other count.
 pub(crate) fn rises(before: Stats, after: Stats) -> Counts
     requires { (before.admitted ≤ after.admitted) × (before.throttled ≤ after.throttled)
         × (before.failed ≤ after.failed) }

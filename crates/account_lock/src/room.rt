@@ -1,4 +1,4 @@
-//! The room that a step wants, made before its first change.
+//! The room that a step needs, made before its first change.
 
 ghost use Rattle.std.specs.Prelude.{◌≡◌, ◌+◌, ◌≤◌, ℕ, [], length, vec_len, vec_capacity, IfOk, OnOk};
 ghost use Rattle.call_model.specs.Next.{due, moment_at};
@@ -11,7 +11,7 @@ use call_model::{Call, Ticket};
 use std::alloc::{AllocError, Global};
 use usage_ledger::{Keep, Ledgers, Tally};
 
-/// For how many answers a step wants room, at a moment at which so many environments are due.
+/// Returns for how many answers a step needs room, if `expiries` environments are due at its moment.
 pub(crate) fn most_given(book: &Book, expiries: usize, call: &Call) -> usize
     requires within { IsWithin book.now.config call.now }
     requires few_due { expiries ≤ 256 }
@@ -22,8 +22,8 @@ pub(crate) fn most_given(book: &Book, expiries: usize, call: &Call) -> usize
     book.most_given(expiries, call)
 }
 
-/// Makes room for a bell among those that wait, for so many answers in the tally and for one call,
-/// and for the bells that so many answers ring. What is held is as before in any case.
+/// Makes room for one more waiting bell, for `most` answers and one call in the tally, and for the bells
+/// that `most` answers ring. What bells and tally hold does not change, not even on an error.
 pub(crate) fn make_room<B, K: Keep, L: Ledgers>(
     alloc: Global,
     bells: &mut Vec<(Ticket, B)>,

@@ -1,4 +1,4 @@
-//! What the answers of a step's entries do: they ring bells, and the tally notes them.
+//! Serving the answers of a step's entries: their bells are taken, and the tally notes them.
 
 ghost use Rattle.std.specs.Prelude.{◌≡◌, ◌+◌, ◌-◌, ◌≤◌, ◌++◌, true, drop, reverse, length, vec_len};
 ghost use Rattle.std.specs.Prelude.{vec_capacity};
@@ -40,7 +40,7 @@ fn serve_answers<B, K: Keep, L: Ledgers>(
     }
 }
 
-/// The same for the answers of the entries from a place on, the oldest first.
+/// Does the same for the answers of the entries from `start` on, the oldest first.
 pub(crate) fn serve_entries<B, K: Keep, L: Ledgers>(
     entries: &Blocks<Entry>,
     start: usize,
@@ -66,8 +66,8 @@ pub(crate) fn serve_entries<B, K: Keep, L: Ledgers>(
     }
 }
 
-/// What a call has added is counted and noted, and its bells are taken: the entries from a place on,
-/// where the account showed these counts before.
+/// Counts and notes what a call has added, the entries from `start` on, and takes the bells of its answers.
+/// `before` is what the account counted before the call.
 pub(crate) fn serve_step<B, K: Keep, L: Ledgers>(
     book: &Book,
     start: u64,

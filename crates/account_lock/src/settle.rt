@@ -1,4 +1,4 @@
-//! The end of an account: its tallies against its book.
+//! Settling an account: comparing its tallies with its book.
 
 ghost use Rattle.std.specs.Prelude.{◌≡◌, ◌≢◌, ◌==◌, ◌^◌, ℕ, true, false, None, length, vec_len, IfOk, IfErr};
 ghost use Rattle.std.specs.Prelude.{IfSome, IfNone};
@@ -20,14 +20,14 @@ use call_model::{Answer, Stats};
 use std::alloc::Global;
 use usage_ledger::{Keep, Ledgers, Tally, Token, Totals};
 
-/// A settled account: what was counted is what its book says.
+/// A settled account: its tallies have counted what its book counts.
 #[derive(Drop)]
 pub struct Settled<K: Keep, L: Ledgers> {
     /// The book, with its history.
     pub book: Book,
     /// The counts of the book.
     pub stats: Stats,
-    /// The shares of all tallies in one, which has all parts.
+    /// One tally with the shares of all, which has all parts.
     pub tally: Tally<K, L>,
 }
 
@@ -36,11 +36,11 @@ pub struct Settled<K: Keep, L: Ledgers> {
 pub struct Unsettled<L: Ledgers> {
     /// The first fault that holds.
     pub fault: SettleFault,
-    /// The token: the fault is one of the history that it has seen.
+    /// A token that has seen the history in which the fault is found.
     pub token: Token<L>,
 }
 
-/// Whether the tallies have all parts.
+/// Returns whether the tallies have all parts.
 fn all_parts<K: Keep, L: Ledgers>(tallies: &[Tally<K, L>]) -> bool
     ensures { result ≡ (parts_in tallies.now == 2 ^ 32) }
 {
@@ -51,7 +51,7 @@ fn all_parts<K: Keep, L: Ledgers>(tallies: &[Tally<K, L>]) -> bool
     sum == 1 << 32
 }
 
-/// All shares in one tally; none where there is no tally.
+/// Joins all shares in one tally; returns none if there is no tally.
 fn gather<K: Keep, L: Ledgers>(tallies: Vec<Tally<K, L>>) -> Option<Tally<K, L>>
     ensures some { IfSome result (λ tally. (tally.held.parts ≡ parts_in tallies.items)
         × (tally.held.counts ≡ counts_in tallies.items)) }
@@ -65,7 +65,7 @@ fn gather<K: Keep, L: Ledgers>(tallies: Vec<Tally<K, L>>) -> Option<Tally<K, L>>
     Some(all)
 }
 
-/// All shares in one tally, which show that the tallies counted what the totals say.
+/// Joins all shares in one tally, which shows that the tallies counted what the totals say.
 fn audit<K: Keep, L: Ledgers>(totals: Totals<L>, tallies: Vec<Tally<K, L>>) -> Tally<K, L>
     requires parts { parts_in tallies.items ≡ 2 ^ 32 }
     ensures counted { counts_in tallies.items ≡ totals }
@@ -79,7 +79,7 @@ fn audit<K: Keep, L: Ledgers>(totals: Totals<L>, tallies: Vec<Tally<K, L>>) -> T
     all
 }
 
-/// The first fault of the receipts and calls, in the order in which the faults are declared. All
+/// Returns the first fault of the receipts and calls, in the order in which the faults are declared. All
 /// marks are blank.
 fn compare<K: Keep, L: Ledgers>(
     book: &Book,
@@ -106,22 +106,22 @@ fn compare<K: Keep, L: Ledgers>(
     None
 }
 
-/// Whether a tally keeps neither receipts nor calls.
+/// Returns whether a tally keeps neither receipts nor calls.
 fn keeps_nothing<K: Keep, L: Ledgers>(tally: &Tally<K, L>) -> bool
     ensures { result ≡ keeps_nothing tally.now }
 {
     tally.kept().is_empty() && tally.calls().is_empty()
 }
 
-/// The same of all tallies.
+/// Returns whether no tally keeps any.
 fn keep_nothing<K: Keep, L: Ledgers>(tallies: &[Tally<K, L>]) -> bool
     ensures { result ≡ list_all keeps_nothing tallies.now }
 {
     tallies.iter().all(|tally| keeps_nothing(tally))
 }
 
-/// The first fault of what tallies keep that have all parts. All memory is asked for before the first
-/// comparison; none where nothing is kept and nothing need be.
+/// Returns the first fault of what the tallies keep, given that they have all parts. All memory is allocated
+/// before the first comparison; none is if nothing is kept, and nothing has to be.
 fn fault_of_keeping<K: Keep, L: Ledgers>(
     alloc: Global,
     book: &Book,
@@ -146,7 +146,7 @@ fn fault_of_keeping<K: Keep, L: Ledgers>(
 }
 
 impl<B: Bell, L: Ledgers> Desk<B, L> {
-    /// The book, and all shares in one tally, which have shown that the tallies counted what it counts.
+    /// Returns the book, and one tally with all shares, which show that the tallies counted what it counts.
     fn audited<K: Keep>(self, tallies: Vec<Tally<K, L>>) -> (Book, Tally<K, L>)
         requires parts { parts_in tallies.items ≡ 2 ^ 32 }
         ensures book { result.0 ≡ self.book }
@@ -158,14 +158,13 @@ impl<B: Bell, L: Ledgers> Desk<B, L> {
         (book, tally)
     }
 
-    /// Adds the shares of all tallies up, and compares what they keep with the history. The time is
-    /// that of one look at each receipt, call and entry.
+    /// Adds up the shares of all tallies, and compares what they keep with the history, in time linear in
+    /// the number of receipts, calls and entries.
     ///
     /// # Errors
-    /// The first `SettleFault` that holds, in the order in which they are declared; desk and tallies
-    /// are then gone. Where no tally was missing, they have counted what the history counts all the
-    /// same. Where nothing is kept and nothing need be, no memory is asked for, and a missing tally is
-    /// the only fault.
+    /// The first `SettleFault` that holds, in the order in which they are declared; desk and tallies are
+    /// consumed. If no tally was missing, they have counted what the history counts. If nothing is kept,
+    /// and nothing has to be, no memory is allocated, and a missing tally is the only fault.
     pub fn settle<K: Keep>(self, tallies: Vec<Tally<K, L>>) -> Result<Settled<K, L>, SettleFault>
         ensures book { IfOk result (λ settled. (settled.book ≡ self.book)
             × (settled.stats ≡ stats self.book.config self.book.history)) }

@@ -1,4 +1,4 @@
-//! The laws: functions with no work in them, whose contracts are proved.
+//! The laws: functions that do nothing, whose contracts are proved.
 
 ghost use Rattle.std.specs.Prelude.{◌≡◌, ℕ, true, List, [], ◌∷◌, Some, None};
 ghost use Rattle.arn_ids.specs.Environments.{function_at};
@@ -27,14 +27,14 @@ pub fn headline()
     ensures { (config : Config) (h : List Entry) → IsLegal config h → Headline config h (stats config h) }
 {}
 
-/// The headline holds of whatever a token of a running account has seen.
+/// The headline holds of every history that a token of a running account has seen.
 pub fn seen()
     ensures { (config : Config) (most : ℕ) (before h : List Entry) → Sees config most before h
         → Headline config h (stats config h) }
 {}
 
-/// The headline can fail: an invocation that was answered twice has no fate, an admission past a
-/// reservation is within no limits, and no counts but the history's own are told.
+/// The headline can fail: an invocation that was answered twice has no fate, an admission beyond a
+/// reservation is not within the limits, and only the history's own counts can be shown.
 pub fn refuses()
     ensures twice { HasOneFate one answered_twice 0 1 → ⊥ }
     ensures past { IsWithinLimits shut [] admitted 1 → ⊥ }
@@ -42,19 +42,19 @@ pub fn refuses()
         → told ≡ stats config h }
 {}
 
-/// A function whose reservation is in force is never refused for want of an environment, in a
-/// configuration without a fault. (Lambda Developer Guide: reserved concurrency)
+/// In a configuration without a fault, a function whose reservation is in force is never refused for lack
+/// of an environment. (Lambda Developer Guide: reserved concurrency)
 pub fn never_local()
     ensures { (config : Config) (h : List Entry) (f limit : ℕ) → first_fault config ≡ None → IsLegal config h
         → reservation config h f ≡ Some limit → verdict config h f ≡ Refuses ByEnvironments → ⊥ }
 {}
 
-/// Isolation by reservation, of every legal history: a function that the configuration reserves, and that no
-/// Reserve names, gets what it would get in an account where nobody else calls and the clock ticks at the same
-/// moments. (Lambda Developer Guide: reserved concurrency)
+/// Isolation by reservation, in every legal history: a function that the configuration reserves, and that no
+/// Reserve names, gets what it would get in an account where no other function is called and the clock ticks
+/// at the same moments. (Lambda Developer Guide: reserved concurrency)
 pub fn isolated()
-    // Its own history is legal, save that at a Tick something may be due: that history has the answers of the
-    // whole one, so this is what says that they are the right ones where nobody else calls.
+    // Its own history is legal, except that something may be due at a Tick. That history has the answers of the
+    // whole one, so this clause says that they are the right ones in an account without other callers.
     ensures legal { (config : Config) (h : List Entry) (f limit : ℕ) → IsLegal config h
         → (function_at config f).reserved ≡ Some limit → IsUnnamed f h → IsLegalSave config (own config h f) }
     // There each ticket of the function has the same reply: status, headers and body, with all identifiers.
@@ -62,7 +62,7 @@ pub fn isolated()
         → own_ticket config h f t ≡ true → reply_text config salt (own config h f) t ≡ reply_text config salt h t }
 {}
 
-/// A Tick leaves every environment as it is: whatever time changes is an expiry's entry of its own.
+/// A Tick leaves every environment as it is: what time changes is entered as an expiry of its own.
 pub fn ticks_change_nothing()
     ensures { (config : Config) (h : List Entry) (entry : Entry) (e : ℕ) → IsLegal config (entry ∷ h)
         → entry.call ≡ Tick

@@ -1,5 +1,5 @@
-//! The headline, whole: what holds of an account's history whenever nobody is in the middle of a
-//! step, as one statement (`specs/Headline.antt`), and the calls that say it of their own history.
+//! The headline as one statement (`specs/Headline.antt`): what holds of an account's history whenever no
+//! step is in progress; and the calls that state it of their own history.
 #![tactic(auto)]
 
 pub mod laws;

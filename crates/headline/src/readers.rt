@@ -1,4 +1,4 @@
-//! The calls that say the headline of their own history.
+//! The calls that state the headline of their own history.
 
 ghost use Rattle.std.specs.Prelude.{◌≡◌, ◌≢◌, ◌^◌, [], true, false, IfOk, IfErr};
 ghost use Rattle.std.specs.List.{list_all};
@@ -16,7 +16,7 @@ use call_model::Stats;
 use std::sync::Wait;
 use usage_ledger::{Keep, Ledgers, Tally, Token};
 
-/// The counts of a book, of whose history the headline holds.
+/// Returns the counts of a book; the headline holds of its history with them.
 pub fn of_book(book: &Book) -> Stats
     ensures { Headline book.now.config book.now.history result }
 {
@@ -25,8 +25,8 @@ pub fn of_book(book: &Book) -> Stats
     book.stats()
 }
 
-/// The counts of a desk, of whose history the headline holds: whatever stands behind an account's lock
-/// is such a desk.
+/// Returns the counts of a desk; the headline holds of its history with them. An account's lock protects
+/// such a desk.
 pub fn of_desk<B: Bell, L: Ledgers>(desk: &Desk<B, L>) -> Stats
     ensures { Headline desk.now.book.config desk.now.book.history result }
 {
@@ -35,8 +35,8 @@ pub fn of_desk<B: Bell, L: Ledgers>(desk: &Desk<B, L>) -> Stats
     desk.book().stats()
 }
 
-/// The counts of a running account, by its history as it is, which the token then has seen: it goes on where
-/// the one ends that the token had seen, and the headline holds of it.
+/// Returns the counts of a running account, in its history as it is, which the token has then seen. This
+/// history continues the one that the token had seen before, and the headline holds of it with the counts.
 pub fn of_account<S: Identity, B: Bell>(
     account: &Account<S, B>,
     rt: &impl Wait,
@@ -49,14 +49,14 @@ pub fn of_account<S: Identity, B: Bell>(
     account.stats(rt, token)
 }
 
-/// Settles an account, once no thread shares it: the headline holds of its history, and what all
-/// tallies have counted together is what that history counts.
+/// Settles an account, which no thread shares any more: the headline holds of its history, and all tallies
+/// together have counted what that history counts.
 ///
 /// # Errors
 /// The first `SettleFault` that holds, in the order in which they are declared, with a token that has seen
-/// the account's history, of which it is a fault; account and tallies are then gone. If no tally was
-/// missing, the tallies have counted what that history counts. Where nothing is kept and nothing need be, a
-/// missing tally is the only fault, and no memory is asked for.
+/// the whole history in which it is found; account and tallies are consumed. If no tally was missing, the
+/// tallies have counted what that history counts. If nothing is kept, and nothing has to be, a missing tally
+/// is the only fault, and no memory is allocated.
 pub fn settle<S: Identity, B: Bell, K: Keep>(
     account: Account<S, B>,
     tallies: Vec<Tally<K, S>>,
