@@ -97,6 +97,8 @@ pub struct Book {
     journal: Journal,
     salt: u64,
     max_entries: u64,
+    /// Where the answers to a call are gathered, before its entry gets them.
+    answers: Roomy<(Ticket, Answer)>,
     alloc: Global,
 }
 
@@ -140,28 +142,28 @@ fn answers_wanted(widest: usize, environments: u64, call: &Call) -> usize
     }
 }
 
-/// Room for a call, and for so many expiries before it: in the journal for their entries, and for
-/// the answers of each expiry and of the call. A refusal leaves the history.
+/// Makes room for a call, and for this many expiries before it: in the journal for their entries, in
+/// `answers` for those to the call, and in a list for those to each expiry. A refusal leaves the history.
 fn room_for(
     alloc: Global,
     journal: &mut Journal,
+    answers: &mut Roomy<(Ticket, Answer)>,
     expiries: usize,
     call: &Call,
-) -> Result<(Vec<Roomy<(Ticket, Answer)>>, Roomy<(Ticket, Answer)>), AllocError>
+) -> Result<Vec<Roomy<(Ticket, Answer)>>, AllocError>
     requires { length journal.old.history + (expiries + 1) ≤ 2 ^ 32 }
     ensures same { (journal.new.config ≡ journal.old.config) × (journal.new.history ≡ journal.old.history)
         × (journal.new.widest ≡ journal.old.widest) }
     ensures made { IfOk result (λ rooms. journal.new.room ≡ expiries + 1) }
-    ensures as_many { IfOk result (λ rooms. length rooms.0.items ≡ expiries) }
-    ensures enough { IfOk result (λ rooms. All (λ room. room ≡ ([], journal.old.widest + 4)) rooms.0.items) }
+    ensures as_many { IfOk result (λ rooms. length rooms.items ≡ expiries) }
+    ensures enough { IfOk result (λ rooms. All (λ room. room ≡ ([], journal.old.widest + 4)) rooms.items) }
     ensures own { IfOk result
-        (λ rooms. rooms.1 ≡ ([], most_answers journal.old.widest (length (owners journal.old.config)) call.now)) }
+        (λ rooms. answers.new ≡ ([], most_answers journal.old.widest (length (owners journal.old.config)) call.now)) }
 {
     journal.make_room(expiries + 1)?;
     let widest = journal.widest();
-    let wanted = answers_wanted(widest, journal.environments(), call);
-    let answers = Roomy::with_room(alloc, wanted)?;
-    Ok((make_rooms(alloc, expiries, widest + 4)?, answers))
+    answers.empty(answers_wanted(widest, journal.environments(), call))?;
+    make_rooms(alloc, expiries, widest + 4)
 }
 
 /// What bytes are: numbers below 256.
@@ -219,6 +221,7 @@ impl Book {
             journal: Journal::open(alloc, config)?,
             salt,
             max_entries,
+            answers: Roomy::new(alloc),
             alloc,
         })
     }
@@ -260,9 +263,15 @@ impl Book {
         self.journal.facts();
         body_fits(&call);
         let moment = now.max(self.journal.last_moment());
-        let (rooms, answers) = room_for(self.alloc, &mut self.journal, expiries, &call)?;
+        let rooms = room_for(
+            self.alloc,
+            &mut self.journal,
+            &mut self.answers,
+            expiries,
+            &call,
+        )?;
         self.journal.expire_due(moment, rooms);
-        self.journal.take(moment, call, answers);
+        self.journal.take(moment, call, &mut self.answers);
         Ok(self.journal.entries().len() as u64 - 1)
     }
 

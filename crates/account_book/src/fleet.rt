@@ -27,6 +27,7 @@ use call_model::{Answer, Call, Throttle, Ticket};
 use concurrency_pool::Pool;
 use deadlines::Due;
 use env_phase::Step;
+use extension_set::Moves;
 use placement::{Class, Places};
 use std::alloc::{AllocError, Global};
 use std::marker::Model;
@@ -40,6 +41,8 @@ pub struct Fleet {
     pool: Pool,
     /// The most extensions that any environment has had at once.
     widest: usize,
+    /// Where an environment's answers are gathered. New ones for each call would cost more.
+    moves: Moves,
 }
 
 impl Model for Fleet {
@@ -99,6 +102,7 @@ impl Fleet {
             places: Places::open(alloc, config)?,
             pool: Pool::open(alloc, config)?,
             widest: 0,
+            moves: Moves::new(),
         })
     }
 
@@ -273,7 +277,7 @@ impl Fleet {
             count: arrival.requests[site.function as usize - 1],
         };
         let was = site.environment.is_taken();
-        site.take(step, arrival.call, answers);
+        site.take(step, arrival.call, &mut self.moves, answers);
         let is = site.environment.is_taken();
         self.due.set(env, site.environment.deadline());
         self.places.note(env, Class::of(site.environment.phase()));

@@ -223,15 +223,15 @@ impl Journal {
     }
 
     /// Takes a call at a moment at which nothing is due, with room for its answers.
-    pub fn take(&mut self, moment: u64, call: Call, answers: Roomy<(Ticket, Answer)>)
+    pub fn take(&mut self, moment: u64, call: Call, answers: &mut Roomy<(Ticket, Answer)>)
         requires moment { moment < 2 ^ 53 }
         requires later { last_moment self.old.history ≤ moment }
         requires none_due { due self.old.config self.old.history moment ≡ [] }
         requires called { is_expiry call ≡ false }
         requires within { IsWithin self.old.config call }
         requires room { 0 < self.old.room }
-        requires answers { most_answers self.old.widest (length (owners self.old.config)) call ≤ answers.1 }
-        requires empty { answers.0 ≡ [] }
+        requires answers { most_answers self.old.widest (length (owners self.old.config)) call ≤ answers.old.1 }
+        requires empty { answers.old.0 ≡ [] }
         ensures config { self.new.config ≡ self.old.config }
         ensures history { self.new.history ≡ entered self.old.config self.old.history moment call }
     {
@@ -317,7 +317,13 @@ impl Journal {
     }
 
     /// Takes a call to which the account says this, as the next entry.
-    fn enter(&mut self, moment: u64, call: Call, verdict: Verdict, answers: Roomy<(Ticket, Answer)>)
+    fn enter(
+        &mut self,
+        moment: u64,
+        call: Call,
+        verdict: Verdict,
+        answers: &mut Roomy<(Ticket, Answer)>,
+    )
         requires moment { moment < 2 ^ 53 }
         requires follows { Follows self.old.config self.old.history
             (entry_of self.old.config self.old.history moment call) }
@@ -325,14 +331,13 @@ impl Journal {
         requires placed { verdict.place ≡ place_for self.old.config self.old.history call }
         requires own { verdict.own ≡ book_answer self.old.config self.old.history call }
         requires room { 0 < self.old.room }
-        requires answers { most_answers self.old.widest (length (owners self.old.config)) call ≤ answers.1 }
-        requires empty { answers.0 ≡ [] }
+        requires answers { most_answers self.old.widest (length (owners self.old.config)) call ≤ answers.old.1 }
+        requires empty { answers.old.0 ≡ [] }
         ensures config { self.new.config ≡ self.old.config }
         ensures history { self.new.history ≡ entered self.old.config self.old.history moment call }
         ensures room { self.new.room ≡ self.old.room - 1 }
         ensures widest { registered_name call ≡ None → self.new.widest ≡ self.old.widest }
     {
-        let mut answers = answers;
         let entries = self.ledger.entries();
         let count = count_call(&self.config, entries, &mut self.requests, moment, &call);
         let arrival = Arrival {
@@ -348,10 +353,10 @@ impl Journal {
             arrival,
             verdict.place,
             verdict.own,
-            &mut answers,
+            answers,
         );
         self.ledger
-            .add(moment, call, answers.into_vec(), verdict.place, count);
+            .add(moment, call, answers.copy_out(), verdict.place, count);
     }
 
     /// Lets the environments expire that are due, one entry each, by deadline and number.
@@ -396,7 +401,8 @@ impl Journal {
                     place: None,
                     own: None,
                 };
-                self.enter(moment, Call::Expire { env }, verdict, answers);
+                let mut answers = answers;
+                self.enter(moment, Call::Expire { env }, verdict, &mut answers);
                 self.facts();
             }
         }

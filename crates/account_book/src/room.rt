@@ -1,11 +1,12 @@
 //! A list with room made beforehand.
 
-ghost use Rattle.std.specs.Prelude.{◌≡◌, ◌+◌, ◌-◌, ◌<◌, ◌≤◌, ◌++◌, ◌∷◌, [], List, ℕ, IfOk};
+ghost use Rattle.std.specs.Prelude.{◌≡◌, ◌+◌, ◌-◌, ◌<◌, ◌≤◌, ◌++◌, ◌∷◌, [], List, ℕ, IfOk, OnOk};
 ghost use Rattle.environment_step.specs.After.{put};
 
 use call_model::{Answer, Ticket};
 use std::alloc::{AllocError, Global};
 use std::marker::Model;
+use std::mem;
 
 /// A list that takes no memory for as many values as there is room for.
 /// Contracts see its values and its room.
@@ -26,7 +27,17 @@ impl<T> Model for Roomy<T> {
 }
 
 impl<T> Roomy<T> {
-    /// No values, and room for this many.
+    /// A list with no values and no room. It allocates nothing.
+    pub fn new(alloc: Global) -> Roomy<T>
+        ensures { result ≡ ([], 0) }
+    {
+        Roomy {
+            items: Vec::new(alloc),
+            room: 0,
+        }
+    }
+
+    /// A list with no values, and room for this many.
     pub fn with_room(alloc: Global, room: usize) -> Result<Roomy<T>, AllocError>
         ensures { IfOk result (λ r. r ≡ ([], room)) }
     {
@@ -35,18 +46,20 @@ impl<T> Roomy<T> {
             room,
         })
     }
-
-    /// Gives the values, and the memory of the room back.
-    pub fn into_vec(self) -> Vec<T>
-        ensures { result.items ≡ self.0 }
-    {
-        let mut items = self.items;
-        items.shrink_to(items.len());
-        items
-    }
 }
 
 impl<T: Drop> Roomy<T> {
+    /// Removes the values, and makes room for this many, in the memory that the list has if that is enough.
+    pub fn empty(&mut self, room: usize) -> Result<(), AllocError>
+        ensures { OnOk result (self.new ≡ ([], room)) }
+    {
+        self.room = 0;
+        self.items.clear();
+        self.items.reserve(room)?;
+        self.room = room;
+        Ok(())
+    }
+
     /// Adds a value where there is room.
     pub fn push(&mut self, value: T)
         requires { 0 < self.old.1 }
@@ -62,6 +75,19 @@ impl<T: Drop> Roomy<T> {
 }
 
 impl Roomy<(Ticket, Answer)> {
+    /// Gives the values in a list without room for more. This one keeps its memory, for the answers of the
+    /// next call; if memory for a copy is refused, it gives that away.
+    pub fn copy_out(&mut self) -> Vec<(Ticket, Answer)>
+        ensures { result.items ≡ self.old.0 }
+    {
+        self.room = 0;
+        let alloc = *self.items.allocator();
+        match copied(alloc, &self.items) {
+            Ok(copy) => copy,
+            Err(_refused) => mem::replace(&mut self.items, Vec::new(alloc)),
+        }
+    }
+
     /// Puts an answer in its place, before those to greater tickets.
     pub fn put(&mut self, pair: (Ticket, Answer))
         requires { 0 < self.old.1 }
@@ -70,6 +96,18 @@ impl Roomy<(Ticket, Answer)> {
         let last = carry(&mut self.items, pair);
         self.push(last);
     }
+}
+
+/// A copy of the pairs.
+fn copied(
+    alloc: Global,
+    pairs: &[(Ticket, Answer)],
+) -> Result<Vec<(Ticket, Answer)>, AllocError>
+    ensures { IfOk result (λ copy. copy.items ≡ pairs.now) }
+{
+    let mut copy = Vec::with_capacity(alloc, pairs.len())?;
+    copy.extend_from_slice(pairs)?;
+    Ok(copy)
 }
 
 /// Lays a pair down before those with greater tickets, each of which moves on by one place; gives

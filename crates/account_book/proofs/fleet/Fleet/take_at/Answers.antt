@@ -57,7 +57,7 @@ recount-requires-clause-admitted c = λ was is.
     ap₂ throttle (ap (λ (k : Crew). k.pool) c.self.view_is) (ap (λ (s : Site). s.function) c.take.ensures.site ∙ ap (λ (s : Site). s.function) (sym here)) ∙ c.requires.admitted invoke
 
 -- the environment changed, and what is kept beside it
-changed : (c : goal.After-self-2-1) → IsChange c.self.inside (record { sites = with_item c.self.inside.sites (c.args.env - 1) (record { function = c.take.new.self.function; environment = c.take.new.self.environment }); due = c.set.new.self; places = c.note.new.self; pool = c.recount.new.pool; widest = c.max-self-inside.result }) (c.args.env - 1) (record { function = c.take.new.self.function; environment = c.take.new.self.environment }) c.index_mut-site.result.now
+changed : (c : goal.After-self-2-1) → IsChange c.self.inside (record { sites = with_item c.self.inside.sites (c.args.env - 1) (record { function = c.take.new.self.function; environment = c.take.new.self.environment }); due = c.set.new.self; places = c.note.new.self; pool = c.recount.new.pool; widest = c.max-self-inside.result; moves = c.take.new.moves }) (c.args.env - 1) (record { function = c.take.new.self.function; environment = c.take.new.self.environment }) c.index_mut-site.result.now
 changed c =
     let at : c.args.env - 1 < length c.self.inside.sites.items = within c.self.inside c.args.self.now c.args.env c.self.view_is c.requires.from_one c.requires.there in
     let back : c.args.env - 1 + 1 ≡ c.args.env = omega (arith, c.requires.from_one) in
