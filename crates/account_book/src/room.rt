@@ -1,4 +1,4 @@
-//! A list with room made beforehand.
+//! A list whose room is made beforehand.
 
 ghost use Rattle.std.specs.Prelude.{◌≡◌, ◌+◌, ◌-◌, ◌<◌, ◌≤◌, ◌++◌, ◌∷◌, [], List, ℕ, IfOk, OnOk};
 ghost use Rattle.environment_step.specs.After.{put};
@@ -8,8 +8,7 @@ use std::alloc::{AllocError, Global};
 use std::marker::Model;
 use std::mem;
 
-/// A list that takes no memory for as many values as there is room for.
-/// Contracts see its values and its room.
+/// A list that allocates nothing while it has room. Contracts see its values and its room.
 #[derive(Drop)]
 pub struct Roomy<T> {
     items: Vec<T>,
@@ -49,7 +48,7 @@ impl<T> Roomy<T> {
 }
 
 impl<T: Drop> Roomy<T> {
-    /// Removes the values, and makes room for this many, in the memory that the list has if that is enough.
+    /// Removes the values, and makes room for this many. It allocates only if the list's memory is too small.
     pub fn empty(&mut self, room: usize) -> Result<(), AllocError>
         ensures { OnOk result (self.new ≡ ([], room)) }
     {
@@ -60,7 +59,7 @@ impl<T: Drop> Roomy<T> {
         Ok(())
     }
 
-    /// Adds a value where there is room.
+    /// Adds a value. There must be room.
     pub fn push(&mut self, value: T)
         requires { 0 < self.old.1 }
         ensures { self.new ≡ (self.old.0 ++ value ∷ [], self.old.1 - 1) }
@@ -75,8 +74,8 @@ impl<T: Drop> Roomy<T> {
 }
 
 impl Roomy<(Ticket, Answer)> {
-    /// Gives the values in a list without room for more. This one keeps its memory, for the answers of the
-    /// next call; if memory for a copy is refused, it gives that away.
+    /// Returns the answers in a list with no room for more. This list keeps its memory for the next call;
+    /// if the allocation of a copy fails, it gives its memory away instead.
     pub fn copy_out(&mut self) -> Vec<(Ticket, Answer)>
         ensures { result.items ≡ self.old.0 }
     {
@@ -88,7 +87,7 @@ impl Roomy<(Ticket, Answer)> {
         }
     }
 
-    /// Puts an answer in its place, before those to greater tickets.
+    /// Puts an answer in its place, before those to greater tickets. There must be room.
     pub fn put(&mut self, pair: (Ticket, Answer))
         requires { 0 < self.old.1 }
         ensures { self.new ≡ (put pair self.old.0, self.old.1 - 1) }
@@ -98,11 +97,8 @@ impl Roomy<(Ticket, Answer)> {
     }
 }
 
-/// A copy of the pairs.
-fn copied(
-    alloc: Global,
-    pairs: &[(Ticket, Answer)],
-) -> Result<Vec<(Ticket, Answer)>, AllocError>
+/// Copies the pairs to a list of just their length.
+fn copied(alloc: Global, pairs: &[(Ticket, Answer)]) -> Result<Vec<(Ticket, Answer)>, AllocError>
     ensures { IfOk result (λ copy. copy.items ≡ pairs.now) }
 {
     let mut copy = Vec::with_capacity(alloc, pairs.len())?;
@@ -110,8 +106,8 @@ fn copied(
     Ok(copy)
 }
 
-/// Lays a pair down before those with greater tickets, each of which moves on by one place; gives
-/// the one that the last place was taken from.
+/// Inserts a pair before those with greater tickets, each of which moves on by one place. Returns the
+/// pair that is pushed out at the end.
 fn carry(pairs: &mut [(Ticket, Answer)], pair: (Ticket, Answer)) -> (Ticket, Answer)
     ensures { pairs.new ++ result ∷ [] ≡ put pair pairs.old }
 {

@@ -15,7 +15,7 @@ use extension_set::Moves;
 pub struct Site {
     /// The number of its function, from 1.
     pub function: FnNo,
-    /// How it stands.
+    /// The environment itself.
     pub environment: Environment,
 }
 
@@ -30,8 +30,8 @@ impl Site {
         }
     }
 
-    /// Takes a call that concerns it, and puts its answers in their places among the others. Any `moves`
-    /// will do: they are cleared, and then hold the environment's own answers.
+    /// Takes a call that concerns it, and puts its answers in their places among the others. `moves` is
+    /// scratch space.
     pub fn take(
         &mut self,
         step: Step,

@@ -29,7 +29,8 @@ is_of f class place = (place.function == f) && is_class class place.class
 abbrev pub lowest_of : ℕ → Class → List Place → Option ℕ
 lowest_of f class places = option_map suc (position (is_of f class) places)
 
--- Where the function's next invocation goes: to its lowest numbered environment that is Idle, else one that is Starting,
--- else one that is Closing, with nothing bound; none where all are taken.
+-- Where the function's next invocation goes: to its lowest numbered environment that is Idle, else to the lowest that
+-- is Starting with nothing bound, else to the lowest that is Closing with nothing bound. None if all are taken.
 unfoldable pub place_among : List Place → ℕ → Option ℕ
-place_among places f = or_else (lowest_of f Idle places) (or_else (lowest_of f StartingFree places) (lowest_of f ClosingFree places))
+place_among places f = or_else (lowest_of f Idle places)
+    (or_else (lowest_of f StartingFree places) (lowest_of f ClosingFree places))

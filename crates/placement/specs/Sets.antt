@@ -1,5 +1,6 @@
 -- The sets of free environments, and what ties them to the environments. No public clause cites this module.
-use Rattle.std.specs.Prelude.{◌≡◌, ℕ, ◌-◌, ◌/◌, ◌%◌, ◌<◌, ◌≤◌, Bool, true, false, ◌==◌, cond, List, length, get_or, slice_index}
+use Rattle.std.specs.Prelude.{◌≡◌, ℕ, ◌-◌, ◌/◌, ◌%◌, ◌<◌, ◌≤◌, Bool, true, false, ◌==◌, cond, List, length}
+use Rattle.std.specs.Prelude.{get_or, slice_index}
 use Rattle.std.specs.Int.{bit_at}
 use Rattle.placement.specs.declared.class.Class.{Class}
 use Rattle.placement.specs.declared.class.Class.TheVariants.{Idle, StartingFree, ClosingFree, Taken}
