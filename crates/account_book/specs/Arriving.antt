@@ -1,14 +1,20 @@
 -- A call that is about to be answered, by what is kept of the history before it.
-use Rattle.std.specs.Prelude.{◌≡◌, ℕ, List, Option}
+use Rattle.std.specs.Prelude.{◌≡◌, ℕ, ◌<◌, ◌≤◌, ◌^◌, List, [], length, reverse, Option, None}
 use Rattle.arn_ids.specs.declared.config.Config.{Config}
+use Rattle.arn_ids.specs.Environments.{owners}
+use Rattle.call_types.specs.declared.answer.Answer.{Answer}
 use Rattle.call_types.specs.declared.call.Call.{Call}
 use Rattle.call_types.specs.declared.call.Entry.{Entry}
 use Rattle.call_model.specs.Limits.{place_for}
-use Rattle.call_model.specs.Next.{IsLegal, Follows, entry_of}
+use Rattle.call_model.specs.Next.{IsLegal, Follows, entry_of, entered}
 use Rattle.concurrency_pool.specs.Meets.{numbers}
 use Rattle.concurrency_pool.specs.Numbers.{Numbers}
+use Rattle.env_phase.specs.Taking.{registered_name}
+use Rattle.account_book.specs.declared.fleet.Arrival.{Arrival}
 use Rattle.account_book.specs.declared.site.Site.{Site}
-use Rattle.account_book.specs.Taking.{sites, IsKnown, AllKnown}
+use Rattle.account_book.specs.Answering.{most_answers}
+use Rattle.account_book.specs.Crew.{Crew}
+use Rattle.account_book.specs.Taking.{sites, request_counts, IsKnown, AllKnown}
 
 -- A call at a moment after a history, with its place: the environments and the pool that are kept are what the history
 -- says.
@@ -21,3 +27,20 @@ pub record IsReady (config : Config) (h : List Entry) (now : ℕ) (call : Call) 
   pub placed : place ≡ place_for config h call
   pub is : all ≡ sites config h
   pub pool_is : pool ≡ numbers config h
+
+-- What a call needs that arrives at the environments: a ticket and counts of its own, and room for its answers.
+pub record IsArriving (config : Config) (entries : List Entry) (arrival : Arrival) (place : Option ℕ) (crew : Crew)
+    (answers : List (ℕ × Answer) × ℕ) : Type 0 where
+  pub moment : arrival.moment < 2 ^ 53
+  pub short : length entries < 2 ^ 32
+  pub ticket : arrival.ticket ≡ length entries
+  pub ready : IsReady config (reverse entries) arrival.moment arrival.call.now place crew.sites crew.pool
+  pub counts : arrival.requests.now
+      ≡ request_counts config (entered config (reverse entries) arrival.moment arrival.call.now)
+  pub room : most_answers crew.widest (length (owners config)) arrival.call.now ≤ answers.1
+  pub empty : answers.0 ≡ []
+
+-- What it leaves of them: they are what the history with the call says, and only a Register can make one the widest.
+pub record IsMoved (config : Config) (h : List Entry) (arrival : Arrival) (before after : Crew) : Type 0 where
+  pub sites : after.sites ≡ sites config (entered config h arrival.moment arrival.call.now)
+  pub widest : registered_name arrival.call.now ≡ None → after.widest ≡ before.widest

@@ -12,6 +12,7 @@ use Rattle.concurrency_pool.specs.declared.pool.Usage.{Usage}
 use Rattle.env_phase.specs.Taking.{taken, given, unused}
 use Rattle.placement.specs.Class.{class_of}
 use Rattle.placement.specs.declared.places.Place.{Place}
+use Rattle.account_book.specs.declared.fleet.Arrival.{Arrival}
 use Rattle.account_book.specs.declared.fleet.Fleet.TheInside.{Inside}
 use Rattle.account_book.specs.declared.site.Site.{Site}
 use Rattle.account_book.specs.Crew.{Crew}
@@ -40,6 +41,13 @@ moved ticket now requests call site = record site {
 -- the answers that the call gives there
 abbrev pub moves_at : ℕ → ℕ → List ℕ → Call → Site → List (ℕ × Answer)
 moves_at ticket now requests call site = given site.environment (step_at ticket now requests site) call
+
+-- the same of a call that arrives
+abbrev pub moved_by : Arrival → Site → Site
+moved_by arrival site = moved arrival.ticket arrival.moment arrival.requests.now arrival.call.now site
+
+abbrev pub moves_by : Arrival → Site → List (ℕ × Answer)
+moves_by arrival site = moves_at arrival.ticket arrival.moment arrival.requests.now arrival.call.now site
 
 -- answers in their places among others
 abbrev pub put_all : List (ℕ × Answer) → List (ℕ × Answer) → List (ℕ × Answer)

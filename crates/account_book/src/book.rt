@@ -1,4 +1,4 @@
-//! The book of an account: what callers hand their calls to.
+//! The book of an account, which takes its calls.
 
 ghost use Rattle.std.specs.Prelude.{◌≡◌, ◌+◌, ◌*◌, ◌<◌, ◌≤◌, ◌^◌, ◌↔◌, ℕ, [], length, reverse, All, IfOk, IfErr, Err};
 ghost use Rattle.std.specs.Prelude.{Some, None, true, false, is_some, slice_get, slice_index_or, option_map};
@@ -41,13 +41,13 @@ use std::marker::Model;
 use std::sync::Arc;
 use thiserror::Error;
 
-/// Why a book could not be opened: the first that holds.
+/// Why a book could not be opened: the first variant that applies.
 #[derive(Clone, Copy, Debug, PartialEq, Eq, Error)]
 pub enum OpenFault {
-    /// The greatest number of entries is not from the environments and one to 2^32.
+    /// The maximum number of entries is not above the number of environments, or is above 2^32.
     #[error("EntriesOutOfRange")]
     EntriesOutOfRange,
-    /// Memory was refused.
+    /// An allocation failed.
     #[error("out of memory")]
     OutOfMemory,
 }
@@ -60,13 +60,13 @@ impl From<AllocError> for OpenFault {
     }
 }
 
-/// Why a call was not taken: the first that holds. The book is then as it was.
+/// Why a call was not taken: the first variant that applies. The book is unchanged.
 #[derive(Clone, Copy, Debug, PartialEq, Eq, Error)]
 pub enum Refusal {
     /// The journal has no room for what the call may add.
     #[error("JournalFull")]
     JournalFull,
-    /// Memory was refused.
+    /// An allocation failed.
     #[error("out of memory")]
     OutOfMemory,
 }
@@ -79,24 +79,26 @@ impl From<AllocError> for Refusal {
     }
 }
 
-/// How far a service has come to its end.
+/// How far the shutdown of a service has come.
 #[derive(Clone, Copy, Debug, PartialEq, Eq)]
 pub enum Life {
-    /// It was not stopped.
+    /// There was no Stop.
     Open,
-    /// It was stopped, and some environment is not shut down yet.
+    /// There was a Stop, and some environment is not shut down yet.
     Stopping,
-    /// It was stopped, and every environment is shut down.
+    /// There was a Stop, and every environment is shut down.
     Off,
 }
 
-/// The journal of one account. Its history is a legal one: each entry has the answers, the place
-/// and the moment that the entries before it and its call determine.
+/// The journal of one account. Its history is legal: the answers, the place and the moment of each
+/// entry are those that the entries before it and its call determine.
 #[derive(Drop)]
 pub struct Book {
     journal: Journal,
     salt: u64,
     max_entries: u64,
+    /// Where the answers that a call gives are gathered, before they are copied to its entry.
+    answers: Roomy<(Ticket, Answer)>,
     alloc: Global,
 }
 
@@ -111,7 +113,7 @@ impl Model for Book {
     ghost invariant = { IsBook };
 }
 
-/// Room for the answers of so many entries.
+/// Makes a list for each of `entries` entries, with room for `answers` answers.
 fn make_rooms(
     alloc: Global,
     entries: usize,
@@ -127,7 +129,7 @@ fn make_rooms(
     Ok(rooms)
 }
 
-/// For how many answers a call wants room.
+/// How many answers a call needs room for.
 fn answers_wanted(widest: usize, environments: u64, call: &Call) -> usize
     requires few { environments ≤ 256 }
     requires ten { widest ≤ 10 }
@@ -140,36 +142,37 @@ fn answers_wanted(widest: usize, environments: u64, call: &Call) -> usize
     }
 }
 
-/// Room for a call, and for so many expiries before it: in the journal for their entries, and for
-/// the answers of each expiry and of the call. A refusal leaves the history.
+/// Makes room for a call, and for the expiries before it: in the journal for their entries, in
+/// `answers` for the answers that the call gives, and in a list for those of each expiry. If it fails,
+/// the history is unchanged.
 fn room_for(
     alloc: Global,
     journal: &mut Journal,
+    answers: &mut Roomy<(Ticket, Answer)>,
     expiries: usize,
     call: &Call,
-) -> Result<(Vec<Roomy<(Ticket, Answer)>>, Roomy<(Ticket, Answer)>), AllocError>
+) -> Result<Vec<Roomy<(Ticket, Answer)>>, AllocError>
     requires { length journal.old.history + (expiries + 1) ≤ 2 ^ 32 }
     ensures same { (journal.new.config ≡ journal.old.config) × (journal.new.history ≡ journal.old.history)
         × (journal.new.widest ≡ journal.old.widest) }
     ensures made { IfOk result (λ rooms. journal.new.room ≡ expiries + 1) }
-    ensures as_many { IfOk result (λ rooms. length rooms.0.items ≡ expiries) }
-    ensures enough { IfOk result (λ rooms. All (λ room. room ≡ ([], journal.old.widest + 4)) rooms.0.items) }
+    ensures as_many { IfOk result (λ rooms. length rooms.items ≡ expiries) }
+    ensures enough { IfOk result (λ rooms. All (λ room. room ≡ ([], journal.old.widest + 4)) rooms.items) }
     ensures own { IfOk result
-        (λ rooms. rooms.1 ≡ ([], most_answers journal.old.widest (length (owners journal.old.config)) call.now)) }
+        (λ rooms. answers.new ≡ ([], most_answers journal.old.widest (length (owners journal.old.config)) call.now)) }
 {
     journal.make_room(expiries + 1)?;
     let widest = journal.widest();
-    let wanted = answers_wanted(widest, journal.environments(), call);
-    let answers = Roomy::with_room(alloc, wanted)?;
-    Ok((make_rooms(alloc, expiries, widest + 4)?, answers))
+    answers.empty(answers_wanted(widest, journal.environments(), call))?;
+    make_rooms(alloc, expiries, widest + 4)
 }
 
-/// What bytes are: numbers below 256.
+/// Bytes are numbers below 256.
 fn bytes_fit(bytes: &[u8])
     ensures { All (λ b. b < 256) bytes.now }
 {}
 
-/// The same of a call's payload, output or report.
+/// So are those of a call's payload, output or report.
 fn body_fits(call: &Call)
     ensures { All (λ b. b < 256) (body_of call.now) }
 {
@@ -184,7 +187,7 @@ fn body_fits(call: &Call)
     }
 }
 
-/// For how many entries a call wants room.
+/// How many entries a call needs room for.
 fn room_wanted(environments: u64, call: &Call) -> u64
     requires { environments ≤ 256 }
     ensures value { result ≡ wanted environments call.now }
@@ -198,8 +201,8 @@ fn room_wanted(environments: u64, call: &Call) -> u64
 }
 
 impl Book {
-    /// An empty book, of at most so many entries: from the environments and one to 2^32. It shares
-    /// the configuration with whoever else reads it.
+    /// Opens an empty book that takes up to `max_entries` entries: at least one more than there are
+    /// environments, at most 2^32. The configuration is shared, not copied.
     pub fn open(
         alloc: Global,
         config: Arc<Checked>,
@@ -219,13 +222,14 @@ impl Book {
             journal: Journal::open(alloc, config)?,
             salt,
             max_entries,
+            answers: Roomy::new(alloc),
             alloc,
         })
     }
 
-    /// Takes a call at a moment in milliseconds, below 2^53; an earlier moment than the last one
-    /// counts as that one. First the environments expire whose deadline has come, by deadline and
-    /// number, each with an entry of its own; then the call is taken. Gives the call's ticket.
+    /// Takes a call at a moment in milliseconds, below 2^53. A moment before the last one counts as the
+    /// last one. First each environment whose deadline has come expires, in the order of deadlines and
+    /// numbers, with an entry of its own; then the call is taken. Returns the call's ticket.
     pub fn apply(&mut self, now: u64, call: Call) -> Result<Ticket, Refusal>
         requires moment { now < 2 ^ 53 }
         requires within { IsWithin self.old.config call }
@@ -243,10 +247,10 @@ impl Book {
         Ok(self.take(now, call, expiries)?)
     }
 
-    /// Takes a call as `apply` does. It requires that the journal isn't `full` for the call, and takes how
-    /// many environments are due before it (`count_due`), so that whoever has asked needn't ask twice.
+    /// Takes a call as `apply` does, for a caller that has already asked whether the journal is `full`
+    /// for the call, and how many environments are due before it (`count_due`).
     ///
-    /// The only error is want of memory. The book is then as it was.
+    /// It fails only if an allocation fails, and the book is then unchanged.
     pub fn take(&mut self, now: u64, call: Call, expiries: usize) -> Result<Ticket, AllocError>
         requires moment { now < 2 ^ 53 }
         requires within { IsWithin self.old.config call }
@@ -260,14 +264,19 @@ impl Book {
         self.journal.facts();
         body_fits(&call);
         let moment = now.max(self.journal.last_moment());
-        let (rooms, answers) = room_for(self.alloc, &mut self.journal, expiries, &call)?;
+        let rooms = room_for(
+            self.alloc,
+            &mut self.journal,
+            &mut self.answers,
+            expiries,
+            &call,
+        )?;
         self.journal.expire_due(moment, rooms);
-        self.journal.take(moment, call, answers);
+        self.journal.take(moment, call, &mut self.answers);
         Ok(self.journal.entries().len() as u64 - 1)
     }
 
-    /// How many environments are due where a call is handed in at a moment: each of them expires before
-    /// the call is taken.
+    /// How many environments expire before a call that is handed in at a moment.
     pub fn count_due(&self, now: u64) -> usize
         ensures value { result ≡ length (due self.now.config self.now.history (moment_at self.now.history now)) }
         ensures few { result ≤ 256 }
@@ -276,10 +285,10 @@ impl Book {
         self.journal.count_due(now.max(last))
     }
 
-    /// How many answers a call gives at most that is handed in at a moment at which so many environments
-    /// are due (`count_due`): those of its own entry, and of the expiries before it. Who notes answers
-    /// makes room for so many. They are few: at most 14 for each environment that is due, and 14 for the
-    /// call itself; for a Stop 13 for each environment, and one.
+    /// The most answers that a call can give, its own entry and the expiries before it together.
+    /// `expiries` is the number of environments that are due (`count_due`). A caller that notes answers
+    /// makes room for this many: up to 14 for each environment that is due, and 14 for the call itself,
+    /// or 13 for each environment and one more if it is a Stop.
     pub fn most_given(&self, expiries: usize, call: &Call) -> usize
         requires within { IsWithin self.now.config call.now }
         requires few_due { expiries ≤ 256 }
@@ -294,15 +303,15 @@ impl Book {
         expiries * (widest + 4) + own
     }
 
-    /// Whether the journal is full for a call: all environments may expire before it, and as many
-    /// entries stay free for a Stop.
+    /// Whether the journal is full for a call. There must be room for the call and an expiry of every
+    /// environment, and then for as much again, which is kept for a Stop.
     pub fn full(&self, call: &Call) -> bool
         ensures { result ≡ full self.now.config self.now.max_entries self.now.history call.now }
     {
         self.max_entries < self.len() + room_wanted(self.journal.environments(), call)
     }
 
-    /// How many entries the history has, expiries included.
+    /// How many entries the history has, including expiries.
     pub fn len(&self) -> u64
         ensures value { result ≡ length self.now.history }
         ensures few { result ≤ 2 ^ 32 }
@@ -317,21 +326,21 @@ impl Book {
         self.journal.entries()
     }
 
-    /// The entry with a ticket; none past the end.
+    /// The entry with a ticket, if the history has it.
     pub fn entry(&self, ticket: Ticket) -> Option<&Entry>
         ensures { option_map (λ entry. entry.now) result ≡ slice_get (reverse self.now.history) ticket }
     {
         self.journal.entries().get(ticket as usize)
     }
 
-    /// For each entry the count in its request identifier, 0 where its call is no Invoke.
+    /// For each entry, the count in its request identifier: 0 unless its call is an Invoke.
     pub fn counts(&self) -> &Blocks<u64>
         ensures { reverse result.now.0 ≡ call_counts self.now.history }
     {
         self.journal.counts()
     }
 
-    /// The answer to a ticket; none where nothing was answered.
+    /// The answer to a ticket, if it was answered.
     pub fn answer(&self, ticket: Ticket) -> Option<Answer>
         ensures { result ≡ answer_of self.now.history ticket }
     {
@@ -352,10 +361,10 @@ impl Book {
         self.journal.first_due(now).is_some()
     }
 
-    /// Whether a call is premature, handed in at a moment in milliseconds: an Invoke that would be
-    /// throttled, while an environment that stands in its way has answered its invocation and is not
-    /// ready again. None is premature after a Stop, where the function's reservation is 0, or where an
-    /// environment is due, which may end what stands in the way.
+    /// Whether a call is premature if it is handed in at a moment in milliseconds: it is an Invoke that
+    /// would be throttled, while an environment in its way has answered its invocation and is not ready
+    /// again. No call is premature after a Stop, if the function's reservation is 0, or if an environment
+    /// is due, whose expiry may clear the way.
     #[tactic(auto, unfolding(crate::specs::Premature::premature))]
     pub fn is_premature(&self, now: u64, call: &Call) -> bool
         requires within { IsWithin self.now.config call.now }
@@ -368,7 +377,7 @@ impl Book {
         self.journal.first_due(now.max(last)).is_none() && self.journal.awaits(*function)
     }
 
-    /// How far the service has come to its end.
+    /// How far the shutdown of the service has come.
     pub fn life(&self) -> Life
         ensures { result ≡ life self.now.config self.now.history }
     {
@@ -381,7 +390,7 @@ impl Book {
         }
     }
 
-    /// A function's reservation in force, none where it has none.
+    /// A function's reservation in force, if it has one.
     /// (GetFunctionConcurrency)
     pub fn reservation(&self, function: FnNo) -> Option<u32>
         requires from_one { 1 ≤ function }
@@ -391,9 +400,9 @@ impl Book {
         self.journal.reservation(function)
     }
 
-    /// The text of the history before its first entry: the line of form 2, and that of the
-    /// configuration. With the texts of the entries behind it, the oldest first, it is a script that
-    /// replays to the history's own answers.
+    /// The text of the history before its first entry: the line `form 2`, and the configuration's line.
+    /// Followed by the texts of the entries, the oldest first, it is a script whose replay gives the
+    /// history's own answers.
     pub fn opening(&self) -> Result<Vec<u8>, AllocError>
         ensures { IfOk result (λ text. text.items ≡ opening_text self.now.config self.now.salt self.now.max_entries) }
     {
@@ -405,10 +414,10 @@ impl Book {
         )
     }
 
-    /// The history text of the entry with a ticket, in which no body is escaped yet: its call's line, and
-    /// its answer lines behind `# `; none past the end. Bodies are shared with the history, not copied.
+    /// The history text of the entry with a ticket, if the history has it: its call's line, and its answer
+    /// lines after `# `. Bodies are not escaped yet; they are shared with the history, not copied.
     ///
-    /// The only error is want of memory.
+    /// It fails only if an allocation fails.
     pub fn history(&self, ticket: Ticket) -> Result<Option<Draft>, AllocError>
         ensures { IfOk result (λ draft. MatchOption draft (length self.now.history ≤ ticket)
             (λ text. (ticket < length self.now.history) × ((d : Entry)
@@ -430,10 +439,10 @@ impl Book {
         Ok(Some(draft))
     }
 
-    /// What the client of the call with a ticket gets: the status, the headers and the body of its
-    /// answer; none while it has none. An invocation's body is shared with the reply, not copied.
+    /// The reply to the client of the call with a ticket, if it was answered: status, headers and body.
+    /// An invocation's body is shared with the reply, not copied.
     ///
-    /// The only error is want of memory.
+    /// It fails only if an allocation fails.
     #[tactic(auto, unfolding(crate::specs::ReplyText::reply_text))]
     pub fn render(&self, ticket: Ticket) -> Result<Option<Reply>, AllocError>
         ensures text { IfOk result (λ reply. reply ≡ reply_text self.now.config self.now.salt self.now.history ticket) }
@@ -466,8 +475,8 @@ impl Book {
         self.salt
     }
 
-    /// What every book is made of, and what its history is: one that calls led to, each of which the
-    /// book takes; so it is a legal one. And there is always room for a first Stop.
+    /// What holds of every book: its history is one that calls led to, each of which the book takes, so
+    /// it is legal; and there is always room for a first Stop.
     pub fn facts(&self)
         ensures sound { first_fault self.now.config ≡ None }
         ensures booked { IsBooked self.now.config self.now.salt self.now.max_entries }

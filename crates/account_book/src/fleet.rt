@@ -1,5 +1,5 @@
-//! The environments of an account, and what is kept beside them: when each is due, where an
-//! invocation goes, and what is in flight.
+//! The environments of an account, and what is kept beside them: their deadlines, where invocations
+//! go, and what is in flight.
 
 ghost use Rattle.std.specs.Prelude.{◌≡◌, ◌+◌, ◌-◌, ◌*◌, ◌<◌, ◌≤◌, ◌^◌, length, map, slice_set, All, true, false, None};
 ghost use Rattle.std.specs.Prelude.{cond, [], count_by, IfOk, MatchResult, ◌&&◌};
@@ -14,7 +14,7 @@ ghost use Rattle.deadlines.specs.Due.{first_due};
 ghost use Rattle.placement.specs.Places.{place_among};
 ghost use Rattle.account_book.specs.Taking.{sites as sites_in};
 ghost use Rattle.env_phase.specs.Taking.{registered_name, IsShort, is_off, has_answered};
-ghost use Rattle.account_book.specs.Fleets.{site_at, moved, moves_at, put_all, merged, flown, deadline_at, place_at};
+ghost use Rattle.account_book.specs.Fleets.{site_at, moved_by, moves_by, put_all, merged, flown, deadline_at, place_at};
 ghost use Rattle.account_book.specs.Fleets.{is_due, IsFew};
 ghost use Rattle.account_book.specs.Premature.{in_way};
 
@@ -27,6 +27,7 @@ use call_model::{Answer, Call, Throttle, Ticket};
 use concurrency_pool::Pool;
 use deadlines::Due;
 use env_phase::Step;
+use extension_set::Moves;
 use placement::{Class, Places};
 use std::alloc::{AllocError, Global};
 use std::marker::Model;
@@ -40,6 +41,9 @@ pub struct Fleet {
     pool: Pool,
     /// The most extensions that any environment has had at once.
     widest: usize,
+    /// Where the answers of one environment are gathered. It is used again, since a new one for each call
+    /// would have to be filled first.
+    moves: Moves,
 }
 
 impl Model for Fleet {
@@ -66,7 +70,7 @@ pub struct Arrival<'a> {
     pub call: &'a Call,
 }
 
-/// Counts what a function has in flight, where an environment of it was and is taken.
+/// Updates what a function has in flight, given whether an environment of it was and is taken.
 #[tactic(auto, using(crate::proofs::Flown::same_count))]
 fn recount(pool: &mut Pool, function: FnNo, was: bool, is: bool)
     requires from_one { 1 ≤ function }
@@ -99,6 +103,7 @@ impl Fleet {
             places: Places::open(alloc, config)?,
             pool: Pool::open(alloc, config)?,
             widest: 0,
+            moves: Moves::new(),
         })
     }
 
@@ -118,7 +123,7 @@ impl Fleet {
         self.widest
     }
 
-    /// What is true of the environments: none has more extensions than the widest.
+    /// What holds of the environments: none has more extensions than the widest.
     pub fn facts(&self)
         ensures narrow { All (λ site. length site.environment.stand.members ≤ self.now.widest) self.now.sites }
         ensures ten { self.now.widest ≤ 10 }
@@ -151,23 +156,23 @@ impl Fleet {
         self.sites.iter().all(|site| site.environment.is_off())
     }
 
-    /// Whether the limits admit an Invoke of a function, and where it goes; else why it is not
-    /// admitted. (Invoke: TooManyRequestsException)
+    /// The environment that an Invoke of a function goes to if the limits admit it, else why they do not.
+    /// (Invoke: TooManyRequestsException)
     pub fn admit(&self, function: FnNo) -> Result<EnvNo, Throttle>
         requires from_one { 1 ≤ function }
         requires there { function ≤ length self.now.pool.functions }
         ensures { MatchResult result
-            (λ e. by_throttle (throttle self.now.pool function) (place_among (map place_at self.now.sites) function)
-            ≡ Admits e)
-            (λ reason. by_throttle (throttle self.now.pool function) (place_among (map place_at self.now.sites) function)
-            ≡ Refuses reason) }
+            (λ e. by_throttle (throttle self.now.pool function)
+            (place_among (map place_at self.now.sites) function) ≡ Admits e)
+            (λ reason. by_throttle (throttle self.now.pool function)
+            (place_among (map place_at self.now.sites) function) ≡ Refuses reason) }
     {
         self.pool.may_admit(function)?;
         self.places.choose(function).ok_or(Throttle::Environments)
     }
 
-    /// Whether an environment that stands in the way of an Invoke of a function, which is refused for
-    /// this reason, has answered its invocation and is not ready again.
+    /// Whether an environment in the way of an Invoke that is refused for this reason has answered its
+    /// invocation and is not ready again.
     pub fn is_awaited(&self, reason: Throttle, function: FnNo) -> bool
         ensures { result
             ≡ list_any (λ site. has_answered site.environment.stand
@@ -185,7 +190,7 @@ impl Fleet {
         self.pool.reservation(function)
     }
 
-    /// Whether a function may be reserved so many. (PutFunctionConcurrency)
+    /// Whether a function may have this reservation. (PutFunctionConcurrency)
     pub fn may_reserve(&self, function: FnNo, count: Option<u32>) -> bool
         requires from_one { 1 ≤ function }
         requires there { function ≤ length self.now.pool.functions }
@@ -194,7 +199,7 @@ impl Fleet {
         self.pool.may_reserve(function, count)
     }
 
-    /// Puts a reservation in force that the account may take, or none.
+    /// Puts a reservation in force, or removes it.
     /// (PutFunctionConcurrency, DeleteFunctionConcurrency)
     pub fn reserve(&mut self, function: FnNo, count: Option<u32>)
         requires from_one { 1 ≤ function }
@@ -212,25 +217,20 @@ impl Fleet {
         self.pool.in_flight_in_all()
     }
 
-    /// Lets every environment take a call that brings no invocation and no extension, one after the
-    /// other, and puts their answers in their places among the others.
-    pub fn take_all(&mut self, arrival: Arrival<'_>, answers: &mut Roomy<(Ticket, Answer)>)
-        requires moment { arrival.moment < 2 ^ 53 }
-        requires counted { length arrival.requests.now ≡ length self.old.pool.functions }
+    /// Hands a call that brings no invocation and no extension to every environment, one after the other,
+    /// and puts their answers in their places among the others.
+    pub fn take_all(&mut self, arrival: &Arrival<'_>, answers: &mut Roomy<(Ticket, Answer)>)
+        requires moment { arrival.now.moment < 2 ^ 53 }
+        requires counted { length arrival.now.requests.now ≡ length self.old.pool.functions }
         requires few { All IsFew self.old.sites }
-        requires unnamed { registered_name arrival.call.now ≡ None }
-        requires gives_few { All (λ site. length (moves_at arrival.ticket arrival.moment arrival.requests.now
-            arrival.call.now site) ≤ 13) self.old.sites }
+        requires unnamed { registered_name arrival.now.call.now ≡ None }
+        requires gives_few { All (λ site. length (moves_by arrival.now site) ≤ 13) self.old.sites }
         requires room { 13 * length self.old.sites ≤ answers.old.1 }
-        requires brings_none { is_invoke arrival.call.now ≡ false }
-        ensures sites { self.new.sites
-            ≡ map (moved arrival.entry.ticket arrival.entry.moment arrival.entry.requests.now arrival.entry.call.now)
-            self.old.sites }
+        requires brings_none { is_invoke arrival.now.call.now ≡ false }
+        ensures sites { self.new.sites ≡ map (moved_by arrival.now) self.old.sites }
         ensures pool { self.new.pool ≡ flown self.new.sites self.old.pool }
         ensures widest { self.new.widest ≡ self.old.widest }
-        ensures answers { answers.new.0
-            ≡ merged (moves_at arrival.entry.ticket arrival.entry.moment arrival.entry.requests.now arrival.entry.call.now)
-            self.old.sites answers.old.0 }
+        ensures answers { answers.new.0 ≡ merged (moves_by arrival.now) self.old.sites answers.old.0 }
         ensures room { answers.old.1 ≤ answers.new.1 + 13 * length self.old.sites }
     {
         for index in 0..self.sites.as_slice().len() {
@@ -238,33 +238,29 @@ impl Fleet {
         }
     }
 
-    /// Lets one environment take a call, and puts its answers in their places among the others.
+    /// Hands a call to one environment, and puts its answers in their places among the others.
     pub fn take_at(
         &mut self,
         env: EnvNo,
-        arrival: Arrival<'_>,
+        arrival: &Arrival<'_>,
         answers: &mut Roomy<(Ticket, Answer)>,
     )
         requires from_one { 1 ≤ env }
         requires there { env ≤ length self.old.sites }
-        requires moment { arrival.moment < 2 ^ 53 }
-        requires short { IsShort (registered_name arrival.call.now) }
-        requires counted { length arrival.requests.now ≡ length self.old.pool.functions }
+        requires moment { arrival.now.moment < 2 ^ 53 }
+        requires short { IsShort (registered_name arrival.now.call.now) }
+        requires counted { length arrival.now.requests.now ≡ length self.old.pool.functions }
         requires few { IsFew (site_at self.old.sites env) }
-        requires room { length (moves_at arrival.ticket arrival.moment arrival.requests.now arrival.call.now
-            (site_at self.old.sites env)) ≤ answers.old.1 }
-        requires admitted { is_invoke arrival.call.now ≡ true
+        requires room { length (moves_by arrival.now (site_at self.old.sites env)) ≤ answers.old.1 }
+        requires admitted { is_invoke arrival.now.call.now ≡ true
             → throttle self.old.pool (site_at self.old.sites env).function ≡ None }
         ensures sites { self.new.sites
-            ≡ slice_set self.old.sites (env - 1) (moved arrival.entry.ticket arrival.entry.moment
-            arrival.entry.requests.now arrival.entry.call.now (site_at self.old.sites env)) }
+            ≡ slice_set self.old.sites (env - 1) (moved_by arrival.now (site_at self.old.sites env)) }
         ensures pool { self.new.pool ≡ flown self.new.sites self.old.pool }
-        ensures widest { registered_name arrival.entry.call.now ≡ None → self.new.widest ≡ self.old.widest }
+        ensures widest { registered_name arrival.now.call.now ≡ None → self.new.widest ≡ self.old.widest }
         ensures answers { answers.new.0
-            ≡ put_all (moves_at arrival.entry.ticket arrival.entry.moment arrival.entry.requests.now
-            arrival.entry.call.now (site_at self.old.sites env)) answers.old.0 }
-        ensures room { answers.new.1 + length (moves_at arrival.entry.ticket arrival.entry.moment
-            arrival.entry.requests.now arrival.entry.call.now (site_at self.old.sites env)) ≡ answers.old.1 }
+            ≡ put_all (moves_by arrival.now (site_at self.old.sites env)) answers.old.0 }
+        ensures room { answers.new.1 + length (moves_by arrival.now (site_at self.old.sites env)) ≡ answers.old.1 }
     {
         let site = &mut self.sites[env as usize - 1];
         let step = Step {
@@ -273,7 +269,7 @@ impl Fleet {
             count: arrival.requests[site.function as usize - 1],
         };
         let was = site.environment.is_taken();
-        site.take(step, arrival.call, answers);
+        site.take(step, arrival.call, &mut self.moves, answers);
         let is = site.environment.is_taken();
         self.due.set(env, site.environment.deadline());
         self.places.note(env, Class::of(site.environment.phase()));

@@ -1,4 +1,4 @@
-//! The text of a history: what stands before its first entry.
+//! The text of a history before its first entry.
 
 ghost use Rattle.std.specs.Prelude.{◌≡◌, IfOk};
 ghost use Rattle.lambda_wire.specs.Ranges.{IsConfigInRange};
@@ -8,10 +8,10 @@ use arn_ids::Checked;
 use lambda_wire::write_config;
 use std::alloc::{AllocError, Global};
 
-/// The line of form 2, and that of the configuration. With the texts of a history's entries behind
-/// it, the oldest first, it is the text of the history, a script that replays to its answers.
+/// The line `form 2`, and the configuration's line. Followed by the texts of a history's entries, the
+/// oldest first, it is the text of the history, a script whose replay gives its answers.
 ///
-/// The only error is want of memory.
+/// It fails only if an allocation fails.
 pub fn opening_text(
     alloc: Global,
     config: &Checked,
@@ -19,7 +19,7 @@ pub fn opening_text(
     max_entries: u64,
 ) -> Result<Vec<u8>, AllocError>
     ensures text { IfOk result (λ text. text.items ≡ opening_text config.now salt max_entries) }
-    // What is written is in the ranges of its types.
+    // The numbers that are written are in the ranges of their types.
     ensures in_range { IfOk result (λ _. IsConfigInRange config.now) }
 {
     let line = write_config(alloc, config.as_config(), salt, max_entries)?;

@@ -1,4 +1,4 @@
-//! The history of an account, with what is known of it.
+//! The history of an account, with what is kept beside it.
 
 ghost use Rattle.std.specs.Prelude.{◌≡◌, ◌+◌, ◌++◌, ◌-◌, ◌<◌, ◌≤◌, ◌^◌, [], length, reverse, Some, None, IfOk, OnOk};
 ghost use Rattle.std.specs.Prelude.{All, false, if◌then◌else◌};
@@ -34,7 +34,7 @@ use std::alloc::{AllocError, Global};
 use std::marker::Model;
 use std::sync::Arc;
 
-/// The history with what is known of it. Room for an entry is made beforehand.
+/// The history with what is kept beside it. Room for an entry is made beforehand.
 #[derive(Drop)]
 pub struct Journal {
     config: Arc<Checked>,
@@ -55,11 +55,11 @@ impl Model for Journal {
     ghost invariant = { IsJournal };
 }
 
-/// What an account says to a call: where it is placed, and its own answer, where the call names no
-/// environment.
+/// What an account decides on a call: where it is placed, and the account's own answer if the call names
+/// no environment.
 #[derive(Clone, Copy)]
 pub struct Verdict {
-    /// Where an admitted Invoke goes.
+    /// The environment that an admitted Invoke goes to.
     pub place: Option<EnvNo>,
     /// The answer to the call itself.
     pub own: Option<Answer>,
@@ -107,14 +107,14 @@ impl Journal {
         self.ledger.entries()
     }
 
-    /// For each entry the count in its request identifier, 0 where its call is no Invoke.
+    /// For each entry, the count in its request identifier: 0 unless its call is an Invoke.
     pub fn counts(&self) -> &Blocks<u64>
         ensures { reverse result.now.0 ≡ call_counts self.now.history }
     {
         self.ledger.counts()
     }
 
-    /// The answer to a ticket; none where nothing was answered.
+    /// The answer to a ticket, if it was answered.
     pub fn answer(&self, ticket: Ticket) -> Option<Answer>
         ensures { result ≡ answer_of self.now.history ticket }
     {
@@ -186,7 +186,7 @@ impl Journal {
         self.fleet.widest()
     }
 
-    /// What a journal's history always is.
+    /// What holds of every journal's history.
     pub fn facts(&self)
         ensures sound { first_fault self.now.config ≡ None }
         ensures legal { IsLegal self.now.config self.now.history }
@@ -197,7 +197,7 @@ impl Journal {
         let _known = &self.requests;
     }
 
-    /// Makes room for this many entries; a refusal leaves the history.
+    /// Makes room for this many entries. If it fails, the history is unchanged.
     pub fn make_room(&mut self, entries: usize) -> Result<(), AllocError>
         requires { length self.old.history + entries ≤ 2 ^ 32 }
         ensures same { (self.new.config ≡ self.old.config) × (self.new.history ≡ self.old.history)
@@ -223,15 +223,15 @@ impl Journal {
     }
 
     /// Takes a call at a moment at which nothing is due, with room for its answers.
-    pub fn take(&mut self, moment: u64, call: Call, answers: Roomy<(Ticket, Answer)>)
+    pub fn take(&mut self, moment: u64, call: Call, answers: &mut Roomy<(Ticket, Answer)>)
         requires moment { moment < 2 ^ 53 }
         requires later { last_moment self.old.history ≤ moment }
         requires none_due { due self.old.config self.old.history moment ≡ [] }
         requires called { is_expiry call ≡ false }
         requires within { IsWithin self.old.config call }
         requires room { 0 < self.old.room }
-        requires answers { most_answers self.old.widest (length (owners self.old.config)) call ≤ answers.1 }
-        requires empty { answers.0 ≡ [] }
+        requires answers { most_answers self.old.widest (length (owners self.old.config)) call ≤ answers.old.1 }
+        requires empty { answers.old.0 ≡ [] }
         ensures config { self.new.config ≡ self.old.config }
         ensures history { self.new.history ≡ entered self.old.config self.old.history moment call }
     {
@@ -239,7 +239,7 @@ impl Journal {
         self.enter(moment, call, verdict, answers);
     }
 
-    /// What the account says to a call.
+    /// What the account decides on a call.
     #[tactic(auto, unfolding(call_model::specs::Answers::own_first))]
     fn verdict(&self, call: &Call) -> Verdict
         requires called { is_expiry call.now ≡ false }
@@ -259,7 +259,7 @@ impl Journal {
         }
     }
 
-    /// Whether an Invoke is admitted, and where; else why not.
+    /// Whether an Invoke is admitted, and where it goes; else why it is not.
     /// (Invoke: TooManyRequestsException, ServiceException)
     fn admit(&self, function: FnNo) -> Verdict
         requires from_one { 1 ≤ function }
@@ -279,8 +279,8 @@ impl Journal {
         }
     }
 
-    /// Whether an Invoke of a function would be throttled, while an environment that stands in its way
-    /// has answered its invocation and is not ready again.
+    /// Whether an Invoke of a function would be throttled, while an environment in its way has answered
+    /// its invocation and is not ready again.
     pub fn awaits(&self, function: FnNo) -> bool
         requires from_one { 1 ≤ function }
         requires there { function ≤ length self.now.config.functions }
@@ -316,8 +316,14 @@ impl Journal {
         }
     }
 
-    /// Takes a call to which the account says this, as the next entry.
-    fn enter(&mut self, moment: u64, call: Call, verdict: Verdict, answers: Roomy<(Ticket, Answer)>)
+    /// Takes a call, on which the account has decided, as the next entry.
+    fn enter(
+        &mut self,
+        moment: u64,
+        call: Call,
+        verdict: Verdict,
+        answers: &mut Roomy<(Ticket, Answer)>,
+    )
         requires moment { moment < 2 ^ 53 }
         requires follows { Follows self.old.config self.old.history
             (entry_of self.old.config self.old.history moment call) }
@@ -325,14 +331,13 @@ impl Journal {
         requires placed { verdict.place ≡ place_for self.old.config self.old.history call }
         requires own { verdict.own ≡ book_answer self.old.config self.old.history call }
         requires room { 0 < self.old.room }
-        requires answers { most_answers self.old.widest (length (owners self.old.config)) call ≤ answers.1 }
-        requires empty { answers.0 ≡ [] }
+        requires answers { most_answers self.old.widest (length (owners self.old.config)) call ≤ answers.old.1 }
+        requires empty { answers.old.0 ≡ [] }
         ensures config { self.new.config ≡ self.old.config }
         ensures history { self.new.history ≡ entered self.old.config self.old.history moment call }
         ensures room { self.new.room ≡ self.old.room - 1 }
         ensures widest { registered_name call ≡ None → self.new.widest ≡ self.old.widest }
     {
-        let mut answers = answers;
         let entries = self.ledger.entries();
         let count = count_call(&self.config, entries, &mut self.requests, moment, &call);
         let arrival = Arrival {
@@ -345,16 +350,16 @@ impl Journal {
             &self.config,
             entries,
             &mut self.fleet,
-            arrival,
+            &arrival,
             verdict.place,
             verdict.own,
-            &mut answers,
+            answers,
         );
         self.ledger
-            .add(moment, call, answers.into_vec(), verdict.place, count);
+            .add(moment, call, answers.copy_out(), verdict.place, count);
     }
 
-    /// Lets the environments expire that are due, one entry each, by deadline and number.
+    /// Expires the environments that are due, in the order of deadlines and numbers, with one entry each.
     pub fn expire_due(&mut self, moment: u64, rooms: Vec<Roomy<(Ticket, Answer)>>)
         requires moment { moment < 2 ^ 53 }
         requires later { last_moment self.old.history ≤ moment }
@@ -374,7 +379,7 @@ impl Journal {
         }
     }
 
-    /// Lets the environment expire that is due first.
+    /// Expires the environment that is due first.
     fn expire_first(&mut self, moment: u64, answers: Roomy<(Ticket, Answer)>)
         requires moment { moment < 2 ^ 53 }
         requires later { last_moment self.old.history ≤ moment }
@@ -396,7 +401,8 @@ impl Journal {
                     place: None,
                     own: None,
                 };
-                self.enter(moment, Call::Expire { env }, verdict, answers);
+                let mut answers = answers;
+                self.enter(moment, Call::Expire { env }, verdict, &mut answers);
                 self.facts();
             }
         }

@@ -14,8 +14,8 @@ ghost use Rattle.account_book.specs.HistoryText.{answers_text, history_text, ope
 ghost use Rattle.account_book.specs.Reached.{IsBooked, IsReached, IsTakenAfter};
 ghost use Rattle.account_book.specs.Run.{Taking, before, is_of_form_2, replay_from, run};
 
-/// The history of a new book is reached; each call that a book takes reaches the next one; and
-/// whatever is reached is a legal history.
+/// The history of a new book is reached, each call that a book takes reaches the next history, and
+/// every history that is reached is legal.
 pub fn reached()
     ensures first { (config : Config) (max_entries : ℕ) → IsReached config max_entries [] }
     ensures next { (config : Config) (max_entries : ℕ) (h : List Entry) (now : ℕ) (call : Call)
@@ -25,9 +25,9 @@ pub fn reached()
         → IsLegal config h }
 {}
 
-/// The text of a history is what its book gives of it part by part: the opening, and behind it the
-/// text of each entry, the oldest first. `Book::opening` gives the first part, `Book::history` with
-/// the tickets 0, 1 and so on the others.
+/// The text of a history is what its book gives part by part: the opening, and then the text of each
+/// entry, the oldest first. `Book::opening` gives the first part, `Book::history` the others, with the
+/// tickets 0, 1 and so on.
 pub fn text_in_parts()
     ensures { (config : Config) (salt max_entries : ℕ) (h : List Entry) (d : Entry)
         → history_text config salt max_entries h
@@ -35,7 +35,7 @@ pub fn text_in_parts()
         ++ flat_map (λ t. entry_text config salt h t (slice_index_or (reverse h) t d)) (count_from 0 (length h)) }
 {}
 
-/// A history replays to its own answers: the text of a history that calls led to is a script
+/// The replay of a history gives its own answers: the text of a history that calls led to is a script
 /// without a fault, and what its replay writes is exactly the answer lines of the history.
 pub fn replays()
     ensures { (config : Config) (salt max_entries : ℕ) (h : List Entry) → IsBooked config salt max_entries
@@ -43,8 +43,8 @@ pub fn replays()
         → run (history_text config salt max_entries h) ≡ record { text = answers_text salt h; fault = None } }
 {}
 
-/// Its replay makes the same history again: behind the text, a script goes on from a book with that
-/// history, and with the same configuration, salt and greatest number of entries.
+/// The replay makes the same history again: a script that begins with the text goes on from a book with
+/// that history, and with the same configuration, salt and maximum number of entries.
 pub fn goes_on()
     ensures { (config : Config) (salt max_entries : ℕ) (h : List Entry) (more : List ℕ)
         → IsBooked config salt max_entries → IsReached config max_entries h
@@ -53,8 +53,8 @@ pub fn goes_on()
         (Taking true (record { config = config; salt = salt; max_entries = max_entries; history = h })) (lines more)) }
 {}
 
-/// A script of form 1 that has no fault is replayed to the same text, without a fault, where
-/// `form 2` is put before it. Where it has one, what it writes up to there is written all the same.
+/// If `form 2` is put before a script of form 1 that has no fault, its replay writes the same text, and
+/// has no fault. If the script has a fault, what it writes before the fault is still written.
 pub fn form_2_goes_as_far()
     ensures same { (input : List ℕ) → is_of_form_2 input ≡ false → (run input).fault ≡ None
         → run (codes "form 2\n" ++ input) ≡ run input }

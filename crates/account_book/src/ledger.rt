@@ -1,4 +1,4 @@
-//! The entries of an account, with what is read off them.
+//! The entries of an account, with what is derived from them.
 
 ghost use Rattle.std.specs.Prelude.{◌≡◌, ◌+◌, ◌-◌, ◌∷◌, ◌<◌, ◌≤◌, ◌^◌, ◌||◌, [], ℕ, length, reverse, None, All, OnOk};
 ghost use Rattle.call_model.specs.History.{answer_of, is_stop, stopped};
@@ -13,16 +13,16 @@ use entry_blocks::Blocks;
 use std::alloc::{AllocError, Global};
 use std::marker::Model;
 
-/// The entries, the oldest first, with what is read off them. Room for an entry is made beforehand.
+/// The entries, the oldest first, with what is derived from them. Room for an entry is made beforehand.
 #[derive(Drop)]
 pub struct Ledger {
     entries: Blocks<Entry>,
-    /// For each entry the count in its request identifier, 0 where its call is no Invoke.
+    /// For each entry, the count in its request identifier: 0 unless its call is an Invoke.
     counts: Blocks<u64>,
-    /// For each ticket what it was answered.
+    /// For each ticket, its answer, if it was answered.
     given: Blocks<Option<Answer>>,
     totals: Counters,
-    /// Whether a Stop stands among the entries.
+    /// Whether an entry is a Stop.
     stopped: bool,
 }
 
@@ -50,14 +50,14 @@ fn note(given: &mut Blocks<Option<Answer>>, answers: &[(Ticket, Answer)])
     }
 }
 
-/// Whether the service is stopped after a call, where it was or wasn't before.
+/// Whether the service is stopped after a call; `stopped` says whether it was before.
 fn stops(stopped: bool, call: &Call) -> bool
     ensures { result ≡ (is_stop call.now || stopped) }
 {
     matches!(call, Call::Stop) || stopped
 }
 
-/// Makes room for so many in each of the lists.
+/// Makes room for `room` more items in each of the lists.
 fn make_rooms(
     entries: &mut Blocks<Entry>,
     counts: &mut Blocks<u64>,
@@ -73,7 +73,7 @@ fn make_rooms(
 }
 
 impl Ledger {
-    /// No entries and no room.
+    /// A ledger with no entries and no room.
     pub fn new(alloc: Global) -> Ledger
         ensures { result ≡ record { history = []; room = 0 } }
     {
@@ -86,7 +86,7 @@ impl Ledger {
         }
     }
 
-    /// Makes room for this many entries; a refusal leaves them.
+    /// Makes room for this many entries. If it fails, the entries are unchanged.
     pub fn make_room(&mut self, entries: usize) -> Result<(), AllocError>
         requires { length self.old.history + entries ≤ 2 ^ 32 }
         ensures same { self.new.history ≡ self.old.history }
@@ -106,7 +106,7 @@ impl Ledger {
         made
     }
 
-    /// Adds an entry whose call has this count in its request identifier.
+    /// Adds an entry. `count` is the count in its call's request identifier.
     pub fn add(
         &mut self,
         moment: u64,
@@ -151,14 +151,14 @@ impl Ledger {
         &self.entries
     }
 
-    /// For each entry the count in its request identifier, 0 where its call is no Invoke.
+    /// For each entry, the count in its request identifier: 0 unless its call is an Invoke.
     pub fn counts(&self) -> &Blocks<u64>
         ensures { reverse result.now.0 ≡ call_counts self.now.history }
     {
         &self.counts
     }
 
-    /// The answer to a ticket; none where nothing was answered.
+    /// The answer to a ticket, if it was answered.
     #[tactic(auto, using(crate::proofs::Indexed::given_some, crate::proofs::Indexed::given_none))]
     pub fn answer(&self, ticket: Ticket) -> Option<Answer>
         requires { (t : ℕ) → length self.now.history ≤ t → answer_of self.now.history t ≡ None }
@@ -170,7 +170,7 @@ impl Ledger {
         }
     }
 
-    /// What was admitted, throttled and failed.
+    /// How many invocations were admitted, throttled and failed.
     pub fn totals(&self) -> Counters
         ensures { result ≡ totals self.now.history }
     {

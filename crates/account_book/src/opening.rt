@@ -37,7 +37,7 @@ fn open_site(alloc: Global, config: &Checked, env: EnvNo) -> Result<Site, AllocE
     })
 }
 
-/// No Invoke of any function.
+/// The count of Invokes of each function before any call: 0.
 pub fn open_counts(alloc: Global, functions: &[Function]) -> Result<Vec<u64>, AllocError>
     ensures { IfOk result (λ counts. counts.items ≡ map (requests []) (count_from 1 (length functions.now))) }
 {

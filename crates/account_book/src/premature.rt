@@ -1,4 +1,4 @@
-//! Which environments stand in an Invoke's way and are about to be ready again.
+//! Which environments are in an Invoke's way and about to be ready again.
 
 ghost use Rattle.std.specs.Prelude.{◌≡◌, ◌≤◌, ◌&&◌, length, All};
 ghost use Rattle.std.specs.List.{list_any};
@@ -12,8 +12,8 @@ use arn_ids::FnNo;
 use call_model::Throttle;
 use concurrency_pool::Pool;
 
-/// Whether what the function `own` has in flight stands in the way of an Invoke of a function that is
-/// refused for this reason.
+/// Whether what the function `own` has in flight is in the way of an Invoke of `function` that is refused
+/// for this reason.
 fn is_in_way(pool: &Pool, reason: Throttle, function: FnNo, own: FnNo) -> bool
     requires from_one { 1 ≤ own }
     requires there { own ≤ length pool.now.functions }
@@ -26,8 +26,8 @@ fn is_in_way(pool: &Pool, reason: Throttle, function: FnNo, own: FnNo) -> bool
     }
 }
 
-/// Whether an environment that stands in the way of such an Invoke has answered its invocation and is
-/// not ready again.
+/// Whether an environment in the way of such an Invoke has answered its invocation and is not ready
+/// again.
 pub(crate) fn is_any_awaited(sites: &[Site], pool: &Pool, reason: Throttle, function: FnNo) -> bool
     requires owned { All (IsOwned (length pool.now.functions)) sites.now }
     ensures { result

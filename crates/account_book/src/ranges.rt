@@ -1,4 +1,4 @@
-//! The numbers of a configuration lie in the ranges of their types.
+//! The numbers of a configuration are in the ranges of their types.
 
 ghost use Rattle.std.specs.Prelude.{All};
 ghost use Rattle.lambda_wire.specs.Ranges.{IsSlotInRange, IsReservedInRange, IsFunctionInRange, IsConfigInRange};
@@ -10,7 +10,7 @@ fn port_fits(slot: Slot)
     ensures { IsSlotInRange slot }
 {}
 
-/// The same of ports.
+/// So have all ports of a list.
 fn ports_fit(slots: &[Slot])
     ensures { All IsSlotInRange slots.now }
 {
@@ -37,7 +37,7 @@ fn function_fits(function: &Function)
     ports_fit(function.slots.as_slice());
 }
 
-/// The same of functions.
+/// So are those of all functions.
 fn functions_fit(functions: &[Function])
     ensures { All IsFunctionInRange functions.now }
 {
@@ -46,7 +46,7 @@ fn functions_fit(functions: &[Function])
     }
 }
 
-/// What is true of every configuration: its numbers are in the ranges of their types.
+/// The numbers of every configuration are in the ranges of their types.
 pub fn config_fits(config: &Checked)
     ensures { IsConfigInRange config.now }
 {

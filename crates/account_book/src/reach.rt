@@ -11,16 +11,16 @@ use entry_blocks::Blocks;
 /// The environments that a call concerns.
 #[derive(Clone, Copy)]
 pub enum Reach {
-    /// None: the account alone answers it.
+    /// None: the account alone answers the call.
     Nowhere,
-    /// One: where it is placed, or that it names.
+    /// One: that where the call is placed, or that it names.
     At(EnvNo),
     /// All of them.
     Everywhere,
 }
 
 impl Reach {
-    /// One environment, where there is one.
+    /// The reach of a call that concerns this environment, if any.
     fn at_most(env: Option<EnvNo>) -> Reach
         ensures { result ≡ at_most env }
     {
@@ -30,7 +30,7 @@ impl Reach {
         }
     }
 
-    /// What a call reaches that is placed here, or nowhere.
+    /// The environments that a call reaches; `place` is where it is placed.
     pub fn of(entries: &Blocks<Entry>, place: Option<EnvNo>, call: &Call) -> Reach
         ensures { result ≡ reach (reverse entries.now.0) place call.now }
     {
@@ -42,7 +42,7 @@ impl Reach {
     }
 }
 
-/// The environment of the Next with a ticket, where it is one.
+/// The environment of the call with a ticket, if that is a Next.
 #[tactic(auto, using(call_model::proofs::PastLemmas::call_here, call_model::proofs::PastLemmas::no_call_here))]
 fn poll_env_at(entries: &Blocks<Entry>, ticket: Ticket) -> Option<EnvNo>
     ensures { result ≡ poll_env (call_of (reverse entries.now.0) ticket) }
@@ -53,7 +53,7 @@ fn poll_env_at(entries: &Blocks<Entry>, ticket: Ticket) -> Option<EnvNo>
     }
 }
 
-/// The environment of a Next.
+/// The environment of a call, if that is a Next.
 fn poll_env(call: &Call) -> Option<EnvNo>
     ensures { result ≡ poll_env call.now }
 {

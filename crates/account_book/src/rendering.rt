@@ -1,4 +1,4 @@
-//! The reply that the client of a call gets.
+//! The reply to the client of a call.
 
 ghost use Rattle.std.specs.Prelude.{◌≡◌, ◌<◌, Some, IfOk, length, reverse};
 ghost use Rattle.call_model.specs.History.{answer_of, call_of};
@@ -13,7 +13,7 @@ use lambda_wire::Reply;
 use replies::{Gist, reply};
 use std::alloc::{AllocError, Global};
 
-/// The ticket whose call an answer is made of, else the answered one itself.
+/// The ticket of the call whose bytes an answer carries, else the answered ticket itself.
 fn source_of(ticket: Ticket, answer: Answer) -> Ticket
     ensures { result ≡ spec.source_of ticket (spec.named answer) }
 {
@@ -32,7 +32,7 @@ fn call_at<'a>(past: &Past<'a>, ticket: Ticket) -> &'a Call
     &past.entries.at(ticket as usize).call
 }
 
-/// The reply to a ticket with its answer. The only error is want of memory.
+/// The reply to a ticket with its answer. It fails only if an allocation fails.
 pub(crate) fn render(
     alloc: Global,
     config: &Checked,

@@ -1,14 +1,14 @@
-//! A list with room made beforehand.
+//! A list whose room is made beforehand.
 
-ghost use Rattle.std.specs.Prelude.{◌≡◌, ◌+◌, ◌-◌, ◌<◌, ◌≤◌, ◌++◌, ◌∷◌, [], List, ℕ, IfOk};
+ghost use Rattle.std.specs.Prelude.{◌≡◌, ◌+◌, ◌-◌, ◌<◌, ◌≤◌, ◌++◌, ◌∷◌, [], List, ℕ, IfOk, OnOk};
 ghost use Rattle.environment_step.specs.After.{put};
 
 use call_model::{Answer, Ticket};
 use std::alloc::{AllocError, Global};
 use std::marker::Model;
+use std::mem;
 
-/// A list that takes no memory for as many values as there is room for.
-/// Contracts see its values and its room.
+/// A list that allocates nothing while it has room. Contracts see its values and its room.
 #[derive(Drop)]
 pub struct Roomy<T> {
     items: Vec<T>,
@@ -26,7 +26,17 @@ impl<T> Model for Roomy<T> {
 }
 
 impl<T> Roomy<T> {
-    /// No values, and room for this many.
+    /// A list with no values and no room. It allocates nothing.
+    pub fn new(alloc: Global) -> Roomy<T>
+        ensures { result ≡ ([], 0) }
+    {
+        Roomy {
+            items: Vec::new(alloc),
+            room: 0,
+        }
+    }
+
+    /// A list with no values, and room for this many.
     pub fn with_room(alloc: Global, room: usize) -> Result<Roomy<T>, AllocError>
         ensures { IfOk result (λ r. r ≡ ([], room)) }
     {
@@ -35,19 +45,21 @@ impl<T> Roomy<T> {
             room,
         })
     }
-
-    /// Gives the values, and the memory of the room back.
-    pub fn into_vec(self) -> Vec<T>
-        ensures { result.items ≡ self.0 }
-    {
-        let mut items = self.items;
-        items.shrink_to(items.len());
-        items
-    }
 }
 
 impl<T: Drop> Roomy<T> {
-    /// Adds a value where there is room.
+    /// Removes the values, and makes room for this many. It allocates only if the list's memory is too small.
+    pub fn empty(&mut self, room: usize) -> Result<(), AllocError>
+        ensures { OnOk result (self.new ≡ ([], room)) }
+    {
+        self.room = 0;
+        self.items.clear();
+        self.items.reserve(room)?;
+        self.room = room;
+        Ok(())
+    }
+
+    /// Adds a value. There must be room.
     pub fn push(&mut self, value: T)
         requires { 0 < self.old.1 }
         ensures { self.new ≡ (self.old.0 ++ value ∷ [], self.old.1 - 1) }
@@ -62,7 +74,20 @@ impl<T: Drop> Roomy<T> {
 }
 
 impl Roomy<(Ticket, Answer)> {
-    /// Puts an answer in its place, before those to greater tickets.
+    /// Returns the answers in a list with no room for more. This list keeps its memory for the next call;
+    /// if the allocation of a copy fails, it gives its memory away instead.
+    pub fn copy_out(&mut self) -> Vec<(Ticket, Answer)>
+        ensures { result.items ≡ self.old.0 }
+    {
+        self.room = 0;
+        let alloc = *self.items.allocator();
+        match copied(alloc, &self.items) {
+            Ok(copy) => copy,
+            Err(_refused) => mem::replace(&mut self.items, Vec::new(alloc)),
+        }
+    }
+
+    /// Puts an answer in its place, before those to greater tickets. There must be room.
     pub fn put(&mut self, pair: (Ticket, Answer))
         requires { 0 < self.old.1 }
         ensures { self.new ≡ (put pair self.old.0, self.old.1 - 1) }
@@ -72,8 +97,17 @@ impl Roomy<(Ticket, Answer)> {
     }
 }
 
-/// Lays a pair down before those with greater tickets, each of which moves on by one place; gives
-/// the one that the last place was taken from.
+/// Copies the pairs to a list of just their length.
+fn copied(alloc: Global, pairs: &[(Ticket, Answer)]) -> Result<Vec<(Ticket, Answer)>, AllocError>
+    ensures { IfOk result (λ copy. copy.items ≡ pairs.now) }
+{
+    let mut copy = Vec::with_capacity(alloc, pairs.len())?;
+    copy.extend_from_slice(pairs)?;
+    Ok(copy)
+}
+
+/// Inserts a pair before those with greater tickets, each of which moves on by one place. Returns the
+/// pair that is pushed out at the end.
 fn carry(pairs: &mut [(Ticket, Answer)], pair: (Ticket, Answer)) -> (Ticket, Answer)
     ensures { pairs.new ++ result ∷ [] ≡ put pair pairs.old }
 {

@@ -15,7 +15,7 @@ use extension_set::Moves;
 pub struct Site {
     /// The number of its function, from 1.
     pub function: FnNo,
-    /// How it stands.
+    /// The environment itself.
     pub environment: Environment,
 }
 
@@ -30,8 +30,15 @@ impl Site {
         }
     }
 
-    /// Takes a call that concerns it, and puts its answers in their places among the others.
-    pub fn take(&mut self, step: Step, call: &Call, answers: &mut Roomy<(Ticket, Answer)>)
+    /// Takes a call that concerns it, and puts its answers in their places among the others. `moves` is
+    /// scratch space.
+    pub fn take(
+        &mut self,
+        step: Step,
+        call: &Call,
+        moves: &mut Moves,
+        answers: &mut Roomy<(Ticket, Answer)>,
+    )
         requires moment { step.now < 2 ^ 53 }
         requires few { IsFew self.old }
         requires short { IsShort (registered_name call.now) }
@@ -40,8 +47,8 @@ impl Site {
         ensures given { answers.new.0 ≡ put_all (given self.old.environment (step_of step) call.now) answers.old.0 }
         ensures room { answers.new.1 + length (given self.old.environment (step_of step) call.now) ≡ answers.old.1 }
     {
-        let mut moves = Moves::new();
-        self.environment.take(step, call, &mut moves);
+        moves.clear();
+        self.environment.take(step, call, moves);
         put_all(answers, moves.as_slice());
     }
 }

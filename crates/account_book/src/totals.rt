@@ -1,4 +1,4 @@
-//! What an account has counted.
+//! The totals of an account.
 
 ghost use Rattle.std.specs.Prelude.{◌≡◌, ◌+◌, ◌<◌, ◌^◌, length, count_by, cond, is_some};
 ghost use Rattle.call_model.specs.Counts.{is_throttle, is_failure};
@@ -38,7 +38,7 @@ fn is_failure(answer: &Answer) -> bool
 }
 
 impl Counters {
-    /// Nothing yet.
+    /// Counters at zero.
     pub fn new() -> Counters
         ensures { result ≡ record { admitted = 0; throttled = 0; failed = 0 } }
     {

@@ -20,25 +20,25 @@ use extension_set::{ExtensionSet, Moves};
 use std::alloc::{AllocError, Global};
 use std::marker::Model;
 
-/// One execution environment as it stands. No call but `open` takes memory.
+/// The state of one execution environment. Only `open` allocates.
 #[derive(Drop)]
 pub struct Environment {
     /// Its function's timeout in milliseconds.
     timeout: u64,
-    /// The names of the extensions without which it isn't ready.
+    /// The names of the extensions that must register before it is ready.
     expected: Row<Text>,
     phase: Phase,
     /// The ticket of the runtime's parked Next.
     runtime: Option<Ticket>,
-    /// Those of the present generation.
+    /// The extensions that are registered in the present generation.
     extensions: ExtensionSet,
-    /// The count in the request identifier of the call at hand, while that waits for its answer.
+    /// The count in the request identifier of the invocation at hand, until that is answered.
     request: Option<u64>,
     /// Whether the service was stopped.
     stopped: bool,
     /// How many extensions were registered, over all generations.
     registrations: u64,
-    /// How many events were told, over all generations.
+    /// How many events extensions were sent, over all generations.
     events: u64,
 }
 
@@ -64,7 +64,7 @@ impl Model for Environment {
     ghost invariant = { λ a. (a.timeout < 2 ^ 32) × (length a.extensions ≤ 10) };
 }
 
-/// Copies of the names.
+/// Copies the names.
 fn copied(alloc: Global, names: &[Text]) -> Result<Row<Text>, AllocError>
     ensures { IfOk result (λ row. row ≡ names.now) }
 {
@@ -76,8 +76,8 @@ fn copied(alloc: Global, names: &[Text]) -> Result<Row<Text>, AllocError>
 }
 
 impl Environment {
-    /// An environment of the function before any call: it starts, and the clock of its Init stands.
-    /// The function's timeout is at most 900 seconds, as in a checked configuration.
+    /// Returns an environment of the function before any call: it is starting, and the clock of its
+    /// Init is not running. The function's timeout is at most 900 seconds, as in a checked configuration.
     pub fn open(alloc: Global, function: &Function) -> Result<Environment, AllocError>
         requires { function.now.timeout_s ≤ 900 }
         ensures { IfOk result (λ e. e ≡ opened function.now) }
@@ -99,9 +99,9 @@ impl Environment {
     }
 
     /// Takes a call that concerns this environment: an Invoke that is placed here, a call that names
-    /// it or one of its tickets, or a Stop. A Register brings a name of at most 128 bytes; the moves
-    /// are the entry's answers to this environment's tickets, in rising ticket order. It never fails
-    /// and takes no memory.
+    /// it or one of its tickets, or a Stop. The name in a Register has at most 128 bytes. The moves
+    /// are the entry's answers to this environment's tickets, in rising order of the tickets. The call
+    /// never fails and never allocates.
     pub fn take(&mut self, step: Step, call: &Call, moves: &mut Moves)
         requires moment { step.now < 2 ^ 53 }
         requires empty { moves.old ≡ [] }
@@ -110,9 +110,9 @@ impl Environment {
         requires short { IsShort (registered_name call.now) }
         ensures stand { self.new ≡ taken self.old (step_of step) call.now }
         ensures given { moves.new ≡ given self.old (step_of step) call.now }
-        // At any stand at most two answers to each extension, and one each to the waiting call, to the runtime
-        // before and where a Busy begins, and to the call itself: 24. At one that a history leads to they are 13 at
-        // most (`laws::meets`).
+        // In any state there are at most two answers to each extension, two to the runtime (one of them when a
+        // Busy begins), one to the waiting call and one to the call itself: 24. In a state that a history leads to
+        // there are at most 13 (`laws::meets`).
         ensures answers { length moves.new ≤ 2 * length self.old.stand.members + 4 }
         ensures members { length self.new.stand.members ≤ 10 }
         ensures events { self.new.stand.events ≤ self.old.stand.events + 24 }
@@ -121,7 +121,7 @@ impl Environment {
         self.take_in_stages(step, call, moves);
     }
 
-    /// The table's cell for the call, and then what comes after each entry.
+    /// Applies the table's cell for the call, and then what follows every entry.
     #[tactic(auto, unfolding(environment_step::specs::After::stand_after, environment_step::specs::After::moves_of))]
     fn take_in_stages(&mut self, step: Step, call: &Call, moves: &mut Moves)
         requires moment { step.now < 2 ^ 53 }
@@ -140,14 +140,14 @@ impl Environment {
         self.finish(step.now, expires, before, moves);
     }
 
-    /// Whether the call lets a Closing expire.
+    /// Whether the call ends a Closing whose time is over.
     fn expires(&self, call: &Call) -> bool
         ensures { result ≡ expires_now self.now.stand call.now }
     {
         matches!(call, Call::Expire { .. }) && is_closing(self.phase)
     }
 
-    /// The moment, in milliseconds, at which a Busy ends by itself that begins now.
+    /// The deadline, in milliseconds, of a Busy that begins now.
     fn limit(&self, now: u64) -> u64
         requires { now < 2 ^ 53 }
         ensures { result ≡ now + self.now.fixed.timeout }
@@ -155,14 +155,14 @@ impl Environment {
         now + self.timeout
     }
 
-    /// The invocation that it is to serve next, where it starts or closes.
+    /// The invocation that it serves next, if one is bound while it starts or closes.
     pub fn bound(&self) -> Option<Ticket>
         ensures { result ≡ bound_of self.now.stand.phase }
     {
         bound_of(self.phase)
     }
 
-    /// How many extensions are registered in the present generation: at most ten.
+    /// How many extensions are registered in the present generation, at most ten.
     pub fn members(&self) -> usize
         ensures count { result ≡ length self.now.stand.members }
         ensures few { result ≤ 10 }
@@ -170,7 +170,7 @@ impl Environment {
         self.extensions.len()
     }
 
-    /// Whether it serves an invocation, or has one bound.
+    /// Whether it serves an invocation or has one bound.
     pub fn is_taken(&self) -> bool
         ensures { result ≡ is_taken self.now.stand.phase }
     {
@@ -184,23 +184,23 @@ impl Environment {
         matches!(self.phase, Phase::Off)
     }
 
-    /// Whether it has answered its invocation and is not ready again: its runtime or an extension has
-    /// not asked for the next one. (life cycle: Invoke phase)
+    /// Whether its invocation is answered, but its runtime or an extension has not asked for the next
+    /// one yet. (life cycle: Invoke phase)
     pub fn has_answered(&self) -> bool
         ensures { result ≡ has_answered self.now.stand }
     {
         is_busy(self.phase) && self.request.is_none()
     }
 
-    /// The phase.
+    /// Its phase.
     pub fn phase(&self) -> Phase
         ensures { result ≡ self.now.stand.phase }
     {
         self.phase
     }
 
-    /// When the phase ends by itself: a moment in milliseconds, or none where it lasts until a call
-    /// ends it. (life cycle: Init phase, Invoke phase, Shutdown phase)
+    /// The moment, in milliseconds, at which the phase expires; none if it lasts until a call ends it.
+    /// (life cycle: Init phase, Invoke phase, Shutdown phase)
     pub fn deadline(&self) -> Option<u64>
         ensures { result ≡ deadline_of self.now.stand.phase }
     {

@@ -1,4 +1,4 @@
-//! An environment's own words, over every legal history. The function does nothing; its clauses are the laws.
+//! The laws of an environment over every legal history. The function does nothing; its clauses are the laws.
 
 ghost use Rattle.std.specs.Prelude.{◌≡◌, ◌+◌, ◌≤◌, ℕ, true, List, [], ◌∷◌, length, not, ◌&&◌};
 ghost use Rattle.arn_ids.specs.declared.config.Config.{Config};
@@ -13,8 +13,8 @@ ghost use Rattle.call_model.specs.Stand.{is_number};
 ghost use Rattle.env_phase.specs.Meeting.{known_at, step_there, answers_there};
 ghost use Rattle.env_phase.specs.Taking.{opened, taken, given};
 
-/// An environment meets its stand: opened, and taking each call that concerns it, it is at every moment what a legal
-/// history says of it. (An entry that doesn't concern it leaves its stand: `environment_step::laws::step`.)
+/// An environment that is opened, and takes each call that concerns it, is at every moment what a legal history says
+/// of it. (An entry that does not concern it leaves its state: `environment_step::laws::step`.)
 pub fn meets()
     // An environment that is opened is what the empty history says of it.
     ensures opens { (config : Config) (e : ℕ) → 1 ≤ e → e ≤ length (owners config)
@@ -27,7 +27,7 @@ pub fn meets()
     ensures moves { (config : Config) (h : List Entry) (entry : Entry) (e : ℕ) → IsLegal config (entry ∷ h)
         → concerns h e entry ≡ true
         → given (known_at config h e) (step_there config h entry e) entry.call ≡ answers_there h entry e }
-    // and shows by its phases before and after whose charge the entry ends.
+    // and shows, by its phases before and after, whose charge the entry ends.
     ensures ended { (config : Config) (h : List Entry) (entry : Entry) (e p : ℕ) → IsLegal config (entry ∷ h)
         → concerns h e entry ≡ true
         → (is_number (place_of h p) e && (is_charged config h p && not (is_charged config (entry ∷ h) p)))

@@ -12,42 +12,42 @@ use call_model::{Answer, Phase, Ticket};
 /// How long an Init lasts at most, in milliseconds. (life cycle: Init phase)
 const INIT_LIMIT: u64 = 10000;
 
-/// Whether its Init is not over.
+/// Whether the environment is in its Init phase.
 pub(crate) fn is_starting(phase: Phase) -> bool
     ensures { result ≡ is_starting phase }
 {
     matches!(phase, Phase::Starting { .. })
 }
 
-/// Whether it waits for an invocation.
+/// Whether the environment waits for an invocation.
 pub(crate) fn is_idle(phase: Phase) -> bool
     ensures { result ≡ is_idle phase }
 {
     matches!(phase, Phase::Idle)
 }
 
-/// Whether it serves an invocation.
+/// Whether the environment serves an invocation.
 pub(crate) fn is_busy(phase: Phase) -> bool
     ensures { result ≡ is_busy phase }
 {
     matches!(phase, Phase::Busy { .. })
 }
 
-/// Whether it shuts down.
+/// Whether the environment is shutting down.
 pub(crate) fn is_closing(phase: Phase) -> bool
     ensures { result ≡ is_closing phase }
 {
     matches!(phase, Phase::Closing { .. })
 }
 
-/// Whether it neither shuts down nor is shut down.
+/// Whether the environment is neither shutting down nor shut down.
 pub(crate) fn is_open(phase: Phase) -> bool
     ensures { result ≡ (is_starting phase || is_idle phase || is_busy phase) }
 {
     is_starting(phase) || is_idle(phase) || is_busy(phase)
 }
 
-/// What the waiting call gets where the phase expires.
+/// The answer to the waiting call when the phase expires.
 pub(crate) fn timed_out(phase: Phase) -> Answer
     ensures { result ≡ (if is_starting phase then InitTimedOut else TimedOut) }
 {
@@ -58,7 +58,7 @@ pub(crate) fn timed_out(phase: Phase) -> Answer
     }
 }
 
-/// A Closing that nothing waits for any more.
+/// The phase with no invocation bound to its Closing.
 pub(crate) fn unbind(phase: Phase) -> Phase
     ensures { result ≡ unbound phase }
 {
@@ -72,7 +72,7 @@ pub(crate) fn unbind(phase: Phase) -> Phase
     }
 }
 
-/// The invocation that a Starting or Closing environment is to serve next.
+/// The invocation that a Starting or Closing environment serves next.
 pub(crate) fn bound_of(phase: Phase) -> Option<Ticket>
     ensures { result ≡ bound_of phase }
 {
@@ -82,7 +82,7 @@ pub(crate) fn bound_of(phase: Phase) -> Option<Ticket>
     }
 }
 
-/// The invocation that a phase has at hand: the one that it serves, or the one that is bound.
+/// The invocation at hand: the one that is served, or the one that is bound.
 pub(crate) fn at_hand(phase: Phase) -> Option<Ticket>
     ensures { result ≡ at_hand phase }
 {
@@ -92,7 +92,7 @@ pub(crate) fn at_hand(phase: Phase) -> Option<Ticket>
     }
 }
 
-/// The invocation of a Busy that begins between two phases, with its deadline.
+/// The invocation, with its deadline, of a Busy that begins between two phases.
 pub(crate) fn begun(before: Phase, after: Phase) -> Option<(Ticket, u64)>
     ensures { result ≡ begun before after }
 {
@@ -103,8 +103,8 @@ pub(crate) fn begun(before: Phase, after: Phase) -> Option<(Ticket, u64)>
     }
 }
 
-/// The phase after each entry, by whether all actors have asked for Next, and whether the call at
-/// hand still waits for its answer; limit is the deadline of a Busy that begins.
+/// The phase that follows an entry. `ready` says whether the runtime and all extensions have asked for
+/// Next, `waits` whether the invocation at hand is unanswered; `limit` is the deadline of a Busy that begins.
 pub(crate) fn settle(phase: Phase, ready: bool, waits: bool, limit: u64) -> Phase
     ensures { result ≡ settled limit ready waits phase }
 {
@@ -128,7 +128,7 @@ pub(crate) fn settle(phase: Phase, ready: bool, waits: bool, limit: u64) -> Phas
     }
 }
 
-/// The phase after the first contact: the clock of an Init starts.
+/// The phase after the first contact, which starts the clock of an Init.
 pub(crate) fn start_clock(phase: Phase, now: u64) -> Phase
     requires { now < 2 ^ 53 }
     ensures { result ≡ clock_started now phase }
@@ -147,7 +147,7 @@ pub(crate) fn start_clock(phase: Phase, now: u64) -> Phase
     }
 }
 
-/// The phase after an Invoke is placed; limit is the deadline of a Busy that begins.
+/// The phase after an Invoke is placed; `limit` is the deadline of a Busy that begins.
 pub(crate) fn place(phase: Phase, now: u64, limit: u64, ticket: Ticket) -> Phase
     requires { now < 2 ^ 53 }
     ensures { result ≡ placed now limit ticket phase }
@@ -178,7 +178,7 @@ pub(crate) fn place(phase: Phase, now: u64, limit: u64, ticket: Ticket) -> Phase
     }
 }
 
-/// The phase in which the next generation begins; after a stop of the service there is none.
+/// The phase in which the next generation begins: Off if the service was stopped.
 pub(crate) fn begin_again(stopped: bool, now: u64, bound: Option<Ticket>) -> Phase
     requires { now < 2 ^ 53 }
     ensures { result ≡ reborn stopped now bound }

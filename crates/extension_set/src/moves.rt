@@ -85,6 +85,13 @@ impl Moves {
         }
     }
 
+    /// Removes all answers. A `Moves` that is used again costs less than a new one, whose slots are filled first.
+    pub fn clear(&mut self)
+        ensures { self.new ≡ [] }
+    {
+        self.count = 0;
+    }
+
     /// Puts an answer in its place, before those to greater tickets.
     pub fn put(&mut self, ticket: Ticket, answer: Answer)
         requires { length self.old < 32 }

@@ -1,4 +1,4 @@
-//! What comes after each entry: who waits no longer, which phase comes, and who is told.
+//! What follows every entry: the phase, the answers to parked Nexts, and the events.
 
 ghost use Rattle.std.specs.Prelude.{◌≡◌, ◌+◌, ◌<◌, ◌≤◌, ◌^◌, length, Some, None, map};
 ghost use Rattle.call_types.specs.declared.answer.Answer.TheVariants.{Delivered};
@@ -15,7 +15,7 @@ use call_model::{Answer, Phase, Ticket};
 use extension_set::Moves;
 
 impl Environment {
-    /// Begins the next generation: every extension registers anew.
+    /// Begins the next generation, in which every extension registers again.
     /// (life cycle: Shutdown phase, Init phase)
     fn restart(&mut self, now: u64)
         requires { now < 2 ^ 53 }
@@ -29,7 +29,7 @@ impl Environment {
         }
     }
 
-    /// Whether the runtime and all extensions have asked for Next, those expected included.
+    /// Whether the runtime and all extensions, the expected ones included, have asked for Next.
     /// (life cycle: Init phase, Invoke phase)
     fn is_ready(&self) -> bool
         ensures { result ≡ ready self.now.stand.runtime self.now.stand.members self.now.fixed.expected }
@@ -39,7 +39,7 @@ impl Environment {
             && self.extensions.unregistered(self.expected.as_slice()) == 0
     }
 
-    /// Answers the parked Nexts where a Busy begins.
+    /// Answers the parked Nexts if a Busy begins.
     #[tactic(auto, using(crate::proofs::NoneServed::none_served))]
     fn serve(&mut self, begins: Option<(Ticket, u64)>, moves: &mut Moves)
         requires room { length self.old.stand.members + length moves.old < 31 }
@@ -76,7 +76,7 @@ impl Environment {
         self.runtime = None;
     }
 
-    /// What comes after an entry that ends no Closing; before is the phase before that entry.
+    /// Does what follows an entry that ends no Closing; `before` is the phase before that entry.
     fn settle(&mut self, now: u64, before: Phase, moves: &mut Moves)
         requires moment { now < 2 ^ 53 }
         requires room { length self.old.stand.members + length moves.old < 31 }
@@ -94,14 +94,14 @@ impl Environment {
         }
     }
 
-    /// Whether a Closing ends: it waits for no extension any more, or its time is over.
+    /// Whether a Closing ends: it waits for no extension, or its time is over.
     fn ends(&self, expires: bool) -> bool
         ensures { result ≡ closing_ends expires self.now.stand }
     {
         is_closing(self.phase) && (self.extensions.waiting() == 0 || expires)
     }
 
-    /// What comes after each entry, but for the numbers of the events.
+    /// Does what follows every entry, except that it does not number the events.
     #[tactic(auto, unfolding(environment_step::specs::After::turned, environment_step::specs::After::turned_moves))]
     fn turn(&mut self, now: u64, expires: bool, before: Phase, moves: &mut Moves)
         requires moment { now < 2 ^ 53 }
@@ -117,8 +117,8 @@ impl Environment {
         }
     }
 
-    /// Ends an entry: what comes after each, and the numbers of its events. before is the phase
-    /// before the entry, expires whether that let a Closing expire.
+    /// Ends an entry: does what follows every entry, and numbers its events. `before` is the phase before
+    /// the entry; `expires` says whether the entry ended a Closing whose time is over.
     #[tactic(auto, unfolding(environment_step::specs::After::finished, environment_step::specs::After::finished_moves))]
     pub(super) fn finish(&mut self, now: u64, expires: bool, before: Phase, moves: &mut Moves)
         requires moment { now < 2 ^ 53 }
@@ -138,7 +138,7 @@ impl Environment {
         self.count_events(last);
     }
 
-    /// Notes how many events were told.
+    /// Notes how many events extensions were sent.
     fn count_events(&mut self, events: u64)
         ensures stand { self.new ≡ record { fixed = self.old.fixed; stand = with_events events self.old.stand } }
         ensures ten { length self.new.stand.members ≤ 10 }

@@ -1,6 +1,6 @@
 //! The answer to a call itself: the rows of the table of phases.
-//! A row's cells are, in this order, those of Starting, Idle, Busy with its invocation unanswered,
-//! Busy with its invocation answered, Closing and Off.
+//! The cells of a row are, in this order, those of Starting, Idle, Busy whose invocation is unanswered,
+//! Busy whose invocation is answered, Closing and Off.
 //! (Runtime API; Extensions API)
 
 ghost use Rattle.std.specs.Prelude.{◌≡◌, ◌<◌, ◌^◌, Some};
@@ -12,7 +12,7 @@ use arn_ids::Text;
 use call_model::{Answer, Call, Phase, Rejection};
 use extension_set::RegisterFault;
 
-/// A Next that parks.
+/// The cell of a Next that parks.
 const PARKS: Option<Answer> = None;
 
 const ACCEPTED: Option<Answer> = Some(Answer::Accepted);
@@ -25,7 +25,7 @@ const NOT_IDLE: Option<Answer> = Some(Answer::Refused(Rejection::NotIdle));
 
 const UNKNOWN: Option<Answer> = Some(Answer::Refused(Rejection::Unknown));
 
-/// Whether the answer is that to an extension which is registered.
+/// Whether the answer is Registered.
 pub(super) fn is_registered(own: Option<Answer>) -> bool
     ensures { result ≡ is_registered own }
 {
@@ -33,8 +33,8 @@ pub(super) fn is_registered(own: Option<Answer>) -> bool
 }
 
 impl Environment {
-    /// The answer to a call itself: none where it is a Next that parks, or a call that another part
-    /// of the service answers.
+    /// The answer to a call itself; none if it is a Next that parks, or a call that another part of the
+    /// service answers.
     #[tactic(auto, using(crate::proofs::Tests::own_same))]
     pub(super) fn own_answer(&self, call: &Call) -> Option<Answer>
         requires { self.now.stand.registrations < 2 ^ 52 }
@@ -68,7 +68,7 @@ impl Environment {
         }
     }
 
-    /// The cell of a row for the phase.
+    /// The cell of a row in the present phase.
     fn row(
         &self,
         starting: Option<Answer>,
@@ -95,8 +95,8 @@ impl Environment {
         }
     }
 
-    /// The cell of the row of a call by an extension. One that is not registered in the present
-    /// generation is unknown; in Off none is known, and it is the container that refuses.
+    /// The cell of a row for a call by an extension. An extension that is not registered in the present
+    /// generation is unknown. In Off no extension is known, and the container refuses the call.
     fn extension_row(
         &self,
         ext: u64,
@@ -115,7 +115,7 @@ impl Environment {
         }
     }
 
-    /// The cell of the row of a report on the invocation with this request count.
+    /// The cell of the row for a report on the invocation with this request count.
     /// (Runtime API: Invocation response, Invocation error)
     fn report_row(&self, id: u64, answer: Answer) -> Option<Answer>
         ensures { result ≡ report_answers self.now.stand id answer }
@@ -130,7 +130,7 @@ impl Environment {
         )
     }
 
-    /// The answer to a report on the open invocation, by the request count that it names.
+    /// The answer to a report on the unanswered invocation, by the request count that the report names.
     fn reports_on(&self, id: u64, answer: Answer) -> Option<Answer>
         ensures { result ≡ named_answer self.now.stand id answer }
     {
@@ -155,7 +155,7 @@ impl Environment {
         })
     }
 
-    /// The answer to a Next of an extension in Closing, which hears the end once.
+    /// The answer to an extension's Next in Closing: it is notified of the shutdown once.
     /// (Extensions API: Shutdown event)
     fn told_in_closing(&self, ext: u64) -> Option<Answer>
         ensures { result ≡ told_in_closing self.now.stand ext }

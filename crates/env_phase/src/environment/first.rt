@@ -1,4 +1,4 @@
-//! The first stage of a call: the table's cell for it, and its first answers.
+//! The first stage of a call: the table's cell for it, and the answers that the cell gives.
 
 ghost use Rattle.std.specs.Prelude.{◌≡◌, ◌<◌, ◌^◌, []};
 ghost use Rattle.call_model.specs.Generation.{TheRuntime, as_registered};
@@ -16,7 +16,7 @@ use crate::phases::at_hand;
 use call_model::{Answer, Call, Phase, Rejection, Ticket};
 use extension_set::{Moves, Turn};
 
-/// What the runtime's parked Next gets where its newer Next replaces it, or a Withdraw names it.
+/// The answer to the runtime's parked Next if a newer Next replaces it or a Withdraw names it.
 fn replaced(ticket: Ticket, call: &Call) -> Option<Answer>
     ensures { result ≡ replaced ticket call.now RuntimePoll }
 {
@@ -34,7 +34,7 @@ fn replaced(ticket: Ticket, call: &Call) -> Option<Answer>
 }
 
 impl Environment {
-    /// The table's cell for a call, with its first answers.
+    /// Applies the table's cell for a call, and gives the answers that belong to it.
     pub(super) fn first(&mut self, step: Step, call: &Call, moves: &mut Moves)
         requires moment { step.now < 2 ^ 53 }
         requires empty { moves.old ≡ [] }
@@ -57,8 +57,8 @@ impl Environment {
         self.enter(phase, request, stopped);
     }
 
-    /// The request count of the invocation that the phase has at hand: that of an Invoke which is
-    /// placed now, and none once the waiting call was answered.
+    /// The request count of the unanswered invocation at hand after the call: that of an Invoke that is
+    /// placed now, none if the waiting call is answered.
     fn request_after(&self, step: Step, phase: Phase, answered: bool) -> Option<u64>
         ensures { result ≡ request_kept (step_of step) answered self.now.stand.request (at_hand phase) }
     {
@@ -83,7 +83,7 @@ impl Environment {
         matches!(call, Call::Stop) || self.stopped
     }
 
-    /// Enters the phase, with the request count of the invocation that it has at hand.
+    /// Enters the phase, with the request count of the unanswered invocation at hand.
     fn enter(&mut self, phase: Phase, request: Option<u64>, stopped: bool)
         ensures { self.new
             ≡ record {
@@ -96,7 +96,7 @@ impl Environment {
         self.stopped = stopped;
     }
 
-    /// Gives the call's first answers: to the waiting call, to the parked Nexts and to itself.
+    /// Gives the answers of the first stage: to the waiting call, to parked Nexts and to the call itself.
     fn answer(&mut self, turn: Turn, caller: Option<Answer>, call: &Call, moves: &mut Moves)
         requires moment { turn.now < 2 ^ 53 }
         requires empty { moves.old ≡ [] }
@@ -110,7 +110,7 @@ impl Environment {
         moves.give(Some(turn.ticket), turn.own);
     }
 
-    /// What the runtime's parked Next gets, where it has one. (Runtime API: Next invocation)
+    /// The answer to the runtime's parked Next, if there is one. (Runtime API: Next invocation)
     fn runtime_gets(&self, turn: Turn, call: &Call) -> Option<Answer>
         ensures { result ≡ poll_gets turn call.now RuntimePoll self.now.stand.runtime }
     {
@@ -138,8 +138,8 @@ impl Environment {
         }
     }
 
-    /// Adds the extension that the call brings, where it is answered Registered. (Extensions API:
-    /// Register)
+    /// Adds the extension that the call registers, if its answer is Registered.
+    /// (Extensions API: Register)
     fn add_extension(&mut self, call: &Call, own: Option<Answer>)
         requires short { IsShort (registered_name call.now) }
         requires welcome { IsWelcome self.old.stand.members (as_registered call.now own) }

@@ -1,4 +1,4 @@
-//! The table of phases: what a call does to the environment and to the call that waits there.
+//! The table of phases: what a call does to the environment and to the invocation that waits there.
 //! (Lambda execution environment lifecycle)
 
 ghost use Rattle.std.specs.Prelude.{◌≡◌, ◌<◌, ◌^◌, ◌&&◌};
@@ -18,7 +18,7 @@ use call_model::{Answer, Call, Phase, Reason, Ticket};
 use extension_set::{CLOSING_LIMIT, Turn};
 
 impl Environment {
-    /// What a call comes to here.
+    /// What a call does here.
     pub(super) fn turn_of(&self, step: Step, call: &Call) -> Turn
         requires { self.now.stand.registrations < 2 ^ 52 }
         ensures { result ≡ turn_of (step_of step) self.now.stand call.now }
@@ -31,7 +31,7 @@ impl Environment {
         }
     }
 
-    /// Why a call makes the environment close, in the phases in which it does.
+    /// Why a call closes the environment; none if it does not.
     #[tactic(auto, using(crate::proofs::Tests::closes_same))]
     fn closes(&self, call: &Call) -> Option<Reason>
         ensures { result ≡ closes self.now.stand call.now }
@@ -53,9 +53,9 @@ impl Environment {
         }
     }
 
-    /// What the waiting call gets: the outcome that the runtime reports, an error where the
-    /// environment closes for a failure or a timeout, or that the service is stopped. The outcome's
-    /// bytes are those of the call, whose ticket is own.
+    /// The answer to the waiting call: the outcome that the runtime reports, an error if the environment
+    /// closes for a failure or a timeout, or that the service is stopped. The outcome's bytes are those
+    /// of the call whose ticket is `own`.
     #[tactic(auto, using(crate::proofs::Tests::waiting_same))]
     pub(super) fn to_waiting(&self, own: Ticket, call: &Call, why: Option<Reason>) -> Option<Answer>
         requires { why ≡ closes self.now.stand call.now }
@@ -81,14 +81,14 @@ impl Environment {
         self.extensions.is_known(ext)
     }
 
-    /// Whether the invocation that it serves is unanswered and has this request count.
+    /// Whether it serves an unanswered invocation with this request count.
     fn serves(&self, id: u64) -> bool
         ensures { result ≡ (is_busy self.now.stand.phase && is_number self.now.stand.request id) }
     {
         is_busy(self.phase) && self.request == Some(id)
     }
 
-    /// The waiting call: the bound invocation, or the unanswered one of Busy.
+    /// The waiting call: the invocation that is bound, or the unanswered one that is served.
     pub(super) fn waiting_call(&self) -> Option<Ticket>
         ensures { result ≡ waiting_call self.now.stand }
     {
@@ -99,7 +99,7 @@ impl Environment {
         }
     }
 
-    /// The phase by the table's cell.
+    /// The phase in the table's cell.
     pub(super) fn cell(&self, step: Step, call: &Call, turn: Turn) -> Phase
         requires moment { step.now < 2 ^ 53 }
         requires turn { turn ≡ turn_of (step_of step) self.now.stand call.now }
@@ -115,7 +115,7 @@ impl Environment {
         }
     }
 
-    /// The phase where the call closes nothing.
+    /// The phase after a call that does not close the environment.
     #[tactic(auto, unfolding(call_model::specs::Table::kept))]
     fn kept(&self, step: Step, call: &Call, own: Option<Answer>) -> Phase
         requires moment { step.now < 2 ^ 53 }

@@ -1,4 +1,4 @@
-use Rattle.std.proofs.Common.{◌≡◌, ◌≤◌, ◌+◌, ◌-◌, ℕ, arith, sym, ap, ap₂, ◌∙◌, length, reverse, List, All, [], ◌∷◌, Option, set}
+use Rattle.std.proofs.Common.{◌≡◌, ◌≤◌, ◌+◌, ◌-◌, ℕ, arith, sym, ap, ap₂, ◌∙◌, length, reverse, List, All, [], ◌∷◌, Option, set, refl}
 use Rattle.std.proofs.lemmas.List.{length-map, length-reverse}
 use Rattle.arn_ids.specs.declared.config.Config.{Config}
 use Rattle.arn_ids.specs.Environments.{owners}
@@ -57,71 +57,86 @@ room_then config h now call place all pool requests e widest k r narrow =
     (rw (site_is_at all e no_site f.0 f.2) (All-get_or (λ (s : Site). length s.environment.stand.members ≤ widest) all (e - 1) no_site (omega (arith, f.0, f.2)) narrow))
 
 pub take_at-requires-clause-from_one : goal.take_at-requires-clause-from_one
-take_at-requires-clause-from_one c = (found c.args.config.now (reverse c.args.entries.now.0) c.args.arrival.moment c.args.arrival.call.now c.args.place c.args.fleet.now.sites c.args.fleet.now.pool c.args.arrival.requests.now c.in-At.env (record { ready = c.requires.ready; counts = c.requires.counts }) (sym c.of.ensures ∙ c.in-At.is)).0
+take_at-requires-clause-from_one c = (found c.args.config.now (reverse c.args.entries.now.0) c.args.arrival.now.moment c.args.arrival.now.call.now c.args.place c.args.fleet.now.sites c.args.fleet.now.pool c.args.arrival.now.requests.now c.in-At.env (record { ready = c.requires.arriving.ready; counts = c.requires.arriving.counts }) (sym c.of.ensures ∙ c.in-At.is)).0
 
 pub take_at-requires-clause-there : goal.take_at-requires-clause-there
-take_at-requires-clause-there c = (found c.args.config.now (reverse c.args.entries.now.0) c.args.arrival.moment c.args.arrival.call.now c.args.place c.args.fleet.now.sites c.args.fleet.now.pool c.args.arrival.requests.now c.in-At.env (record { ready = c.requires.ready; counts = c.requires.counts }) (sym c.of.ensures ∙ c.in-At.is)).2
+take_at-requires-clause-there c = (found c.args.config.now (reverse c.args.entries.now.0) c.args.arrival.now.moment c.args.arrival.now.call.now c.args.place c.args.fleet.now.sites c.args.fleet.now.pool c.args.arrival.now.requests.now c.in-At.env (record { ready = c.requires.arriving.ready; counts = c.requires.arriving.counts }) (sym c.of.ensures ∙ c.in-At.is)).2
+
+pub take_at-requires-clause-moment : goal.take_at-requires-clause-moment
+take_at-requires-clause-moment c = c.requires.arriving.moment
+
+pub take_all-requires-clause-moment : goal.take_all-requires-clause-moment
+take_all-requires-clause-moment c = c.requires.arriving.moment
 
 pub take_at-requires-clause-counted : goal.take_at-requires-clause-counted
-take_at-requires-clause-counted c = rw (c.requires.counts, c.requires.ready.pool_is) (length-map _ _ ∙ sym (length-map _ _))
+take_at-requires-clause-counted c = rw (c.requires.arriving.counts, c.requires.arriving.ready.pool_is) (length-map _ _ ∙ sym (length-map _ _))
 
 pub take_at-requires-clause-short : goal.take_at-requires-clause-short
-take_at-requires-clause-short c = known_short c.args.config.now c.args.arrival.call.now c.requires.ready.known
+take_at-requires-clause-short c = known_short c.args.config.now c.args.arrival.now.call.now c.requires.arriving.ready.known
 
 pub take_at-requires-clause-few : goal.take_at-requires-clause-few
-take_at-requires-clause-few c = rw ((found c.args.config.now (reverse c.args.entries.now.0) c.args.arrival.moment c.args.arrival.call.now c.args.place c.args.fleet.now.sites c.args.fleet.now.pool c.args.arrival.requests.now c.in-At.env (record { ready = c.requires.ready; counts = c.requires.counts }) (sym c.of.ensures ∙ c.in-At.is)).3) (few_site c.args.config.now (reverse c.args.entries.now.0) c.in-At.env c.requires.ready.legal (rw (length-reverse c.args.entries.now.0) c.requires.short))
+take_at-requires-clause-few c = rw ((found c.args.config.now (reverse c.args.entries.now.0) c.args.arrival.now.moment c.args.arrival.now.call.now c.args.place c.args.fleet.now.sites c.args.fleet.now.pool c.args.arrival.now.requests.now c.in-At.env (record { ready = c.requires.arriving.ready; counts = c.requires.arriving.counts }) (sym c.of.ensures ∙ c.in-At.is)).3) (few_site c.args.config.now (reverse c.args.entries.now.0) c.in-At.env c.requires.arriving.ready.legal (rw (length-reverse c.args.entries.now.0) c.requires.arriving.short))
 
 pub take_at-requires-clause-room : goal.take_at-requires-clause-room
-take_at-requires-clause-room c = rw (c.requires.ticket ∙ sym (length-reverse c.args.entries.now.0)) (omega (arith, room_then c.args.config.now (reverse c.args.entries.now.0) c.args.arrival.moment c.args.arrival.call.now c.args.place c.args.fleet.now.sites c.args.fleet.now.pool c.args.arrival.requests.now c.in-At.env c.args.fleet.now.widest (record { ready = c.requires.ready; counts = c.requires.counts }) (sym c.of.ensures ∙ c.in-At.is) c.facts.ensures.narrow, c.requires.room))
+take_at-requires-clause-room c = rw (c.requires.arriving.ticket ∙ sym (length-reverse c.args.entries.now.0)) (omega (arith, room_then c.args.config.now (reverse c.args.entries.now.0) c.args.arrival.now.moment c.args.arrival.now.call.now c.args.place c.args.fleet.now.sites c.args.fleet.now.pool c.args.arrival.now.requests.now c.in-At.env c.args.fleet.now.widest (record { ready = c.requires.arriving.ready; counts = c.requires.arriving.counts }) (sym c.of.ensures ∙ c.in-At.is) c.facts.ensures.narrow, c.requires.arriving.room))
 
 pub take_at-requires-clause-admitted : goal.take_at-requires-clause-admitted
 take_at-requires-clause-admitted c = λ invoke.
-    ap₂ throttle c.requires.ready.pool_is (ap (λ (s : Site). s.function) ((found c.args.config.now (reverse c.args.entries.now.0) c.args.arrival.moment c.args.arrival.call.now c.args.place c.args.fleet.now.sites c.args.fleet.now.pool c.args.arrival.requests.now c.in-At.env (record { ready = c.requires.ready; counts = c.requires.counts }) (sym c.of.ensures ∙ c.in-At.is)).3)) ∙ admitted_there c.args.config.now (reverse c.args.entries.now.0) c.args.arrival.call.now c.args.place c.in-At.env c.requires.ready.known c.requires.ready.placed (sym c.of.ensures ∙ c.in-At.is) invoke
+    ap₂ throttle c.requires.arriving.ready.pool_is (ap (λ (s : Site). s.function) ((found c.args.config.now (reverse c.args.entries.now.0) c.args.arrival.now.moment c.args.arrival.now.call.now c.args.place c.args.fleet.now.sites c.args.fleet.now.pool c.args.arrival.now.requests.now c.in-At.env (record { ready = c.requires.arriving.ready; counts = c.requires.arriving.counts }) (sym c.of.ensures ∙ c.in-At.is)).3)) ∙ admitted_there c.args.config.now (reverse c.args.entries.now.0) c.args.arrival.now.call.now c.args.place c.in-At.env c.requires.arriving.ready.known c.requires.arriving.ready.placed (sym c.of.ensures ∙ c.in-At.is) invoke
 
 pub take_all-requires-clause-counted : goal.take_all-requires-clause-counted
-take_all-requires-clause-counted c = rw (c.requires.counts, c.requires.ready.pool_is) (length-map _ _ ∙ sym (length-map _ _))
+take_all-requires-clause-counted c = rw (c.requires.arriving.counts, c.requires.arriving.ready.pool_is) (length-map _ _ ∙ sym (length-map _ _))
 
 pub take_all-requires-clause-few : goal.take_all-requires-clause-few
-take_all-requires-clause-few c = rw c.requires.ready.is (few_sites c.args.config.now (reverse c.args.entries.now.0) c.requires.ready.legal (rw (length-reverse c.args.entries.now.0) c.requires.short))
+take_all-requires-clause-few c = rw c.requires.arriving.ready.is (few_sites c.args.config.now (reverse c.args.entries.now.0) c.requires.arriving.ready.legal (rw (length-reverse c.args.entries.now.0) c.requires.arriving.short))
 
 pub take_all-requires-clause-gives_few : goal.take_all-requires-clause-gives_few
 take_all-requires-clause-gives_few c =
-    rw ((c.requires.ticket ∙ sym (length-reverse c.args.entries.now.0)), c.requires.ready.is, c.requires.counts)
-    (few_everywhere c.args.config.now (reverse c.args.entries.now.0) (entry_of c.args.config.now (reverse c.args.entries.now.0) c.args.arrival.moment c.args.arrival.call.now) c.requires.ready.legal c.requires.ready.follows (ap (λ (p : Option ℕ). reach (reverse c.args.entries.now.0) p c.args.arrival.call.now) (sym c.requires.ready.placed) ∙ sym c.of.ensures ∙ c.in-Everywhere.is))
+    rw ((c.requires.arriving.ticket ∙ sym (length-reverse c.args.entries.now.0)), c.requires.arriving.ready.is, c.requires.arriving.counts)
+    (few_everywhere c.args.config.now (reverse c.args.entries.now.0) (entry_of c.args.config.now (reverse c.args.entries.now.0) c.args.arrival.now.moment c.args.arrival.now.call.now) c.requires.arriving.ready.legal c.requires.arriving.ready.follows (ap (λ (p : Option ℕ). reach (reverse c.args.entries.now.0) p c.args.arrival.now.call.now) (sym c.requires.arriving.ready.placed) ∙ sym c.of.ensures ∙ c.in-Everywhere.is))
 
 pub take_all-requires-clause-room : goal.take_all-requires-clause-room
 take_all-requires-clause-room c =
-    let room = rw (all_stop (reverse c.args.entries.now.0) c.args.place c.args.arrival.call.now (sym c.of.ensures ∙ c.in-Everywhere.is)) at c.requires.room in
-    rw (c.requires.ready.is, sites_length c.args.config.now (reverse c.args.entries.now.0)) (omega (arith, room))
+    let room = rw (all_stop (reverse c.args.entries.now.0) c.args.place c.args.arrival.now.call.now (sym c.of.ensures ∙ c.in-Everywhere.is)) at c.requires.arriving.room in
+    rw (c.requires.arriving.ready.is, sites_length c.args.config.now (reverse c.args.entries.now.0)) (omega (arith, room))
 
-pub returns-in-Nowhere-clause-sites : goal.returns-in-Nowhere-clause-sites
-returns-in-Nowhere-clause-sites c = c.requires.ready.is ∙ sym (sites_nowhere c.args.config.now (reverse c.args.entries.now.0) (entry_of c.args.config.now (reverse c.args.entries.now.0) c.args.arrival.moment c.args.arrival.call.now) c.requires.ready.legal c.requires.ready.follows (ap (λ (p : Option ℕ). reach (reverse c.args.entries.now.0) p c.args.arrival.call.now) (sym c.requires.ready.placed) ∙ sym c.of.ensures ∙ c.in-Nowhere.is))
+pub returns-in-Nowhere-clause-moved : goal.returns-in-Nowhere-clause-moved
+returns-in-Nowhere-clause-moved c = record {
+  sites = c.requires.arriving.ready.is ∙ sym (sites_nowhere c.args.config.now (reverse c.args.entries.now.0) (entry_of c.args.config.now (reverse c.args.entries.now.0) c.args.arrival.now.moment c.args.arrival.now.call.now) c.requires.arriving.ready.legal c.requires.arriving.ready.follows (ap (λ (p : Option ℕ). reach (reverse c.args.entries.now.0) p c.args.arrival.now.call.now) (sym c.requires.arriving.ready.placed) ∙ sym c.of.ensures ∙ c.in-Nowhere.is));
+  widest = λ none. refl;
+}
 
 pub returns-in-Nowhere-clause-pool : goal.returns-in-Nowhere-clause-pool
-returns-in-Nowhere-clause-pool c = rw (c.requires.ready.is, c.requires.ready.pool_is) (numbers_flown c.args.config.now (reverse c.args.entries.now.0) c.requires.ready.legal)
+returns-in-Nowhere-clause-pool c = rw (c.requires.arriving.ready.is, c.requires.arriving.ready.pool_is) (numbers_flown c.args.config.now (reverse c.args.entries.now.0) c.requires.arriving.ready.legal)
 
 pub returns-in-Nowhere-clause-answers : goal.returns-in-Nowhere-clause-answers
-returns-in-Nowhere-clause-answers c = c.requires.empty ∙ sym (homed_nowhere c.args.config.now (reverse c.args.entries.now.0) (entry_of c.args.config.now (reverse c.args.entries.now.0) c.args.arrival.moment c.args.arrival.call.now) c.requires.ready.follows (ap (λ (p : Option ℕ). reach (reverse c.args.entries.now.0) p c.args.arrival.call.now) (sym c.requires.ready.placed) ∙ sym c.of.ensures ∙ c.in-Nowhere.is))
+returns-in-Nowhere-clause-answers c = c.requires.arriving.empty ∙ sym (homed_nowhere c.args.config.now (reverse c.args.entries.now.0) (entry_of c.args.config.now (reverse c.args.entries.now.0) c.args.arrival.now.moment c.args.arrival.now.call.now) c.requires.arriving.ready.follows (ap (λ (p : Option ℕ). reach (reverse c.args.entries.now.0) p c.args.arrival.now.call.now) (sym c.requires.arriving.ready.placed) ∙ sym c.of.ensures ∙ c.in-Nowhere.is))
 
-pub returns-in-At-clause-sites : goal.returns-in-At-clause-sites
-returns-in-At-clause-sites c = sites_then c.args.config.now (reverse c.args.entries.now.0) c.args.arrival.moment c.args.arrival.call.now c.args.place c.args.fleet.now.sites c.args.fleet.now.pool c.args.arrival.requests.now c.in-At.env c.take_at.new.self.sites (record { ready = c.requires.ready; counts = c.requires.counts }) (sym c.of.ensures ∙ c.in-At.is) (rw (sym (c.requires.ticket ∙ sym (length-reverse c.args.entries.now.0))) c.take_at.ensures.sites)
+pub returns-in-At-clause-moved : goal.returns-in-At-clause-moved
+returns-in-At-clause-moved c = record {
+  sites = sites_then c.args.config.now (reverse c.args.entries.now.0) c.args.arrival.now.moment c.args.arrival.now.call.now c.args.place c.args.fleet.now.sites c.args.fleet.now.pool c.args.arrival.now.requests.now c.in-At.env c.take_at.new.self.sites (record { ready = c.requires.arriving.ready; counts = c.requires.arriving.counts }) (sym c.of.ensures ∙ c.in-At.is) (rw (sym (c.requires.arriving.ticket ∙ sym (length-reverse c.args.entries.now.0))) c.take_at.ensures.sites);
+  widest = c.take_at.ensures.widest;
+}
 
 pub returns-in-At-clause-answers : goal.returns-in-At-clause-answers
-returns-in-At-clause-answers c = rw ((c.requires.ticket ∙ sym (length-reverse c.args.entries.now.0)), c.requires.empty) at c.take_at.ensures.answers ∙ answers_then c.args.config.now (reverse c.args.entries.now.0) c.args.arrival.moment c.args.arrival.call.now c.args.place c.args.fleet.now.sites c.args.fleet.now.pool c.args.arrival.requests.now c.in-At.env (record { ready = c.requires.ready; counts = c.requires.counts }) (sym c.of.ensures ∙ c.in-At.is)
+returns-in-At-clause-answers c = rw ((c.requires.arriving.ticket ∙ sym (length-reverse c.args.entries.now.0)), c.requires.arriving.empty) at c.take_at.ensures.answers ∙ answers_then c.args.config.now (reverse c.args.entries.now.0) c.args.arrival.now.moment c.args.arrival.now.call.now c.args.place c.args.fleet.now.sites c.args.fleet.now.pool c.args.arrival.now.requests.now c.in-At.env (record { ready = c.requires.arriving.ready; counts = c.requires.arriving.counts }) (sym c.of.ensures ∙ c.in-At.is)
 
 pub returns-in-At-clause-room : goal.returns-in-At-clause-room
 returns-in-At-clause-room c =
-    let room = rw (c.requires.ticket ∙ sym (length-reverse c.args.entries.now.0)) at c.take_at.ensures.room in
-    omega (arith, room_then c.args.config.now (reverse c.args.entries.now.0) c.args.arrival.moment c.args.arrival.call.now c.args.place c.args.fleet.now.sites c.args.fleet.now.pool c.args.arrival.requests.now c.in-At.env c.args.fleet.now.widest (record { ready = c.requires.ready; counts = c.requires.counts }) (sym c.of.ensures ∙ c.in-At.is) c.facts.ensures.narrow, c.requires.room, room)
+    let room = rw (c.requires.arriving.ticket ∙ sym (length-reverse c.args.entries.now.0)) at c.take_at.ensures.room in
+    omega (arith, room_then c.args.config.now (reverse c.args.entries.now.0) c.args.arrival.now.moment c.args.arrival.now.call.now c.args.place c.args.fleet.now.sites c.args.fleet.now.pool c.args.arrival.now.requests.now c.in-At.env c.args.fleet.now.widest (record { ready = c.requires.arriving.ready; counts = c.requires.arriving.counts }) (sym c.of.ensures ∙ c.in-At.is) c.facts.ensures.narrow, c.requires.arriving.room, room)
 
-pub returns-in-Everywhere-clause-sites : goal.returns-in-Everywhere-clause-sites
-returns-in-Everywhere-clause-sites c = rw ((c.requires.ticket ∙ sym (length-reverse c.args.entries.now.0)), c.requires.ready.is, c.requires.counts) at c.take_all.ensures.sites ∙ sym (sites_everywhere c.args.config.now (reverse c.args.entries.now.0) (entry_of c.args.config.now (reverse c.args.entries.now.0) c.args.arrival.moment c.args.arrival.call.now) c.requires.ready.legal c.requires.ready.follows (ap (λ (p : Option ℕ). reach (reverse c.args.entries.now.0) p c.args.arrival.call.now) (sym c.requires.ready.placed) ∙ sym c.of.ensures ∙ c.in-Everywhere.is))
+pub returns-in-Everywhere-clause-moved : goal.returns-in-Everywhere-clause-moved
+returns-in-Everywhere-clause-moved c = record {
+  sites = rw ((c.requires.arriving.ticket ∙ sym (length-reverse c.args.entries.now.0)), c.requires.arriving.ready.is, c.requires.arriving.counts) at c.take_all.ensures.sites ∙ sym (sites_everywhere c.args.config.now (reverse c.args.entries.now.0) (entry_of c.args.config.now (reverse c.args.entries.now.0) c.args.arrival.now.moment c.args.arrival.now.call.now) c.requires.arriving.ready.legal c.requires.arriving.ready.follows (ap (λ (p : Option ℕ). reach (reverse c.args.entries.now.0) p c.args.arrival.now.call.now) (sym c.requires.arriving.ready.placed) ∙ sym c.of.ensures ∙ c.in-Everywhere.is));
+  widest = λ none. c.take_all.ensures.widest;
+}
 
 pub returns-in-Everywhere-clause-answers : goal.returns-in-Everywhere-clause-answers
-returns-in-Everywhere-clause-answers c = rw ((c.requires.ticket ∙ sym (length-reverse c.args.entries.now.0)), c.requires.ready.is, c.requires.counts, c.requires.empty) at c.take_all.ensures.answers ∙ sym (homed_everywhere c.args.config.now (reverse c.args.entries.now.0) (entry_of c.args.config.now (reverse c.args.entries.now.0) c.args.arrival.moment c.args.arrival.call.now) c.requires.ready.legal c.requires.ready.follows c.requires.ready.all_known c.requires.ready.known (ap (λ (p : Option ℕ). reach (reverse c.args.entries.now.0) p c.args.arrival.call.now) (sym c.requires.ready.placed) ∙ sym c.of.ensures ∙ c.in-Everywhere.is))
+returns-in-Everywhere-clause-answers c = rw ((c.requires.arriving.ticket ∙ sym (length-reverse c.args.entries.now.0)), c.requires.arriving.ready.is, c.requires.arriving.counts, c.requires.arriving.empty) at c.take_all.ensures.answers ∙ sym (homed_everywhere c.args.config.now (reverse c.args.entries.now.0) (entry_of c.args.config.now (reverse c.args.entries.now.0) c.args.arrival.now.moment c.args.arrival.now.call.now) c.requires.arriving.ready.legal c.requires.arriving.ready.follows c.requires.arriving.ready.all_known c.requires.arriving.ready.known (ap (λ (p : Option ℕ). reach (reverse c.args.entries.now.0) p c.args.arrival.now.call.now) (sym c.requires.arriving.ready.placed) ∙ sym c.of.ensures ∙ c.in-Everywhere.is))
 
 pub returns-in-Everywhere-clause-room : goal.returns-in-Everywhere-clause-room
 returns-in-Everywhere-clause-room c =
-    let room = rw (all_stop (reverse c.args.entries.now.0) c.args.place c.args.arrival.call.now (sym c.of.ensures ∙ c.in-Everywhere.is)) at c.requires.room in
-    let many : length c.args.fleet.now.sites ≡ length (owners c.args.config.now) = ap length c.requires.ready.is ∙ sites_length c.args.config.now (reverse c.args.entries.now.0) in
+    let room = rw (all_stop (reverse c.args.entries.now.0) c.args.place c.args.arrival.now.call.now (sym c.of.ensures ∙ c.in-Everywhere.is)) at c.requires.arriving.room in
+    let many : length c.args.fleet.now.sites ≡ length (owners c.args.config.now) = ap length c.requires.arriving.ready.is ∙ sites_length c.args.config.now (reverse c.args.entries.now.0) in
     omega (arith, room, many, c.take_all.ensures.room)

@@ -37,7 +37,7 @@ take_at-requires-clause-few c =
 pub take_at-requires-clause-room : goal.take_at-requires-clause-room
 take_at-requires-clause-room c =
     let lt : c.loop-index.index < length c.args.self.now.sites = within c.self.inside c.args.self.now c.loop-index.index (length c.as_slice-index-end.result.now) c.self.view_is c.loop-index-test.true (ap length c.as_slice-index-end.ensures.value) in
-    rw (next_is _ c.args.self.now.sites c.loop-index.self.sites c.loop-index.index c.loop-index.invariant.sites lt) (omega (arith, few_moves c.args.arrival.ticket c.args.arrival.moment c.args.arrival.requests.now c.args.arrival.call.now c.args.self.now.sites c.loop-index.index c.requires.gives_few lt, c.loop-index.invariant.room, c.requires.room, lt))
+    rw (next_is _ c.args.self.now.sites c.loop-index.self.sites c.loop-index.index c.loop-index.invariant.sites lt) (omega (arith, few_moves c.args.arrival.now.ticket c.args.arrival.now.moment c.args.arrival.now.requests.now c.args.arrival.now.call.now c.args.self.now.sites c.loop-index.index c.requires.gives_few lt, c.loop-index.invariant.room, c.requires.room, lt))
 
 pub loop-index-preserved : goal.loop-index-preserved
 loop-index-preserved c =
@@ -45,7 +45,7 @@ loop-index-preserved c =
     let s : Site = site_at c.loop-index.self.sites (c.loop-index.index + 1) in
     let is : s ≡ get_or c.args.self.now.sites c.loop-index.index no_site = next_is _ c.args.self.now.sites c.loop-index.self.sites c.loop-index.index c.loop-index.invariant.sites lt in
     let back : c.loop-index.index + 1 - 1 ≡ c.loop-index.index = omega arith in
-    visit_one (moved c.args.arrival.ticket c.args.arrival.moment c.args.arrival.requests.now c.args.arrival.call.now) (moves_at c.args.arrival.ticket c.args.arrival.moment c.args.arrival.requests.now c.args.arrival.call.now) c.loop-index.index c.args.self.now c.loop-index.self c.take_at.new.self c.args.answers.now c.loop-index.answers c.take_at.new.answers s c.loop-index.invariant lt is
-    (c.take_at.ensures.sites ∙ ap (λ i. set c.loop-index.self.sites i (moved c.args.arrival.ticket c.args.arrival.moment c.args.arrival.requests.now c.args.arrival.call.now s)) back)
+    visit_one (moved c.args.arrival.now.ticket c.args.arrival.now.moment c.args.arrival.now.requests.now c.args.arrival.now.call.now) (moves_at c.args.arrival.now.ticket c.args.arrival.now.moment c.args.arrival.now.requests.now c.args.arrival.now.call.now) c.loop-index.index c.args.self.now c.loop-index.self c.take_at.new.self c.args.answers.now c.loop-index.answers c.take_at.new.answers s c.loop-index.invariant lt is
+    (c.take_at.ensures.sites ∙ ap (λ i. set c.loop-index.self.sites i (moved c.args.arrival.now.ticket c.args.arrival.now.moment c.args.arrival.now.requests.now c.args.arrival.now.call.now s)) back)
     c.take_at.ensures.pool (c.take_at.ensures.widest c.requires.unnamed) c.take_at.ensures.answers c.take_at.ensures.room
-    (rw is (few_moves c.args.arrival.ticket c.args.arrival.moment c.args.arrival.requests.now c.args.arrival.call.now c.args.self.now.sites c.loop-index.index c.requires.gives_few lt))
+    (rw is (few_moves c.args.arrival.now.ticket c.args.arrival.now.moment c.args.arrival.now.requests.now c.args.arrival.now.call.now c.args.self.now.sites c.loop-index.index c.requires.gives_few lt))

@@ -41,8 +41,8 @@ pub take-requires-clause-room : goal.take-requires-clause-room
 take-requires-clause-room c =
     let at : c.args.env - 1 < length c.self.inside.sites.items = within c.self.inside c.args.self.now c.args.env c.self.view_is c.requires.from_one c.requires.there in
     let own : IsOwned (length c.self.inside.pool.functions) c.index_mut-site.result.now = owned c.self.inside (c.args.env - 1) c.index_mut-site.result.now _ c.self.invariant at c.index_mut-site.ensures.value in
-    let many : length c.args.arrival.requests.now ≡ length c.self.inside.pool.functions = c.requires.counted ∙ ap (λ (k : Crew). length k.pool.functions) (sym c.self.view_is) in
-    rw (counted c.args.arrival.requests.now c.index_mut-site.result.now.function own.0 (rw many own.1), sym (found c.self.inside c.args.self.now c.args.env c.index_mut-site.result.now _ c.self.view_is c.requires.from_one c.requires.there c.index_mut-site.ensures.value)) c.requires.room
+    let many : length c.args.arrival.now.requests.now ≡ length c.self.inside.pool.functions = c.requires.counted ∙ ap (λ (k : Crew). length k.pool.functions) (sym c.self.view_is) in
+    rw (counted c.args.arrival.now.requests.now c.index_mut-site.result.now.function own.0 (rw many own.1), sym (found c.self.inside c.args.self.now c.args.env c.index_mut-site.result.now _ c.self.view_is c.requires.from_one c.requires.there c.index_mut-site.ensures.value)) c.requires.room
 
 pub recount-requires-clause-charged : goal.recount-requires-clause-charged
 recount-requires-clause-charged c = λ was.
@@ -52,12 +52,12 @@ recount-requires-clause-charged c = λ was.
 
 pub recount-requires-clause-admitted : goal.recount-requires-clause-admitted
 recount-requires-clause-admitted c = λ was is.
-    let invoke : is_invoke c.args.arrival.call.now ≡ true = newly_taken c.index_mut-site.result.now.environment.fixed _ c.index_mut-site.result.now.environment.stand c.args.arrival.call.now (sym c.is_taken-was.ensures ∙ was) (ap (λ (s : Site). is_taken s.environment.stand.phase) (sym c.take.ensures.site) ∙ sym c.is_taken-is.ensures ∙ is) in
+    let invoke : is_invoke c.args.arrival.now.call.now ≡ true = newly_taken c.index_mut-site.result.now.environment.fixed _ c.index_mut-site.result.now.environment.stand c.args.arrival.now.call.now (sym c.is_taken-was.ensures ∙ was) (ap (λ (s : Site). is_taken s.environment.stand.phase) (sym c.take.ensures.site) ∙ sym c.is_taken-is.ensures ∙ is) in
     let here : site_at c.args.self.now.sites c.args.env ≡ c.index_mut-site.result.now = found c.self.inside c.args.self.now c.args.env c.index_mut-site.result.now _ c.self.view_is c.requires.from_one c.requires.there c.index_mut-site.ensures.value in
     ap₂ throttle (ap (λ (k : Crew). k.pool) c.self.view_is) (ap (λ (s : Site). s.function) c.take.ensures.site ∙ ap (λ (s : Site). s.function) (sym here)) ∙ c.requires.admitted invoke
 
 -- the environment changed, and what is kept beside it
-changed : (c : goal.After-self-2-1) → IsChange c.self.inside (record { sites = with_item c.self.inside.sites (c.args.env - 1) (record { function = c.take.new.self.function; environment = c.take.new.self.environment }); due = c.set.new.self; places = c.note.new.self; pool = c.recount.new.pool; widest = c.max-self-inside.result }) (c.args.env - 1) (record { function = c.take.new.self.function; environment = c.take.new.self.environment }) c.index_mut-site.result.now
+changed : (c : goal.After-self-2-1) → IsChange c.self.inside (record { sites = with_item c.self.inside.sites (c.args.env - 1) (record { function = c.take.new.self.function; environment = c.take.new.self.environment }); due = c.set.new.self; places = c.note.new.self; pool = c.recount.new.pool; widest = c.max-self-inside.result; moves = c.take.new.moves }) (c.args.env - 1) (record { function = c.take.new.self.function; environment = c.take.new.self.environment }) c.index_mut-site.result.now
 changed c =
     let at : c.args.env - 1 < length c.self.inside.sites.items = within c.self.inside c.args.self.now c.args.env c.self.view_is c.requires.from_one c.requires.there in
     let back : c.args.env - 1 + 1 ≡ c.args.env = omega (arith, c.requires.from_one) in
@@ -91,28 +91,28 @@ pub returns-clause-sites : goal.returns-clause-sites
 returns-clause-sites c =
     let at : c.args.env - 1 < length c.self.inside.sites.items = within c.self.inside c.args.self.now c.args.env c.self.view_is c.requires.from_one c.requires.there in
     let here : site_at c.args.self.now.sites c.args.env ≡ c.index_mut-site.result.now = found c.self.inside c.args.self.now c.args.env c.index_mut-site.result.now _ c.self.view_is c.requires.from_one c.requires.there c.index_mut-site.ensures.value in
-    let count : get_or c.args.arrival.requests.now (c.index_mut-site.result.now.function - 1) 0 ≡ numbered 0 c.args.arrival.requests.now c.index_mut-site.result.now.function = count_is c.self.inside c.args.self.now c.args.arrival.requests.now (c.args.env - 1) c.index_mut-site.result.now _ c.self.view_is c.self.invariant at c.index_mut-site.ensures.value c.requires.counted in
-    let now : c.take.new.self ≡ moved c.args.arrival.ticket c.args.arrival.moment c.args.arrival.requests.now c.args.arrival.call.now (site_at c.args.self.now.sites c.args.env) = rw (here, sym count) c.take.ensures.site in
+    let count : get_or c.args.arrival.now.requests.now (c.index_mut-site.result.now.function - 1) 0 ≡ numbered 0 c.args.arrival.now.requests.now c.index_mut-site.result.now.function = count_is c.self.inside c.args.self.now c.args.arrival.now.requests.now (c.args.env - 1) c.index_mut-site.result.now _ c.self.view_is c.self.invariant at c.index_mut-site.ensures.value c.requires.counted in
+    let now : c.take.new.self ≡ moved c.args.arrival.now.ticket c.args.arrival.now.moment c.args.arrival.now.requests.now c.args.arrival.now.call.now (site_at c.args.self.now.sites c.args.env) = rw (here, sym count) c.take.ensures.site in
     ap₂ (λ (k : Crew) (s : Site). set k.sites (c.args.env - 1) s) c.self.view_is now
 
 pub returns-clause-answers : goal.returns-clause-answers
 returns-clause-answers c =
     let at : c.args.env - 1 < length c.self.inside.sites.items = within c.self.inside c.args.self.now c.args.env c.self.view_is c.requires.from_one c.requires.there in
     let here : site_at c.args.self.now.sites c.args.env ≡ c.index_mut-site.result.now = found c.self.inside c.args.self.now c.args.env c.index_mut-site.result.now _ c.self.view_is c.requires.from_one c.requires.there c.index_mut-site.ensures.value in
-    let count : get_or c.args.arrival.requests.now (c.index_mut-site.result.now.function - 1) 0 ≡ numbered 0 c.args.arrival.requests.now c.index_mut-site.result.now.function = count_is c.self.inside c.args.self.now c.args.arrival.requests.now (c.args.env - 1) c.index_mut-site.result.now _ c.self.view_is c.self.invariant at c.index_mut-site.ensures.value c.requires.counted in
+    let count : get_or c.args.arrival.now.requests.now (c.index_mut-site.result.now.function - 1) 0 ≡ numbered 0 c.args.arrival.now.requests.now c.index_mut-site.result.now.function = count_is c.self.inside c.args.self.now c.args.arrival.now.requests.now (c.args.env - 1) c.index_mut-site.result.now _ c.self.view_is c.self.invariant at c.index_mut-site.ensures.value c.requires.counted in
     rw (here, sym count) c.take.ensures.given
 
 pub returns-clause-room : goal.returns-clause-room
 returns-clause-room c =
     let at : c.args.env - 1 < length c.self.inside.sites.items = within c.self.inside c.args.self.now c.args.env c.self.view_is c.requires.from_one c.requires.there in
     let here : site_at c.args.self.now.sites c.args.env ≡ c.index_mut-site.result.now = found c.self.inside c.args.self.now c.args.env c.index_mut-site.result.now _ c.self.view_is c.requires.from_one c.requires.there c.index_mut-site.ensures.value in
-    let count : get_or c.args.arrival.requests.now (c.index_mut-site.result.now.function - 1) 0 ≡ numbered 0 c.args.arrival.requests.now c.index_mut-site.result.now.function = count_is c.self.inside c.args.self.now c.args.arrival.requests.now (c.args.env - 1) c.index_mut-site.result.now _ c.self.view_is c.self.invariant at c.index_mut-site.ensures.value c.requires.counted in
+    let count : get_or c.args.arrival.now.requests.now (c.index_mut-site.result.now.function - 1) 0 ≡ numbered 0 c.args.arrival.now.requests.now c.index_mut-site.result.now.function = count_is c.self.inside c.args.self.now c.args.arrival.now.requests.now (c.args.env - 1) c.index_mut-site.result.now _ c.self.view_is c.self.invariant at c.index_mut-site.ensures.value c.requires.counted in
     rw (here, sym count) c.take.ensures.room
 
 pub returns-clause-widest : goal.returns-clause-widest
 returns-clause-widest c = λ none.
     let at : c.args.env - 1 < length c.self.inside.sites.items = within c.self.inside c.args.self.now c.args.env c.self.view_is c.requires.from_one c.requires.there in
     let before : length c.index_mut-site.result.now.environment.stand.members ≤ c.self.inside.widest = rw c.index_mut-site.ensures.value (All-get_or (λ (s : Site). length s.environment.stand.members ≤ c.self.inside.widest) c.self.inside.sites.items (c.args.env - 1) c.index_mut-site.result.now at c.self.invariant.narrow) in
-    let now : length c.take.new.self.environment.stand.members ≤ length c.index_mut-site.result.now.environment.stand.members = rw c.take.ensures.site (none_joins c.index_mut-site.result.now.environment.fixed _ c.index_mut-site.result.now.environment.stand c.args.arrival.call.now none) in
+    let now : length c.take.new.self.environment.stand.members ≤ length c.index_mut-site.result.now.environment.stand.members = rw c.take.ensures.site (none_joins c.index_mut-site.result.now.environment.fixed _ c.index_mut-site.result.now.environment.stand c.args.arrival.now.call.now none) in
     let same : c.self.inside.widest ≡ c.args.self.now.widest = ap (λ (k : Crew). k.widest) c.self.view_is in
     omega (arith, c.max-self-inside.ensures, c.members.ensures.count, before, now, same)
