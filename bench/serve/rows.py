@@ -133,7 +133,7 @@ class Tables:
                     # takes twice.
                     wanted = 2 * size * (invocations * 1.05 + 2 * environments) * (2 if self.go else 1)
                     if wanted > memory_free():
-                        print(f"bench: {where}: left out, since it wants {wanted / 1e9:.1f} GB of memory",
+                        print(f"bench: {where}: left out, since it needs {wanted / 1e9:.1f} GB of memory",
                               file=sys.stderr, flush=True)
                         continue
                     samples = self.interleaved(

@@ -210,7 +210,7 @@ def wrong_usage():
                 ([*here, "--known", bad], "known.txt: line 2 has 2 words: write three"),
                 ([*here, "--junit", os.path.join(folder, "no", "report.xml")],
                  "name a file in a folder that can be written"),
-                ([*here, "--program", "nowhere"], "nowhere is no program"),
+                ([*here, "--program", "nowhere"], "nowhere is not a program"),
                 (here, f"127.0.0.1:{other}: no service answers there"),
                 ([*here[:2], "--runtime", f"127.0.0.1:{silent_port}"], f"127.0.0.1:{free}: no service answers there"),
                 (["--invoke", f"http://127.0.0.1:{silent_port}", "--runtime", f"127.0.0.1:{silent_port}"],

@@ -335,12 +335,12 @@ def code():
     case("code in the template",
          function_of(Code={"ZipFile": "exports.x = 1"}, Handler="index.x", Runtime="nodejs20.x"),
          {"F": {"name": "F", "handler": "index.x", "environments": 1}},
-         "F: has no command, since its code stands in the template")
+         "F: has no command, since its code is in the template")
     sam_inline = {"Resources": {"F": {
         "Type": "AWS::Serverless::Function",
         "Properties": {"InlineCode": "x", "Runtime": "python3.12", "Handler": "index.x"}}}}
     case("InlineCode", sam_inline, {"F": {"name": "F", "handler": "index.x", "environments": 1}},
-         "its code stands in the template")
+         "its code is in the template")
     case("code far away", function_of(CodeUri="s3://far/away"), made_function(),
          "leaves out CodeUri, which is no folder here")
     case("code of CloudFormation's package", function_of(Code="src"), made_function(directory="src"))
@@ -394,7 +394,7 @@ def names():
          {"5": {"name": "5", "environments": 1, "command": ["./bootstrap"]}})
     twice = {"Resources": {key: function_of(FunctionName="same")["Resources"]["F"] for key in ("A", "B", "same")}}
     made, said = made_of(twice)
-    check("a name that stands twice", sorted(made), ["B", "same", "same-2"])
+    check("a name that appears twice", sorted(made), ["B", "same", "same-2"])
     check("and what is said", "B: it is called B, since another function is called same" in said)
     case("variables with other names", function_of(Environment={"Variables": {"A=B": 1, "": 2, "C": 3}}),
          made_function(variables={"C": "3"}), "leaves out the variable A=B: its name must")

@@ -97,7 +97,7 @@ def records():
         ("a line that is none", HISTORY + "70 jump\n", "2: h: script: line 20: this is no call of a script: '70 jump'"),
         ("one that is cut", HISTORY[:-1], "2: h: line 19 has no end: the history is cut off"),
         ("one with a gap", HISTORY.replace("# 5 2 output", "# 6 2 output"),
-         "2: h: line 12: an answer of entry 6 stands behind entry 5"),
+         "2: h: line 12: an answer of entry 6 follows entry 5"),
     ):
         said = fault_of(record.parsed, text.encode(), "h")
         check(f"no history: {name}", said if words not in said else words, words)

@@ -107,7 +107,7 @@ def absent():
     one = {"functions": [{"name": "greet", "command": ["./none"]}]}
     with tempfile.TemporaryDirectory() as folder:
         check("an absent program", told(one, folder),
-              (4, [f"up: up.json: function greet: ./none is no program (looked for in {folder}/)"]))
+              (4, [f"up: up.json: function greet: ./none is not a program (looked for in {folder}/)"]))
         one["functions"][0].update(command=["true"], directory="none")
         check("an absent folder", told(one, folder),
               (2, [f"up: up.json: function greet: directory: there is no folder {folder}/none"]))
@@ -148,12 +148,12 @@ FAULTS = {
                             "257 environments in all, 255 of them of function a"),
     "BadPort": ({"functions": [{"name": "a", "ports": [0]}]}, "function a: 0 is no port"),
     "DuplicatePort": ({"functions": [{"name": "a", "ports": [7]}], "invokePort": 7},
-                      "port 7 stands twice: invokePort and function a"),
+                      "port 7 appears twice: invokePort and function a"),
     "TooManyExtensions": ({"functions": [{"name": "a", "ports": [1], "extensions": list("abcdefghijk")}]},
                           "function a: 11 extensions: ten"),
     "BadExtension": ({"functions": [{"name": "a", "ports": [1], "extensions": ["é"]}]}, 'not "é"'),
     "DuplicateExtension": ({"functions": [{"name": "a", "ports": [1], "extensions": ["x", "x"]}]},
-                           'function a: the extension "x" stands twice'),
+                           'function a: the extension "x" appears twice'),
     "ReservationAboveEnvironments": ({"functions": [{"name": "a", "ports": [1], "reserved": 2}]},
                                      "function a: it reserves 2 and has 1"),
     "RemainderTooSmall": ({"accountLimit": 2, "leastRemainder": 2,

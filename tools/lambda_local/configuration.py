@@ -149,7 +149,7 @@ def bad_port(whole, functions):
 
 def duplicate_port(whole, functions):
     port = repeated([whole.get("invokePort", 9000), *(port for member in functions for port in member["ports"])])
-    return f"port {port} stands twice: {' and '.join(owners_of(port, whole, functions)[:2])} have it"
+    return f"port {port} appears twice: {' and '.join(owners_of(port, whole, functions)[:2])} have it"
 
 
 def too_many_extensions(whole, functions):
@@ -165,7 +165,7 @@ def bad_extension(whole, functions):
 
 def duplicate_extension(whole, functions):
     found, where = first(functions, lambda member: repeated(member.get("extensions", [])) is not None)
-    return f"{where}the extension {shown(repeated(found['extensions']))} stands twice"
+    return f"{where}the extension {shown(repeated(found['extensions']))} appears twice"
 
 
 def reservation_above_environments(whole, functions):

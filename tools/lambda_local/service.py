@@ -36,7 +36,7 @@ class Fault(Exception):
 def program_path(given=None):
     found = given or os.environ.get("LAMBDA_LOCAL_PROGRAM") or own_program()
     if not shutil.which(found):
-        raise Fault(4, f"{found} is no program: name one by --program or LAMBDA_LOCAL_PROGRAM")
+        raise Fault(4, f"{found} is not a program: name one by --program or LAMBDA_LOCAL_PROGRAM")
     return found
 
 

@@ -17,7 +17,7 @@ def program_of(command):
     """The path of the command's program; a fault if there is none."""
     found = shutil.which(command[0])
     if not found:
-        raise Fault(2, f"{command[0]} is no program: write one behind --, as a path or by a name of PATH")
+        raise Fault(2, f"{command[0]} is not a program: write one after --, as a path or by a name of PATH")
     return os.path.abspath(found) if "/" in command[0] else found
 
 

@@ -57,7 +57,7 @@ def check_arguments(options, command, registry):
     if unknown:
         raise Fault(2, f"--only {unknown[0]}: there is no such scenario or check (--list has their names)")
     if not command and not options.list:
-        raise Fault(2, "write the command that is tested behind --")
+        raise Fault(2, "write the command that is tested after --")
     if command:
         program_of(command)
 

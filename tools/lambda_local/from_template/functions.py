@@ -175,7 +175,7 @@ class Maker:
             return self.tell("has no command, since its code is an image: write one, such as docker run "
                              "(docs/your_function.md has it)")
         if self.is_inline():
-            return self.tell("has no command, since its code stands in the template: write it into a file of its "
+            return self.tell("has no command, since its code is in the template: write it into a file of its "
                              "folder, and give it a \"command\" or a \"runtime\"")
         runtime, handler = self.known("Runtime"), self.made.get("handler", "index.handler")
         runtime = runtime if isinstance(runtime, str) else ""

@@ -66,7 +66,7 @@ def arguments():
     parser.add_argument("--script", action="store_true",
                         help="read the input as a script, though it looks like a history")
     parser.add_argument("--limit", metavar="N", type=int,
-                        help=f"show at most so many calls (a drawing: {MOST_DRAWN:,}; else all)")
+                        help=f"show at most this many calls (a drawing: {MOST_DRAWN:,}; else all)")
     parser.add_argument("--from", metavar="MOMENT", type=moment, dest="begin",
                         help="show what goes on from this moment on")
     parser.add_argument("--to", metavar="MOMENT", type=moment, dest="end", help="show what goes on up to this moment")

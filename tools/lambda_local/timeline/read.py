@@ -167,7 +167,7 @@ def read_configuration(lines):
 
 def unreadable(line, at, form_2):
     word = line.split(b" ")[1:2]
-    hint = " ('reserve' stands in form 2 alone)" if word == [b"reserve"] and not form_2 else ""
+    hint = " (only form 2 has 'reserve')" if word == [b"reserve"] and not form_2 else ""
     return Fault(2, f"script: line {at}: this is no call of a script{hint}: {shown(line)[:60]!r}; "
                     "docs/formats.md lists the calls with their fields")
 
@@ -194,7 +194,7 @@ def history_entries(lines, configuration, form_2):
             found = ANSWER.fullmatch(line)
             if found:
                 if entry is None or int(found[1]) != count:
-                    raise Fault(3, f"line {lines.at}: an answer of entry {int(found[1])} stands behind entry {count}; "
+                    raise Fault(3, f"line {lines.at}: an answer of entry {int(found[1])} follows entry {count}; "
                                    "a history is read from its first line, without gaps")
                 entry[3].append((int(found[2]), found[3]))
             continue

@@ -4,8 +4,8 @@
   lambda_local up UP.json -- pytest         waits until all is ready, runs the command against it, saves the history
                                             if it fails, stops, and ends with the command's status
   lambda_local up --reload UP.json          begins a function's idle environments anew when its files change
-  lambda_local up --debug greet UP.json     a debugger may hold `greet` in its Init as long as nobody invokes it; a
-                                            command behind -- is run once it has left it
+  lambda_local up --debug greet UP.json     a debugger may hold `greet` in its Init until it is invoked; a
+                                            command after -- is run once it has left it
 
 UP.json is a service's configuration (docs/formats.md) in which each function has more members:
   runtime        "python" or "node": the bundled runtime serves `handler`, such as "app.handler"
@@ -83,13 +83,13 @@ def options_of(words):
     if split is not None:
         words, command = words[:split], words[split + 1:]
         if not command:
-            raise Fault(2, "write a command behind --, or leave -- out")
+            raise Fault(2, "write a command after --, or leave -- out")
     options, others = parser().parse_known_args(words)
     if others and not others[0].startswith("-"):
         raise Fault(2, called(f"write -- before the command: lambda_local up {options.up} -- {' '.join(others)}"))
     if others:
         usage = called("lambda_local up --help")
-        parser().error(f"there is no option {others[0]}: {usage} names them; a command stands behind --")
+        parser().error(f"there is no option {others[0]}: {usage} names them; a command follows --")
     options.command = command
     return options
 

@@ -108,7 +108,7 @@ class Environment(threading.Thread):
             self.say(str(fault), level="error")
             self.restarts.note(True)
             return False
-        self.say("may stop in its Init as long as it likes, while nobody invokes it")
+        self.say("may stop in its Init as long as it likes until it is invoked")
         while not self.stopping.is_set():
             self.watch.refresh()
             if self.watch.environment(self.number).generation.poll is not None:

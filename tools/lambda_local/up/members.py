@@ -104,7 +104,7 @@ class Function:
             raise Fault(2, f"{self.where}: extensions: at most nine, none of them {NAME}: the tenth is tools/up")
         for words in filter(None, [self.command, *self.extensions.values()]):
             if not shutil.which(program_of(words[0], self.directory)):
-                raise Fault(4, f"{self.where}: {words[0]} is no program (looked for in "
+                raise Fault(4, f"{self.where}: {words[0]} is not a program (looked for in "
                                f"{self.directory if '/' in words[0] else 'PATH'})")
 
     def _part(self, member):

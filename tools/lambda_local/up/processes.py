@@ -23,7 +23,7 @@ class Process:
         self.name, self.log, self.begun = name, log, time.monotonic()
         program = program_of(words[0], function.directory)
         if not shutil.which(program):
-            raise FileNotFoundError(f"{words[0]} is no program (any more)")
+            raise FileNotFoundError(f"{words[0]} is not a program (any more)")
         command, pipe = GUARD.announcing([program, *words[1:]])
         self.child = subprocess.Popen(command, cwd=function.directory, env=variables, stdin=pipe,
                                       stdout=subprocess.PIPE, stderr=subprocess.STDOUT, start_new_session=True)

@@ -1,4 +1,4 @@
-"""The command behind --, and its end."""
+"""The command after --, and its end."""
 import os
 import signal
 import subprocess
@@ -36,7 +36,7 @@ class Run:
         try:
             self.child = subprocess.Popen(words, env=variables, start_new_session=not self.shares)
         except OSError as fault:
-            raise Fault(4, f"{words[0]}: {fault.strerror}: write a program behind --") from None
+            raise Fault(4, f"{words[0]}: {fault.strerror}: write a program after --") from None
         self.held = Single(self.child.pid) if self.shares else self.child.pid
         GUARD.hold(self.held)
         self.waiting = threading.Thread(target=self._wait, args=(when_ended,))
