@@ -6,3 +6,5 @@ mod Beginnings
 mod StatsText
 -- What the relations of an account say of the reply to a call.
 mod Replying
+-- A reply that a history gives, each history that goes on there gives too.
+mod RepliesStay

@@ -57,10 +57,12 @@ module _ {R S D N K L : Type 0} {service : Service.Ghosts S K L} {decider : Deci
       inl (record {
         history = then;
         reached = shown.0.reached;
-        ticket = ticket;
-        there = there config most submitted.had now call ticket seen then taken shown.0;
-        stands = stands config most submitted.had now call ticket seen then taken shown.0;
-        gives = sym shown.1;
+        is = record {
+          ticket = ticket;
+          there = there config most submitted.had now call ticket seen then taken shown.0;
+          stands = stands config most submitted.had now call ticket seen then taken shown.0;
+          gives = sym shown.1;
+        };
       })
   replies call reply (inr x) =
       let submitted = x.1 in

@@ -13,15 +13,26 @@ use Rattle.call_types.specs.declared.call.Entry.{Entry}
 use Rattle.lambda_wire.specs.declared.reply.Reply.{Reply}
 use Rattle.long_poll.specs.Refusals.{refusal_reply}
 
--- The reply to a call that was taken: what the definitions give it in a history that calls led to, in which this very
--- call stands at its ticket.
+-- The reply to a call in a history: this very call stands there at a ticket, and this is what the definitions give it.
+pub record IsReplyIn (config : Config) (salt : ℕ) (h : List Entry) (call : Call) (reply : Reply) : Type 0 where
+  pub ticket : ℕ
+  pub there : ticket < length h
+  pub stands : call_of h ticket ≡ call
+  pub gives : reply_text config salt h ticket ≡ Some reply
+
+-- The reply to a call that was taken: the one in a history that calls led to.
 pub record IsReplyOf (config : Config) (most salt : ℕ) (call : Call) (reply : Reply) : Type 0 where
   pub history : List Entry
   pub reached : IsReached config most history
-  pub ticket : ℕ
-  pub there : ticket < length history
-  pub stands : call_of history ticket ≡ call
-  pub gives : reply_text config salt history ticket ≡ Some reply
+  pub is : IsReplyIn config salt history call reply
+
+-- Two replies are of one history.
+pub record AreOfOne (config : Config) (most salt : ℕ) (call : Call) (reply : Reply) (call' : Call) (reply' : Reply)
+    : Type 0 where
+  pub history : List Entry
+  pub reached : IsReached config most history
+  pub one : IsReplyIn config salt history call reply
+  pub other : IsReplyIn config salt history call' reply'
 
 -- The reply to a call that was not taken says why: as the journal is full exactly if a history that calls led to, which
 -- was then seen, has no room for it.
