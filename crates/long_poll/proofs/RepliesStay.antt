@@ -117,7 +117,7 @@ module _ (legal : (config : Config) (most : ℕ) (h : List Entry) → IsReached 
         there = omega (arith, lt, length-append newer h);
         stands = calls_stay newer h given.ticket lt ∙ given.stands;
         gives = replies_stay config salt newer h given.ticket reply
-        (subst (IsLegal config) is (legal config most later sees.reached)) lt given.gives;
+            (subst (IsLegal config) is (legal config most later sees.reached)) lt given.gives;
       })
 
   pub one : (config : Config) (most salt : ℕ) (call call' : Call) (reply reply' : Reply)
