@@ -56,8 +56,8 @@ module _ {H : Type 0} (shows : Option ℕ → H → Type 0) (door : Served) wher
         × IsOfBody has (yields came) head [] (λ body. IsOutcomeOf (decision door head body) given)
         × IsResponseTo (declares_too_long head) given response
 
-    -- The response to a request with this head at the door: if its head is refused, of that refusal; else of a body that
-    -- failed, of want of memory, or of what was decided.
+    -- The response to a request with this head at the door: if its head is refused, of that refusal; else of a body
+    -- that failed, of memory that was refused, or of what was decided.
     abbrev pub IsAnswerAt : Response (Either (Full (List ℕ)) H) → Type 0
     IsAnswerAt response = MatchOption (refusal_of hosts head)
         (IsRefusal (api_of door.port) (declares_too_long head) BrokenBody response

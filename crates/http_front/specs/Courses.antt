@@ -22,9 +22,9 @@ module _ {R S D N B K L : Type 0} {service : Service.Ghosts S K L} {decider : De
       × (exchange.stage ≡ Collecting head
       (record { alloc = (arc_value port.connection).alloc; body = body; held = [] }))
 
-  -- A request whose head is refused has that refusal and no exchange, so it never becomes a call. Any other has an exchange,
-  -- or is refused for want of memory. Either is answered in the form of the port's API, and as the last where the head
-  -- declares a body that is too long, and so is left unread.
+  -- A request whose head is refused has that refusal and no exchange, so it never becomes a call. Any other has an
+  -- exchange, or is refused because memory is. Either is answered in the form of the port's API, and as the last if the
+  -- head declares a body that is too long, which is then left unread.
   abbrev pub Takes : Responding R S D N B K L service decider keep → Type 0
   Takes future =
       (future.api ≡ port.api) × (future.is_unread ≡ declares_too_long head)

@@ -33,10 +33,11 @@ module _ {R S D N K L B P E : Type 0} {service : Service.Ghosts S K L} {decider 
       (came : B) × Exchanges (arc_value port.connection) clock
       (ShowsFrom (arc_value (arc_value port.connection).service)) has (yields came) head [] made
 
-  -- The response to a request with this head: of its refusal if the head is refused; else of what its exchange came to, or
-  -- of want of memory for one.
+  -- The response to a request with this head: of its refusal if the head is refused; else of what its exchange came to,
+  -- or of memory for one that was refused.
   abbrev pub IsAnswer : Response (Either (Full (List ℕ)) (HistoryBody R S K L)) → Type 0
   IsAnswer response = MatchOption (refusal_of (arc_value port.hosts) head)
       (IsRefusal port.api (declares_too_long head) OutOfMemory response
-      ⊎ ((made : Result (Outcome (HistoryBody R S K L)) ExchangeFault) × ComesTo made × IsAnswerTo port.api (declares_too_long head) made response))
+      ⊎ ((made : Result (Outcome (HistoryBody R S K L)) ExchangeFault) × ComesTo made
+      × IsAnswerTo port.api (declares_too_long head) made response))
       (λ refusal. IsRefusal port.api (declares_too_long head) refusal response)

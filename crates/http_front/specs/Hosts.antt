@@ -6,7 +6,8 @@ use Rattle.arn_ids.specs.declared.faults.ConfigFault.TheVariants.{BadEntries}
 use Rattle.account_book.specs.declared.book.OpenFault.{OpenFault}
 use Rattle.account_book.specs.declared.book.OpenFault.TheVariants as opening
 use Rattle.http_front.specs.declared.host_fault.HostFault.{HostFault}
-use Rattle.http_front.specs.declared.host_fault.HostFault.TheVariants.{Config, Network, TooFewDescriptors, StillShared, OutOfMemory}
+use Rattle.http_front.specs.declared.host_fault.HostFault.TheVariants.{Config, Network, TooFewDescriptors}
+use Rattle.http_front.specs.declared.host_fault.HostFault.TheVariants.{StillShared, OutOfMemory}
 
 -- what it says of a history that is not opened
 abbrev pub fault_of_opening : OpenFault → HostFault

@@ -1,9 +1,8 @@
 -- The ports of a configuration.
-use Rattle.std.specs.Prelude.{ℕ, zero, suc, ◌+◌, ◌*◌, ◌-◌, ◌^◌, min, max, List, [], ◌∷◌, ◌++◌, length, get_or, flat_map, map}
+use Rattle.std.specs.Prelude.{ℕ, ◌+◌, ◌*◌, ◌-◌, ◌^◌, min, max, List, length, get_or, flat_map, map}
 use Rattle.arn_ids.specs.Environments.{owners}
 use Rattle.arn_ids.specs.declared.config.Config.{Config}
 use Rattle.arn_ids.specs.declared.config.Slot.{Slot}
-use Rattle.http_routes.specs.Decisions.{Served}
 use Rattle.http_routes.specs.declared.side.Port.{Port}
 use Rattle.http_routes.specs.declared.side.Port.TheVariants.{Account, Environment}
 use Rattle.request_guard.specs.declared.refusal.Api.{Api}
@@ -16,8 +15,8 @@ abbrev pub kind_of : Port → PortKind
 kind_of Account = limits.Account
 kind_of (Environment e) = limits.Environment
 
--- How many connections there may be at once: 1,024 at least, and as many as the polls of all environments, each with its
--- runtime and ten extensions, and 64 for callers. (A configuration has 256 environments at most.)
+-- How many connections there may be at once: 1,024 at least, and as many as the polls of all environments, each with
+-- its runtime and ten extensions, and 64 for callers. (A configuration has 256 environments at most.)
 abbrev pub places_for : Config → ℕ
 places_for config = max 1024 (min (11 * length (owners config) + 64) (2 ^ 32 - 1))
 
@@ -33,15 +32,6 @@ environment_ports config = flat_map (λ function. ports_of function.slots) confi
 abbrev pub number_of : Config → Port → ℕ
 number_of config Account = config.invoke_port
 number_of config (Environment e) = get_or (environment_ports config) (e - 1) 0
-
--- who decides at the doors of the first n environments, in the order of their numbers
-abbrev pub environment_doors : Config → ℕ → ℕ → List Served
-environment_doors config salt zero = []
-environment_doors config salt (suc n) = environment_doors config salt n ++ (record { config = config; salt = salt; port = Environment (suc n) } ∷ [])
-
--- who decides at the doors of a host: the account's door, and one of each environment
-abbrev pub doors_of : Config → ℕ → List Served
-doors_of config salt = record { config = config; salt = salt; port = Account } ∷ environment_doors config salt (length (owners config))
 
 -- whose API a port speaks, and so which form its refusals have
 abbrev pub api_of : Port → Api

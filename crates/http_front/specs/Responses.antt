@@ -1,5 +1,6 @@
 -- The response that an outcome is sent as.
-use Rattle.std.specs.Prelude.{◌≡◌, ℕ, Bool, true, false, ◌||◌, List, [], ◌==◌, if◌then◌else◌, length, fold, codes, Option, Some, None, Result, Ok, Err}
+use Rattle.std.specs.Prelude.{◌≡◌, ℕ, Bool, true, false, ◌||◌, List, [], ◌==◌, if◌then◌else◌, length, fold, codes}
+use Rattle.std.specs.Prelude.{Option, Some, None, Result, Ok, Err}
 use Rattle.http.specs.Response.{head_of, body_of}
 use Rattle.http.specs.declared.response.Response.{Response}
 use Rattle.http.specs.declared.version.TheConstants.Version.{HTTP_11}
@@ -28,7 +29,8 @@ said_closing false map = map
 said_closing true map = append map (codes "connection") (plain_value (codes "close"))
 
 -- A response has this status, these header fields, says whether it is the last, and has no other field.
-pub record HasHead {B : Type 0} (is_last : Bool) (status : ℕ) (headers : List (List ℕ × FieldValue)) (response : Response B) : Type 0 where
+pub record HasHead {B : Type 0} (is_last : Bool) (status : ℕ) (headers : List (List ℕ × FieldValue))
+    (response : Response B) : Type 0 where
   pub status_is : (head_of response).status ≡ status
   pub version_is : (head_of response).version ≡ HTTP_11
   pub headers_are : (head_of response).headers ≡ said_closing is_last (fields headers)
@@ -42,19 +44,22 @@ abbrev pub IsWhole : {H : Type 0} → List ℕ → Either (Full (List ℕ)) H �
 IsWhole bytes (Left full) = full.buf ≡ whole bytes
 IsWhole bytes (Right body) = ⊥
 
--- A response is an outcome's, and the connection's last or not: that of a reply has its status, its header fields and no
--- other, and its bytes; that of a history is 200, has the headers of a text, and shows the history as its body.
+-- A response is an outcome's, and the connection's last or not: that of a reply has its status, its header fields and
+-- no other, and its bytes; that of a history is 200, has the headers of a text, and shows the history as its body.
 abbrev pub IsResponseTo : {H : Type 0} → Bool → Outcome H → Response (Either (Full (List ℕ)) H) → Type 0
-IsResponseTo is_last (Reply reply) response = HasHead is_last reply.status reply.headers response × IsWhole reply.body (body_of response)
-IsResponseTo is_last (History body) response = HasHead is_last 200 history_headers response × (body_of response ≡ Right body)
+IsResponseTo is_last (Reply reply) response =
+    HasHead is_last reply.status reply.headers response × IsWhole reply.body (body_of response)
+IsResponseTo is_last (History body) response =
+    HasHead is_last 200 history_headers response × (body_of response ≡ Right body)
 
 -- A response is that of a refusal, in the form of its port's API. It is the last behind a body that is left unread, and
 -- where the refusal itself ends the connection.
 abbrev pub IsRefusal : {H : Type 0} → Api → Bool → Refusal → Response (Either (Full (List ℕ)) H) → Type 0
-IsRefusal api is_unread refusal response = IsResponseTo (is_unread || closes refusal) (Reply (refusal_reply api refusal)) response
+IsRefusal api is_unread refusal response =
+    IsResponseTo (is_unread || closes refusal) (Reply (refusal_reply api refusal)) response
 
--- A response is that of what an exchange came to, whose body was left unread or not: a body that failed is answered 400,
--- memory that was refused 500. Of a lost bell there is none.
+-- A response is that of what an exchange came to, whose body was left unread or not: a body that failed is answered
+-- 400, memory that was refused 500. Of a lost bell there is none.
 abbrev pub IsAnswerTo : {H : Type 0} → Api → Bool → Result (Outcome H) ExchangeFault
     → Response (Either (Full (List ℕ)) H) → Type 0
 IsAnswerTo api is_unread (Ok outcome) response = IsResponseTo is_unread outcome response

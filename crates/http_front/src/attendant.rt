@@ -9,9 +9,9 @@ ghost use Rattle.http_front.specs.Ports.{api_of};
 ghost use Rattle.long_poll.specs.Outcomes.{ShowsFrom};
 
 use crate::Side;
+use crate::common::Common;
 use crate::door::Door;
 use crate::front::Front;
-use crate::served::Served;
 use crate::sides::Sides;
 use crate::ticker::moment;
 use account_lock::{Account, Identity};
@@ -33,7 +33,7 @@ use usage_ledger::{Keep, Ledgers, Tally, Token};
 /// The stack of a thread, in bytes. The deepest chain of calls takes some 80 KB.
 const STACK: usize = 512 * 1024;
 
-/// The note of a connection's open Next, as its socket's end is watched by it.
+/// The note of a connection's open Next, by which its socket's end is watched.
 #[derive(Drop)]
 struct OpenNext {
     open: Arc<OpenPoll>,
@@ -45,22 +45,22 @@ impl Park for OpenNext {
     }
 }
 
-/// The socket of a connection, the signals that end it, and where it tells how it stands.
+/// A socket that was accepted, the signals that end its connection, and the pulse that says how it stands.
 #[derive(Drop)]
-pub(crate) struct Line {
+pub(crate) struct Newcomer {
     pub(crate) socket: TcpStream,
     pub(crate) signals: Signals,
     pub(crate) pulse: Arc<Pulse>,
 }
 
-/// A connection that is to be served, and at which port.
+/// A connection to serve, and the port at which it came.
 #[derive(Drop)]
 pub(crate) struct Visit<S: Identity> {
-    pub(crate) line: Line,
+    pub(crate) newcomer: Newcomer,
     pub(crate) door: Door<S>,
 }
 
-/// What a thread serves its connections with: its event loop, who decided the last one's requests, and its
+/// With what a thread serves its connections: its event loop, the decider of the last one's requests, and its
 /// token, which has seen a beginning of the account's history.
 #[derive(Drop)]
 struct Tools<S: Identity> {
@@ -83,20 +83,20 @@ impl<S: Identity> Tools<S> {
     }
 }
 
-/// Who serves the connections of a place: what is served, the place, with the tally in which their calls
-/// count, and for how many milliseconds a premature call is held back at most.
+/// Serves the connections of a place. It has what the threads have in common, the place with the tally in
+/// which the calls count, and the most milliseconds for which a premature call is held back.
 #[derive(Drop)]
 pub(crate) struct Attendant<R, S: Identity, N, K: Keep> {
     pub(crate) rt: R,
-    pub(crate) served: Served<S, N>,
+    pub(crate) common: Common<S, N>,
     pub(crate) post: Post<Tally<K, S>, Visit<S>>,
     pub(crate) patience: u32,
 }
 
-/// Serves a connection at such a port by a front. Gives what it came to, if it ended of itself: each response
-/// that was written is then one that the front answers its request with. Its service and who decides are
-/// parameters here: their own types, once more in each of those that `hyper` makes of a connection, are
-/// large to prove anything about.
+/// Serves a connection at a port of this kind by a front. Returns how it ended, if it ended of itself: each
+/// response that was written is then one with which the front answers its request. The service and the
+/// decider are parameters here: their own types, repeated in each of those that `hyper` makes of a
+/// connection, are too large for a proof.
 fn serve_by<
     R: Machine,
     A: Service<K, L>,
@@ -108,7 +108,7 @@ fn serve_by<
 >(
     event_loop: &mut EventLoop,
     rt: &R,
-    line: Line,
+    newcomer: Newcomer,
     kind: PortKind,
     front: Front<R, A, D, N, K, L>,
     open: O,
@@ -117,7 +117,15 @@ fn serve_by<
         (Written ⟦<Either<Full<Bytes>, HistoryBody<R, A, K, L>> as Body>⟧.yields ⟦<Bytes as Into<Bytes>>⟧.converts
         (IsAnswer N.Clock ⟦<Incoming<Wire> as Body>⟧.yields ⟦<Bytes as Into<Bytes>>⟧.converts front))) }
 {
-    event_loop.serve(rt, line.socket, kind, front, line.signals, open, line.pulse)
+    event_loop.serve(
+        rt,
+        newcomer.socket,
+        kind,
+        front,
+        newcomer.signals,
+        open,
+        newcomer.pulse,
+    )
 }
 
 impl<
@@ -126,7 +134,7 @@ impl<
     N: Clock + Drop + Send + Sync + 'static,
     K: Keep + Send + 'static,
 > Attendant<R, S, N, K> {
-    /// Starts the thread, with its first connection. Where no thread can be made that is closed.
+    /// Starts the thread, with its first connection. If no thread can be made, the connection is closed.
     pub(crate) fn start(self, first: Visit<S>) -> Option<Worker<Visit<S>>> {
         let rt = self.rt;
         let Ok(mailbox) = Arc::try_clone(&self.post.mailbox) else {
@@ -141,23 +149,25 @@ impl<
 }
 
 impl<R: Machine, S: Identity + Drop, N: Clock + Drop, K: Keep> Attendant<R, S, N, K> {
-    /// Serves this connection and those that come, until none comes any more. It leaves its place
-    /// earlier where its event loop can't be opened, or has failed.
+    /// Serves this connection and those that follow, until none follows. If the event loop cannot be opened,
+    /// or fails, the place is left earlier.
     fn work(self, first: Visit<S>) {
         if !self.attend_all(first) {
             self.post.leave(&self.rt);
         }
     }
 
-    /// Serves this connection and those that come. Gives whether none comes any more.
+    /// Serves this connection and those that follow, with tools of this thread. Returns whether it was until
+    /// none followed.
     fn attend_all(&self, first: Visit<S>) -> bool {
-        match Tools::open(&self.rt, &*self.served.account) {
+        match Tools::open(&self.rt, &*self.common.account) {
             Ok(mut tools) => self.attend_in_turn(&mut tools, first),
             Err(_) => false,
         }
     }
 
-    /// Serves this connection and those that come. Gives whether none comes any more.
+    /// Serves this connection and those that follow, one after the other. Returns whether it was until none
+    /// followed.
     fn attend_in_turn(&self, tools: &mut Tools<S>, first: Visit<S>) -> bool {
         let mut visit = first;
         for _ in self.rt.forever() {
@@ -172,17 +182,17 @@ impl<R: Machine, S: Identity + Drop, N: Clock + Drop, K: Keep> Attendant<R, S, N
         unreachable!()
     }
 
-    /// Serves a connection, and then withdraws its open Next (Runtime API, Next invocation). Gives what it
-    /// came to, if it ended of itself: each response that was written to it then answers its request at the
+    /// Serves a connection, and then withdraws its open Next (Runtime API, Next invocation). Returns how it
+    /// ended, if it ended of itself: each response that was written to it then answers its request at the
     /// connection's own door.
     ///
     /// # Errors
-    /// Where the event loop can't serve another one.
+    /// If the event loop cannot serve another connection.
     fn attend(&self, tools: &mut Tools<S>, visit: Visit<S>) -> io::Result<Option<hyper::Result<()>>>
         ensures { IfOk result (λ ended. IfSome ended
             (Written ⟦<Either<Full<Bytes>, HistoryBody<R, Account<S, OneShotBell>, K, S>> as Body>⟧.yields
-            ⟦<Bytes as Into<Bytes>>⟧.converts (IsAnswerAt (ShowsFrom (arc_value self.now.served.account)) visit.door
-            ⟦<Incoming<Wire> as Body>⟧.yields ⟦<Bytes as Into<Bytes>>⟧.converts (arc_value self.now.served.hosts)))) }
+            ⟦<Bytes as Into<Bytes>>⟧.converts (IsAnswerAt (ShowsFrom (arc_value self.now.common.account)) visit.door
+            ⟦<Incoming<Wire> as Body>⟧.yields ⟦<Bytes as Into<Bytes>>⟧.converts (arc_value self.now.common.hosts)))) }
     {
         let open = Arc::new(self.rt.alloc(), OpenPoll::new()).map_err(AllocError::from)?;
         let ended = self.serve(tools, visit, &open);
@@ -190,10 +200,10 @@ impl<R: Machine, S: Identity + Drop, N: Clock + Drop, K: Keep> Attendant<R, S, N
         ended
     }
 
-    /// Serves a connection. Gives what it came to, if it ended of itself.
+    /// Serves a connection. Returns how it ended, if it ended of itself.
     ///
     /// # Errors
-    /// Where the event loop can't serve another one.
+    /// If the event loop cannot serve another connection.
     fn serve(
         &self,
         tools: &mut Tools<S>,
@@ -202,18 +212,25 @@ impl<R: Machine, S: Identity + Drop, N: Clock + Drop, K: Keep> Attendant<R, S, N
     ) -> io::Result<Option<hyper::Result<()>>>
         ensures { IfOk result (λ ended. IfSome ended
             (Written ⟦<Either<Full<Bytes>, HistoryBody<R, Account<S, OneShotBell>, K, S>> as Body>⟧.yields
-            ⟦<Bytes as Into<Bytes>>⟧.converts (IsAnswerAt (ShowsFrom (arc_value self.now.served.account)) visit.door
-            ⟦<Incoming<Wire> as Body>⟧.yields ⟦<Bytes as Into<Bytes>>⟧.converts (arc_value self.now.served.hosts)))) }
+            ⟦<Bytes as Into<Bytes>>⟧.converts (IsAnswerAt (ShowsFrom (arc_value self.now.common.account)) visit.door
+            ⟦<Incoming<Wire> as Body>⟧.yields ⟦<Bytes as Into<Bytes>>⟧.converts (arc_value self.now.common.hosts)))) }
     {
-        let Visit { line, door } = visit;
+        let Visit { newcomer, door } = visit;
         let kind = door.kind();
-        let token = self.served.account.again(&mut tools.token);
+        let token = self.common.account.again(&mut tools.token);
         let front = self.front(&mut tools.sides, token, door, open)?;
         let parked = OpenNext {
             open: Arc::try_clone(open)?,
         };
         laws::replies(&*front.connection);
-        serve_by(&mut tools.event_loop, &self.rt, line, kind, front, parked)
+        serve_by(
+            &mut tools.event_loop,
+            &self.rt,
+            newcomer,
+            kind,
+            front,
+            parked,
+        )
     }
 }
 
@@ -223,7 +240,7 @@ impl<
     N: Clock + Drop,
     K: Keep,
 > Attendant<R, S, N, K> {
-    /// What answers the requests of a connection at a port: of the same account, by who decides at its door.
+    /// The front of a connection at a port: of the same account, with the decider of its door.
     fn front(
         &self,
         sides: &mut Sides<S>,
@@ -232,15 +249,15 @@ impl<
         open: &Arc<OpenPoll>,
     ) -> Result<Front<R, Account<S, OneShotBell>, Side, N, K, S>, AllocError>
         ensures guarded { IfOk result (λ front. (front.api ≡ api_of door.port)
-            × (arc_value front.hosts ≡ arc_value self.now.served.hosts)) }
+            × (arc_value front.hosts ≡ arc_value self.now.common.hosts)) }
         ensures account { IfOk result (λ front.
-            arc_value (arc_value front.connection).service ≡ arc_value self.now.served.account) }
+            arc_value (arc_value front.connection).service ≡ arc_value self.now.common.account) }
         ensures decided { IfOk result (λ front. arc_value (arc_value front.connection).decider ≡ door) }
         ensures named { IfOk result (λ front. (door.config ≡ S.config) × (door.salt ≡ S.salt)) }
     {
         let alloc = self.rt.alloc();
         let api = door.api();
-        let hosts = Arc::try_clone(&self.served.hosts)?;
+        let hosts = Arc::try_clone(&self.common.hosts)?;
         let Ok(decider) = sides.of(alloc, door) else {
             return Err(AllocError);
         };
@@ -259,10 +276,10 @@ impl<
     ) -> Result<Arc<Connection<R, Account<S, OneShotBell>, Side, N, K, S>>, AllocError>
         requires { (arc_value decider).config ≡ S.config }
         ensures account { IfOk result (λ connection.
-            arc_value (arc_value connection).service ≡ arc_value self.now.served.account) }
+            arc_value (arc_value connection).service ≡ arc_value self.now.common.account) }
         ensures decider { IfOk result (λ connection. (arc_value connection).decider ≡ decider) }
     {
-        let Served { account, clock, .. } = self.served.share()?;
+        let Common { account, clock, .. } = self.common.share()?;
         let tally = Arc::try_clone(&self.post.tally)?;
         let open = Arc::try_clone(open)?;
         let alloc = self.rt.alloc();
@@ -280,14 +297,14 @@ impl<
         Arc::new(alloc, connection).map_err(AllocError::from)
     }
 
-    /// Withdraws the Next whose ticket is noted as open. Where that is refused it stays pending.
+    /// Withdraws the Next whose ticket is noted as open. If that is refused, the Next stays pending.
     fn withdraw(&self, token: &mut Token<S>, open: &OpenPoll) {
         if let Some(ticket) = open.ticket() {
-            let now = moment(&*self.served.clock);
+            let now = moment(&*self.common.clock);
             let mut tally = self.post.tally.lock(&self.rt);
             let withdraw = Call::Withdraw { ticket };
             let _ = self
-                .served
+                .common
                 .account
                 .submit(&self.rt, &mut tally, token, now, withdraw, None);
         }

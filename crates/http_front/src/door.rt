@@ -16,7 +16,7 @@ use std::marker::{Model, PhantomData};
 use std::sync::Arc;
 
 /// Whose port it is, in the configuration and with the salt of the identifiers that the account's type
-/// names. (A `Side` has routes, which don't cross threads; so each thread opens its own.)
+/// names. (A `Side` has routes, which cannot cross threads; so each thread opens its own.)
 #[derive(Drop)]
 pub(crate) struct Door<S: Identity> {
     port: Port,
@@ -34,7 +34,8 @@ impl<S: Identity> Model for Door<S> {
 
     ghost view = { λ d. record { config = arc_value d.config; salt = d.salt; port = d.port } };
 
-    ghost invariant = { λ d. (arc_value d.config ≡ S.config) × (d.salt ≡ S.salt) × IsPortOf (arc_value d.config) d.port };
+    ghost invariant = { λ d. (arc_value d.config ≡ S.config) × (d.salt ≡ S.salt)
+        × IsPortOf (arc_value d.config) d.port };
 }
 
 impl<S: Identity> Door<S> {
@@ -95,7 +96,7 @@ impl<S: Identity> Door<S> {
         Ok(Door::new(self.port, config, self.salt))
     }
 
-    /// Who decides its requests. The only error is want of memory.
+    /// The decider of its requests. The only error is that memory is refused.
     pub(crate) fn side(&self, alloc: Global) -> Result<Side, AllocError>
         ensures { IfOk result (λ side. (side ≡ self.now) × (side.config ≡ S.config)) }
     {

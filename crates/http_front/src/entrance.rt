@@ -1,11 +1,12 @@
 //! The ports that a host listens on.
 
-ghost use Rattle.std.specs.Prelude.{◌≡◌, ◌++◌, ◌∷◌, [], map, IfOk, IfErr, OnOk};
+ghost use Rattle.std.specs.Prelude.{◌≡◌, ◌++◌, ◌∷◌, [], IfOk, IfErr, OnOk};
 ghost use Rattle.std.specs.Arc.{arc_value};
 ghost use Rattle.http_routes.specs.Decisions.{IsPortOf};
 ghost use Rattle.http_routes.specs.declared.side.Port.TheVariants.{Account};
 ghost use Rattle.http_front.specs.Hosts.{IsOfMachine};
-ghost use Rattle.http_front.specs.Ports.{ports_of, environment_ports, number_of, doors_of};
+ghost use Rattle.http_front.specs.Ports.{ports_of, environment_ports, number_of};
+ghost use Rattle.http_front.specs.Doors.{door, doors, doors_of};
 
 use crate::door::Door;
 use crate::host_fault::at_socket;
@@ -23,8 +24,8 @@ use std::time::Duration;
 /// How many events one wait reports at most.
 const MOST_EVENTS: usize = 256;
 
-/// A port that is listened on, who decides its requests, and whether newcomers may wait at it: a port
-/// tells once that they do, so that is kept until it has been seen empty.
+/// A port that is listened on, with its door, and whether newcomers may wait at it: a port reports once that
+/// they do, so that is kept until the port was found empty.
 #[derive(Drop)]
 pub(crate) struct Gate<S: Identity> {
     pub(crate) listener: TcpListener,
@@ -32,7 +33,7 @@ pub(crate) struct Gate<S: Identity> {
     pub(crate) is_waited_at: bool,
 }
 
-/// The ports of a host: the account's, and one of each environment. The token of each is its place.
+/// The ports of a host: the account's, and one of each environment. The token of each is its index.
 #[derive(Drop)]
 pub(crate) struct Entrance<S: Identity> {
     pub(crate) poll: Poll,
@@ -62,7 +63,7 @@ fn ports_in_order(alloc: Global, config: &Checked) -> Result<Vec<u16>, AllocErro
 }
 
 impl<S: Identity> Entrance<S> {
-    /// Listens at the number that a port has in the configuration, for those whose requests the port decides.
+    /// Listens at the number that a port has in the configuration, and adds its gate.
     fn listen(
         &mut self,
         net: &impl Net,
@@ -75,7 +76,8 @@ impl<S: Identity> Entrance<S> {
         requires salted { salt ≡ S.salt }
         requires port { IsPortOf S.config port }
         requires number { number ≡ number_of (arc_value config.now) port }
-        ensures doors { OnOk result (map (λ gate. gate.door) self.new.gates.items ≡ map (λ gate. gate.door) self.old.gates.items ++ (record { config = arc_value config.now; salt = salt; port = port } ∷ [])) }
+        ensures doors { OnOk result (doors self.new.gates.items
+            ≡ doors self.old.gates.items ++ (door (arc_value config.now) salt port ∷ [])) }
         ensures fault { IfErr result IsOfMachine }
     {
         let listener = self.bind(net, number)?;
@@ -91,7 +93,7 @@ impl<S: Identity> Entrance<S> {
         }
     }
 
-    /// Listens at a number on 127.0.0.1, for the gate that is made next.
+    /// Listens at a number on 127.0.0.1, for the gate that is added next.
     fn bind(&self, net: &impl Net, number: u16) -> Result<TcpListener, HostFault>
         ensures { IfErr result IsOfMachine }
     {
@@ -108,7 +110,7 @@ impl<S: Identity> Entrance<S> {
     /// each environment, in the order of their numbers.
     ///
     /// # Errors
-    /// `Network` where a port can't be listened on, else `OutOfMemory`. No port is then listened on.
+    /// `Network` if a port cannot be listened on, else `OutOfMemory`. No port is then listened on.
     pub(crate) fn open(
         net: &impl Net,
         alloc: Global,
@@ -117,7 +119,7 @@ impl<S: Identity> Entrance<S> {
     ) -> Result<Entrance<S>, HostFault>
         requires configured { arc_value config.now ≡ S.config }
         requires salted { salt ≡ S.salt }
-        ensures doors { IfOk result (λ entrance. map (λ gate. gate.door) entrance.gates.items ≡ doors_of (arc_value config.now) salt) }
+        ensures doors { IfOk result (λ entrance. doors entrance.gates.items ≡ doors_of (arc_value config.now) salt) }
         ensures fault { IfErr result IsOfMachine }
     {
         let mut entrance = Entrance::new(net, alloc)?;
@@ -150,8 +152,8 @@ impl<S: Identity> Entrance<S> {
     ) -> Result<(), HostFault>
         requires configured { arc_value config.now ≡ S.config }
         requires salted { salt ≡ S.salt }
-        requires account { map (λ gate. gate.door) self.old.gates.items ≡ record { config = arc_value config.now; salt = salt; port = Account } ∷ [] }
-        ensures doors { OnOk result (map (λ gate. gate.door) self.new.gates.items ≡ doors_of (arc_value config.now) salt) }
+        requires account { doors self.old.gates.items ≡ door (arc_value config.now) salt Account ∷ [] }
+        ensures doors { OnOk result (doors self.new.gates.items ≡ doors_of (arc_value config.now) salt) }
         ensures fault { IfErr result IsOfMachine }
     {
         let ports = ports_in_order(alloc, config)?;
@@ -162,10 +164,10 @@ impl<S: Identity> Entrance<S> {
         Ok(())
     }
 
-    /// Waits until newcomers wait at a port, for so many milliseconds at most.
+    /// Waits until newcomers wait at a port, for at most `round` milliseconds.
     ///
     /// # Errors
-    /// `Network` where the ports failed.
+    /// `Network` if the ports fail.
     pub(crate) fn wait(&mut self, round: u64) -> Result<(), HostFault> {
         let round = Some(Duration::from_millis(round));
         if let Err(fault) = self.poll.poll(&mut self.events, round)

@@ -1,10 +1,8 @@
 //! What answers the requests of a port.
 
-ghost use Rattle.std.specs.Prelude.{◌≡◌, [], IfSome};
-ghost use Rattle.std.specs.Arc.{arc_value};
+ghost use Rattle.std.specs.Prelude.{◌≡◌, IfSome};
 ghost use Rattle.http.specs.Request.{head_of, body_of};
-ghost use Rattle.long_poll.specs.declared.exchange.Stage.TheVariants.{Collecting};
-ghost use Rattle.http_front.specs.Courses.{Takes};
+ghost use Rattle.http_front.specs.Courses.{IsExchangeOf, Takes};
 
 use crate::ResponseFault;
 use crate::responding::Responding;
@@ -23,9 +21,9 @@ use std::sync::{Arc, Wait};
 use std::time;
 use usage_ledger::{Keep, Ledgers};
 
-/// A port, for one connection: each request is an exchange. Who decides the exchanges knows whose port
-/// it is: an environment's (Runtime API 2018-06-01, Extensions API 2020-01-01), or the account's
-/// (Lambda API: Invoke, PutFunctionConcurrency, GetFunctionConcurrency; and this service's own routes).
+/// A port, for one connection: each request is an exchange. The decider of its exchanges knows whose port it
+/// is: an environment's (Runtime API 2018-06-01, Extensions API 2020-01-01), or the account's (Lambda API:
+/// Invoke, PutFunctionConcurrency, GetFunctionConcurrency; and this service's own routes).
 #[derive(Drop)]
 pub struct Front<R, S: Service<K, L>, D: Decide, N, K: Keep, L: Ledgers> {
     alloc: Global,
@@ -42,8 +40,8 @@ impl<
     K: Keep,
     L: Ledgers,
 > Front<R, S, D, N, K, L> {
-    /// The port for a connection, which speaks this API and answers for these hosts beside the local
-    /// ones. It takes no memory.
+    /// The port for a connection, which speaks this API and answers for these hosts beside the local ones. It
+    /// allocates nothing.
     pub fn new(
         alloc: Global,
         api: Api,
@@ -62,11 +60,11 @@ impl<
     }
 
     /// The exchange of a request of this head and body, on the heap: it is large, and `hyper` moves the
-    /// response that holds it several times. None where there is no memory for it.
+    /// response that holds it several times. None if memory is refused.
     fn exchange<B: Body>(&self, parts: Parts, body: B) -> Option<Box<Exchange<R, S, D, N, B, K, L>>>
     where
         B::Data: Into<Bytes>,
-        ensures { IfSome result (λ e. (arc_value e.value.connection ≡ arc_value self.now.connection) × (e.value.stage ≡ Collecting parts (record { alloc = (arc_value self.now.connection).alloc; body = body; held = [] }))) }
+        ensures { IfSome result (λ exchange. IsExchangeOf self.now parts body exchange.value) }
     {
         let Ok(connection) = Arc::try_clone(&self.connection) else {
             return None;
@@ -77,14 +75,12 @@ impl<
         }
     }
 
-    /// The response to a request of this head and body. There is no exchange where the head is refused, so
-    /// it never becomes a call. If the head declares a body that is too long, that is left unread.
+    /// The response to a request of this head and body. If the head is refused, there is no exchange, so the
+    /// request never becomes a call. If the head declares a body that is too long, the body is left unread.
     fn respond<B: Body>(&self, parts: Parts, body: B) -> Responding<R, S, D, N, B, K, L>
     where
         B::Data: Into<Bytes>,
-        ensures takes { Takes self.now parts body result }
-        ensures begins { IfSome result.exchange (λ e. e.value.stage ≡ Collecting parts
-            (record { alloc = (arc_value self.now.connection).alloc; body = body; held = [] })) }
+        ensures { Takes self.now parts body result }
     {
         let is_unread = declares_too_long(&parts);
         if let Some(refusal) = self.hosts.refusal(&parts) {

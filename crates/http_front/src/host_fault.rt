@@ -1,4 +1,4 @@
-//! Why a host didn't open, or didn't come to its end.
+//! Why a host did not open, or did not come to its end.
 
 ghost use Rattle.http_front.specs.Hosts.{IsOfMachine};
 
@@ -8,13 +8,13 @@ use std::alloc::AllocError;
 use std::io;
 use thiserror::Error;
 
-/// Why a host didn't open, or didn't come to its end.
+/// Why a host did not open, or did not come to its end.
 #[derive(Clone, Copy, Debug, Drop, Error, PartialEq, Eq)]
 pub enum HostFault {
     /// The configuration has a fault, or the history's entries are out of their range.
     #[error("{0}")]
     Config(ConfigFault),
-    /// A port couldn't be listened on, as where another program has it, or the listening failed.
+    /// A port could not be listened on, for instance because another program has it, or listening failed.
     #[error("network failed")]
     Network,
     /// The process may not open enough descriptors for the ports and one connection (`ulimit -n`).

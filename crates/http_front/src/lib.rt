@@ -1,9 +1,13 @@
-//! The server: a listener for each port, a thread for each connection, which then waits for another,
-//! a ticker, and the end of them all; with it the services of `hyper` over the exchanges of
-//! `long_poll`.
+//! The server: a listener for each port, a thread for each connection, which then waits for another
+//! connection, a ticker, and shutdown; and `hyper` services over the exchanges of `long_poll`.
+//!
+//! A fault is passed on by `Err(fault) => Err(fault)` where `?` would be read with a conversion that the
+//! prover does not see through.
 #![tactic(auto)]
 
+mod admission;
 mod attendant;
+mod common;
 mod door;
 mod entrance;
 mod front;
@@ -15,7 +19,6 @@ mod reception;
 mod responding;
 mod response;
 mod response_fault;
-mod served;
 mod sides;
 mod ticker;
 

@@ -31,8 +31,8 @@ fn room_left(entries: u64, most: u64, step: u32) -> Room
     }
 }
 
-/// What a service has to say while it runs, for a log that another thread writes: so the service waits for
-/// nobody who reads the log.
+/// What a service has to say while it runs, for a log that another thread writes: so the service does not
+/// wait for the log's reader.
 #[derive(Drop)]
 pub struct Notices {
     most: u64,
@@ -41,7 +41,7 @@ pub struct Notices {
 }
 
 impl Notices {
-    /// Of a journal of at most so many entries, of which a step takes so many at most; none is there yet.
+    /// Of an empty journal that holds at most `most` entries, of which a step takes at most `step`.
     pub(crate) fn new(most: u64, step: u32) -> Notices {
         Notices {
             most,
@@ -55,7 +55,7 @@ impl Notices {
         self.entries.store(entries, SeqCst);
     }
 
-    /// How much room the journal had when it was last looked, up to 50 milliseconds ago.
+    /// How much room the journal had at the last check, up to 50 milliseconds ago.
     pub fn room(&self) -> Room {
         room_left(self.entries.load(SeqCst), self.most, self.step)
     }

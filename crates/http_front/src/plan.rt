@@ -15,15 +15,14 @@ use std::sync::Arc;
 /// How many polls an environment may have open at once: those of its runtime and of ten extensions.
 const POLLS_OF_ONE: u32 = 11;
 
-/// How many places are kept for callers, where there are as many as polls.
+/// How many places callers have beside those of all polls.
 const FOR_CALLERS: u32 = 64;
 
 /// How many places there are at least.
 const LEAST_PLACES: u32 = 1_024;
 
-/// What a host is opened with: a configuration without a fault, the salt of its identifiers, and how
-/// many entries its history may have. Account and ports share the configuration: there is a handle of
-/// it for each.
+/// What a host is opened with: a configuration without a fault, the salt of its identifiers, and how many
+/// entries its history may have. The account and the ports share the configuration, each by its own handle.
 #[derive(Drop)]
 pub struct Plan {
     pub(crate) config: Arc<Checked>,
@@ -34,14 +33,15 @@ pub struct Plan {
 }
 
 impl Plan {
-    /// What a setup says, where its configuration has no fault; a faulty one is dropped. The range of
-    /// the entries is looked at where the host is opened.
+    /// The plan of a setup whose configuration has no fault; a faulty one is dropped. Whether the number of
+    /// entries is within its range is checked when the host is opened.
     ///
     /// # Errors
     /// `Config` with the first fault of the configuration; else `OutOfMemory`.
     pub fn check(alloc: Global, setup: Setup) -> Result<Plan, HostFault>
         ensures { MatchResult result
-            (λ plan. (arc_value plan.config ≡ setup.config) × (plan.salt ≡ setup.salt) × (plan.max_entries ≡ setup.max_entries) × (first_fault setup.config ≡ None))
+            (λ plan. (arc_value plan.config ≡ setup.config) × (plan.salt ≡ setup.salt)
+            × (plan.max_entries ≡ setup.max_entries) × (first_fault setup.config ≡ None))
             (IsFaultOf setup.config) }
     {
         let Setup {

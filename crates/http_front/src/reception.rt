@@ -1,22 +1,22 @@
-//! Who takes connections in, and sees them out.
+//! The thread that accepts connections, gives each a thread, and ends them.
 
 ghost use Rattle.std.specs.Prelude.{◌≡◌, ◌≤◌, IfErr, IfOk};
 ghost use Rattle.http_front.specs.declared.host_fault.HostFault.TheVariants.{StillShared};
 
-use crate::attendant::{Attendant, Line, Visit};
+use crate::admission::admit;
+use crate::attendant::{Attendant, Visit};
+use crate::common::Common;
 use crate::door::Door;
 use crate::entrance::{Entrance, Gate};
-use crate::served::Served;
 use crate::ticker::Ticker;
 use crate::{HostFault, Hosted, Notices};
 use account_lock::{Account, Identity};
-use connection_places::{Enders, Running, Slots};
-use futures::channel::oneshot;
-use http_connection::{Machine, PortKind, Pulse, Signals};
+use connection_places::Slots;
+use http_connection::{Machine, PortKind};
 use long_poll::{Clock, OneShotBell};
 use mio::Poll;
 use request_guard::Hosts;
-use std::alloc::{AllocError, Global};
+use std::alloc::AllocError;
 use std::net::TcpStream;
 use std::sync::atomic::Ordering::SeqCst;
 use std::sync::{Arc, Wait};
@@ -25,91 +25,55 @@ use std::time::Duration;
 use std::{io, thread, time};
 use usage_ledger::{Keep, Tally};
 
-/// How long the ports are waited for, in milliseconds, before it is looked whether the service is
-/// over.
+/// How many milliseconds one wait for newcomers lasts at most: so often it is checked whether the service
+/// is over.
 const ROUND: u64 = 50;
 
-/// How long a try waits, in milliseconds.
+/// How many milliseconds pass between two attempts.
 const PAUSE: u64 = 1;
 
-/// How many newcomers a port is let take in before it is another port's turn.
+/// How many newcomers a port takes in before it is another port's turn.
 const MOST_IN_A_TURN: u32 = 8;
 
-/// How often it is looked, at a pause between two looks, whether a connection has made room: its thread may
-/// have to wait for a processor.
+/// How many times, a pause apart, it is checked whether a connection has made room: its thread may have to
+/// wait for a processor.
 const LOOKS_FOR_ROOM: u32 = 250;
 
-/// How many seconds are between two looks at who stands still.
+/// How many seconds pass between two checks for connections that stand still.
 const BETWEEN_ROUNDS: u64 = 1;
 
-/// How often it is looked whether all connections have ended softly, and how many milliseconds pass
-/// between two looks: half a second in all.
+/// How many times it is checked whether all connections have ended softly. With the pauses between, that
+/// takes half a second.
 const LOOKS: u32 = 100;
 
+/// How many milliseconds pass between two of these checks.
 const BETWEEN_LOOKS: u64 = 5;
 
-/// Whether taking a newcomer in failed for a reason of its own, as one who has gone again: there may
-/// be others, who have nothing to do with it. (POSIX, accept: ECONNABORTED, EINTR)
+/// Whether accepting failed because of the newcomer itself, which has left again, or because the call was
+/// interrupted: other newcomers may still wait. (POSIX, accept: ECONNABORTED, EINTR)
 fn is_of_newcomer(kind: io::ErrorKind) -> bool {
     kind == io::ErrorKind::ConnectionAborted || kind == io::ErrorKind::Interrupted
 }
 
-/// The signals that end a connection, and their senders.
-fn signals(alloc: Global) -> Result<(Signals, Enders), AllocError> {
-    let (soft_sender, soft) = oneshot::channel(alloc)?;
-    let (hard_sender, hard) = oneshot::channel(alloc)?;
-    let (room_sender, room) = oneshot::channel(alloc)?;
-    let enders = Enders {
-        soft: soft_sender,
-        hard: hard_sender,
-        room: room_sender,
-    };
-    Ok((Signals { soft, hard, room }, enders))
-}
-
-/// The line of a connection over a socket at such a port, and what is known of it beside its thread.
-fn line(alloc: Global, socket: TcpStream, kind: PortKind) -> Result<(Line, Running), AllocError> {
-    let pulse = Arc::new(alloc, Pulse::new()).map_err(AllocError::from)?;
-    let told = Arc::try_clone(&pulse)?;
-    let (signals, enders) = signals(alloc)?;
-    let line = Line {
-        socket,
-        signals,
-        pulse,
-    };
-    Ok((line, Running::new(enders, told, kind)))
-}
-
-/// A connection that is to be served at a port, and what is known of it beside its thread.
-fn admit<S: Identity>(
-    alloc: Global,
-    socket: TcpStream,
-    door: &Door<S>,
-) -> Result<(Visit<S>, Running), AllocError> {
-    let door = door.share()?;
-    let (line, running) = line(alloc, socket, door.kind())?;
-    Ok((Visit { line, door }, running))
-}
-
-/// Takes connections in, each on a thread of its own, and sees them out: what is served, the tally from
-/// which those of the connections are split, and the places of the connections.
+/// Takes connections in, serves each on a thread of its own, and ends them. It has what the threads have in
+/// common, the tally from which those of the connections are split, and the places of the connections.
 #[derive(Drop)]
 pub(crate) struct Reception<R, S: Identity, N, K: Keep> {
     rt: R,
-    served: Served<S, N>,
+    common: Common<S, N>,
     root: Tally<K, S>,
     slots: Slots<Tally<K, S>, Visit<S>>,
-    // A descriptor that is given up where none is left, so that the newcomer can be turned away.
+    // A descriptor that is given up if no other is left, so that the newcomer can be turned away.
     spare: Option<Poll>,
-    // For how many milliseconds a premature call is held back at most.
+    // The most milliseconds for which a premature call is held back.
     patience: u32,
-    // What the monotonic clock said when it was last looked who stands still.
+    // When connections were last checked for standing still, by the monotonic clock.
     looked: Duration,
 }
 
 impl<R: Machine, S: Identity + Drop, N: Drop, K: Keep> Reception<R, S, N, K> {
-    /// For so many connections at once to an account that is open, with its tally. The only error is
-    /// want of memory. The account is then gone.
+    /// For at most `most` connections at once to an account that is open, with its tally. The only error is
+    /// that memory is refused; the account is then dropped.
     pub(crate) fn open(
         rt: R,
         opened: (Account<S, OneShotBell>, Tally<K, S>),
@@ -121,16 +85,16 @@ impl<R: Machine, S: Identity + Drop, N: Drop, K: Keep> Reception<R, S, N, K> {
         ensures { IfOk result (λ reception. reception.root ≡ opened.1) }
     {
         let (account, root) = opened;
-        match Served::new(rt.alloc(), account, clock, hosts) {
-            Ok(served) => Reception::new(rt, served, root, most, patience),
+        match Common::new(rt.alloc(), account, clock, hosts) {
+            Ok(common) => Reception::new(rt, common, root, most, patience),
             Err(refused) => Err(refused),
         }
     }
 
-    /// For so many connections at once. The only error is want of memory.
+    /// For at most `most` connections at once. The only error is that memory is refused.
     fn new(
         rt: R,
-        served: Served<S, N>,
+        common: Common<S, N>,
         root: Tally<K, S>,
         most: u32,
         patience: u32,
@@ -143,7 +107,7 @@ impl<R: Machine, S: Identity + Drop, N: Drop, K: Keep> Reception<R, S, N, K> {
         let spare = Poll::new(&rt).ok();
         Ok(Reception {
             rt,
-            served,
+            common,
             root,
             slots,
             spare,
@@ -152,8 +116,7 @@ impl<R: Machine, S: Identity + Drop, N: Drop, K: Keep> Reception<R, S, N, K> {
         })
     }
 
-    /// Where no descriptor is left for the next newcomer, the spare one is given up for it, and it is
-    /// closed.
+    /// Closes the next newcomer if no descriptor is left for it: the spare one is given up meanwhile.
     fn turn_away(&mut self, gate: &Gate<S>) {
         self.spare = None;
         let _ = gate.listener.accept();
@@ -169,14 +132,14 @@ impl<R: Wait + Threads + time::Clock + Copy + Drop, S: Identity + Drop, N: Drop,
     N,
     K,
 > {
-    /// The ticker of the same account, with a tally of its own. The only error is want of memory.
+    /// The ticker of the same account, with a tally of its own. The only error is that memory is refused.
     pub(crate) fn ticker(&mut self, notices: Arc<Notices>) -> Result<Ticker<R, S, N, K>, AllocError>
         requires { 2 ≤ self.old.root.held.parts }
     {
-        match self.served.share() {
-            Ok(served) => Ok(Ticker {
+        match self.common.share() {
+            Ok(common) => Ok(Ticker {
                 rt: self.rt,
-                served,
+                common,
                 notices,
                 tally: self.root.split(),
             }),
@@ -184,7 +147,7 @@ impl<R: Wait + Threads + time::Clock + Copy + Drop, S: Identity + Drop, N: Drop,
         }
     }
 
-    /// A place that nobody has: one that is free, or else another one with a tally of its own.
+    /// A place that no connection has: one that is free, or else a new one with a tally of its own.
     fn open_place(&mut self) -> Option<usize> {
         if let Some(at) = self.slots.take() {
             return Some(at);
@@ -201,7 +164,7 @@ impl<R: Wait + Threads + time::Clock + Copy + Drop, S: Identity + Drop, N: Drop,
         }
     }
 
-    /// The place of a connection that makes room for a newcomer, once it has ended.
+    /// The place of a connection that makes room for a newcomer, once that connection has ended.
     fn cleared_place(&mut self) -> Option<usize> {
         if !self.slots.ask_for_room() {
             return None;
@@ -216,7 +179,7 @@ impl<R: Wait + Threads + time::Clock + Copy + Drop, S: Identity + Drop, N: Drop,
         None
     }
 
-    /// A place for a newcomer at such a port.
+    /// A place for a newcomer at a port of this kind.
     fn place(&mut self, kind: PortKind) -> Option<usize> {
         if !self.slots.admits(kind) {
             return None;
@@ -227,12 +190,12 @@ impl<R: Wait + Threads + time::Clock + Copy + Drop, S: Identity + Drop, N: Drop,
         }
     }
 
-    /// Who serves the connections of a place.
+    /// The attendant that serves the connections of a place.
     fn attendant(&self, at: usize) -> Result<Attendant<R, S, N, K>, AllocError> {
-        match (self.served.share(), self.slots.post(at)) {
-            (Ok(served), Ok(post)) => Ok(Attendant {
+        match (self.common.share(), self.slots.post(at)) {
+            (Ok(common), Ok(post)) => Ok(Attendant {
                 rt: self.rt,
-                served,
+                common,
                 post,
                 patience: self.patience,
             }),
@@ -240,8 +203,8 @@ impl<R: Wait + Threads + time::Clock + Copy + Drop, S: Identity + Drop, N: Drop,
         }
     }
 
-    /// Once a second, ends the connections that have stood still for too long, and joins the threads
-    /// that have waited for one in vain.
+    /// Once a second, ends the connections that have stood still for too long, and joins the threads that
+    /// have ended because no connection came.
     fn look_round(&mut self) {
         if let Ok(now) = self.rt.monotonic()
             && now.saturating_sub(self.looked) >= Duration::from_secs(BETWEEN_ROUNDS)
@@ -252,8 +215,8 @@ impl<R: Wait + Threads + time::Clock + Copy + Drop, S: Identity + Drop, N: Drop,
         }
     }
 
-    /// Ends every connection: those that are idle or have been answered softly, the others at once
-    /// half a second later.
+    /// Ends every connection: softly those that are idle or have been answered, and half a second later the
+    /// others at once.
     fn end_connections(&mut self) {
         self.slots.tell(false);
         for _ in 0..LOOKS {
@@ -274,23 +237,23 @@ impl<R: Wait + Threads + time::Clock + Copy + Drop, S: Identity + Drop, N: Drop,
         }
     }
 
-    /// Says that the service is over, ends every connection, and joins all threads.
+    /// Notes that the service is over, ends every connection, and joins all threads.
     pub(crate) fn finish(&mut self) {
-        self.served.is_over.store(true, SeqCst);
+        self.common.is_over.store(true, SeqCst);
         self.slots.dismiss(&self.rt);
         self.end_connections();
         self.slots.join_all(&self.rt);
     }
 
-    /// The account, and all tallies with that of the ticker, once every thread was joined.
+    /// The account, and all tallies with that of the ticker, once every thread is joined.
     ///
     /// # Errors
-    /// `StillShared`.
+    /// `StillShared` if a thread still has the account or a tally.
     pub(crate) fn into_hosted(self, ticked: Tally<K, S>) -> Result<Hosted<S, K>, HostFault>
         ensures { IfErr result (λ fault. fault ≡ StillShared) }
     {
         let Reception {
-            served,
+            common,
             root,
             slots,
             ..
@@ -299,7 +262,7 @@ impl<R: Wait + Threads + time::Clock + Copy + Drop, S: Identity + Drop, N: Drop,
             Ok(tallies) => tallies,
             Err(_shared) => return Err(HostFault::StillShared),
         };
-        match Arc::into_inner(served.account) {
+        match Arc::into_inner(common.account) {
             Some(account) => Ok(Hosted { account, tallies }),
             None => Err(HostFault::StillShared),
         }
@@ -312,7 +275,7 @@ impl<
     N: Clock + Drop + Send + Sync + 'static,
     K: Keep + Send + 'static,
 > Reception<R, S, N, K> {
-    /// Starts the thread of a place, with its first connection. Gives whether there is one.
+    /// Starts the thread of a place, with its first connection. Returns whether a thread was started.
     fn start(&mut self, at: usize, visit: Visit<S>) -> bool {
         let Ok(attendant) = self.attendant(at) else {
             return false;
@@ -324,8 +287,8 @@ impl<
         true
     }
 
-    /// Gives a connection to the thread of a place: to the one that waits there, else to a new one.
-    /// Gives whether there is one.
+    /// Hands a connection to the thread of a place: to the one that waits there, or else to a new one. Returns
+    /// whether there is one.
     fn hand_over(&mut self, at: usize, visit: Visit<S>) -> bool {
         match self.slots.offer(&self.rt, at, visit) {
             Ok(()) => true,
@@ -333,7 +296,7 @@ impl<
         }
     }
 
-    /// Begins a connection at a place. Gives whether there was memory and a thread for it.
+    /// Begins a connection at a place. Returns whether there was memory and a thread for it.
     fn begin(&mut self, at: usize, socket: TcpStream, door: &Door<S>) -> bool {
         let Ok((visit, running)) = admit(self.rt.alloc(), socket, door) else {
             return false;
@@ -345,7 +308,7 @@ impl<
         is_begun
     }
 
-    /// Takes a newcomer in; where there is no place for it, or no thread, it is closed.
+    /// Takes a newcomer in. If there is no place for it, or no thread, it is closed.
     fn take_in(&mut self, socket: TcpStream, door: &Door<S>) {
         self.slots.reap(&self.rt);
         let Some(at) = self.place(door.kind()) else {
@@ -356,7 +319,7 @@ impl<
         }
     }
 
-    /// Takes in those who wait at a port, so many at most in one turn. Gives whether more may wait.
+    /// Takes in those that wait at a port, up to `MOST_IN_A_TURN`. Returns whether more may wait.
     fn take_in_some(&mut self, gate: &Gate<S>) -> bool {
         for _ in 0..MOST_IN_A_TURN {
             match gate.listener.accept() {
@@ -369,7 +332,7 @@ impl<
         true
     }
 
-    /// Gives each port at which newcomers may wait a turn. Gives whether more may wait at one.
+    /// Gives a turn to each port at which newcomers may wait. Returns whether more may wait at one.
     fn take_turns(&mut self, gates: &mut [Gate<S>]) -> bool {
         let mut more = false;
         for gate in gates {
@@ -381,13 +344,13 @@ impl<
         more
     }
 
-    /// Takes connections in until the service is over. The ports take turns, so that a crowd at one
-    /// keeps nobody at another waiting.
+    /// Takes connections in until the service is over. The ports take turns, so that a crowd at one does not
+    /// keep those at another waiting.
     pub(crate) fn serve(&mut self, entrance: &mut Entrance<S>) -> Result<(), HostFault> {
         let rt = self.rt;
         let mut more = false;
         for _ in rt.forever() {
-            if self.served.is_over.load(SeqCst) {
+            if self.common.is_over.load(SeqCst) {
                 return Ok(());
             }
             if let Err(fault) = entrance.wait(if more { 0 } else { ROUND }) {

@@ -27,7 +27,7 @@ pub struct Responding<R, S: Service<K, L>, D: Decide, N, B, K: Keep, L: Ledgers>
     api: Api,
     // Whether the request's body is left unread, so that the connection ends.
     is_unread: bool,
-    // None where it is refused.
+    // None if it is refused.
     exchange: Option<Box<Exchange<R, S, D, N, B, K, L>>>,
     // Why it never becomes a call.
     refusal: Option<Refusal>,
@@ -94,7 +94,8 @@ where
 
     ghost gives = { λ r answer. IfOk answer (λ response. MatchOption r.refusal
         (IsSomeAnd r.exchange (λ exchange. (made : _)
-        × ⟦<Exchange<R, S, D, N, B, K, L> as Future>⟧.gives exchange.value made × IsAnswerTo r.api r.is_unread made response))
+        × ⟦<Exchange<R, S, D, N, B, K, L> as Future>⟧.gives exchange.value made
+        × IsAnswerTo r.api r.is_unread made response))
         (λ refusal. IsRefusal r.api r.is_unread refusal response)) };
 
     fn poll(&mut self, cx: &mut Context<'_>) -> Poll<Self::Output> {
@@ -128,7 +129,7 @@ fn refused<H: Drop>(
     )
 }
 
-/// The response to what an exchange came to. Where its body failed or memory was refused there may still be
+/// The response to what an exchange came to. If its body failed or memory was refused, there may still be
 /// memory to say so; a bell is never lost.
 fn answer_to<H: Drop>(
     alloc: Global,

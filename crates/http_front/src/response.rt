@@ -1,4 +1,4 @@
-//! What a request is answered as a response of the connection.
+//! Responses of a connection, made of what requests are answered.
 
 ghost use Rattle.std.specs.Prelude.{◌≡◌, IfOk, OnOk};
 ghost use Rattle.http.specs.Response.{body_of};
@@ -27,7 +27,7 @@ fn header_map(alloc: Global, headers: Headers) -> Result<HeaderMap, AllocError>
     Ok(map)
 }
 
-/// Says whether the connection ends behind the response (RFC 9112, section 9.6). (The name is a text, so that the
+/// Says so if the connection ends behind the response (RFC 9112, section 9.6). (The name is a text, so that the
 /// other `append`, of every reply's fields, is expanded where it is called.)
 fn say_closing(is_last: bool, map: &mut HeaderMap) -> Result<(), AllocError>
     ensures { OnOk result (map.new ≡ said_closing is_last map.old) }
@@ -63,12 +63,13 @@ fn with_head<B: Drop>(
     Ok(Response::from_parts(parts, body))
 }
 
-/// The response that an outcome is sent as, which is the connection's last or not: a reply's has its
-/// status, its header fields, and its body in one piece, which isn't copied; a history's is a text that is
-/// streamed.
+/// The response as which an outcome is sent, which is the connection's last or not: that of a reply has its
+/// status, its header fields, and its body in one piece, which is not copied; that of a history is a text,
+/// which is streamed.
 ///
 /// # Errors
-/// `BadStatus` and `OutOfMemory`; the outcome is then dropped.
+/// `BadStatus` if the reply's status does not have three digits, else `OutOfMemory`; the outcome is then
+/// dropped.
 pub(crate) fn response_to<H: Drop>(
     alloc: Global,
     is_last: bool,

@@ -10,7 +10,7 @@ pub enum ResponseFault {
     /// The request's body failed before its end, memory was refused, or a bell was lost.
     #[error("{0}")]
     Exchange(ExchangeFault),
-    /// The reply's status isn't one of three digits (RFC 9110, section 15).
+    /// The reply's status does not have three digits (RFC 9110, section 15).
     #[error("no status code")]
     BadStatus,
     /// Memory was refused.

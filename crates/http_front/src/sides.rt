@@ -1,4 +1,4 @@
-//! Who decides the requests of the connections of one thread.
+//! The deciders of the requests that come on one thread.
 
 ghost use Rattle.std.specs.Prelude.{◌≡◌, IfOk, IfSome};
 ghost use Rattle.std.specs.Arc.{arc_value};
@@ -9,7 +9,7 @@ use account_lock::Identity;
 use std::alloc::{AllocError, Global};
 use std::sync::Arc;
 
-/// A port, and who decides its requests.
+/// A port, and the decider of its requests.
 #[derive(Drop)]
 struct Opened<S: Identity> {
     door: Door<S>,
@@ -18,20 +18,20 @@ struct Opened<S: Identity> {
     ghost configured: { (arc_value side).config ≡ S.config },
 }
 
-/// Who decided the requests of the last connection: the next one of the same port has no routes to
-/// make.
+/// The decider of the last connection's requests: for the next connection at the same port no routes need to
+/// be made.
 #[derive(Drop)]
 pub(crate) struct Sides<S: Identity> {
     last: Option<Opened<S>>,
 }
 
 impl<S: Identity> Sides<S> {
-    /// There was no connection yet.
+    /// Before the first connection.
     pub(crate) fn new() -> Sides<S> {
         Sides { last: None }
     }
 
-    /// Who decided the requests of the last connection, if it was of this port.
+    /// The decider of the last connection's requests, if that was at this port.
     fn known(&self, door: &Door<S>) -> Option<&Arc<Side>>
         ensures same { IfSome result (λ side. arc_value side.now ≡ door.now) }
         ensures configured { IfSome result (λ side. (arc_value side.now).config ≡ S.config) }
@@ -42,7 +42,7 @@ impl<S: Identity> Sides<S> {
         }
     }
 
-    /// Who decides the requests of a port. The only error is want of memory.
+    /// The decider of a port's requests. The only error is that memory is refused.
     pub(crate) fn of(&mut self, alloc: Global, door: Door<S>) -> Result<Arc<Side>, AllocError>
         ensures same { IfOk result (λ side. arc_value side ≡ door) }
         ensures configured { IfOk result (λ side. (arc_value side).config ≡ S.config) }

@@ -3,7 +3,7 @@
 ghost use Rattle.std.specs.Prelude.{◌<◌, ◌^◌};
 
 use crate::Notices;
-use crate::served::Served;
+use crate::common::Common;
 use account_book::{Life, Refusal};
 use account_lock::{Account, Identity};
 use arn_ids::GREATEST_MOMENT;
@@ -19,11 +19,10 @@ use std::time::Duration;
 use std::{thread, time};
 use usage_ledger::{Keep, Tally, Token};
 
-/// How many milliseconds pass between two looks whether something is due.
+/// How many milliseconds pass between two checks for something due.
 const BEAT: u64 = 50;
 
-/// The moment of a call that is submitted now: what the clock reads, and 2^53 - 1 where it reads
-/// more.
+/// The moment of a call that is submitted now: what the clock reads, at most 2^53 - 1.
 pub(crate) fn moment<N: Clock>(clock: &N) -> u64
     ensures { result < 2 ^ 53 }
 {
@@ -59,7 +58,7 @@ fn catch_up<S: Identity, N: Clock, K: Keep>(
     }
 }
 
-/// Submits a `Tick` if something is due. Gives why that was refused, if it was.
+/// Submits a `Tick` if something is due. Returns why that was refused, if it was.
 fn tick<S: Identity, N: Clock, K: Keep>(
     rt: &impl Wait,
     account: &Account<S, OneShotBell>,
@@ -97,8 +96,8 @@ fn has_ended(life: Life, refused: u32) -> bool {
     }
 }
 
-/// Ticks until the service has come to its end, and then says so, or until it is told that it has. Notes
-/// how many entries there are. Gives the tally back.
+/// Ticks until the service has come to its end, and then says so, or until another thread says that it has.
+/// Notes how many entries there are. Returns the tally.
 fn tick_on<R: Wait + time::Clock, S: Identity, N: Clock, K: Keep>(
     rt: &R,
     account: &Account<S, OneShotBell>,
@@ -125,12 +124,12 @@ fn tick_on<R: Wait + time::Clock, S: Identity, N: Clock, K: Keep>(
     unreachable!()
 }
 
-/// What the ticker's thread has: what is served, where it notes what there is to say, and the tally in which
-/// its calls count.
+/// What the ticker's thread has: what it has in common with the others, the notices, and the tally in which its
+/// calls count.
 #[derive(Drop)]
 pub(crate) struct Ticker<R, S: Identity, N, K: Keep> {
     pub(crate) rt: R,
-    pub(crate) served: Served<S, N>,
+    pub(crate) common: Common<S, N>,
     pub(crate) notices: Arc<Notices>,
     pub(crate) tally: Tally<K, S>,
 }
@@ -145,21 +144,21 @@ impl<
     fn run(self) -> Tally<K, S> {
         let Ticker {
             rt,
-            served,
+            common,
             notices,
             tally,
         } = self;
         tick_on(
             &rt,
-            &*served.account,
-            &*served.clock,
+            &*common.account,
+            &*common.clock,
             &notices,
             tally,
-            &served.is_over,
+            &common.is_over,
         )
     }
 
-    /// Starts the thread. Where none can be made the tally is lost.
+    /// Starts the thread. If none can be made, the tally is dropped.
     pub(crate) fn start(self) -> Result<JoinHandle<Tally<K, S>>, AllocError> {
         let rt = self.rt;
         Ok(thread::spawn(&rt, move || self.run())?)

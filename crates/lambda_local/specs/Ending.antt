@@ -7,8 +7,8 @@ use Rattle.usage_ledger.specs.Tallies.{Tallied}
 use Rattle.account_lock.specs.Counting.{counts_of}
 use Rattle.headline.specs.Headline.{Headline}
 
--- The counts are those of a history of the configuration, of which the headline holds; and a tally that has all parts of
--- the account's four ledgers, so that no share of what its threads counted is anywhere else, has counted what that
+-- The counts are those of a history of the configuration, of which the headline holds; and a tally that has all parts
+-- of the account's four ledgers, so that no share of what its threads counted is anywhere else, has counted what that
 -- history counts.
 pub record IsSettled (config : Config) (counts : Stats) (tally : Tallied) : Type 0 where
   pub history : List Entry

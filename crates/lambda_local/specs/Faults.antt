@@ -6,14 +6,15 @@ use Rattle.account_lock.specs.declared.fault.SettleFault.TheVariants as settling
 use Rattle.http_front.specs.declared.host_fault.HostFault.{HostFault}
 use Rattle.http_front.specs.declared.host_fault.HostFault.TheVariants as host
 use Rattle.lambda_local.specs.declared.serve_fault.ServeFault.{ServeFault}
-use Rattle.lambda_local.specs.declared.serve_fault.ServeFault.TheVariants.{Config, Wire, Settlement, Network, TooFewDescriptors, OutOfMemory}
+use Rattle.lambda_local.specs.declared.serve_fault.ServeFault.TheVariants.{Config, Wire, Settlement, Network}
+use Rattle.lambda_local.specs.declared.serve_fault.ServeFault.TheVariants.{TooFewDescriptors, OutOfMemory}
 
 -- of a configuration that is not read
 abbrev pub of_wire : WireFault → ServeFault
 of_wire wire.OutOfMemory = OutOfMemory
 of_wire fault = Wire fault
 
--- of a host that does not open, or does not come to its end: what a thread that never ended holds is missing from the account
+-- of a host that does not open, or does not come to its end: the account lacks the tally of a thread that never ended
 abbrev pub of_host : HostFault → ServeFault
 of_host (host.Config fault) = Config fault
 of_host host.Network = Network

@@ -6,14 +6,13 @@ use std::time::{self, Duration};
 
 /// The machine's clock, as the server reads it: in Unix milliseconds, so that a deadline that a runtime
 /// is given is what the Runtime API says it is. It reads the time of day once, when it is made, and counts
-/// on from there by the machine's monotonic clock, which nobody can set: so no deadline comes early or
-/// late. The monotonic clock stands still while the machine sleeps; so whoever keeps the clock may set it
-/// forward to the time of day, while no deadline is running. It never goes back: if the time of day is
-/// set back, it stays ahead.
+/// on from there by the machine's monotonic clock, which no one can set: so no deadline comes early or late. The
+/// monotonic clock does not advance while the machine sleeps, so this clock may be set forward to the time of
+/// day while no deadline is running. It never goes back: if the time of day is set back, it stays ahead.
 #[derive(Drop)]
 pub struct UnixClock<R> {
     rt: R,
-    // What the two clocks said when this one was made.
+    // What the two clocks read when this one was made.
     since_1970: Duration,
     monotonic: Duration,
     // By how many milliseconds it was set forward since then.
@@ -26,7 +25,7 @@ fn millis(time: Duration) -> u64 {
 }
 
 impl<R: time::Clock> UnixClock<R> {
-    /// The clock of this machine, from now on. A clock that fails counts as one that says 0.
+    /// The clock of this machine, from now on. A clock that fails counts as one that reads 0.
     pub fn new(rt: R) -> UnixClock<R> {
         let since_1970 = rt.since_1970().unwrap_or(Duration::ZERO);
         let monotonic = rt.monotonic().unwrap_or(Duration::ZERO);

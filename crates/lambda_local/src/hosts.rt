@@ -7,11 +7,11 @@ use std::env::{self, Env, VarError};
 /// The variable that lists them.
 const NAME: &str = "LAMBDA_LOCAL_HOSTS";
 
-/// The hosts that the service answers for beside the local ones: what the environment variable lists,
-/// names of letters, digits, `-`, `.` and `_` with commas between them; none where it is empty or absent.
+/// The hosts that the service answers for beside the local ones: those that the environment variable lists, names
+/// of letters, digits, `-`, `.` and `_` with commas between them. If it is empty or absent, there are none.
 ///
 /// # Errors
-/// As the fault says.
+/// `Malformed` if it is not such a list, else `OutOfMemory`.
 pub fn read_hosts<R: Env + AllocGlobal>(rt: &R) -> Result<Hosts, SettingFault> {
     match env::var(rt, NAME) {
         Ok(text) => Hosts::read(text).ok_or(SettingFault::Malformed),

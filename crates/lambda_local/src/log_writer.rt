@@ -9,16 +9,16 @@ use std::sync::{Arc, Wait};
 use std::thread::{self, JoinHandle};
 use std::time::{self, Duration};
 
-/// How many milliseconds pass between two looks whether there is something to say.
+/// How many milliseconds pass between two checks for something to say.
 const BEAT: u64 = 20;
 
-/// How often it is looked whether the last line was written, and how many milliseconds pass between two
-/// looks: a second in all.
+/// How many times it is checked whether the last line was written, and how many milliseconds pass between two
+/// checks: a second in all.
 const LOOKS: u32 = 200;
 
 const BETWEEN_LOOKS: u64 = 5;
 
-/// What the service and its log's thread tell each other.
+/// What the service and its log's thread note for each other.
 #[derive(Drop)]
 struct Progress {
     // Whether the service is over.
@@ -58,8 +58,8 @@ fn write<R: Log + Wait + time::Clock>(rt: &R, notices: &Notices, progress: &Prog
     unreachable!()
 }
 
-/// Writes the log of a service while that runs. A write to a pipe that nobody reads waits, so the log has
-/// a thread of its own: the service waits for it only at its end, and then for a second at most.
+/// Writes the log of a service while that runs. A write to a pipe that is not read blocks, so the log has a
+/// thread of its own: the service waits for it only at its end, and then for a second at most.
 #[derive(Drop)]
 pub struct LogWriter {
     progress: Arc<Progress>,
@@ -70,7 +70,7 @@ impl LogWriter {
     /// Starts the thread, which says that the service listens, and then what its notices have to say.
     ///
     /// # Errors
-    /// Where memory or a thread is refused.
+    /// If memory or a thread is refused.
     pub fn start<R: Machine + Log>(rt: R, notices: Arc<Notices>) -> Result<LogWriter, AllocError> {
         let progress = Progress {
             is_over: AtomicBool::new(false),
@@ -82,8 +82,8 @@ impl LogWriter {
         Ok(LogWriter { progress, thread })
     }
 
-    /// Lets the thread say that the service has stopped, and waits until it has: for a second at most,
-    /// since nobody may read what it writes.
+    /// Lets the thread say that the service has stopped, and waits until it has: for a second at most, since what
+    /// it writes may not be read.
     pub fn finish<R: Machine>(self, rt: &R) {
         let LogWriter { progress, thread } = self;
         progress.is_over.store(true, SeqCst);

@@ -36,15 +36,14 @@ enum Asked {
     Replay,
     /// To serve the configuration of the file with this path.
     Serve(String),
-    /// Nothing that the program does.
+    /// Anything else: the program prints its usage.
     Nothing,
 }
 
-/// Why the program fails. Printed, it is its line on standard error.
+/// Why the program fails. It prints as the line on standard error.
 #[derive(Clone, Copy, Debug, PartialEq, Eq, Error)]
 enum ProgramFault {
-    /// The arguments ask for nothing that the program does, or a variable of the
-    /// environment is out of its form.
+    /// The arguments ask for anything else, or a variable of the environment is out of its form.
     #[error("usage: lambda_local [replay | serve PATH]")]
     Usage,
     /// The replay ended before its input.
@@ -75,7 +74,7 @@ impl From<SettingFault> for ProgramFault {
     }
 }
 
-/// What the arguments ask for.
+/// Reads what the arguments ask for.
 fn read_arguments<R: Env + AllocGlobal>(rt: &R) -> io::Result<Asked> {
     let mut words = env::args(rt)?.skip(1);
     let Some(first) = words.next() else {
@@ -115,13 +114,13 @@ where
 }
 
 fn main(rt: HostRuntime) -> ExitCode {
-    // (so that the types of the machine's sockets, which `run` asks for, are among those of `main`)
+    // `run` needs the types of the machine's sockets among those of `main`.
     let _: PhantomData<(TcpListener, TcpStream)> = PhantomData;
     match run(rt) {
         Ok(()) => ExitCode::SUCCESS,
         Err(fault) => {
-            // Where standard error takes nothing either, the status alone tells.
-            let _told = eprintln!(rt; "{fault}");
+            // If standard error cannot be written either, only the status remains.
+            let _written = eprintln!(rt; "{fault}");
             ExitCode::from(fault.status())
         }
     }

@@ -1,20 +1,20 @@
-//! How long an Invoke is held back that comes a moment before its environment is ready again.
+//! How long a premature Invoke is held back: one that comes a moment before its environment is ready again.
 
 ghost use Rattle.std.specs.Prelude.{◌≤◌, IfSome};
 
 use crate::setting_fault::SettingFault;
 use std::env::{self, Env, VarError};
 
-/// The variable that says for how many milliseconds.
+/// The variable that has the number of milliseconds.
 const NAME: &str = "LAMBDA_LOCAL_PATIENCE_MS";
 
-/// For how many where it is absent.
+/// The number if the variable is absent.
 const USUAL: u32 = 100;
 
-/// For how many at most.
+/// The greatest number.
 const MOST: u32 = 2_000;
 
-/// What a text says, where that is a number of milliseconds up to the most.
+/// Reads a number of milliseconds up to the greatest one.
 fn patience_of(text: &str) -> Option<u32>
     ensures { IfSome result (λ patience. patience ≤ 2000) }
 {
@@ -24,11 +24,11 @@ fn patience_of(text: &str) -> Option<u32>
     }
 }
 
-/// For how many milliseconds a premature Invoke is held back at most: what the environment variable
-/// says, from 0, which is not at all, to 2,000; 100 where it is absent.
+/// The most milliseconds for which a premature Invoke is held back: the environment variable's number, from 0
+/// (not at all) to 2,000, or 100 if it is absent.
 ///
 /// # Errors
-/// As the fault says.
+/// `Malformed` if it is not such a number, else `OutOfMemory`.
 pub fn read_patience<R: Env + AllocGlobal>(rt: &R) -> Result<u32, SettingFault> {
     match env::var(rt, NAME) {
         Ok(text) => patience_of(text.as_str()).ok_or(SettingFault::Malformed),

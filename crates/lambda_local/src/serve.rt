@@ -24,7 +24,7 @@ use usage_ledger::{Blanks, KeepNone, Ledgers, Tally};
 /// How many bytes of a configuration are read: the longest one, and one more.
 const MOST_READ: u64 = 20_000_001;
 
-/// The plan that a file says.
+/// The plan that a file holds.
 fn read_plan<R: Files + AllocGlobal>(rt: &R, path: &str) -> Result<Plan, ServeFault>
 where
     R::File: Read + Drop,
@@ -46,11 +46,11 @@ pub struct Counted<L: Ledgers> {
     pub tally: Tally<KeepNone, L>,
 }
 
-/// The counts of an account that was served, once what all its threads have counted is found to be what
-/// its history counts, with the shares that show it.
+/// The counts of an account that was served, once it is found that its threads have counted what its history
+/// counts, with the shares that show it.
 ///
 /// # Errors
-/// `Settlement` where it is not, else `OutOfMemory`.
+/// `Settlement` if they have not, else `OutOfMemory`.
 fn settled<S: Identity>(hosted: Hosted<S, KeepNone>) -> Result<Counted<S>, ServeFault>
     ensures { IfOk result (λ counted. IsSettled S.config counted.counts counted.tally) }
 {
@@ -62,7 +62,7 @@ fn settled<S: Identity>(hosted: Hosted<S, KeepNone>) -> Result<Counted<S>, Serve
     })
 }
 
-/// Serves a plan until it is stopped, settles, and gives the account's counts with the shares of all its
+/// Serves a plan until it is stopped, settles, and returns the account's counts with the shares of all its
 /// threads, which add up to them: shares of the account's ledgers come from nowhere else. `S` names the
 /// configuration, the salt, the limit, the ledgers and the history of the account.
 fn serve_counted<R: Machine + Log, S: Identity + Drop + Send + Sync + 'static>(
@@ -89,7 +89,7 @@ fn serve_counted<R: Machine + Log, S: Identity + Drop + Send + Sync + 'static>(
     settled(served?)
 }
 
-/// The same, and the counts alone.
+/// The same, but returns the counts alone.
 fn serve_plan<R: Machine + Log, S: Identity + Drop + Send + Sync + 'static>(
     rt: R,
     plan: Plan,
@@ -122,10 +122,9 @@ fn serve_by_brand<R: Machine + Log>(
     serve_plan::<R, Brand>(rt, plan, patience, hosts, blanks)
 }
 
-/// Serves the configuration of a file until it is stopped, settles, and writes the account's counts
-/// on standard output. An Invoke that comes too early is held back for `patience` milliseconds at
-/// most, and a request is refused that names a host which is neither local nor one of `hosts`
-/// ([`Host::open`]).
+/// Serves the configuration of a file until it is stopped, settles, and writes the account's counts on standard
+/// output. A premature Invoke is held back for up to `patience` milliseconds, and a request is refused if it
+/// names a host which is neither local nor one of `hosts` ([`Host::open`]).
 ///
 /// # Errors
 /// As the fault says; nothing is then written on standard output.

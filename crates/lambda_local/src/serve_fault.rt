@@ -12,23 +12,22 @@ use std::io;
 use thiserror::Error;
 use usage_ledger::Ledgers;
 
-/// Why a service did not come to a settled end. Printed, it is the line that the program writes on
-/// standard error.
+/// Why a service did not come to a settled end. It prints as the program's line on standard error.
 #[derive(Clone, Copy, Debug, PartialEq, Eq, Error)]
 pub enum ServeFault {
-    /// The configuration says what no account can have.
+    /// The configuration is one that no account can have.
     #[error("configuration: {0}")]
     Config(ConfigFault),
-    /// The configuration's file holds no configuration.
+    /// The file does not hold a configuration.
     #[error("configuration: {0:?}")]
     Wire(WireFault),
     /// The shares of the threads do not settle.
     #[error("settlement: {0}")]
     Settlement(SettleFault),
-    /// The configuration's file was not read.
+    /// The configuration's file could not be read.
     #[error("input: failed")]
     Read,
-    /// Standard output took nothing.
+    /// Standard output could not be written.
     #[error("output: failed")]
     Write,
     /// A port is taken, or listening failed.
@@ -37,14 +36,14 @@ pub enum ServeFault {
     /// The process may not open enough descriptors for the ports and one connection.
     #[error("network: too few descriptors (ulimit -n)")]
     TooFewDescriptors,
-    /// There was no memory.
+    /// Memory was refused.
     #[error("out of memory")]
     OutOfMemory,
 }
 
 impl ServeFault {
-    /// The exit status of a program that ends with it: 2 where the configuration is at fault, 3 where
-    /// the account does not settle, 4 where the machine is.
+    /// The exit status of a program that ends with it: 2 if the configuration is at fault, 3 if the account does
+    /// not settle, and 4 if the machine is at fault.
     pub fn status(self) -> u8
         ensures { result ≡ status_of self }
     {
@@ -59,7 +58,7 @@ impl ServeFault {
         }
     }
 
-    /// That a file was not read.
+    /// The fault for an error while the configuration is read.
     pub fn at_input(fault: &io::Error) -> ServeFault {
         match fault.kind() {
             io::ErrorKind::OutOfMemory => ServeFault::OutOfMemory,
@@ -67,7 +66,7 @@ impl ServeFault {
         }
     }
 
-    /// That nothing was written.
+    /// The fault for an error on standard output.
     pub fn at_output(fault: &io::Error) -> ServeFault {
         match fault.kind() {
             io::ErrorKind::OutOfMemory => ServeFault::OutOfMemory,
@@ -112,7 +111,7 @@ impl From<HostFault> for ServeFault {
             HostFault::Config(fault) => ServeFault::Config(fault),
             HostFault::Network => ServeFault::Network,
             HostFault::TooFewDescriptors => ServeFault::TooFewDescriptors,
-            // What a thread that never ended holds is missing from the account.
+            // The account lacks the tally of a thread that never ended.
             HostFault::StillShared => ServeFault::Settlement(SettleFault::TallyMissing),
             HostFault::OutOfMemory => ServeFault::OutOfMemory,
         }

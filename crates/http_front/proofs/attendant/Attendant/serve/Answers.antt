@@ -23,6 +23,6 @@ returns g c =
     (λ seen stats then r. subst (λ k. Counts k g.S.Identity.most seen stats then) configured r)
     (λ seen f count then r. subst (λ k. Reserves k g.S.Identity.most seen f count then) configured r)
     (λ head body made d. subst (λ side. made ≡ decision side head body) decider d)
-    (arc_value c.args.self.now.served.hosts) head response
-    (arc_value c.args.self.now.served.account) (search rules) (search rules) (search rules) x)
+    (arc_value c.args.self.now.common.hosts) head response
+    (arc_value c.args.self.now.common.account) (search rules) (search rules) (search rules) x)
     outcome written)

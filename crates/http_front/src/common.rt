@@ -1,4 +1,4 @@
-//! What is served.
+//! What the threads of a host have in common.
 
 ghost use Rattle.std.specs.Prelude.{◌≡◌, IfOk};
 ghost use Rattle.std.specs.Arc.{arc_value};
@@ -10,33 +10,32 @@ use std::alloc::{AllocError, Global};
 use std::sync::Arc;
 use std::sync::atomic::AtomicBool;
 
-/// What the threads of a host share: the account that is served, the clock, the hosts that are listed
-/// beside the local ones, and whether the service is over.
+/// What the threads of a host have in common: the account that is served, the clock, the hosts that are
+/// listed beside the local ones, and whether the service is over.
 #[derive(Drop)]
-pub(crate) struct Served<S: Identity, N> {
+pub(crate) struct Common<S: Identity, N> {
     pub(crate) account: Arc<Account<S, OneShotBell>>,
     pub(crate) clock: Arc<N>,
     pub(crate) hosts: Arc<Hosts>,
     pub(crate) is_over: Arc<AtomicBool>,
 }
 
-impl<S: Identity + Drop, N: Drop> Served<S, N> {
-    /// This account, by this clock, for these hosts; its service is not over.
-    ///
-    /// The only error is want of memory. What is given is then gone.
+impl<S: Identity + Drop, N: Drop> Common<S, N> {
+    /// This account, by this clock, for these hosts; its service is not over. The only error is that memory
+    /// is refused; the arguments are then dropped.
     pub(crate) fn new(
         alloc: Global,
         account: Account<S, OneShotBell>,
         clock: N,
         hosts: Hosts,
-    ) -> Result<Served<S, N>, AllocError>
-        ensures { IfOk result (λ served. (arc_value served.account ≡ account) × (arc_value served.hosts ≡ hosts)) }
+    ) -> Result<Common<S, N>, AllocError>
+        ensures { IfOk result (λ common. (arc_value common.account ≡ account) × (arc_value common.hosts ≡ hosts)) }
     {
         let account = Arc::new(alloc, account).map_err(AllocError::from)?;
         let clock = Arc::new(alloc, clock).map_err(AllocError::from)?;
         let hosts = Arc::new(alloc, hosts).map_err(AllocError::from)?;
         let is_over = Arc::new(alloc, AtomicBool::new(false)).map_err(AllocError::from)?;
-        Ok(Served {
+        Ok(Common {
             account,
             clock,
             hosts,
@@ -45,15 +44,15 @@ impl<S: Identity + Drop, N: Drop> Served<S, N> {
     }
 
     /// The same for another thread.
-    pub(crate) fn share(&self) -> Result<Served<S, N>, AllocError>
-        ensures account { IfOk result (λ served. arc_value served.account ≡ arc_value self.now.account) }
-        ensures hosts { IfOk result (λ served. arc_value served.hosts ≡ arc_value self.now.hosts) }
+    pub(crate) fn share(&self) -> Result<Common<S, N>, AllocError>
+        ensures account { IfOk result (λ common. arc_value common.account ≡ arc_value self.now.account) }
+        ensures hosts { IfOk result (λ common. arc_value common.hosts ≡ arc_value self.now.hosts) }
     {
         let account = Arc::try_clone(&self.account)?;
         let clock = Arc::try_clone(&self.clock)?;
         let hosts = Arc::try_clone(&self.hosts)?;
         let is_over = Arc::try_clone(&self.is_over)?;
-        Ok(Served {
+        Ok(Common {
             account,
             clock,
             hosts,

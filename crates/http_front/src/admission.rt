@@ -1,0 +1,52 @@
+//! What a newcomer's connection is served with, and what is known of it outside its thread.
+
+use crate::attendant::{Newcomer, Visit};
+use crate::door::Door;
+use account_lock::Identity;
+use connection_places::{Enders, Running};
+use futures::channel::oneshot;
+use http_connection::{PortKind, Pulse, Signals};
+use std::alloc::{AllocError, Global};
+use std::net::TcpStream;
+use std::sync::Arc;
+
+/// The signals that end a connection, and their senders.
+fn signals(alloc: Global) -> Result<(Signals, Enders), AllocError> {
+    let (soft_sender, soft) = oneshot::channel(alloc)?;
+    let (hard_sender, hard) = oneshot::channel(alloc)?;
+    let (room_sender, room) = oneshot::channel(alloc)?;
+    let enders = Enders {
+        soft: soft_sender,
+        hard: hard_sender,
+        room: room_sender,
+    };
+    Ok((Signals { soft, hard, room }, enders))
+}
+
+/// A socket at a port of this kind as its thread watches it, and what is known of it outside that thread.
+fn newcomer(
+    alloc: Global,
+    socket: TcpStream,
+    kind: PortKind,
+) -> Result<(Newcomer, Running), AllocError> {
+    let pulse = Arc::new(alloc, Pulse::new()).map_err(AllocError::from)?;
+    let noted = Arc::try_clone(&pulse)?;
+    let (signals, enders) = signals(alloc)?;
+    let newcomer = Newcomer {
+        socket,
+        signals,
+        pulse,
+    };
+    Ok((newcomer, Running::new(enders, noted, kind)))
+}
+
+/// A connection to serve at a port, and what is known of it outside its thread.
+pub(crate) fn admit<S: Identity>(
+    alloc: Global,
+    socket: TcpStream,
+    door: &Door<S>,
+) -> Result<(Visit<S>, Running), AllocError> {
+    let door = door.share()?;
+    let (newcomer, running) = newcomer(alloc, socket, door.kind())?;
+    Ok((Visit { newcomer, door }, running))
+}
