@@ -6,6 +6,7 @@ ghost use Rattle.std.specs.Prelude.{MatchOption};
 ghost use Rattle.std.specs.Arc.{arc_value};
 ghost use Rattle.arn_ids.specs.Environments.{owners};
 ghost use Rattle.arn_ids.specs.Faults.{first_fault};
+ghost use Rattle.arn_ids.specs.Limits.{most_environments, most_extensions};
 ghost use Rattle.call_types.specs.declared.call.Call.TheVariants.{Stop};
 ghost use Rattle.call_types.specs.declared.call.Entry.{Entry};
 ghost use Rattle.call_model.specs.Counts.{full, stats};
@@ -131,7 +132,7 @@ fn make_rooms(
 
 /// How many answers a call needs room for.
 fn answers_wanted(widest: usize, environments: u64, call: &Call) -> usize
-    requires few { environments ≤ 256 }
+    requires few { environments ≤ most_environments }
     requires ten { widest ≤ 10 }
     ensures { result ≡ most_answers widest environments call.now }
 {
@@ -189,7 +190,7 @@ fn body_fits(call: &Call)
 
 /// How many entries a call needs room for.
 fn room_wanted(environments: u64, call: &Call) -> u64
-    requires { environments ≤ 256 }
+    requires { environments ≤ most_environments }
     ensures value { result ≡ wanted environments call.now }
     ensures few { result ≤ 514 }
 {
@@ -279,7 +280,7 @@ impl Book {
     /// How many environments expire before a call that is handed in at a moment.
     pub fn count_due(&self, now: u64) -> usize
         ensures value { result ≡ length (due self.now.config self.now.history (moment_at self.now.history now)) }
-        ensures few { result ≤ 256 }
+        ensures few { result ≤ most_environments }
     {
         let last = self.journal.last_moment();
         self.journal.count_due(now.max(last))
@@ -291,11 +292,11 @@ impl Book {
     /// or 13 for each environment and one more if it is a Stop.
     pub fn most_given(&self, expiries: usize, call: &Call) -> usize
         requires within { IsWithin self.now.config call.now }
-        requires few_due { expiries ≤ 256 }
+        requires few_due { expiries ≤ most_environments }
         ensures enough { (now : ℕ)
             → expiries ≡ length (due self.now.config self.now.history (moment_at self.now.history now))
             → answers_in (added self.now.config self.now.history now call.now) ≤ result }
-        ensures few { result ≤ 14 * expiries + most_answers 10 (length (owners self.now.config)) call.now }
+        ensures few { result ≤ 14 * expiries + most_answers most_extensions (length (owners self.now.config)) call.now }
     {
         self.journal.facts();
         let widest = self.journal.widest();

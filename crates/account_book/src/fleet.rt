@@ -4,6 +4,7 @@
 ghost use Rattle.std.specs.Prelude.{◌≡◌, ◌+◌, ◌-◌, ◌*◌, ◌<◌, ◌≤◌, ◌^◌, length, map, slice_set, All, true, false, None};
 ghost use Rattle.std.specs.Prelude.{cond, [], count_by, IfOk, MatchResult, ◌&&◌};
 ghost use Rattle.std.specs.List.{list_all, list_any};
+ghost use Rattle.arn_ids.specs.Limits.{most_environments};
 ghost use Rattle.arn_ids.specs.Faults.{first_fault};
 ghost use Rattle.call_types.specs.Calls.{is_invoke};
 ghost use Rattle.call_model.specs.Limits.{Admits, Refuses};
@@ -110,7 +111,7 @@ impl Fleet {
     /// How many environments there are, at most 256.
     pub fn environments(&self) -> u32
         ensures value { result ≡ length self.now.sites }
-        ensures few { result ≤ 256 }
+        ensures few { result ≤ most_environments }
     {
         self.sites.len() as u32
     }
@@ -141,7 +142,7 @@ impl Fleet {
     /// How many environments are due.
     pub fn count_due(&self, now: u64) -> usize
         ensures value { result ≡ count_by (is_due now) self.now.sites }
-        ensures few { result ≤ 256 }
+        ensures few { result ≤ most_environments }
     {
         if self.due.first_due(now).is_none() {
             return 0;

@@ -6,6 +6,7 @@ ghost use Rattle.std.specs.Arc.{arc_value};
 ghost use Rattle.std.specs.List.{list_all};
 ghost use Rattle.arn_ids.specs.Environments.{owners, environments};
 ghost use Rattle.arn_ids.specs.Faults.{first_fault};
+ghost use Rattle.arn_ids.specs.Limits.{most_environments};
 ghost use Rattle.call_types.specs.declared.answer.Answer.TheVariants.{Stopped};
 ghost use Rattle.call_types.specs.declared.call.Call.TheVariants.{Expire};
 ghost use Rattle.call_model.specs.Answers.{reserve_answer, verdict_answer};
@@ -173,7 +174,7 @@ impl Journal {
     /// How many environments there are.
     pub fn environments(&self) -> u64
         ensures value { result ≡ length (owners self.now.config) }
-        ensures few { result ≤ 256 }
+        ensures few { result ≤ most_environments }
     {
         u64::from(self.fleet.environments())
     }
@@ -210,7 +211,7 @@ impl Journal {
     /// How many environments are due.
     pub fn count_due(&self, moment: u64) -> usize
         ensures value { result ≡ length (due self.now.config self.now.history moment) }
-        ensures few { result ≤ 256 }
+        ensures few { result ≤ most_environments }
     {
         self.fleet.count_due(moment)
     }

@@ -1,6 +1,7 @@
 //! The room that a step needs, made before its first change.
 
 ghost use Rattle.std.specs.Prelude.{◌≡◌, ◌+◌, ◌≤◌, ℕ, [], length, vec_len, vec_capacity, IfOk, OnOk};
+ghost use Rattle.arn_ids.specs.Limits.{most_environments};
 ghost use Rattle.call_model.specs.Next.{due, moment_at};
 ghost use Rattle.call_types.specs.Within.{IsWithin};
 ghost use Rattle.account_lock.specs.Bells.{given};
@@ -14,7 +15,7 @@ use usage_ledger::{Keep, Ledgers, Tally};
 /// Returns for how many answers a step needs room, if `expiries` environments are due at its moment.
 pub(crate) fn most_given(book: &Book, expiries: usize, call: &Call) -> usize
     requires within { IsWithin book.now.config call.now }
-    requires few_due { expiries ≤ 256 }
+    requires few_due { expiries ≤ most_environments }
     ensures { (now : ℕ) →
         expiries ≡ length (due book.now.config book.now.history (moment_at book.now.history now)) →
         length (given (added_to book.now now call.now)) ≤ result }

@@ -14,8 +14,9 @@ use Rattle.http_routes.specs.declared.refusals.Cause.TheVariants.{WrongEvent, Ma
 use Rattle.http_routes.specs.declared.refusals.Cause.TheVariants.{WrongInvocationType, PayloadTooLarge}
 use Rattle.http_routes.specs.declared.refusals.Cause.TheVariants.{UnreadablePayload, UnreadableReservation}
 
--- The status, the type and the message of a refusal (Runtime API: InvalidRequestID, 413; Extensions API: 403; Lambda API:
--- InvalidParameterValueException, ResourceNotFoundException, RequestTooLargeException, InvalidRequestContentException).
+-- The status, the type and the message of a refusal (Runtime API: InvalidRequestID, 413; Extensions API: 403; Lambda
+-- API: InvalidParameterValueException, ResourceNotFoundException, RequestTooLargeException,
+-- InvalidRequestContentException).
 abbrev pub refusal_words : Cause → ℕ × List ℕ × List ℕ
 refusal_words NotFound = (404, codes "NotFound", codes "No such resource")
 refusal_words WrongTicket = (400, codes "InvalidTicket", codes "from is not a ticket")

@@ -8,14 +8,12 @@ ghost use Rattle.arn_ids.specs.Words.{is_word, is_printable as is_printable_byte
 ghost use Rattle.http_routes.specs.Heads as spec;
 ghost use Rattle.http_routes.specs.Views.{parts_left};
 
-use arn_ids::{Text, is_printable_word};
+use arn_ids::{LONGEST_TRACE, Text, is_printable_word};
 use http::request::Parts;
 use http_header::HeaderName;
 use std::alloc::{AllocError, Global};
 
 const LONGEST_EXTENSION_NAME: usize = 128;
-
-const LONGEST_TRACE: usize = 256;
 
 /// Whether a header's name is this one.
 fn is_named(key: &HeaderName, name: &str) -> bool
