@@ -196,7 +196,7 @@ fn open_desk<S: Identity, K: Keep>(
     };
     let start = root(alloc, blanks);
     let desk = Desk::open(alloc, book, start.totals);
-    Ok((Account::share(desk, start.line, start.pen), start.tally))
+    Ok((Account::share(desk, start.spine, start.pen), start.tally))
 }
 
 /// Opens an account in a way.
