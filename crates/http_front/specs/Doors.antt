@@ -1,6 +1,5 @@
 -- The doors of a host, and who decides at each.
 use Rattle.std.specs.Prelude.{ℕ, zero, suc, List, [], ◌∷◌, ◌++◌, length, map}
-use Rattle.account_lock.specs.declared.account.Identity as Identity
 use Rattle.arn_ids.specs.Environments.{owners}
 use Rattle.arn_ids.specs.declared.config.Config.{Config}
 use Rattle.http_routes.specs.Decisions.{Served}
@@ -13,7 +12,7 @@ abbrev pub door : Config → ℕ → Port → Served
 door config salt port = record { config = config; salt = salt; port = port }
 
 -- who decides at the doors of these gates, in their order
-abbrev pub doors : {S : Type 0} {identity : Identity.Ghosts S} → List (Gate S identity) → List Served
+abbrev pub doors : {S : Type 0} → List (Gate S) → List Served
 doors gates = map (λ gate. gate.door) gates
 
 -- who decides at the doors of the first n environments, in the order of their numbers
