@@ -1,4 +1,4 @@
--- Which newcomers have a place, and which connection makes room for one.
+-- Which newcomers get a place, and which connection makes room for one.
 use Rattle.std.specs.Prelude.{ℕ, ◌+◌, Bool, true, false, nat_lt, if◌then◌else◌, fold, Option, Some, None, List}
 use Rattle.http_connection.specs.declared.limits.PortKind.{PortKind}
 use Rattle.http_connection.specs.declared.limits.PortKind.TheVariants.{Account, Environment}
@@ -6,7 +6,7 @@ use Rattle.connection_places.specs.Looks.{is_of_environment, spare_looks, reserv
 use Rattle.connection_places.specs.declared.running.Running.{Running}
 use Rattle.connection_places.specs.declared.slots.Slot.{Slot}
 
--- how far a search for the one that makes room has come, and the best so far
+-- the state of a search for the connection that makes room: the next place, and the best so far
 pub record Search : Type 0 where
   pub at : ℕ
   pub best : Option (ℕ × ℕ)
@@ -25,7 +25,8 @@ module _ {Y V : Type 0} where
   abbrev pub searched : Search → Slot Y V → Search
   searched search slot = record { at = search.at + 1; best = better search.best search.at (spare_of slot.running) }
 
-  -- Of these places, in their order: the first of those whose connections have been longest without a complete request.
+  -- The connection that may make room and has been longest without a complete request, the first of equals: its
+  -- place, and for how many looks.
   abbrev pub best_of : List (Slot Y V) → Option (ℕ × ℕ)
   best_of slots = (fold searched (record { at = 0; best = None }) slots).best
 
@@ -34,7 +35,8 @@ module _ {Y V : Type 0} where
   count_of_environments slots =
       fold (λ count slot. if is_for_environment slot.running then count + 1 else count) 0 slots
 
-  -- A newcomer at such a port may have a place of so many: at an environment's one that is not kept for the account's.
+  -- A newcomer at a port of this kind may have one of this many places: at an environment's port, one that is not
+  -- kept for the account's.
   abbrev pub admits : ℕ → PortKind → List (Slot Y V) → Bool
   admits most Account slots = true
   admits most Environment slots = nat_lt (count_of_environments slots + reserve_of most) most

@@ -8,19 +8,19 @@ use Rattle.http_connection.specs.declared.limits.PortKind.{PortKind}
 use Rattle.http_connection.specs.declared.limits.PortKind.TheVariants.{Account, Environment}
 use Rattle.connection_places.specs.declared.observation.Observation.{Observation}
 
--- of a connection that has just come in
+-- what is seen of a connection that has just come in
 abbrev pub first_seen : PortKind → Told → Observation
 first_seen kind told = record { kind = kind; told = told; still = 0; whole = 0; unasked = 0 }
 
--- so many looks more, if it is so still
+-- this many looks more if it is still so, else 0
 abbrev pub counted : Bool → ℕ → ℕ → ℕ
 counted is_still_so before looks = if is_still_so then min (before + looks) (2 ^ 32 - 1) else 0
 
--- It serves no request, and has given no response since: it has been without a complete request.
+-- It serves no request, and has given no response since: it has stayed without a complete request.
 abbrev pub is_unasked : Told → Told → Bool
 is_unasked told before = is_unserved told.awaited && (told.answers == before.answers)
 
--- what is seen so many looks later
+-- what is seen this many looks later
 abbrev pub seen_later : Observation → Told → ℕ → Observation
 seen_later seen told looks = record {
   kind = seen.kind;
@@ -30,7 +30,7 @@ seen_later seen told looks = record {
   unasked = counted (is_unasked told seen.told) seen.unasked looks;
 }
 
--- It has stood for longer than it may.
+-- It has reached one of its limits.
 abbrev pub is_over : Observation → Bool
 is_over seen = has_outstayed seen.kind seen.told seen.still seen.whole
 
@@ -38,8 +38,8 @@ abbrev pub is_of_environment : PortKind → Bool
 is_of_environment Account = false
 is_of_environment Environment = true
 
--- For how many looks a connection at the account's port has been without a complete request, if it may make room: it is
--- between two requests, or was sending one at a look too.
+-- For how many looks a connection at the account's port has been without a complete request, if it may make room: it
+-- is between two requests, or was already sending one at an earlier look.
 abbrev pub spare_looks : Observation → Option ℕ
 spare_looks seen =
     if is_of_environment seen.kind then None
@@ -47,7 +47,7 @@ spare_looks seen =
     else if is_unserved seen.told.awaited && nat_lt 0 seen.unasked then Some seen.unasked
     else None
 
--- How many places of so many are kept for the account's port: one in sixteen, and 64 at most.
+-- How many of this many places are kept for the account's port: one in sixteen, at most 64.
 abbrev pub reserve_of : ℕ → ℕ
 reserve_of most = min (most / 16) 64
 

@@ -1,4 +1,4 @@
-//! Which newcomers have a place, and which connection makes room for one.
+//! Which newcomers get a place, and which connection makes room for one.
 
 ghost use Rattle.std.specs.Prelude.{◌≡◌, ◌≤◌, length};
 ghost use Rattle.connection_places.specs.Choices as choice;
@@ -8,11 +8,12 @@ use crate::running::Running;
 use crate::slots::Slot;
 use http_connection::PortKind;
 
-/// The place of a connection that may make room, and for how many looks it has been without a complete
-/// request.
+/// The place of a connection that may make room, and for how many looks it has been without a
+/// complete request.
 type Best = Option<(usize, u32)>;
 
-/// The better of two: the one that has been longer without a complete request, else the first.
+/// Returns the better of two: the one that has been longer without a complete request, else the
+/// first.
 fn better(best: Best, at: usize, looks: Option<u32>) -> Best
     ensures { result ≡ spec.better best at looks }
 {
@@ -25,14 +26,15 @@ fn better(best: Best, at: usize, looks: Option<u32>) -> Best
     }
 }
 
-/// How many of `most` places are kept for the account's port.
+/// Returns how many of `most` places are kept for the account's port.
 pub(crate) fn reserve_of(most: usize) -> usize
     ensures { result ≡ spec.reserve_of most }
 {
     (most / 16).min(64)
 }
 
-/// For how many looks the connection of a place has been without a complete request, if it may make room.
+/// Returns for how many looks the connection of a place has been without a complete request, if it
+/// may make room.
 fn spare_looks(running: &Option<Running>) -> Option<u32>
     ensures { result ≡ choice.spare_of running.now }
 {
@@ -42,8 +44,8 @@ fn spare_looks(running: &Option<Running>) -> Option<u32>
     }
 }
 
-/// The place whose connection makes room for a newcomer: of those that may, the first of those that have
-/// been longest without a complete request.
+/// Returns the place whose connection makes room for a newcomer: among those that may, the first
+/// that has been longest without a complete request.
 pub(crate) fn best_of<Y, V>(slots: &[Slot<Y, V>]) -> Best
     ensures { result ≡ choice.best_of slots.now }
 {
@@ -56,7 +58,7 @@ pub(crate) fn best_of<Y, V>(slots: &[Slot<Y, V>]) -> Best
     best
 }
 
-/// Whether the connection of a place is at an environment's port.
+/// Returns whether the connection of a place is at an environment's port.
 fn is_for_environment(running: &Option<Running>) -> bool
     ensures { result ≡ choice.is_for_environment running.now }
 {
@@ -66,7 +68,7 @@ fn is_for_environment(running: &Option<Running>) -> bool
     }
 }
 
-/// How many places have a connection at an environment's port.
+/// Returns how many places have a connection at an environment's port.
 fn count_of_environments<Y, V>(slots: &[Slot<Y, V>]) -> usize
     ensures exact { result ≡ choice.count_of_environments slots.now }
     ensures bound { result ≤ length slots.now }
@@ -80,8 +82,8 @@ fn count_of_environments<Y, V>(slots: &[Slot<Y, V>]) -> usize
     count
 }
 
-/// Whether a newcomer at a port of this kind may have one of `most` places: at an environment's port, one that is
-/// not kept for the account's.
+/// Returns whether a newcomer at a port of this kind may have one of `most` places: at an
+/// environment's port, one that is not kept for the account's.
 pub(crate) fn admits<Y, V>(most: usize, kind: PortKind, slots: &[Slot<Y, V>]) -> bool
     ensures { result ≡ choice.admits most kind slots.now }
 {

@@ -1,4 +1,4 @@
-//! The places of the connections that are open, up to a limit: each has a tally and a thread, which serves
+//! The places of the open connections, up to a limit: each has a tally and a thread, which serves
 //! one connection after another. They know neither what is counted nor how a connection is served.
 #![tactic(auto)]
 

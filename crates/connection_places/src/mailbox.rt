@@ -1,4 +1,4 @@
-//! The mailbox in which a thread gets what it does next.
+//! The mailbox from which a thread gets what it does next.
 
 ghost use Rattle.std.specs.Prelude.{◌≡◌, IfErr};
 
@@ -12,9 +12,9 @@ struct Letter<V> {
     is_closed: bool,
 }
 
-/// The mailbox of a thread, into which another puts what comes next. Once it is closed it stays so:
-/// what is put in then comes back, so that nothing lies in the mailbox of a thread that has ended. What
-/// lay there before is still taken out.
+/// The mailbox of a thread, into which another thread puts what comes next. Once closed, it stays
+/// closed: what is then put in comes back, so that nothing is left in the mailbox of a thread that
+/// has ended. What was put in before can still be taken out.
 #[derive(Drop)]
 pub struct Mailbox<V> {
     letter: Mutex<Letter<V>>,
@@ -22,7 +22,7 @@ pub struct Mailbox<V> {
 }
 
 impl<V: Drop> Mailbox<V> {
-    /// An empty one, of a thread that is about to begin.
+    /// Makes an empty one, for a thread that is about to begin.
     pub(crate) fn new() -> Mailbox<V> {
         let letter = Letter {
             next: None,
@@ -51,8 +51,8 @@ impl<V: Drop> Mailbox<V> {
         Ok(())
     }
 
-    /// Takes out what comes next. If nothing comes for that long, or nothing is there and the mailbox is
-    /// closed, returns nothing, and the mailbox is closed from then on.
+    /// Takes out what comes next. Returns `None` if nothing comes for `patience`, or if the mailbox
+    /// is closed and empty; it is closed from then on.
     pub(crate) fn take<R: Wait + Clock>(&self, rt: &R, patience: Duration) -> Option<V> {
         let letter = self.letter.lock(rt);
         let (mut letter, _) = self
@@ -67,13 +67,13 @@ impl<V: Drop> Mailbox<V> {
         next
     }
 
-    /// Closes it. A thread that waits finds nothing, at once.
+    /// Closes it. A waiting thread at once gets `None`.
     pub(crate) fn close(&self, rt: &impl Wait) {
         self.letter.lock(rt).is_closed = true;
         self.changed.notify_one();
     }
 
-    /// Whether it is closed.
+    /// Returns whether it is closed.
     pub(crate) fn is_closed(&self, rt: &impl Wait) -> bool {
         self.letter.lock(rt).is_closed
     }

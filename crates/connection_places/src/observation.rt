@@ -1,4 +1,4 @@
-//! What is seen of a connection: one look a second.
+//! What is seen of a connection at one look a second.
 
 ghost use Rattle.std.specs.Prelude.{◌≡◌};
 ghost use Rattle.connection_places.specs.Looks as spec;
@@ -10,16 +10,16 @@ use http_connection::{PortKind, Told, has_outstayed};
 pub(crate) struct Observation {
     pub(crate) kind: PortKind,
     told: Told,
-    // Without a byte.
+    // Looks without a byte.
     still: u32,
-    // In the same stage of its exchange.
+    // Looks in the same stage of its exchange.
     whole: u32,
-    // Without a complete request.
+    // Looks without a complete request.
     unasked: u32,
 }
 
 impl Observation {
-    /// Of a connection that has just come in at a port of this kind.
+    /// Returns what is seen of a connection that has just come in at a port of this kind.
     pub(crate) fn first(kind: PortKind, told: Told) -> Observation
         ensures { result ≡ spec.first_seen kind told }
     {
@@ -32,7 +32,7 @@ impl Observation {
         }
     }
 
-    /// What is seen `looks` looks later, if it has said only this meanwhile.
+    /// Returns what is seen `looks` looks later, if it has published only this state meanwhile.
     pub(crate) fn later(self, told: Told, looks: u32) -> Observation
         ensures { result ≡ spec.seen_later self told looks }
     {
@@ -46,15 +46,16 @@ impl Observation {
         }
     }
 
-    /// Whether it has stood for longer than it may.
+    /// Returns whether it has reached one of its limits.
     pub(crate) fn has_outstayed(self) -> bool
         ensures { result ≡ spec.is_over self }
     {
         has_outstayed(self.kind, self.told, self.still, self.whole)
     }
 
-    /// For how many looks it has been without a complete request, if it may make room for a newcomer:
-    /// it came in at the account's port, and is between two requests, or was sending one at a look too.
+    /// Returns for how many looks it has been without a complete request, if it may make room for a
+    /// newcomer: it came in at the account's port, and either is between two requests, or was
+    /// already sending one at an earlier look.
     pub(crate) fn spare_looks(self) -> Option<u32>
         ensures { result ≡ spec.spare_looks self }
     {
@@ -65,7 +66,7 @@ impl Observation {
         }
     }
 
-    /// Whether it came in at an environment's port.
+    /// Returns whether it came in at an environment's port.
     pub(crate) fn is_of_environment(self) -> bool
         ensures { result ≡ spec.is_of_environment self.kind }
     {
@@ -73,7 +74,7 @@ impl Observation {
     }
 }
 
-/// `looks` more than before if it is still so, else none.
+/// Returns `looks` more than before if it is still so, else 0.
 fn counted(is_still_so: bool, before: u32, looks: u32) -> u32
     ensures { result ≡ spec.counted is_still_so before looks }
 {

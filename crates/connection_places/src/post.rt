@@ -1,4 +1,4 @@
-//! A place of connections, as its thread has it.
+//! A place of connections, as its thread sees it.
 
 use crate::mailbox::Mailbox;
 use std::sync::{Arc, Mutex, Wait};
@@ -8,7 +8,7 @@ use std::time::{Clock, Duration};
 /// How many seconds a thread waits for its next connection before it ends.
 const KEPT: u64 = 10;
 
-/// That the connection of a place has ended, and whether its thread has left the place.
+/// The note that the connection of a place has ended, and whether its thread has left the place.
 #[derive(Clone, Copy, Drop)]
 pub(crate) struct End {
     pub(crate) at: usize,
@@ -18,8 +18,8 @@ pub(crate) struct End {
 /// The connections that have ended.
 pub(crate) type Ended = Mutex<Vec<End>>;
 
-/// What the thread of a place has of it: its number, the tally of its connections, the mailbox into which the
-/// next one is put, and the list in which it notes that one has ended.
+/// What the thread of a place knows of it: its number, the tally of its connections, the mailbox
+/// into which the next one is put, and the list in which the thread notes that one has ended.
 #[derive(Drop)]
 pub struct Post<Y, V> {
     pub(crate) at: usize,
@@ -31,7 +31,8 @@ pub struct Post<Y, V> {
 }
 
 impl<Y, V: Drop> Post<Y, V> {
-    /// Notes that its connection has ended, and whether the thread leaves. (There is room for it.)
+    /// Notes that its connection has ended, and whether the thread leaves. (There is room for the
+    /// note.)
     fn tell(&self, rt: &impl Wait, has_left: bool) {
         let end = End {
             at: self.at,
@@ -40,7 +41,8 @@ impl<Y, V: Drop> Post<Y, V> {
         let _ = self.ended.lock(rt).push(end);
     }
 
-    /// Notes that its connection has ended, and waits for the next one. If none comes, the thread has to end.
+    /// Notes that its connection has ended, and waits for the next one. If it returns `None`, the
+    /// thread has to end.
     pub fn next<R: Wait + Clock>(&self, rt: &R) -> Option<V> {
         self.tell(rt, false);
         self.mailbox.take(rt, Duration::from_secs(KEPT))

@@ -8,18 +8,18 @@ use std::sync::Arc;
 /// The senders of the signals that end a connection.
 #[derive(Drop)]
 pub struct Enders {
-    /// It ends after its exchange.
+    /// Ends it after its exchange.
     pub soft: Sender<()>,
-    /// It ends at once.
+    /// Ends it at once.
     pub hard: Sender<()>,
-    /// It ends at once if it serves no request.
+    /// Ends it at once if it serves no request.
     pub room: Sender<()>,
 }
 
 /// The signals that end a connection, and what is seen of it.
 #[derive(Drop)]
 pub struct Running {
-    // None once it was sent.
+    // `None` once it was sent.
     soft: Option<Sender<()>>,
     hard: Option<Sender<()>>,
     room: Option<Sender<()>>,
@@ -35,7 +35,7 @@ fn send(sender: &mut Option<Sender<()>>) {
 }
 
 impl Running {
-    /// A connection that has just begun at a port of this kind.
+    /// Describes a connection that has just begun at a port of this kind.
     pub fn new(enders: Enders, pulse: Arc<Pulse>, kind: PortKind) -> Running {
         let Enders { soft, hard, room } = enders;
         Running {
@@ -47,7 +47,7 @@ impl Running {
         }
     }
 
-    /// Tells the connection to end: after its exchange, or at once.
+    /// Signals the connection to end: after its exchange, or at once.
     pub(crate) fn tell(&mut self, at_once: bool) {
         if at_once {
             send(&mut self.hard);
@@ -56,7 +56,7 @@ impl Running {
         }
     }
 
-    /// Tells the connection to end at once if it serves no request.
+    /// Signals the connection to end at once if it serves no request.
     pub(crate) fn ask_for_room(&mut self) {
         send(&mut self.room);
     }

@@ -1,4 +1,4 @@
-//! Places for the connections that are open, up to a limit.
+//! Places for the open connections, up to a limit.
 
 ghost use Rattle.std.specs.Prelude.{◌≡◌, ◌+◌, ◌<◌, nat_lt, vec_len, IfOk, IfErr};
 ghost use Rattle.connection_places.specs.Places.{Places};
@@ -13,8 +13,8 @@ use std::marker::Model;
 use std::sync::{Arc, Mutex, Wait};
 use std::thread::Threads;
 
-/// A place of one connection after another, which all count in its tally: so a tally is never lost,
-/// and there are no more of them than connections that were open at once. Its thread may wait for the
+/// A place of one connection after another, which all count in its tally: so no tally is lost, and
+/// there are no more tallies than connections that were open at once. Its thread may wait for the
 /// next connection.
 #[derive(Drop)]
 pub(crate) struct Slot<Y, V> {
@@ -24,8 +24,8 @@ pub(crate) struct Slot<Y, V> {
 }
 
 impl<Y, V: Drop> Slot<Y, V> {
-    /// Gives a connection to the thread that waits for one. If none waits, the connection comes back, and a
-    /// thread that has ended is joined.
+    /// Gives a connection to the thread that waits for one. If none waits, returns the connection,
+    /// and joins a thread that has ended.
     fn offer<R: Wait + Threads>(&mut self, rt: &R, visit: V) -> Result<(), V>
         ensures { IfErr result (λ back. back ≡ visit) }
     {
@@ -57,13 +57,14 @@ impl<Y, V: Drop> Slot<Y, V> {
     }
 }
 
-/// A thread still has the tally of its place.
+/// The error that a thread still has the tally of its place.
 #[derive(Clone, Copy, Debug, PartialEq, Eq)]
 pub struct StillShared;
 
-/// The places: by their type never more than there may be, so no more connections are open at once.
-/// Those that no connection has are `free`, the next to be taken last. `free` and `ended` have room for each, and
-/// `gathered` for the tallies of all of them and two more, so that the end of the service needs no memory.
+/// The places: by their type never more than `most`, so no more connections are open at once. Those
+/// that no connection has are in `free`; the last of these is taken next. `free` and `ended` have
+/// room for every place, and `gathered` for the tallies of all places and two more, so that the end
+/// of the service needs no memory.
 #[derive(Drop)]
 pub struct Slots<Y, V> {
     alloc: Global,
@@ -87,7 +88,8 @@ impl<Y, V> Model for Slots<Y, V> {
 }
 
 impl<Y: Drop, V: Drop> Slots<Y, V> {
-    /// No places yet, of which there may be `most`. The only error is that memory is refused.
+    /// Makes an empty list of places, of which there may be `most`. The only error is that memory
+    /// is refused.
     pub fn new(alloc: Global, most: u32) -> Result<Slots<Y, V>, AllocError>
         ensures { IfOk result (λ slots. slots ≡ record { most = most; made = 0 }) }
     {
@@ -101,15 +103,15 @@ impl<Y: Drop, V: Drop> Slots<Y, V> {
         })
     }
 
-    /// Takes a place that is free: the one that was given back last, whose thread is the likeliest to
-    /// wait yet.
+    /// Takes a free place: the one that was given back last, whose thread is the most likely to be
+    /// still waiting.
     pub fn take(&mut self) -> Option<usize>
         ensures { self.new ≡ self.old }
     {
         self.free.pop()
     }
 
-    /// Whether there may be another place.
+    /// Returns whether another place can be made.
     pub fn has_room(&self) -> bool
         ensures { result ≡ nat_lt self.now.made self.now.most }
     {
@@ -151,7 +153,7 @@ impl<Y: Drop, V: Drop> Slots<Y, V> {
         }
     }
 
-    /// A place, as a new thread has it.
+    /// Returns a place, as a new thread gets it.
     ///
     /// # Errors
     /// `AllocError` if memory is refused, or there is no place of this number.
@@ -167,8 +169,8 @@ impl<Y: Drop, V: Drop> Slots<Y, V> {
         })
     }
 
-    /// Gives a connection to the thread that waits for one at a place. If none waits, or there is no place of
-    /// this number, the connection comes back.
+    /// Gives a connection to the thread that waits for one at a place. If none waits, or there is
+    /// no place of this number, returns the connection.
     pub fn offer<R: Wait + Threads>(&mut self, rt: &R, at: usize, visit: V) -> Result<(), V>
         ensures same { self.new ≡ self.old }
         ensures back { IfErr result (λ back. back ≡ visit) }
@@ -179,8 +181,8 @@ impl<Y: Drop, V: Drop> Slots<Y, V> {
         }
     }
 
-    /// Gives a place to a thread. If there is no place of this number, the thread is dropped, and nothing
-    /// changes.
+    /// Gives a place to a thread. If there is no place of this number, the thread is dropped, and
+    /// nothing changes.
     pub fn employ(&mut self, at: usize, worker: Worker<V>)
         ensures { self.new ≡ self.old }
     {
@@ -189,7 +191,7 @@ impl<Y: Drop, V: Drop> Slots<Y, V> {
         }
     }
 
-    /// Notes the connection that a place which was taken now has. If there is no place of this number, nothing
+    /// Notes the connection of a place that was taken. If there is no place of this number, nothing
     /// changes.
     pub fn fill(&mut self, at: usize, running: Running)
         ensures { self.new ≡ self.old }
@@ -199,8 +201,8 @@ impl<Y: Drop, V: Drop> Slots<Y, V> {
         }
     }
 
-    /// Gives a place back that has no thread: it is taken after those at which a thread waits, which need no
-    /// memory and no descriptors for another connection.
+    /// Gives back a place without a thread. It is taken after those at which a thread waits, which
+    /// need no memory and no descriptors for another connection.
     pub fn give_back(&mut self, at: usize)
         ensures { self.new ≡ self.old }
     {
@@ -246,7 +248,7 @@ impl<Y: Drop, V: Drop> Slots<Y, V> {
         }
     }
 
-    /// Tells each thread to end: at once if it waits, else behind its connection.
+    /// Signals each thread to end: at once if it waits, else after its connection.
     pub fn dismiss(&self, rt: &impl Wait) {
         for slot in &self.slots {
             if let Some(worker) = &slot.worker {
@@ -255,7 +257,7 @@ impl<Y: Drop, V: Drop> Slots<Y, V> {
         }
     }
 
-    /// Joins all threads, once they were told to end.
+    /// Joins all threads, after they were signalled to end.
     pub fn join_all(&mut self, rt: &impl Threads)
         ensures { self.new ≡ self.old }
     {
@@ -266,13 +268,13 @@ impl<Y: Drop, V: Drop> Slots<Y, V> {
         }
     }
 
-    /// Whether no place is taken.
+    /// Returns whether no place is taken.
     pub fn is_idle(&self) -> bool {
         self.free.len() >= self.slots.len()
     }
 
-    /// Tells each connection to end: after its exchange, or at once. One that was told so before hears
-    /// nothing more.
+    /// Signals each connection to end: after its exchange, or at once. A signal that was sent
+    /// before is not repeated.
     pub fn tell(&mut self, at_once: bool)
         ensures { self.new ≡ self.old }
     {
@@ -283,8 +285,8 @@ impl<Y: Drop, V: Drop> Slots<Y, V> {
         }
     }
 
-    /// Looks at each connection, and ends at once each that has stood for longer than it may: so no peer keeps
-    /// a place without asking for something. Called once a second.
+    /// Looks at each connection, and ends at once each that has reached one of its limits, so that
+    /// no peer keeps a place without asking for something. Called once a second.
     pub fn end_the_idle(&mut self)
         ensures { self.new ≡ self.old }
     {
@@ -298,13 +300,13 @@ impl<Y: Drop, V: Drop> Slots<Y, V> {
         }
     }
 
-    /// Whether a newcomer at a port of this kind may have a place: one in sixteen, and 64 at most, are kept for
-    /// the account's port.
+    /// Returns whether a newcomer at a port of this kind may have a place: one in sixteen, at most
+    /// 64, are kept for the account's port.
     pub fn admits(&self, kind: PortKind) -> bool {
         admits(self.most, kind, self.slots.as_slice())
     }
 
-    /// Looks at each connection, between two looks.
+    /// Looks at each connection, without counting this as a look.
     fn look_again(&mut self)
         ensures { self.new ≡ self.old }
     {
@@ -315,9 +317,10 @@ impl<Y: Drop, V: Drop> Slots<Y, V> {
         }
     }
 
-    /// If no place is left, and some are kept for the account's port, asks the connection at that port which
-    /// has been longest without a complete request to make room. Returns whether there is one. It ends if it
-    /// serves no request when it is asked; its place is free once it has ended.
+    /// If no place is left, and some are kept for the account's port, asks one connection at that
+    /// port to make room: the one that has been longest without a complete request. Returns whether
+    /// there is one. It ends if it serves no request when it is asked; its place is free once it
+    /// has ended.
     pub fn ask_for_room(&mut self) -> bool
         ensures { self.new ≡ self.old }
     {
@@ -336,7 +339,7 @@ impl<Y: Drop, V: Drop> Slots<Y, V> {
         true
     }
 
-    /// These two tallies and those of all places, once every thread is joined.
+    /// Returns these two tallies and those of all places, once every thread is joined.
     ///
     /// # Errors
     /// `StillShared` if a thread still has one; the tallies are then dropped.

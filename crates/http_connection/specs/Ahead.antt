@@ -3,12 +3,12 @@ use Rattle.std.proofs.Common.{◌≡◌, ℕ, List, [], ◌++◌, refl, sym, ap,
 use Rattle.tokio.specs.Io.Moved.{Passes, PassesNothing, PassesInOrder}
 use Rattle.http_connection.specs.declared.socket.Socket.{Socket}
 
--- What came out is what was read ahead and then what the stream gave, less what is read ahead now.
+-- The output is what was read ahead and then what the stream gave, less what is read ahead now.
 abbrev pub ReadsBehind : {T : Type 0} → Passes T → Passes (Socket T)
 ReadsBehind reads a xs b =
     (more : List ℕ) × reads a.stream more b.stream × (a.ahead.items ++ more ≡ xs ++ b.ahead.items)
 
--- The end comes once nothing is read ahead.
+-- The end is reported only once nothing is left of what was read ahead.
 abbrev pub IsAtEndBehind : {T : Type 0} → (T → Type 0) → Socket T → Type 0
 IsAtEndBehind is_at_end s = (s.ahead.items ≡ []) × is_at_end s.stream
 
@@ -16,7 +16,7 @@ IsAtEndBehind is_at_end s = (s.ahead.items ≡ []) × is_at_end s.stream
 abbrev pub WritesPast : {T : Type 0} → Passes T → Passes (Socket T)
 WritesPast writes a xs b = writes a.stream xs b.stream × (b.ahead.items ≡ a.ahead.items)
 
--- What the stream gave is thrown away, and what was read ahead is still there.
+-- What the stream gave is discarded, and what was read ahead is still there.
 abbrev pub ThrowsAway : {T : Type 0} → Passes T → Socket T → Socket T → Type 0
 ThrowsAway reads a b = (gone : List ℕ) × reads a.stream gone b.stream × (b.ahead.items ≡ a.ahead.items)
 

@@ -1,4 +1,4 @@
--- What a connection tells of how it stands, as one number.
+-- The state that a connection publishes, as one number.
 use Rattle.std.specs.Prelude.{ℕ, ◌+◌, ◌*◌, ◌^◌, Bool, true, false, ◌&&◌, ◌==◌}
 use Rattle.http_connection.specs.declared.pulse.Awaited.{Awaited}
 use Rattle.http_connection.specs.declared.pulse.Awaited.TheVariants.{Answer, First, Head, Body, Taking, Next, End}
@@ -14,11 +14,11 @@ number_of Taking = 4
 number_of Next = 5
 number_of End = 6
 
--- the number of what is told
+-- the number of a published state
 abbrev pub told_of : Told → ℕ
 told_of told = told.moved * 2 ^ 32 + told.answers * 2 ^ 16 + number_of told.awaited
 
--- the stages of an exchange: none has begun, its head, its body and its service, its response; and the connection's end
+-- the stages of an exchange: not begun, its head, its body and its service, its response; and the connection's end
 abbrev pub stage_of : Awaited → ℕ
 stage_of First = 0
 stage_of Next = 0
@@ -48,7 +48,7 @@ is_between Taking = false
 is_between Next = true
 is_between End = false
 
--- Nothing has happened between the two.
+-- Nothing happened between the two.
 abbrev pub is_same : Told → Told → Bool
 is_same one other = (number_of one.awaited == number_of other.awaited) && (one.answers == other.answers)
     && (one.moved == other.moved)

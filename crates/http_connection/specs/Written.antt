@@ -38,21 +38,21 @@ module _ {B D X : Type 0} (yields : B → Runs (Result (Frame D) X)) (has : D �
     one_more : (pieces : List D) (piece : D) → yields body (frames_of pieces) (Some (Ok (data_frame piece)))
         → Begins body (pieces ++ piece ∷ [])
 
-  -- behind these pieces the body ends, or yields trailers, of which some are written
+  -- after these pieces the body ends, or yields trailers, of which some are written
   abbrev pub Ends : B → List D → Whole Parts → Type 0
   Ends body pieces written =
       (yields body (frames_of pieces) None × (written.trailers ≡ []))
       ⊎ ((map : _) × yields body (frames_of pieces) (Some (Ok (trailers_frame map)))
       × ((written.trailers ≡ []) ⊎ AreAmong written.trailers map))
 
-  -- To a request with this head a response was written whole: its status, its header fields, but for those that frame a
-  -- body, and its body; or none where no body may follow.
+  -- The whole response to a request with this head was written: its status, its header fields, except those that
+  -- frame a body, and its body, or no body if none may follow.
   pub record IsWhole (head : Asked) (response : Response B) (written : Whole Parts) : Type 0 where
     pub head_is : IsHeadOf written.head response
     pub body_is : (IsBodiless head written.head × (written.bytes ≡ []) × (written.trailers ≡ []))
         ⊎ ((pieces : List D) × Joins pieces written.bytes × Ends (body_of response) pieces written)
 
-  -- The beginning of a response was written: its head, and first pieces of its body.
+  -- The beginning of a response was written: its head, and the first pieces of its body.
   pub record IsBegun (response : Response B) (begun : Parts × List ℕ) : Type 0 where
     pub head_is : IsHeadOf begun.0 response
     pub pieces : List D
@@ -60,10 +60,10 @@ module _ {B D X : Type 0} (yields : B → Runs (Result (Frame D) X)) (has : D �
     pub begins : Begins (body_of response) pieces
 
   module _ (answers : Asked → Response B → Type 0) where
-    -- What was written to a connection that ended of itself with this outcome: responses that answer the requests at
-    -- their places, in their order, each whole; and behind them at most the beginning of one more, that answers the
-    -- request which came next. `last` is how the connection stood at its end, with all that was taken and given. At
-    -- `Ok` nothing of that is left to send.
+    -- What was written to a connection that ended by itself with this outcome: whole responses that answer the
+    -- requests one for one, in their order; and after them at most the beginning of one more, which answers the next
+    -- request. `last` is the connection at its end, with all that it took and gave. If the outcome is `Ok`, nothing
+    -- of that is left to send.
     pub record Written {A : Type 0} (outcome : Result A Error) : Type 0 where
       pub last : ServerConn
       pub answered : List Asked

@@ -16,26 +16,26 @@ use std::sync::Arc;
 /// The signals that end a connection.
 #[derive(Drop)]
 pub struct Signals {
-    /// It ends softly, after the exchange that has begun.
+    /// Ends it softly, after the exchange that has begun.
     pub soft: Receiver<()>,
-    /// It ends at once.
+    /// Ends it at once.
     pub hard: Receiver<()>,
-    /// It ends at once if it serves no request; else the signal says nothing.
+    /// Ends it at once if it serves no request; has no effect otherwise.
     pub room: Receiver<()>,
 }
 
-/// A connection until it ends of itself, which gives what it came to, or at once by a signal.
+/// A connection until it ends: by itself, and then gives its outcome, or at once by a signal.
 #[derive(Drop)]
 pub(crate) struct Ending<C> {
     conn: C,
-    // None once a signal has come.
+    // `None` once a signal has come.
     soft: Option<Receiver<()>>,
     hard: Receiver<()>,
 }
 
 impl<C: Drop> Ending<C> {
-    /// The connection with its signals, on the heap: it is large, and each move of it by those who
-    /// wait for it would take as much of the stack. (Not inlined for the same reason.)
+    /// Puts a connection with its signals on the heap: it is large, and each move of it by what
+    /// waits for it would take as much of the stack. (Not inlined for the same reason.)
     #[inline(never)]
     pub(crate) fn boxed(
         alloc: Global,
@@ -55,7 +55,7 @@ impl<C: Drop> Ending<C> {
 }
 
 impl<C> Ending<C> {
-    /// Whether a signal has come, once the connection has ended of itself.
+    /// Returns whether a signal has come, once the connection has ended by itself.
     fn is_told(&mut self, cx: &mut Context<'_>) -> bool
         ensures same { self.new.conn ≡ self.old.conn }
         ensures kept { Keeps cx.old cx.new }
@@ -92,26 +92,26 @@ impl<C: GracefulConnection<Output = hyper::Result<()>>> Future for Ending<C> {
     }
 }
 
-/// A connection that ends too where its peer does while a request is parked, though bytes lie behind
-/// that request; and that, once it has ended of itself, lets its peer read the answer before the
-/// socket is closed. It ends if its place is wanted while it serves no request. It tells how it stands,
-/// and gives what it came to, if it ended of itself.
+/// A connection that also ends if its peer does while a request is parked, even with unread bytes
+/// after that request, or if its place is needed while it serves no request. Once it has ended by
+/// itself, it lets its peer read the answer before the socket is closed. It publishes its state,
+/// and gives its outcome if it ended by itself.
 #[derive(Drop)]
 pub(crate) struct Watched<C, O> {
     ending: Box<Ending<C>>,
-    // None once its place was wanted.
+    // `None` once its place was needed.
     room: Option<Receiver<()>>,
     peer: Wire,
     open: O,
     pulse: Arc<Pulse>,
     has_ended: bool,
-    // What it came to, once it has ended of itself, until that is handed on.
+    // The outcome, once it has ended by itself, until that is handed on.
     outcome: Option<hyper::Result<()>>,
 }
 
 impl<C, O> Watched<C, O> {
-    /// The connection, the signal that its place is wanted, its socket, where it is noted that a request
-    /// is parked, and where it tells how it stands.
+    /// Watches a connection. `room` signals that its place is needed, `peer` is its socket, `open`
+    /// notes whether a request is parked, and `pulse` is where it publishes its state.
     pub(crate) fn new(
         ending: Box<Ending<C>>,
         room: Receiver<()>,
@@ -133,7 +133,8 @@ impl<C, O> Watched<C, O> {
         }
     }
 
-    /// Whether it makes room: its place is wanted, and it served no request when its last turn ended.
+    /// Returns whether it makes room: its place is needed, and it served no request when its last
+    /// turn ended.
     fn makes_room(&mut self, cx: &mut Context<'_>) -> bool
         ensures same { (self.new.ending ≡ self.old.ending) × (self.new.has_ended ≡ self.old.has_ended) }
         ensures kept { Keeps cx.old cx.new }

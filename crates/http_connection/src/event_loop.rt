@@ -1,4 +1,4 @@
-//! What serves connections on one thread, one after the other.
+//! The loop that serves connections on one thread, one after the other.
 
 ghost use Rattle.std.specs.Prelude.{IfOk, IfSome};
 ghost use Rattle.hyper.specs.ServerDispatch.{GivesBodies};
@@ -27,16 +27,16 @@ use std::sync::{Arc, Wait};
 use std::time::Clock;
 use tokio::runtime::LocalRuntime;
 
-/// The reactor of a thread, and the settings of connections. A thread opens it once, and serves one
-/// connection after the other with it: to open it takes more system calls than a short connection.
+/// The reactor of a thread, and the settings of connections. A thread opens it once and serves all
+/// its connections with it, since opening it takes more system calls than a short connection.
 #[derive(Drop)]
 pub struct EventLoop {
     runtime: LocalRuntime,
     http: Builder,
 }
 
-/// The holders of a connection's socket: the connection, its service, with its pace, and who watches for
-/// the peer's end.
+/// The holders of a connection's socket: the connection, its service, with its pace, and the watch
+/// for the peer's end.
 #[derive(Drop)]
 struct Ends<R> {
     wire: Wire,
@@ -46,27 +46,27 @@ struct Ends<R> {
 }
 
 impl EventLoop {
-    /// For the connections of the thread that opens it.
+    /// Opens it for the connections of the present thread.
     ///
     /// # Errors
-    /// Where memory, a descriptor or the machine's randomness is refused.
+    /// If memory, a descriptor or the machine's randomness is refused.
     pub fn open<R: Clock + Net + RandomSource + AllocGlobal>(rt: &R) -> io::Result<EventLoop> {
         let keys = RandomState::new(rt)?;
         let runtime = LocalRuntime::new(rt)?;
         let mut http = Builder::new(rt.alloc(), keys);
-        // A caller who has ended its own side, as `nc -N` does, still gets its answer.
+        // After a half-close, as by `nc -N`, the caller still gets its answer.
         http.half_close(true);
         Ok(EventLoop { runtime, http })
     }
 
-    /// Serves the requests of a connection at such a port, one after the other, until the connection
-    /// ends, a signal ends it, or its peer ends while a request is parked. It blocks its thread. Gives
-    /// what the connection came to, if it ended of itself: what was written to it is then what the
-    /// service gave. If it was cut off, nothing is said of what was written.
+    /// Serves the requests of a connection at a port of this kind, one after the other, until the
+    /// connection ends, a signal ends it, or its peer ends while a request is parked. It blocks its
+    /// thread. Returns the connection's outcome if it ended by itself: what was written to it is
+    /// then what the service gave. If it was cut off, nothing is said about what was written.
     ///
     /// # Errors
-    /// Where the socket can't be watched, or memory is refused; nothing was read of it then. Or where
-    /// the reactor failed.
+    /// If the socket cannot be watched, or memory is refused: nothing was read from it then. Also
+    /// if the reactor fails.
     pub fn serve<R, V, B, O>(
         &mut self,
         rt: &R,
@@ -108,8 +108,8 @@ impl EventLoop {
         self.wait_for(rt, ending, room, peer, open, pulse)
     }
 
-    /// The ends of a socket at such a port, which is watched. The polls at an environment's port are kept
-    /// to a pace.
+    /// Watches a socket at a port of this kind, and returns its holders. Polls at an environment's
+    /// port are kept to a pace.
     fn ends<R: AllocGlobal + Copy>(
         &self,
         rt: &R,
@@ -134,9 +134,9 @@ impl EventLoop {
         })
     }
 
-    /// Waits until a connection has ended, and gives what it came to, if it ended of itself. Its type is a
-    /// parameter here: `hyper`'s own, once more in the future that is waited for, is large to prove
-    /// anything about.
+    /// Waits until a connection has ended, and returns its outcome if it ended by itself. The
+    /// connection's type is a parameter here: proofs about `hyper`'s own, nested in the future that
+    /// is waited for, would be large.
     fn wait_for<R, C, O>(
         &mut self,
         rt: &R,

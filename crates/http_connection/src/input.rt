@@ -1,39 +1,39 @@
-//! Where the bytes of a connection's input stand: in a head, or in the body that a head declares.
+//! The position in a connection's input: in a head, or in the body that a head declares.
 
 ghost use Rattle.std.specs.Prelude.{◌≤◌, ◌<◌, length, IfSome};
 
 use memchr::memchr;
 
-/// The name of the field that declares a body's length, and what stands behind it.
+/// The name of the field that declares a body's length, with its colon.
 const NAME: &[u8] = b"content-length:";
 
-/// How much of the present line is the name of a body's length.
+/// How much of the present line is a field that declares a body's length.
 #[derive(Clone, Copy, Drop)]
 enum Line {
-    /// So many bytes of the name, and no other.
+    /// This many bytes of the name, and no other byte.
     Name(usize),
-    /// The whole name, and then digits.
+    /// The whole name, then digits.
     Length,
     /// Something else.
     Other,
 }
 
-/// Where a connection's input stands. With it each read ends where a request does, so that a connection
-/// that asks for more has begun no request of which it has bytes. It decides nothing else: whatever it
-/// takes for a request's end, all bytes are handed on in their order.
+/// The position in a connection's input. By it, each read ends at the end of a request, so that a
+/// connection that asks for more has no bytes of a request that it has not begun. It decides
+/// nothing else: whatever it takes for a request's end, all bytes are handed on in their order.
 #[derive(Clone, Copy, Drop)]
 pub(crate) struct Input {
     line: Line,
-    // Whether the present line has no byte yet.
+    // Whether the present line is still empty.
     is_empty: bool,
     // The length that the present head has declared so far.
     length: u64,
-    // How many bytes of a body are yet to come.
+    // How many bytes of the present body are still to come.
     rest: u64,
 }
 
 impl Input {
-    /// At the beginning of a head.
+    /// The beginning of a head.
     pub(crate) fn new() -> Input {
         Input {
             line: Line::Name(0),
@@ -66,8 +66,8 @@ impl Input {
         }
     }
 
-    /// Takes the end of a line. Gives whether the line had no byte, and so ends a head; behind it stands
-    /// the body that this declared. (The end of a body in chunks is such a line, too.)
+    /// Takes the end of a line. Returns whether the line is empty, and so ends a head; the body
+    /// that the head declared follows. (A chunked body ends with such a line, too.)
     fn take_end(&mut self) -> bool {
         let is_head_end = self.is_empty;
         self.line = Line::Name(0);
@@ -80,7 +80,8 @@ impl Input {
         is_head_end
     }
 
-    /// Takes bytes of a line, one by one, without its end. Of a line that is no length the rest is passed over.
+    /// Takes bytes of a line, one by one, without its end. Once the line does not declare a length,
+    /// the rest is skipped.
     fn take_each(&mut self, bytes: &[u8]) {
         for byte in bytes {
             if matches!(self.line, Line::Other) {
@@ -92,7 +93,7 @@ impl Input {
         }
     }
 
-    /// Takes bytes of a line, without its end. A name that is there as a whole is compared at once.
+    /// Takes bytes of a line, without its end. If the whole name is there, it is compared at once.
     fn take_bytes(&mut self, bytes: &[u8]) {
         if !matches!(self.line, Line::Name(0)) || bytes.len() < NAME.len() {
             self.take_each(bytes);
@@ -108,8 +109,8 @@ impl Input {
         }
     }
 
-    /// Takes bytes up to the end of the present line. Gives how many these are with that end, and whether it
-    /// ends the head; none where the line goes on behind the bytes.
+    /// Takes bytes up to the end of the present line. Returns how many they are, with that end, and
+    /// whether it ends the head; `None` if the line goes on after the bytes.
     fn take_line(&mut self, bytes: &[u8]) -> Option<(usize, bool)>
         ensures { IfSome result (λ taken. (0 < taken.0) × (taken.0 ≤ length bytes.now)) }
     {
@@ -121,7 +122,8 @@ impl Input {
         Some((place + 1, self.take_end()))
     }
 
-    /// How many of these bytes belong to the head that is to be ended: up to and with its end, or all.
+    /// Returns how many of these bytes belong to the present head: those up to and including its
+    /// end, or all.
     fn head_part(&mut self, bytes: &[u8]) -> usize
         ensures bound { result ≤ length bytes.now }
         ensures some { 0 < length bytes.now → 0 < result }
@@ -137,7 +139,7 @@ impl Input {
         bytes.len()
     }
 
-    /// How many of these bytes belong to the body that is yet to come.
+    /// Returns how many of these bytes belong to the present body.
     fn body_part(&mut self, bytes: &[u8]) -> usize
         ensures bound { result ≤ length bytes.now }
         ensures some { 0 < self.old.rest → 0 < length bytes.now → 0 < result }
@@ -152,7 +154,8 @@ impl Input {
         part
     }
 
-    /// How many of these bytes are handed on at once: those up to the end of a request, or all.
+    /// Returns how many of these bytes are handed on at once: those up to the end of a request, or
+    /// all.
     pub(crate) fn take(&mut self, bytes: &[u8]) -> usize
         ensures bound { result ≤ length bytes.now }
         ensures some { 0 < length bytes.now → 0 < result }

@@ -1,5 +1,5 @@
-//! One HTTP/1.1 connection, as `hyper` serves it by any service: its socket, the signals that end it,
-//! and where it tells whether it moves.
+//! One HTTP/1.1 connection, which `hyper` serves with any service: its socket, the signals that end
+//! it, and the state that it publishes.
 #![tactic(auto)]
 
 mod ending;

@@ -1,11 +1,11 @@
-//! How long a connection may stand.
+//! How long a connection may stay open.
 
 ghost use Rattle.std.specs.Prelude.{◌≡◌};
 ghost use Rattle.http_connection.specs.Limits as spec;
 
 use crate::pulse::{Awaited, Told};
 
-/// At which kind of port a connection came in.
+/// The kind of port at which a connection came in.
 #[derive(Clone, Copy, Drop)]
 pub enum PortKind {
     /// The account's, for callers.
@@ -15,9 +15,9 @@ pub enum PortKind {
 }
 
 impl PortKind {
-    /// For how many seconds a connection may stay without a byte between two requests. A handler may
-    /// run for 900 seconds, in which its runtime keeps the connection of its Next; an hour is well over
-    /// that, and a connection that was forgotten gives its place back.
+    /// Returns how many seconds a connection may stay without a byte between two requests. A
+    /// handler may run for 900 seconds, during which its runtime keeps the connection of its Next.
+    /// An hour is well over that, and a forgotten connection still gives its place back.
     fn idle_limit(self) -> u64
         ensures { result ≡ spec.idle_limit self }
     {
@@ -28,7 +28,8 @@ impl PortKind {
     }
 }
 
-/// For how many seconds a connection that told this may stay without a byte; none where it may for ever.
+/// Returns how many seconds a connection that waits for this may stay without a byte, `None` if
+/// there is no limit.
 fn still_limit_of(kind: PortKind, awaited: Awaited) -> Option<u64>
     ensures { result ≡ spec.still_limit kind awaited }
 {
@@ -40,7 +41,7 @@ fn still_limit_of(kind: PortKind, awaited: Awaited) -> Option<u64>
     }
 }
 
-/// For how many seconds it may stay in its stage; none where it may for ever.
+/// Returns how many seconds it may stay in its stage, `None` if there is no limit.
 fn whole_limit_of(told: Told) -> Option<u64>
     ensures { result ≡ spec.whole_limit told }
 {
@@ -53,7 +54,7 @@ fn whole_limit_of(told: Told) -> Option<u64>
     }
 }
 
-/// Whether so many seconds are as long as there is leave for.
+/// Returns whether this many seconds are at least the limit, if there is one.
 fn is_reached(seconds: u32, limit: Option<u64>) -> bool
     ensures { result ≡ spec.is_reached seconds limit }
 {
@@ -63,8 +64,9 @@ fn is_reached(seconds: u32, limit: Option<u64>) -> bool
     }
 }
 
-/// Whether a connection at such a port has stood for longer than it may, which told this, has since
-/// been without a byte for `still` seconds, and in the same stage of its exchange for `whole`.
+/// Returns whether a connection at a port of this kind has reached one of its limits: it published
+/// this state, has since been without a byte for `still` seconds, and in the same stage of its
+/// exchange for `whole` seconds.
 pub fn has_outstayed(kind: PortKind, told: Told, still: u32, whole: u32) -> bool
     ensures { result ≡ spec.has_outstayed kind told still whole }
 {

@@ -1,4 +1,4 @@
-//! What the server asks of the machine that it runs on.
+//! What the server needs from the machine that it runs on.
 
 use std::alloc::AllocGlobal;
 use std::net::{Net, TcpListener, TcpStream};
@@ -7,8 +7,8 @@ use std::sync::Wait;
 use std::thread::Threads;
 use std::time::Clock;
 
-/// Sockets, threads, locks, a clock to sleep by, keys for header maps and memory: a handle that each
-/// thread has a copy of.
+/// Sockets, threads, locks, a clock to sleep by, keys for header maps and memory: a handle of which
+/// each thread has a copy.
 pub trait Machine: Wait
     + Threads
     + Net<Listener = TcpListener, Stream = TcpStream>

@@ -1,4 +1,4 @@
-//! A service over a wire, which notes there when a request is taken up and when its response is there.
+//! A service over a wire, which notes there that a request is taken up, or its response is ready.
 
 use crate::wire::Wire;
 use futures::task::{Context, Poll};
@@ -8,11 +8,12 @@ use hyper::service::Service;
 use std::time::{Clock, Duration};
 use tokio::time::{Handle, Sleep};
 
-/// For how many milliseconds the next request waits behind a poll that was refused.
+/// How many milliseconds the next request waits after a poll that was refused.
 const PAUSE: u64 = 10;
 
-/// What a connection waits by, and whether it has to where a poll of it was refused: a poller that asks
-/// again at once, and is refused again, is answered a hundred times a second at most.
+/// The timer of a connection, and whether it has to wait after one of its polls was refused. A
+/// poller that asks again at once, and is refused again, is answered at most a hundred times a
+/// second.
 #[derive(Drop)]
 pub(crate) struct Pace<R> {
     pub(crate) rt: R,
@@ -21,7 +22,7 @@ pub(crate) struct Pace<R> {
 }
 
 impl<R: Clock> Pace<R> {
-    /// A pause from now on; none where there is no memory for it.
+    /// Begins a pause, or returns `None` if memory is refused.
     fn pause(&self) -> Option<Sleep> {
         self.time.sleep(&self.rt, Duration::from_millis(PAUSE)).ok()
     }
@@ -36,7 +37,7 @@ pub(crate) struct Noting<V, R> {
 }
 
 impl<V, R: Clock> Noting<V, R> {
-    /// The pause before the next request, where the last one was a poll that was refused.
+    /// Begins the pause before the next request, if the last one was a poll that was refused.
     fn pause(&self) -> Option<Sleep> {
         if self.wire.takes_refusal() {
             self.pace.pause()
@@ -46,15 +47,15 @@ impl<V, R: Clock> Noting<V, R> {
     }
 }
 
-/// The future of a response. It notes at the wire that the response is there.
+/// The future of a response. It notes at the wire that the response is ready.
 #[derive(Drop)]
 pub(crate) struct Noted<F> {
     future: F,
-    // None once it is over.
+    // `None` once it is over.
     pause: Option<Sleep>,
-    // None only if a wire had more than 2^63 holders.
+    // `None` only if a wire had more than 2^63 holders.
     wire: Option<Wire>,
-    // Whether its request is a poll of which a refusal is noted.
+    // Whether its request is a poll whose refusal is noted.
     is_poll: bool,
 }
 
@@ -84,7 +85,7 @@ impl<I: Drop, B: Drop, V: Service<Request<I>, Response = Response<B>>, R: Clock 
 }
 
 impl<F> Noted<F> {
-    /// Notes at the wire that the response is there, and whether it refuses a poll.
+    /// Notes at the wire that the response is ready, and whether it refuses a poll.
     fn note(&self, is_refusal: bool) {
         if let Some(wire) = &self.wire {
             wire.note_response(self.is_poll && is_refusal);
@@ -92,7 +93,7 @@ impl<F> Noted<F> {
     }
 }
 
-/// Whether a response refuses its request.
+/// Returns whether a response refuses its request.
 fn is_refusal<B, E>(output: &Result<Response<B>, E>) -> bool {
     match output {
         Ok(response) => response.status().as_u16() >= 400,

@@ -1,8 +1,9 @@
-//! Whether a connection has a request open that is parked.
+//! Whether an open request of a connection is parked.
 
-/// Where a connection's service notes that the request it answers is parked: it waits without a limit,
-/// and its peer's end ends the connection (Runtime API, Next invocation; Extensions API, Next).
+/// The place where a connection's service notes that its request is parked: that the request waits
+/// without a limit, and its peer's end ends the connection (Runtime API, Next invocation;
+/// Extensions API, Next).
 pub trait Park: Drop {
-    /// Whether a request is parked.
+    /// Returns whether a request is parked.
     fn is_parked(&self) -> bool;
 }

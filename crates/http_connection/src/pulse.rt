@@ -1,5 +1,5 @@
-//! What a connection tells of how it stands: its own thread tells it, and who keeps connections reads
-//! it.
+//! The state that a connection publishes: its own thread writes it, and the keeper of the places
+//! reads it.
 
 ghost use Rattle.std.specs.Prelude.{◌≡◌, ◌<◌, ◌^◌};
 ghost use Rattle.http_connection.specs.Pulses.{number_of, told_of, stage_of, is_unserved, is_between};
@@ -12,7 +12,7 @@ use std::sync::atomic::Ordering::SeqCst;
 /// What a connection waits for.
 #[derive(Clone, Copy, Drop)]
 pub enum Awaited {
-    /// An answer: a request has come whole, and is being served.
+    /// An answer: a whole request has come, and is being served.
     Answer,
     /// The first byte of the first request.
     First,
@@ -20,16 +20,16 @@ pub enum Awaited {
     Head,
     /// The rest of a request's body.
     Body,
-    /// That the peer takes a response.
+    /// The peer, to take a response.
     Taking,
     /// The first byte of the next request.
     Next,
-    /// The peer's end, behind a response that ends the connection.
+    /// The peer's end, after a response that ends the connection.
     End,
 }
 
 impl Awaited {
-    /// Its number in a pulse.
+    /// Returns its number in a pulse.
     fn number(self) -> u16
         ensures { result ≡ number_of self }
     {
@@ -44,7 +44,7 @@ impl Awaited {
         }
     }
 
-    /// What has this number.
+    /// Returns what has this number.
     fn of(number: u64) -> Awaited
         ensures { (awaited : Awaited) → number ≡ number_of awaited → result ≡ awaited }
     {
@@ -59,7 +59,7 @@ impl Awaited {
         }
     }
 
-    /// The number of the stage of an exchange that it belongs to.
+    /// Returns the number of the stage of an exchange that it belongs to.
     fn stage(self) -> u8
         ensures { result ≡ stage_of self }
     {
@@ -73,8 +73,8 @@ impl Awaited {
     }
 }
 
-/// How a connection stands: what it waits for, how many responses its service has given (counted on
-/// from 0 past the greatest number), and how many bytes of the present request have come.
+/// The published state of a connection: what it waits for, how many responses its service has given
+/// (from 0 again past the greatest number), and how many bytes of the present request have come.
 #[derive(Clone, Copy, Drop)]
 pub struct Told {
     pub awaited: Awaited,
@@ -83,7 +83,7 @@ pub struct Told {
 }
 
 impl Told {
-    /// As one number.
+    /// Returns it as one number.
     fn number(self) -> u64
         ensures { result ≡ told_of self }
     {
@@ -92,7 +92,7 @@ impl Told {
             + u64::from(self.awaited.number())
     }
 
-    /// What was told by this number.
+    /// Returns the state that this number stands for.
     fn of(number: u64) -> Told
         ensures { (told : Told) → told.answers < 2 ^ 16 → told.moved < 2 ^ 32 → number ≡ told_of told → result ≡ told }
     {
@@ -103,7 +103,7 @@ impl Told {
         }
     }
 
-    /// Whether the connection waits for its peer to send a request, and so serves none.
+    /// Returns whether the connection waits for its peer to send a request, and so serves none.
     pub fn is_unserved(self) -> bool
         ensures { result ≡ is_unserved self.awaited }
     {
@@ -113,14 +113,14 @@ impl Told {
         )
     }
 
-    /// Whether the connection is between two requests.
+    /// Returns whether the connection is between two requests.
     pub fn is_between(self) -> bool
         ensures { result ≡ is_between self.awaited }
     {
         matches!(self.awaited, Awaited::Next)
     }
 
-    /// Whether nothing has happened since the other was told.
+    /// Returns whether nothing has happened since the other state was published.
     pub fn is_same(self, other: Told) -> bool
         ensures { result ≡ is_same self other }
     {
@@ -129,7 +129,8 @@ impl Told {
             && self.moved == other.moved
     }
 
-    /// Whether the connection is in the same stage of the same exchange as when the other was told.
+    /// Returns whether the connection is in the same stage of the same exchange as when the other
+    /// state was published.
     pub fn is_in_stage_of(self, other: Told) -> bool
         ensures { result ≡ is_in_stage_of self other }
     {
@@ -137,14 +138,14 @@ impl Told {
     }
 }
 
-/// How a connection stands, for other threads to read.
+/// The published state of a connection, for other threads to read.
 #[derive(Drop)]
 pub struct Pulse {
     told: AtomicU64,
 }
 
 impl Pulse {
-    /// That of a connection which waits for its first request.
+    /// The state of a connection that waits for its first request.
     pub fn new() -> Pulse {
         let told = Told {
             awaited: Awaited::First,
@@ -156,12 +157,12 @@ impl Pulse {
         }
     }
 
-    /// Tells how the connection stands.
+    /// Publishes the connection's state.
     pub(crate) fn tell(&self, told: Told) {
         self.told.store(told.number(), SeqCst);
     }
 
-    /// What was told last.
+    /// Returns the state that was published last.
     pub fn told(&self) -> Told {
         Told::of(self.told.load(SeqCst))
     }

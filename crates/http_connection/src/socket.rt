@@ -1,5 +1,5 @@
-//! A stream of bytes that can be read ahead of its reader, who still gets each byte once and in order. It
-//! notes how its connection stands.
+//! A stream of bytes that can be read ahead of its reader, which still gets each byte once and in
+//! order. It keeps the state of its connection.
 
 ghost use Rattle.std.specs.Prelude.{◌≡◌, [], ◌++◌, ◌<◌, ◌≤◌, length, take, drop};
 ghost use Rattle.futures.specs.Poll.{OnPending};
@@ -14,15 +14,16 @@ use std::alloc::Global;
 use std::io;
 use tokio::io::{AsyncRead, AsyncWrite, poll_read_buf};
 
-/// How many bytes are read ahead of the reader.
+/// The most bytes that are read ahead of the reader.
 const MOST_AHEAD: usize = 65_536;
 
-/// How many bytes are read and thrown away behind an answer that ends the connection, and in one go.
+/// The most bytes that are read and discarded after an answer that ends the connection: here in
+/// total, below in one read.
 const MOST_DRAINED: u64 = 67_108_864;
 
 const DRAINED_AT_ONCE: usize = 16_384;
 
-/// A stream, what was read of it and not handed on yet, and how its connection stands.
+/// A stream, what was read from it and not yet handed on, and the state of its connection.
 #[derive(Drop)]
 pub(crate) struct Socket<T> {
     stream: T,
@@ -35,7 +36,7 @@ pub(crate) struct Socket<T> {
 }
 
 impl<T: Drop> Socket<T> {
-    /// One over which nothing has come or gone yet.
+    /// Makes one over which nothing has been read or written yet.
     pub(crate) fn new(alloc: Global, stream: T) -> Socket<T>
         ensures stream { result.stream ≡ stream }
         ensures nothing { result.ahead.items ≡ [] }
@@ -64,8 +65,8 @@ impl<T: Drop> Socket<T> {
         count
     }
 
-    /// Keeps what is behind the end of a request of what was read. Returns how many bytes are left to hand
-    /// on: all of them if there is no memory to keep any, since a stream gives them only once.
+    /// Keeps the bytes that were read past the end of a request. Returns how many bytes are left to
+    /// hand on: all of them if memory to keep any is refused, since a stream gives them only once.
     fn keep_behind(&mut self, bytes: &[u8]) -> usize
         ensures bound { result ≤ length bytes.now }
         ensures kept { self.new.ahead.items ≡ self.old.ahead.items ++ drop result bytes.now }
@@ -81,8 +82,9 @@ impl<T: Drop> Socket<T> {
 }
 
 impl<T: AsyncRead> Socket<T> {
-    /// Ready once the stream has ended or failed. What comes before is kept for the reader. One that has
-    /// given `MOST_AHEAD` bytes is taken to have ended, since its end would not be seen behind them.
+    /// Is ready once the stream has ended or failed. What comes before is kept for the reader.
+    /// After `MOST_AHEAD` bytes the stream is taken to have ended, since its end would not be seen
+    /// after them.
     pub(crate) fn poll_ended(&mut self, cx: &mut Context<'_>) -> Poll<()>
         ensures bytes { ReadsBehind T.reads self.old [] self.new }
         ensures registered { OnPending result (Covers cx.new (T.needs self.new.stream)) }
@@ -98,8 +100,9 @@ impl<T: AsyncRead> Socket<T> {
         }
     }
 
-    /// Ready once the stream has ended or failed, or `MOST_DRAINED` bytes came, which are thrown away.
-    /// (Not inlined, so that no other turn of a connection takes stack for the buffer.)
+    /// Is ready once the stream has ended or failed, or `MOST_DRAINED` bytes have come. What comes
+    /// is discarded. (Not inlined, so that no other turn of a connection takes stack for the
+    /// buffer.)
     #[inline(never)]
     pub(crate) fn poll_drained(&mut self, cx: &mut Context<'_>) -> Poll<()>
         ensures bytes { ThrowsAway T.reads self.old self.new }
@@ -137,7 +140,8 @@ impl<T: AsyncRead> AsyncRead for Socket<T> {
 
     ghost reads_in_order = { ReadsBehind_in_order T.reads T.reads_in_order };
 
-    /// Reads what was read ahead, or else what comes, up to the end of a request, and notes it.
+    /// Reads what was read ahead, or else what comes, up to the end of a request, and notes how
+    /// much.
     fn poll_read(&mut self, cx: &mut Context<'_>, buf: &mut [u8]) -> Poll<io::Result<usize>> {
         if !self.ahead.is_empty() {
             let count = self.read_ahead(buf);
@@ -191,7 +195,7 @@ impl<T: AsyncWrite> AsyncWrite for Socket<T> {
     }
 }
 
-/// So many bytes, up to the greatest number.
+/// Returns this count, at most the greatest number.
 fn small(count: usize) -> u32 {
     u32::try_from(count).unwrap_or(u32::MAX)
 }

@@ -1,29 +1,29 @@
-//! How a connection stands, by what its socket and its service have seen.
+//! The state of a connection, from what its socket and its service have seen.
 
 ghost use Rattle.std.specs.Prelude.{◌≡◌};
 ghost use Rattle.http_connection.specs.Standing as spec;
 
 use crate::pulse::{Awaited, Told};
 
-/// How a connection stands.
+/// The state of a connection.
 #[derive(Clone, Copy, Drop)]
 pub(crate) struct Stand {
-    // How many responses its service has given, counted on from 0 past the greatest number.
+    // How many responses its service has given, from 0 again past the greatest number.
     answers: u16,
     // How many bytes of the present request have come, up to the greatest number.
     moved: u32,
-    // Whether a request was taken up that has no response yet.
+    // Whether a request was taken up and has no response yet.
     is_open: bool,
     // Whether bytes of the next request have come.
     has_begun: bool,
     // Whether a request was ever taken up.
     has_asked: bool,
-    // Whether what was asked of the socket last in this turn was more than was there.
+    // Whether the last read of this turn asked the socket for more than was there.
     is_short: bool,
 }
 
 impl Stand {
-    /// Nothing has come yet.
+    /// The state before anything has come.
     pub(crate) fn new() -> Stand
         ensures { result ≡ spec.fresh }
     {
@@ -37,15 +37,15 @@ impl Stand {
         }
     }
 
-    /// A turn of the connection begins.
+    /// Notes that a turn of the connection begins.
     pub(crate) fn begin_turn(&mut self)
         ensures { self.new ≡ spec.at_turn self.old }
     {
         self.is_short = false;
     }
 
-    /// So many bytes were handed to the connection: those of the request that it is in, or the first
-    /// ones of the next.
+    /// Notes that `count` bytes were handed to the connection: bytes of the present request, or the
+    /// first ones of the next.
     pub(crate) fn note_read(&mut self, count: u32)
         ensures { self.new ≡ spec.after_read self.old count }
     {
@@ -61,14 +61,14 @@ impl Stand {
         }
     }
 
-    /// More was asked of the socket than was there.
+    /// Notes that more was asked of the socket than was there.
     pub(crate) fn note_short(&mut self)
         ensures { self.new ≡ spec.after_shortage self.old }
     {
         self.is_short = true;
     }
 
-    /// The service takes a request up.
+    /// Notes that the service takes up a request.
     pub(crate) fn take_up(&mut self)
         ensures { self.new ≡ spec.after_head self.old }
     {
@@ -78,7 +78,7 @@ impl Stand {
         self.is_short = false;
     }
 
-    /// The service has given the response.
+    /// Notes that the service has given the response.
     pub(crate) fn note_response(&mut self)
         ensures { self.new ≡ spec.after_response self.old }
     {
@@ -88,7 +88,7 @@ impl Stand {
         self.is_short = false;
     }
 
-    /// What the connection waits for at the end of a turn.
+    /// Returns what the connection waits for at the end of a turn.
     fn awaited(&self) -> Awaited
         ensures { result ≡ spec.awaited_by self.now }
     {
@@ -109,7 +109,7 @@ impl Stand {
         }
     }
 
-    /// What it tells at the end of a turn.
+    /// Returns what it publishes at the end of a turn.
     pub(crate) fn told(&self) -> Told
         ensures { result ≡ spec.told_by self.now }
     {
@@ -120,7 +120,7 @@ impl Stand {
         }
     }
 
-    /// What it tells once it waits for its peer's end.
+    /// Returns what it publishes once it waits for its peer's end.
     pub(crate) fn told_at_end(&self) -> Told
         ensures { result ≡ spec.told_at_end self.now }
     {

@@ -1,4 +1,4 @@
-//! A connection's socket, as its holders share it.
+//! A connection's socket, shared by its holders.
 
 ghost use Rattle.std.specs.Prelude.{⊤};
 ghost use Rattle.futures.specs.Poll.{OnPending};
@@ -14,27 +14,27 @@ use std::{io, mem};
 use tokio::io::{AsyncRead, AsyncWrite};
 use tokio::net::TcpStream;
 
-/// One of the holders of a connection's socket: the connection itself, its service, the responses that
-/// are to come, and who watches for the peer's end.
+/// A holder of a connection's socket. The holders are the connection itself, its service, the
+/// pending responses, and the watch for the peer's end.
 #[derive(Drop)]
 pub struct Wire {
     socket: Rc<RefCell<Socket<TcpStream>>>,
 }
 
 impl Wire {
-    /// The first holder of a socket. The only error is want of memory.
+    /// Makes the first holder of a socket. The only error is that memory is refused.
     pub(crate) fn new(alloc: Global, stream: TcpStream) -> io::Result<Wire> {
         let socket = Rc::new(alloc, RefCell::new(Socket::new(alloc, stream)))?;
         Ok(Wire { socket })
     }
 
-    /// Another holder.
+    /// Makes another holder.
     pub(crate) fn share(&self) -> Result<Wire, AllocError> {
         let socket = self.socket.clone()?;
         Ok(Wire { socket })
     }
 
-    /// Notes that a request is taken up, whose head has come.
+    /// Notes that a request whose head has come is taken up.
     pub(crate) fn take_up(&self) {
         if let Ok(mut socket) = self.socket.try_borrow_mut() {
             socket.stand.take_up();
@@ -49,7 +49,7 @@ impl Wire {
         }
     }
 
-    /// Whether the last request was a poll that was refused, which is then forgotten.
+    /// Returns whether the last request was a poll that was refused, and forgets it.
     pub(crate) fn takes_refusal(&self) -> bool {
         match self.socket.try_borrow_mut() {
             Ok(mut socket) => mem::take(&mut socket.is_refused),
@@ -57,8 +57,8 @@ impl Wire {
         }
     }
 
-    /// Whether the connection waited for its peer to send a request when its last turn ended, and so
-    /// serves none.
+    /// Returns whether the connection waited for its peer to send a request when its last turn
+    /// ended, and so serves none.
     pub(crate) fn is_unserved(&self) -> bool {
         match self.socket.try_borrow_mut() {
             Ok(socket) => socket.stand.told().is_unserved(),
@@ -66,8 +66,9 @@ impl Wire {
         }
     }
 
-    /// Ready once the peer has ended its side, or the socket failed. What comes before the end is kept for
-    /// the next read; a peer that has sent 64 KiB behind a request that is parked is taken to have ended.
+    /// Is ready once the peer has ended its side, or the socket failed. What comes before the end
+    /// is kept for the next read. A peer that has sent 64 KiB after a parked request is taken to
+    /// have ended.
     pub(crate) fn poll_ended(&self, cx: &mut Context<'_>) -> Poll<()>
         ensures kept { Keeps cx.old cx.new }
     {
@@ -77,9 +78,9 @@ impl Wire {
         }
     }
 
-    /// Ready once the peer has ended its side, the socket failed, or 64 MiB came, which are thrown away. A
-    /// socket that is closed with bytes unread resets the connection, and the peer may then lose the
-    /// answer that it has not read yet (RFC 9112, section 9.6).
+    /// Is ready once the peer has ended its side, the socket failed, or 64 MiB have come. What
+    /// comes is discarded. A socket that is closed with unread bytes resets the connection, and the
+    /// peer may then lose an answer that it has not read yet (RFC 9112, section 9.6).
     pub(crate) fn poll_drained(&self, cx: &mut Context<'_>) -> Poll<()>
         ensures registered { OnPending result (IsArmed cx.new) }
         ensures kept { Keeps cx.old cx.new }
@@ -97,14 +98,14 @@ impl Wire {
         }
     }
 
-    /// Tells how the connection stands at the end of a turn.
+    /// Publishes the connection's state at the end of a turn.
     pub(crate) fn end_turn(&self, pulse: &Pulse) {
         if let Ok(socket) = self.socket.try_borrow_mut() {
             pulse.tell(socket.stand.told());
         }
     }
 
-    /// Tells that the connection waits for its peer's end.
+    /// Publishes that the connection waits for its peer's end.
     pub(crate) fn await_end(&self, pulse: &Pulse) {
         if let Ok(socket) = self.socket.try_borrow_mut() {
             pulse.tell(socket.stand.told_at_end());

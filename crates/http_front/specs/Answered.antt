@@ -1,4 +1,4 @@
--- What answers a request at a door of the service: at a port, in a configuration, with the salt of its identifiers.
+-- The answer to a request at a door of the service: at a port, in a configuration, with the salt of its identifiers.
 use Rattle.std.specs.Prelude.{◌≡◌, ◌⊎◌, ℕ, List, [], Option, Result, MatchOption}
 use Rattle.account_book.specs.Reached.{IsReached}
 use Rattle.arn_ids.specs.declared.config.Config.{Config}
@@ -28,7 +28,7 @@ use Rattle.request_guard.specs.Guarding.{refusal_of}
 use Rattle.request_guard.specs.declared.refusal.Refusal.TheVariants.{BrokenBody, OutOfMemory}
 
 module _ (config : Config) (salt : ℕ) where
-  -- The reply where this was decided: that of the call, or of why it was not taken; what was decided; or what is shown.
+  -- The reply if this was decided: that of the call, or of why it was not taken; the decided one; or what is shown.
   abbrev pub IsReplyTo : Decision → Reply → Type 0
   IsReplyTo (decided.Submit call) reply = (most : ℕ) × IsReplyAt config most salt call reply
   IsReplyTo (decided.Reply own) reply = reply ≡ own
@@ -40,7 +40,7 @@ module _ (config : Config) (salt : ℕ) where
 
 -- These bodies show the account's history, each from where it is asked for.
 module _ {H : Type 0} (shows : Option ℕ → H → Type 0) (door : Served) where
-  -- The outcome where this was decided: a reply, or the history if that is to be shown.
+  -- The outcome if this was decided: a reply, or the history if that is to be shown.
   abbrev pub IsOutcomeOf : Decision → Outcome H → Type 0
   IsOutcomeOf made (outcome.Reply reply) = IsReplyTo door.config door.salt made reply
   IsOutcomeOf made (outcome.History body) =
@@ -49,15 +49,15 @@ module _ {H : Type 0} (shows : Option ℕ → H → Type 0) (door : Served) wher
   -- Of the bodies of requests: which frames each yields, and which bytes the data of a frame has.
   module _ {B P E : Type 0} (yields : B → Runs (Result (Frame P) E)) (has : P → List ℕ → Type 0)
       (hosts : List ℕ) (head : Parts) where
-    -- It is the response to what was decided at the door of a request with this head and the body that came.
+    -- It is the response to the decision, at the door, on a request with this head and the body that came.
     abbrev pub IsDecided : Response (Either (Full (List ℕ)) H) → Type 0
     IsDecided response =
         (came : B) × (given : Outcome H)
         × IsOfBody has (yields came) head [] (λ body. IsOutcomeOf (decision door head body) given)
         × IsResponseTo (declares_too_long head) given response
 
-    -- The response to a request with this head at the door: if its head is refused, of that refusal; else of a body
-    -- that failed, of memory that was refused, or of what was decided.
+    -- The response to a request with this head at the door. If the head is refused, it is that refusal's; else that
+    -- of a failed body, of refused memory, or of the decision.
     abbrev pub IsAnswerAt : Response (Either (Full (List ℕ)) H) → Type 0
     IsAnswerAt response = MatchOption (refusal_of hosts head)
         (IsRefusal (api_of door.port) (declares_too_long head) BrokenBody response

@@ -1,4 +1,4 @@
--- What becomes of a request on a port.
+-- The course of a request on a port.
 use Rattle.std.specs.Prelude.{◌≡◌, [], Some, None, MatchOption}
 use Rattle.std.specs.Arc.{arc_value}
 use Rattle.decisions.specs.declared.decide.Decide as Decide
@@ -15,16 +15,16 @@ use Rattle.usage_ledger.specs.declared.keep.Keep as Keep
 
 module _ {R S D N B K L : Type 0} {service : Service.Ghosts S K L} {decider : Decide.Ghosts D}
     {keep : Keep.Ghosts K} (port : Front R S D N K L service decider keep) (head : Parts) (body : B) where
-  -- An exchange is that of this request, on the port's connection.
+  -- The exchange is that of this request, on the port's connection.
   abbrev pub IsExchangeOf : Exchange R S D N B K L service decider keep → Type 0
   IsExchangeOf exchange =
       (arc_value exchange.connection ≡ arc_value port.connection)
       × (exchange.stage ≡ Collecting head
       (record { alloc = (arc_value port.connection).alloc; body = body; held = [] }))
 
-  -- A request whose head is refused has that refusal and no exchange, so it never becomes a call. Any other has an
-  -- exchange, or is refused because memory is. Either is answered in the form of the port's API, and as the last if the
-  -- head declares a body that is too long, which is then left unread.
+  -- A request whose head is refused has that refusal and no exchange, so it never becomes a call. Any other request
+  -- has an exchange, or is refused because memory is. Either is answered in the form of the port's API. If the head
+  -- declares a body that is too long, the body is left unread, and the answer is the connection's last.
   abbrev pub Takes : Responding R S D N B K L service decider keep → Type 0
   Takes future =
       (future.api ≡ port.api) × (future.is_unread ≡ declares_too_long head)

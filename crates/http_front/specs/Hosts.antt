@@ -9,7 +9,7 @@ use Rattle.http_front.specs.declared.host_fault.HostFault.{HostFault}
 use Rattle.http_front.specs.declared.host_fault.HostFault.TheVariants.{Config, Network, TooFewDescriptors}
 use Rattle.http_front.specs.declared.host_fault.HostFault.TheVariants.{StillShared, OutOfMemory}
 
--- what it says of a history that is not opened
+-- the fault for a history that is not opened
 abbrev pub fault_of_opening : OpenFault → HostFault
 fault_of_opening opening.EntriesOutOfRange = Config BadEntries
 fault_of_opening opening.OutOfMemory = OutOfMemory
@@ -22,7 +22,7 @@ IsFaultOf config TooFewDescriptors = ⊥
 IsFaultOf config StillShared = ⊥
 IsFaultOf config OutOfMemory = first_fault config ≡ None
 
--- A fault of the machine: a port that can't be listened on, too few descriptors, or memory that was refused.
+-- A fault of the machine: a port that cannot be listened on, too few descriptors, or refused memory.
 abbrev pub IsOfMachine : HostFault → Type 0
 IsOfMachine (Config fault) = ⊥
 IsOfMachine Network = Unit {0}

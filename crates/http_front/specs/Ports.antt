@@ -15,8 +15,8 @@ abbrev pub kind_of : Port → PortKind
 kind_of Account = limits.Account
 kind_of (Environment e) = limits.Environment
 
--- How many connections there may be at once: 1,024 at least, and as many as the polls of all environments, each with
--- its runtime and ten extensions, and 64 for callers. (A configuration has 256 environments at most.)
+-- The most connections at once: one for each poll of all environments, each with its runtime and ten extensions, and
+-- 64 for callers; at least 1,024. (A configuration has at most 256 environments.)
 abbrev pub places_for : Config → ℕ
 places_for config = max 1024 (min (11 * length (owners config) + 64) (2 ^ 32 - 1))
 
@@ -33,7 +33,7 @@ abbrev pub number_of : Config → Port → ℕ
 number_of config Account = config.invoke_port
 number_of config (Environment e) = get_or (environment_ports config) (e - 1) 0
 
--- whose API a port speaks, and so which form its refusals have
+-- the API that a port speaks, and so the form of its refusals
 abbrev pub api_of : Port → Api
 api_of Account = Lambda
 api_of (Environment e) = Runtime

@@ -1,4 +1,4 @@
--- The response that an outcome is sent as.
+-- The response as which an outcome is sent.
 use Rattle.std.specs.Prelude.{◌≡◌, ℕ, Bool, true, false, ◌||◌, List, [], ◌==◌, if◌then◌else◌, length, fold, codes}
 use Rattle.std.specs.Prelude.{Option, Some, None, Result, Ok, Err}
 use Rattle.http.specs.Response.{head_of, body_of}
@@ -23,7 +23,7 @@ use Rattle.request_guard.specs.declared.refusal.Refusal.TheVariants.{BrokenBody,
 abbrev pub fields : List (List ℕ × FieldValue) → Entries FieldValue
 fields headers = fold (λ map header. append map header.0 header.1) [] headers
 
--- If the connection ends behind a response, the last of its fields says so (RFC 9112, section 9.6).
+-- If the connection ends after a response, the last of its fields says so (RFC 9112, section 9.6).
 abbrev pub said_closing : Bool → Entries FieldValue → Entries FieldValue
 said_closing false map = map
 said_closing true map = append map (codes "connection") (plain_value (codes "close"))
@@ -35,7 +35,7 @@ pub record HasHead {B : Type 0} (is_last : Bool) (status : ℕ) (headers : List 
   pub version_is : (head_of response).version ≡ HTTP_11
   pub headers_are : (head_of response).headers ≡ said_closing is_last (fields headers)
 
--- a body in one piece, none where there are no bytes
+-- a body in one piece, or no piece if there are no bytes
 abbrev pub whole : List ℕ → Option (List ℕ)
 whole bytes = if length bytes == 0 then None else Some bytes
 
@@ -52,14 +52,14 @@ IsResponseTo is_last (Reply reply) response =
 IsResponseTo is_last (History body) response =
     HasHead is_last 200 history_headers response × (body_of response ≡ Right body)
 
--- A response is that of a refusal, in the form of its port's API. It is the last behind a body that is left unread, and
--- where the refusal itself ends the connection.
+-- A response is that of a refusal, in the form of its port's API. It is the connection's last if the body is left
+-- unread, or if the refusal itself ends the connection.
 abbrev pub IsRefusal : {H : Type 0} → Api → Bool → Refusal → Response (Either (Full (List ℕ)) H) → Type 0
 IsRefusal api is_unread refusal response =
     IsResponseTo (is_unread || closes refusal) (Reply (refusal_reply api refusal)) response
 
--- A response is that of what an exchange came to, whose body was left unread or not: a body that failed is answered
--- 400, memory that was refused 500. Of a lost bell there is none.
+-- A response is that of an exchange's result, whose body was left unread or not: 400 for a body that failed, 500 if
+-- memory was refused. A lost bell has none.
 abbrev pub IsAnswerTo : {H : Type 0} → Api → Bool → Result (Outcome H) ExchangeFault
     → Response (Either (Full (List ℕ)) H) → Type 0
 IsAnswerTo api is_unread (Ok outcome) response = IsResponseTo is_unread outcome response

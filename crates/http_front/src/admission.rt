@@ -1,4 +1,4 @@
-//! What a newcomer's connection is served with, and what is known of it outside its thread.
+//! What serving a newcomer's connection needs, and what is known of it outside its thread.
 
 use crate::attendant::{Newcomer, Visit};
 use crate::door::Door;
@@ -10,7 +10,7 @@ use std::alloc::{AllocError, Global};
 use std::net::TcpStream;
 use std::sync::Arc;
 
-/// The signals that end a connection, and their senders.
+/// Makes the signals that end a connection, and their senders.
 fn signals(alloc: Global) -> Result<(Signals, Enders), AllocError> {
     let (soft_sender, soft) = oneshot::channel(alloc)?;
     let (hard_sender, hard) = oneshot::channel(alloc)?;
@@ -23,7 +23,8 @@ fn signals(alloc: Global) -> Result<(Signals, Enders), AllocError> {
     Ok((Signals { soft, hard, room }, enders))
 }
 
-/// A socket at a port of this kind as its thread watches it, and what is known of it outside that thread.
+/// Returns a socket at a port of this kind, as its thread watches it, and what is known of it
+/// outside that thread.
 fn newcomer(
     alloc: Global,
     socket: TcpStream,
@@ -40,7 +41,7 @@ fn newcomer(
     Ok((newcomer, Running::new(enders, noted, kind)))
 }
 
-/// A connection to serve at a port, and what is known of it outside its thread.
+/// Returns a connection to serve at a port, and what is known of it outside its thread.
 pub(crate) fn admit<S: Identity>(
     alloc: Global,
     socket: TcpStream,

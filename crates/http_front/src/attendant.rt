@@ -45,7 +45,7 @@ impl Park for OpenNext {
     }
 }
 
-/// A socket that was accepted, the signals that end its connection, and the pulse that says how it stands.
+/// An accepted socket, the signals that end its connection, and the pulse that publishes its state.
 #[derive(Drop)]
 pub(crate) struct Newcomer {
     pub(crate) socket: TcpStream,
@@ -60,8 +60,8 @@ pub(crate) struct Visit<S: Identity> {
     pub(crate) door: Door<S>,
 }
 
-/// With what a thread serves its connections: its event loop, the decider of the last one's requests, and its
-/// token, which has seen a beginning of the account's history.
+/// What a thread needs to serve its connections: its event loop, the decider of the last one's
+/// requests, and its token, which has seen a beginning of the account's history.
 #[derive(Drop)]
 struct Tools<S: Identity> {
     event_loop: EventLoop,
@@ -70,7 +70,7 @@ struct Tools<S: Identity> {
 }
 
 impl<S: Identity> Tools<S> {
-    /// Those of the thread that opens them, for connections to this account.
+    /// Opens them for the present thread, for connections to this account.
     fn open<R: Machine>(rt: &R, account: &Account<S, OneShotBell>) -> io::Result<Tools<S>> {
         match EventLoop::open(rt) {
             Ok(event_loop) => Ok(Tools {
@@ -83,8 +83,9 @@ impl<S: Identity> Tools<S> {
     }
 }
 
-/// Serves the connections of a place. It has what the threads have in common, the place with the tally in
-/// which the calls count, and the most milliseconds for which a premature call is held back.
+/// Serves the connections of a place. It has what the threads have in common, the place with the
+/// tally in which the calls count, and the most milliseconds for which a premature call is held
+/// back.
 #[derive(Drop)]
 pub(crate) struct Attendant<R, S: Identity, N, K: Keep> {
     pub(crate) rt: R,
@@ -93,10 +94,10 @@ pub(crate) struct Attendant<R, S: Identity, N, K: Keep> {
     pub(crate) patience: u32,
 }
 
-/// Serves a connection at a port of this kind by a front. Returns how it ended, if it ended of itself: each
-/// response that was written is then one with which the front answers its request. The service and the
-/// decider are parameters here: their own types, repeated in each of those that `hyper` makes of a
-/// connection, are too large for a proof.
+/// Serves a connection at a port of this kind with a front. Returns how it ended, if it ended by
+/// itself: each response that was written is then one with which the front answers its request. The
+/// service and the decider are parameters here: their own types, repeated in each of those that
+/// `hyper` makes of a connection, are too large for a proof.
 fn serve_by<
     R: Machine,
     A: Service<K, L>,
@@ -134,7 +135,8 @@ impl<
     N: Clock + Drop + Send + Sync + 'static,
     K: Keep + Send + 'static,
 > Attendant<R, S, N, K> {
-    /// Starts the thread, with its first connection. If no thread can be made, the connection is closed.
+    /// Starts the thread, with its first connection. If no thread can be made, the connection is
+    /// closed.
     pub(crate) fn start(self, first: Visit<S>) -> Option<Worker<Visit<S>>> {
         let rt = self.rt;
         let Ok(mailbox) = Arc::try_clone(&self.post.mailbox) else {
@@ -149,16 +151,16 @@ impl<
 }
 
 impl<R: Machine, S: Identity + Drop, N: Clock + Drop, K: Keep> Attendant<R, S, N, K> {
-    /// Serves this connection and those that follow, until none follows. If the event loop cannot be opened,
-    /// or fails, the place is left earlier.
+    /// Serves this connection and those that follow, until none follows. If the event loop cannot
+    /// be opened, or fails, the place is left earlier.
     fn work(self, first: Visit<S>) {
         if !self.attend_all(first) {
             self.post.leave(&self.rt);
         }
     }
 
-    /// Serves this connection and those that follow, with tools of this thread. Returns whether it was until
-    /// none followed.
+    /// Serves this connection and those that follow, with tools of this thread. Returns whether it
+    /// ended because none followed.
     fn attend_all(&self, first: Visit<S>) -> bool {
         match Tools::open(&self.rt, &*self.common.account) {
             Ok(mut tools) => self.attend_in_turn(&mut tools, first),
@@ -166,8 +168,8 @@ impl<R: Machine, S: Identity + Drop, N: Clock + Drop, K: Keep> Attendant<R, S, N
         }
     }
 
-    /// Serves this connection and those that follow, one after the other. Returns whether it was until none
-    /// followed.
+    /// Serves this connection and those that follow, one after the other. Returns whether it ended
+    /// because none followed.
     fn attend_in_turn(&self, tools: &mut Tools<S>, first: Visit<S>) -> bool {
         let mut visit = first;
         for _ in self.rt.forever() {
@@ -182,9 +184,9 @@ impl<R: Machine, S: Identity + Drop, N: Clock + Drop, K: Keep> Attendant<R, S, N
         unreachable!()
     }
 
-    /// Serves a connection, and then withdraws its open Next (Runtime API, Next invocation). Returns how it
-    /// ended, if it ended of itself: each response that was written to it then answers its request at the
-    /// connection's own door.
+    /// Serves a connection, and then withdraws its open Next (Runtime API, Next invocation).
+    /// Returns how it ended, if it ended by itself: each response that was written to it then
+    /// answers its request at the connection's own door.
     ///
     /// # Errors
     /// If the event loop cannot serve another connection.
@@ -200,7 +202,7 @@ impl<R: Machine, S: Identity + Drop, N: Clock + Drop, K: Keep> Attendant<R, S, N
         ended
     }
 
-    /// Serves a connection. Returns how it ended, if it ended of itself.
+    /// Serves a connection. Returns how it ended, if it ended by itself.
     ///
     /// # Errors
     /// If the event loop cannot serve another connection.
@@ -240,7 +242,8 @@ impl<
     N: Clock + Drop,
     K: Keep,
 > Attendant<R, S, N, K> {
-    /// The front of a connection at a port: of the same account, with the decider of its door.
+    /// Returns the front of a connection at a port: of the same account, with the decider of its
+    /// door.
     fn front(
         &self,
         sides: &mut Sides<S>,
@@ -267,7 +270,7 @@ impl<
         }
     }
 
-    /// What the exchanges of a connection share, with a token of its own.
+    /// Returns what the exchanges of a connection share, with a token of its own.
     fn connection(
         &self,
         decider: Arc<Side>,
@@ -297,7 +300,8 @@ impl<
         Arc::new(alloc, connection).map_err(AllocError::from)
     }
 
-    /// Withdraws the Next whose ticket is noted as open. If that is refused, the Next stays pending.
+    /// Withdraws the Next whose ticket is noted as open. If that is refused, the Next stays
+    /// pending.
     fn withdraw(&self, token: &mut Token<S>, open: &OpenPoll) {
         if let Some(ticket) = open.ticket() {
             let now = moment(&*self.common.clock);

@@ -10,8 +10,8 @@ use std::alloc::{AllocError, Global};
 use std::sync::Arc;
 use std::sync::atomic::AtomicBool;
 
-/// What the threads of a host have in common: the account that is served, the clock, the hosts that are
-/// listed beside the local ones, and whether the service is over.
+/// What the threads of a host have in common: the account that is served, the clock, the hosts that
+/// are listed in addition to the local ones, and whether the service is over.
 #[derive(Drop)]
 pub(crate) struct Common<S: Identity, N> {
     pub(crate) account: Arc<Account<S, OneShotBell>>,
@@ -21,8 +21,8 @@ pub(crate) struct Common<S: Identity, N> {
 }
 
 impl<S: Identity + Drop, N: Drop> Common<S, N> {
-    /// This account, by this clock, for these hosts; its service is not over. The only error is that memory
-    /// is refused; the arguments are then dropped.
+    /// Makes it for this account, this clock and these hosts; the service is not over. The only
+    /// error is that memory is refused; the arguments are then dropped.
     pub(crate) fn new(
         alloc: Global,
         account: Account<S, OneShotBell>,
@@ -43,7 +43,7 @@ impl<S: Identity + Drop, N: Drop> Common<S, N> {
         })
     }
 
-    /// The same for another thread.
+    /// Returns the same, for another thread.
     pub(crate) fn share(&self) -> Result<Common<S, N>, AllocError>
         ensures account { IfOk result (λ common. arc_value common.account ≡ arc_value self.now.account) }
         ensures hosts { IfOk result (λ common. arc_value common.hosts ≡ arc_value self.now.hosts) }

@@ -15,8 +15,8 @@ use std::alloc::{AllocError, Global};
 use std::marker::{Model, PhantomData};
 use std::sync::Arc;
 
-/// Whose port it is, in the configuration and with the salt of the identifiers that the account's type
-/// names. (A `Side` has routes, which cannot cross threads; so each thread opens its own.)
+/// Whose port it is, in the configuration and with the salt of the identifiers that the account's
+/// type names. (A `Side` has routes, which cannot cross threads; so each thread opens its own.)
 #[derive(Drop)]
 pub(crate) struct Door<S: Identity> {
     port: Port,
@@ -39,7 +39,7 @@ impl<S: Identity> Model for Door<S> {
 }
 
 impl<S: Identity> Door<S> {
-    /// A port of this configuration, with this salt.
+    /// Returns a port of this configuration, with this salt.
     pub(crate) fn new(port: Port, config: Arc<Checked>, salt: u64) -> Door<S>
         requires configured { arc_value config ≡ S.config }
         requires salted { salt ≡ S.salt }
@@ -54,14 +54,14 @@ impl<S: Identity> Door<S> {
         }
     }
 
-    /// Whose it is.
+    /// Returns whose port it is.
     pub(crate) fn port(&self) -> Port
         ensures { result ≡ self.now.port }
     {
         self.port
     }
 
-    /// Whose API it speaks.
+    /// Returns the API that it speaks.
     pub(crate) fn api(&self) -> Api
         ensures { result ≡ api_of self.now.port }
     {
@@ -71,7 +71,7 @@ impl<S: Identity> Door<S> {
         }
     }
 
-    /// Which kind of port it is.
+    /// Returns the kind of port that it is.
     pub(crate) fn kind(&self) -> PortKind
         ensures { result ≡ kind_of self.now.port }
     {
@@ -81,14 +81,14 @@ impl<S: Identity> Door<S> {
         }
     }
 
-    /// Whether it is that port.
+    /// Returns whether it is that port.
     pub(crate) fn is(&self, other: &Door<S>) -> bool
         ensures { IsTrue result → self.now ≡ other.now }
     {
         self.port == other.port && self.salt == other.salt
     }
 
-    /// The same port, for another thread.
+    /// Returns the same port, for another thread.
     pub(crate) fn share(&self) -> Result<Door<S>, AllocError>
         ensures { IfOk result (λ door. door ≡ self.now) }
     {
@@ -96,7 +96,7 @@ impl<S: Identity> Door<S> {
         Ok(Door::new(self.port, config, self.salt))
     }
 
-    /// The decider of its requests. The only error is that memory is refused.
+    /// Makes the decider of its requests. The only error is that memory is refused.
     pub(crate) fn side(&self, alloc: Global) -> Result<Side, AllocError>
         ensures { IfOk result (λ side. (side ≡ self.now) × (side.config ≡ S.config)) }
     {

@@ -21,11 +21,11 @@ use std::net::{IpAddr, Ipv4Addr, Net, SocketAddr};
 use std::sync::Arc;
 use std::time::Duration;
 
-/// How many events one wait reports at most.
+/// The most events that one wait reports.
 const MOST_EVENTS: usize = 256;
 
-/// A port that is listened on, with its door, and whether newcomers may wait at it: a port reports once that
-/// they do, so that is kept until the port was found empty.
+/// A port that is listened on, with its door, and whether newcomers may wait at it. A port reports
+/// newcomers once, so this is kept until the port is found empty.
 #[derive(Drop)]
 pub(crate) struct Gate<S: Identity> {
     pub(crate) listener: TcpListener,
@@ -51,7 +51,7 @@ fn push_ports(ports: &mut Vec<u16>, slots: &[Slot]) -> Result<(), AllocError>
     Ok(())
 }
 
-/// The ports of the environments, in the order of their numbers.
+/// Returns the ports of the environments, in the order of their numbers.
 fn ports_in_order(alloc: Global, config: &Checked) -> Result<Vec<u16>, AllocError>
     ensures { IfOk result (λ ports. ports.items ≡ environment_ports config.now) }
 {
@@ -128,7 +128,7 @@ impl<S: Identity> Entrance<S> {
         Ok(entrance)
     }
 
-    /// One without a port.
+    /// Makes one without a port.
     fn new(net: &impl Net, alloc: Global) -> Result<Entrance<S>, HostFault>
         ensures gates { IfOk result (λ entrance. entrance.gates.items ≡ []) }
         ensures fault { IfErr result IsOfMachine }
@@ -141,7 +141,7 @@ impl<S: Identity> Entrance<S> {
         })
     }
 
-    /// Listens at the port of each environment, in the order of their numbers, behind the account's.
+    /// Listens at the port of each environment, in the order of their numbers, after the account's.
     #[tactic(auto, using(crate::proofs::PortLemmas::as_many_ports))]
     fn listen_for_environments(
         &mut self,
@@ -179,7 +179,7 @@ impl<S: Identity> Entrance<S> {
         Ok(())
     }
 
-    /// Notes at which ports newcomers wait.
+    /// Notes the ports at which newcomers wait.
     fn note_newcomers(&mut self) {
         for event in &self.events {
             if let Some(gate) = self.gates.get_mut(event.token().0) {

@@ -1,4 +1,4 @@
-//! What answers the requests of a port.
+//! The service that answers the requests of a port.
 
 ghost use Rattle.std.specs.Prelude.{◌≡◌, [], IfSome};
 ghost use Rattle.std.specs.Arc.{arc_value};
@@ -23,9 +23,10 @@ use std::sync::{Arc, Wait};
 use std::time;
 use usage_ledger::{Keep, Ledgers};
 
-/// A port, for one connection: each request is an exchange. The decider of its exchanges knows whose port it
-/// is: an environment's (Runtime API 2018-06-01, Extensions API 2020-01-01), or the account's (Lambda API:
-/// Invoke, PutFunctionConcurrency, GetFunctionConcurrency; and this service's own routes).
+/// A port, for one connection: each request is an exchange. The decider of its exchanges knows
+/// whose port it is: an environment's (Runtime API 2018-06-01, Extensions API 2020-01-01), or the
+/// account's (Lambda API: Invoke, PutFunctionConcurrency, GetFunctionConcurrency; and this
+/// service's own routes).
 #[derive(Drop)]
 pub struct Front<R, S: Service<K, L>, D: Decide, N, K: Keep, L: Ledgers> {
     alloc: Global,
@@ -42,8 +43,8 @@ impl<
     K: Keep,
     L: Ledgers,
 > Front<R, S, D, N, K, L> {
-    /// The port for a connection, which speaks this API and answers for these hosts beside the local ones. It
-    /// allocates nothing.
+    /// Makes the port for a connection, which speaks this API and answers for these hosts in
+    /// addition to the local ones. It allocates nothing.
     pub fn new(
         alloc: Global,
         api: Api,
@@ -61,8 +62,8 @@ impl<
         }
     }
 
-    /// The exchange of a request of this head and body, on the heap: it is large, and `hyper` moves the
-    /// response that holds it several times. None if memory is refused.
+    /// Makes the exchange of a request of this head and body, on the heap: it is large, and `hyper`
+    /// moves the response that holds it several times. Returns `None` if memory is refused.
     fn exchange<B: Body>(&self, parts: Parts, body: B) -> Option<Box<Exchange<R, S, D, N, B, K, L>>>
     where
         B::Data: Into<Bytes>,
@@ -79,8 +80,9 @@ impl<
         }
     }
 
-    /// The response to a request of this head and body. If the head is refused, there is no exchange, so the
-    /// request never becomes a call. If the head declares a body that is too long, the body is left unread.
+    /// Returns the response to a request of this head and body. If the head is refused, there is no
+    /// exchange, so the request never becomes a call. If the head declares a body that is too long,
+    /// the body is left unread.
     fn respond<B: Body>(&self, parts: Parts, body: B) -> Responding<R, S, D, N, B, K, L>
     where
         B::Data: Into<Bytes>,

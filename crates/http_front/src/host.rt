@@ -21,17 +21,18 @@ use std::alloc::AllocError;
 use std::sync::Arc;
 use usage_ledger::{Blanks, Keep, Tally};
 
-/// Whether enough descriptors are left for one connection: a socket, and the event loop of its thread.
+/// Returns whether enough descriptors are left for one connection: a socket, and the event loop of
+/// its thread.
 fn has_room_for_one<R: Machine>(rt: &R) -> bool {
     let one = EventLoop::open(rt);
     let socket = Poll::new(rt);
     one.is_ok() && socket.is_ok()
 }
 
-/// An account that is served over HTTP/1.1 on 127.0.0.1: on the invoke port for callers, and on a port of
-/// each environment for its runtime and its extensions. `S` names the configuration, the salt, the limit,
-/// the ledgers and the history of the account, `N` is the clock, in Unix milliseconds, and `K` is what each
-/// tally keeps.
+/// An account that is served over HTTP/1.1 on 127.0.0.1: on the invoke port for callers, and on a
+/// port of each environment for its runtime and its extensions. `S` names the configuration, the
+/// salt, the limit, the ledgers and the history of the account, `N` is the clock, in Unix
+/// milliseconds, and `K` is what each tally keeps.
 #[derive(Drop)]
 pub struct Host<R, S: Identity, N, K: Keep> {
     reception: Reception<R, S, N, K>,
@@ -55,18 +56,19 @@ impl<
     N: Clock + Drop + Send + Sync + 'static,
     K: Keep + Send + 'static,
 > Host<R, S, N, K> {
-    /// Opens the account of a plan and listens on every port. It takes `most` connections at once, of which
-    /// one in sixteen, and 64 at most, are kept for the account's port. If there is no place, and some are
-    /// kept, a newcomer takes that of the connection at the account's port that has been longest without a
-    /// complete request; any other newcomer is closed. If an Invoke would be throttled while an environment
-    /// that could serve it has answered and is about to ask for the next invocation, it is held back for up
-    /// to `patience` milliseconds, in which that environment may be ready again. A request that names a host
-    /// which is neither local nor one of `hosts` is refused.
+    /// Opens the account of a plan and listens on every port. It takes `most` connections at once;
+    /// one place in sixteen, at most 64, is kept for the account's port. If there is no place, and
+    /// some are kept, a newcomer takes that of the connection at the account's port that has been
+    /// longest without a complete request; any other newcomer is closed. If an Invoke would be
+    /// throttled while an environment that could serve it has answered and is about to ask for the
+    /// next invocation, it is held back for up to `patience` milliseconds, in which that
+    /// environment may be ready again. A request that names a host which is neither local nor one
+    /// of `hosts` is refused.
     ///
     /// # Errors
-    /// `Config(BadEntries)` exactly if not environments + 1 ≤ `max_entries` ≤ 2^32, `TooFewDescriptors` if
-    /// there are too few for the ports or for one connection more, `Network` if a port cannot be listened
-    /// on, else `OutOfMemory`. No port is then listened on.
+    /// `Config(BadEntries)` exactly if not environments + 1 ≤ `max_entries` ≤ 2^32,
+    /// `TooFewDescriptors` if there are too few for the ports or for one connection more, `Network`
+    /// if a port cannot be listened on, else `OutOfMemory`. No port is then listened on.
     pub fn open(
         rt: R,
         plan: Plan,
@@ -101,7 +103,7 @@ impl<
         }
     }
 
-    /// Listens on every port for an account that is open, with its tally.
+    /// Listens on every port for an open account with its tally.
     fn listen(
         rt: R,
         opened: (Account<S, OneShotBell>, Tally<K, S>),
@@ -124,7 +126,7 @@ impl<
         }
     }
 
-    /// The host of an account that is open, with its tally, whose ports are listened on.
+    /// Makes the host of an open account with its tally, whose ports are listened on.
     fn of(
         rt: R,
         opened: (Account<S, OneShotBell>, Tally<K, S>),
@@ -156,19 +158,19 @@ impl<
         })
     }
 
-    /// What the service has to say while it runs, for another thread. The only error is that memory is
-    /// refused.
+    /// Returns what the service has to say while it runs, for another thread. The only error is
+    /// that memory is refused.
     pub fn notices(&self) -> Result<Arc<Notices>, AllocError> {
         Arc::try_clone(&self.notices)
     }
 
-    /// Serves until the service has come to its end: after a Stop, once every environment is off, or if a
-    /// full journal lets no more time pass. Then no more connections are taken, those that are open are
-    /// ended, and every thread is joined.
+    /// Serves until the service has come to its end: after a Stop, once every environment is off,
+    /// or if a full journal lets no more time pass. Then no more connections are taken, those that
+    /// are open are ended, and every thread is joined.
     ///
     /// # Errors
-    /// `Network` if the ports fail, `OutOfMemory` if there is too little memory to begin, or `StillShared`.
-    /// The account and the tallies are then dropped.
+    /// `Network` if the ports fail, `OutOfMemory` if there is too little memory to begin, or
+    /// `StillShared`. The account and the tallies are then dropped.
     pub fn run(self) -> Result<Hosted<S, K>, HostFault> {
         let Host {
             mut reception,

@@ -14,7 +14,8 @@ pub enum HostFault {
     /// The configuration has a fault, or the history's entries are out of their range.
     #[error("{0}")]
     Config(ConfigFault),
-    /// A port could not be listened on, for instance because another program has it, or listening failed.
+    /// A port could not be listened on, for instance because another program has it, or listening
+    /// failed.
     #[error("network failed")]
     Network,
     /// The process may not open enough descriptors for the ports and one connection (`ulimit -n`).
@@ -53,13 +54,13 @@ impl From<OpenFault> for HostFault {
     }
 }
 
-/// The numbers of the errors that no descriptor is left, of the process or of the machine (POSIX, errno.h;
-/// the numbers are Linux's).
+/// The numbers of the errors for no descriptor left, in the process or in the machine (POSIX,
+/// errno.h; the numbers are Linux's).
 const EMFILE: i32 = 24;
 
 const ENFILE: i32 = 23;
 
-/// What went wrong at a socket.
+/// Returns the fault for an error at a socket.
 pub(crate) fn at_socket(fault: io::Error) -> HostFault
     ensures { IsOfMachine result }
 {

@@ -1,8 +1,8 @@
 //! The server: a listener for each port, a thread for each connection, which then waits for another
 //! connection, a ticker, and shutdown; and `hyper` services over the exchanges of `long_poll`.
 //!
-//! A fault is passed on by `Err(fault) => Err(fault)` where `?` would be read with a conversion that the
-//! prover does not see through.
+//! A fault is passed on by `Err(fault) => Err(fault)` if `?` would add a conversion that the prover
+//! does not see through.
 #![tactic(auto)]
 
 mod admission;

@@ -6,19 +6,19 @@ ghost use Rattle.http_front.specs.Notices.{room_left};
 use std::sync::atomic::AtomicU64;
 use std::sync::atomic::Ordering::SeqCst;
 
-/// How much room a journal has.
+/// The room left in a journal.
 #[derive(Clone, Copy, Debug, PartialEq, Eq, PartialOrd, Ord, Drop)]
 pub enum Room {
     /// Enough.
     Ample,
-    /// Nine tenths of its entries are there.
+    /// Nine tenths of its entries are used.
     Short,
     /// It takes no call but a Stop.
     Full,
 }
 
-/// How much room a journal has with this many entries, of `most` at most, each step of which may take
-/// `step` entries: one for each environment that expires, and one for the call.
+/// Returns the room left in a journal that has this many of at most `most` entries. Each step may
+/// take `step` entries: one for each environment that expires, and one for the call.
 fn room_left(entries: u64, most: u64, step: u32) -> Room
     ensures { result ≡ room_left entries most step }
 {
@@ -31,8 +31,8 @@ fn room_left(entries: u64, most: u64, step: u32) -> Room
     }
 }
 
-/// What a service has to say while it runs, for a log that another thread writes: so the service does not
-/// wait for the log's reader.
+/// What a service has to say while it runs, for a log that another thread writes, so that the
+/// service does not wait for the log's reader.
 #[derive(Drop)]
 pub struct Notices {
     most: u64,
@@ -41,7 +41,8 @@ pub struct Notices {
 }
 
 impl Notices {
-    /// Of an empty journal that holds at most `most` entries, of which a step takes at most `step`.
+    /// Makes the notices of an empty journal that holds at most `most` entries, of which a step
+    /// takes at most `step`.
     pub(crate) fn new(most: u64, step: u32) -> Notices {
         Notices {
             most,
@@ -55,7 +56,7 @@ impl Notices {
         self.entries.store(entries, SeqCst);
     }
 
-    /// How much room the journal had at the last check, up to 50 milliseconds ago.
+    /// Returns the room that the journal had at the last check, up to 50 milliseconds ago.
     pub fn room(&self) -> Room {
         room_left(self.entries.load(SeqCst), self.most, self.step)
     }

@@ -12,17 +12,18 @@ use lambda_wire::Setup;
 use std::alloc::{AllocError, Global};
 use std::sync::Arc;
 
-/// How many polls an environment may have open at once: those of its runtime and of ten extensions.
+/// The most polls that an environment has open at once: those of its runtime and of ten extensions.
 const POLLS_OF_ONE: u32 = 11;
 
-/// How many places callers have beside those of all polls.
+/// The number of places for callers, in addition to those of all polls.
 const FOR_CALLERS: u32 = 64;
 
-/// How many places there are at least.
+/// The least number of places.
 const LEAST_PLACES: u32 = 1_024;
 
-/// What a host is opened with: a configuration without a fault, the salt of its identifiers, and how many
-/// entries its history may have. The account and the ports share the configuration, each by its own handle.
+/// What a host is opened with: a configuration without a fault, the salt of its identifiers, and
+/// the most entries of its history. The account and the ports share the configuration, each by its
+/// own handle.
 #[derive(Drop)]
 pub struct Plan {
     pub(crate) config: Arc<Checked>,
@@ -33,8 +34,8 @@ pub struct Plan {
 }
 
 impl Plan {
-    /// The plan of a setup whose configuration has no fault; a faulty one is dropped. Whether the number of
-    /// entries is within its range is checked when the host is opened.
+    /// Makes the plan of a setup if its configuration has no fault; a faulty one is dropped. The
+    /// range of the number of entries is checked when the host is opened.
     ///
     /// # Errors
     /// `Config` with the first fault of the configuration; else `OutOfMemory`.
@@ -62,8 +63,8 @@ impl Plan {
         })
     }
 
-    /// How many connections there may be at once: 1,024 at least, and as many as the polls of all
-    /// environments, each with its runtime and ten extensions, and 64 for callers.
+    /// Returns the most connections at once: one for each poll of all environments, each with its
+    /// runtime and ten extensions, and 64 for callers; at least 1,024.
     pub fn places(&self) -> u32
         ensures { result ≡ places_for (arc_value self.now.config) }
     {
@@ -71,7 +72,7 @@ impl Plan {
         polls.saturating_add(FOR_CALLERS).max(LEAST_PLACES)
     }
 
-    /// What was checked.
+    /// Returns the checked configuration.
     pub fn config(&self) -> &Checked
         ensures { result.now ≡ arc_value self.now.config }
     {

@@ -25,38 +25,39 @@ use std::time::Duration;
 use std::{io, thread, time};
 use usage_ledger::{Keep, Tally};
 
-/// How many milliseconds one wait for newcomers lasts at most: so often it is checked whether the service
-/// is over.
+/// The longest wait for newcomers, in milliseconds: how often the end of the service is checked.
 const ROUND: u64 = 50;
 
 /// How many milliseconds pass between two attempts.
 const PAUSE: u64 = 1;
 
-/// How many newcomers a port takes in before it is another port's turn.
+/// The most newcomers that a port takes in before it is another port's turn.
 const MOST_IN_A_TURN: u32 = 8;
 
-/// How many times, a pause apart, it is checked whether a connection has made room: its thread may have to
-/// wait for a processor.
+/// How many times, a pause apart, it is checked whether a connection has made room. (Its thread may
+/// have to wait for a processor.)
 const LOOKS_FOR_ROOM: u32 = 250;
 
-/// How many seconds pass between two checks for connections that stand still.
+/// How many seconds pass between two checks of the connections' time limits.
 const BETWEEN_ROUNDS: u64 = 1;
 
-/// How many times it is checked whether all connections have ended softly. With the pauses between, that
-/// takes half a second.
+/// How many times it is checked whether all connections have ended softly. With the pauses between,
+/// that takes half a second.
 const LOOKS: u32 = 100;
 
 /// How many milliseconds pass between two of these checks.
 const BETWEEN_LOOKS: u64 = 5;
 
-/// Whether accepting failed because of the newcomer itself, which has left again, or because the call was
-/// interrupted: other newcomers may still wait. (POSIX, accept: ECONNABORTED, EINTR)
+/// Returns whether accepting failed because of the newcomer itself, which has left again, or
+/// because the call was interrupted: other newcomers may still wait. (POSIX, accept: ECONNABORTED,
+/// EINTR)
 fn is_of_newcomer(kind: io::ErrorKind) -> bool {
     kind == io::ErrorKind::ConnectionAborted || kind == io::ErrorKind::Interrupted
 }
 
-/// Takes connections in, serves each on a thread of its own, and ends them. It has what the threads have in
-/// common, the tally from which those of the connections are split, and the places of the connections.
+/// Takes connections in, serves each on a thread of its own, and ends them. It has what the threads
+/// have in common, the tally from which those of the connections are split, and the places of the
+/// connections.
 #[derive(Drop)]
 pub(crate) struct Reception<R, S: Identity, N, K: Keep> {
     rt: R,
@@ -67,13 +68,13 @@ pub(crate) struct Reception<R, S: Identity, N, K: Keep> {
     spare: Option<Poll>,
     // The most milliseconds for which a premature call is held back.
     patience: u32,
-    // When connections were last checked for standing still, by the monotonic clock.
+    // When the time limits were last checked, by the monotonic clock.
     looked: Duration,
 }
 
 impl<R: Machine, S: Identity + Drop, N: Drop, K: Keep> Reception<R, S, N, K> {
-    /// For at most `most` connections at once to an account that is open, with its tally. The only error is
-    /// that memory is refused; the account is then dropped.
+    /// Opens it for at most `most` connections at once to an open account with its tally. The only
+    /// error is that memory is refused; the account is then dropped.
     pub(crate) fn open(
         rt: R,
         opened: (Account<S, OneShotBell>, Tally<K, S>),
@@ -91,7 +92,7 @@ impl<R: Machine, S: Identity + Drop, N: Drop, K: Keep> Reception<R, S, N, K> {
         }
     }
 
-    /// For at most `most` connections at once. The only error is that memory is refused.
+    /// Makes it for at most `most` connections at once. The only error is that memory is refused.
     fn new(
         rt: R,
         common: Common<S, N>,
@@ -116,7 +117,8 @@ impl<R: Machine, S: Identity + Drop, N: Drop, K: Keep> Reception<R, S, N, K> {
         })
     }
 
-    /// Closes the next newcomer if no descriptor is left for it: the spare one is given up meanwhile.
+    /// Closes the next newcomer, for which no descriptor is left: the spare one is given up
+    /// meanwhile.
     fn turn_away(&mut self, gate: &Gate<S>) {
         self.spare = None;
         let _ = gate.listener.accept();
@@ -132,7 +134,8 @@ impl<R: Wait + Threads + time::Clock + Copy + Drop, S: Identity + Drop, N: Drop,
     N,
     K,
 > {
-    /// The ticker of the same account, with a tally of its own. The only error is that memory is refused.
+    /// Makes the ticker of the same account, with a tally of its own. The only error is that memory
+    /// is refused.
     pub(crate) fn ticker(&mut self, notices: Arc<Notices>) -> Result<Ticker<R, S, N, K>, AllocError>
         requires { 2 ≤ self.old.root.held.parts }
     {
@@ -147,7 +150,7 @@ impl<R: Wait + Threads + time::Clock + Copy + Drop, S: Identity + Drop, N: Drop,
         }
     }
 
-    /// A place that no connection has: one that is free, or else a new one with a tally of its own.
+    /// Takes a place that no connection has: a free one, or else a new one with a tally of its own.
     fn open_place(&mut self) -> Option<usize> {
         if let Some(at) = self.slots.take() {
             return Some(at);
@@ -164,7 +167,8 @@ impl<R: Wait + Threads + time::Clock + Copy + Drop, S: Identity + Drop, N: Drop,
         }
     }
 
-    /// The place of a connection that makes room for a newcomer, once that connection has ended.
+    /// Takes the place of a connection that makes room for a newcomer, once that connection has
+    /// ended.
     fn cleared_place(&mut self) -> Option<usize> {
         if !self.slots.ask_for_room() {
             return None;
@@ -179,7 +183,7 @@ impl<R: Wait + Threads + time::Clock + Copy + Drop, S: Identity + Drop, N: Drop,
         None
     }
 
-    /// A place for a newcomer at a port of this kind.
+    /// Takes a place for a newcomer at a port of this kind.
     fn place(&mut self, kind: PortKind) -> Option<usize> {
         if !self.slots.admits(kind) {
             return None;
@@ -190,7 +194,7 @@ impl<R: Wait + Threads + time::Clock + Copy + Drop, S: Identity + Drop, N: Drop,
         }
     }
 
-    /// The attendant that serves the connections of a place.
+    /// Makes the attendant that serves the connections of a place.
     fn attendant(&self, at: usize) -> Result<Attendant<R, S, N, K>, AllocError> {
         match (self.common.share(), self.slots.post(at)) {
             (Ok(common), Ok(post)) => Ok(Attendant {
@@ -203,8 +207,8 @@ impl<R: Wait + Threads + time::Clock + Copy + Drop, S: Identity + Drop, N: Drop,
         }
     }
 
-    /// Once a second, ends the connections that have stood still for too long, and joins the threads that
-    /// have ended because no connection came.
+    /// Once a second, ends the connections that have reached a time limit, and joins the threads
+    /// that have ended because no connection came.
     fn look_round(&mut self) {
         if let Ok(now) = self.rt.monotonic()
             && now.saturating_sub(self.looked) >= Duration::from_secs(BETWEEN_ROUNDS)
@@ -215,8 +219,8 @@ impl<R: Wait + Threads + time::Clock + Copy + Drop, S: Identity + Drop, N: Drop,
         }
     }
 
-    /// Ends every connection: softly those that are idle or have been answered, and half a second later the
-    /// others at once.
+    /// Ends every connection: softly those that are idle or have been answered, and half a second
+    /// later the others at once.
     fn end_connections(&mut self) {
         self.slots.tell(false);
         for _ in 0..LOOKS {
@@ -245,7 +249,7 @@ impl<R: Wait + Threads + time::Clock + Copy + Drop, S: Identity + Drop, N: Drop,
         self.slots.join_all(&self.rt);
     }
 
-    /// The account, and all tallies with that of the ticker, once every thread is joined.
+    /// Returns the account and all tallies, with that of the ticker, once every thread is joined.
     ///
     /// # Errors
     /// `StillShared` if a thread still has the account or a tally.
@@ -275,7 +279,8 @@ impl<
     N: Clock + Drop + Send + Sync + 'static,
     K: Keep + Send + 'static,
 > Reception<R, S, N, K> {
-    /// Starts the thread of a place, with its first connection. Returns whether a thread was started.
+    /// Starts the thread of a place, with its first connection. Returns whether a thread was
+    /// started.
     fn start(&mut self, at: usize, visit: Visit<S>) -> bool {
         let Ok(attendant) = self.attendant(at) else {
             return false;
@@ -287,8 +292,8 @@ impl<
         true
     }
 
-    /// Hands a connection to the thread of a place: to the one that waits there, or else to a new one. Returns
-    /// whether there is one.
+    /// Hands a connection to the thread of a place: to the one that waits there, or else to a new
+    /// one. Returns whether there is one.
     fn hand_over(&mut self, at: usize, visit: Visit<S>) -> bool {
         match self.slots.offer(&self.rt, at, visit) {
             Ok(()) => true,
@@ -319,7 +324,8 @@ impl<
         }
     }
 
-    /// Takes in those that wait at a port, up to `MOST_IN_A_TURN`. Returns whether more may wait.
+    /// Takes in newcomers that wait at a port, up to `MOST_IN_A_TURN`. Returns whether more may
+    /// wait.
     fn take_in_some(&mut self, gate: &Gate<S>) -> bool {
         for _ in 0..MOST_IN_A_TURN {
             match gate.listener.accept() {
@@ -344,8 +350,8 @@ impl<
         more
     }
 
-    /// Takes connections in until the service is over. The ports take turns, so that a crowd at one does not
-    /// keep those at another waiting.
+    /// Takes connections in until the service is over. The ports take turns, so that a crowd at one
+    /// does not keep those at another waiting.
     pub(crate) fn serve(&mut self, entrance: &mut Entrance<S>) -> Result<(), HostFault> {
         let rt = self.rt;
         let mut more = false;

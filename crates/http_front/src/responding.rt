@@ -23,18 +23,18 @@ use usage_ledger::{Keep, Ledgers};
 #[derive(Drop)]
 pub struct Responding<R, S: Service<K, L>, D: Decide, N, B, K: Keep, L: Ledgers> {
     alloc: Global,
-    // Whose API its port speaks.
+    // The API that its port speaks.
     api: Api,
     // Whether the request's body is left unread, so that the connection ends.
     is_unread: bool,
-    // None if it is refused.
+    // `None` if it is refused.
     exchange: Option<Box<Exchange<R, S, D, N, B, K, L>>>,
     // Why it never becomes a call.
     refusal: Option<Refusal>,
 }
 
 impl<R, S: Service<K, L>, D: Decide, N, B, K: Keep, L: Ledgers> Responding<R, S, D, N, B, K, L> {
-    /// The response to a request that never becomes a call.
+    /// Returns the response to a request that never becomes a call.
     pub(crate) fn refused(
         alloc: Global,
         api: Api,
@@ -53,7 +53,7 @@ impl<R, S: Service<K, L>, D: Decide, N, B, K: Keep, L: Ledgers> Responding<R, S,
         }
     }
 
-    /// The response of an exchange.
+    /// Returns the response of an exchange.
     pub(crate) fn exchanging(
         alloc: Global,
         api: Api,
@@ -112,7 +112,7 @@ where
     }
 }
 
-/// The response to a request that is refused.
+/// Makes the response to a refused request.
 fn refused<H: Drop>(
     alloc: Global,
     api: Api,
@@ -129,8 +129,8 @@ fn refused<H: Drop>(
     )
 }
 
-/// The response to what an exchange came to. If its body failed or memory was refused, there may still be
-/// memory to say so; a bell is never lost.
+/// Makes the response to an exchange's result. If its body failed or memory was refused, there may
+/// still be memory to say so; a bell is never lost.
 fn answer_to<H: Drop>(
     alloc: Global,
     api: Api,

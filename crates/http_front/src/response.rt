@@ -1,4 +1,4 @@
-//! Responses of a connection, made of what requests are answered.
+//! Responses of a connection, made from the answers to requests.
 
 ghost use Rattle.std.specs.Prelude.{◌≡◌, IfOk, OnOk};
 ghost use Rattle.http.specs.Response.{body_of};
@@ -14,7 +14,7 @@ use lambda_wire::{Headers, Reply};
 use long_poll::{Outcome, history_headers};
 use std::alloc::{AllocError, Global};
 
-/// The header fields of a reply, in their order.
+/// Returns the header fields of a reply, in their order.
 fn header_map(alloc: Global, headers: Headers) -> Result<HeaderMap, AllocError>
     ensures { IfOk result (λ map. map ≡ fields headers) }
 {
@@ -27,8 +27,9 @@ fn header_map(alloc: Global, headers: Headers) -> Result<HeaderMap, AllocError>
     Ok(map)
 }
 
-/// Says so if the connection ends behind the response (RFC 9112, section 9.6). (The name is a text, so that the
-/// other `append`, of every reply's fields, is expanded where it is called.)
+/// Adds the field that says that the connection ends after the response, if it does (RFC 9112,
+/// section 9.6). (The name is a text, so that the other `append`, of every reply's fields, is
+/// expanded where it is called.)
 fn say_closing(is_last: bool, map: &mut HeaderMap) -> Result<(), AllocError>
     ensures { OnOk result (map.new ≡ said_closing is_last map.old) }
 {
@@ -41,7 +42,7 @@ fn say_closing(is_last: bool, map: &mut HeaderMap) -> Result<(), AllocError>
     }
 }
 
-/// The response with this status, these header fields and this body.
+/// Returns the response with this status, these header fields and this body.
 fn with_head<B: Drop>(
     alloc: Global,
     is_last: bool,
@@ -63,13 +64,13 @@ fn with_head<B: Drop>(
     Ok(Response::from_parts(parts, body))
 }
 
-/// The response as which an outcome is sent, which is the connection's last or not: that of a reply has its
-/// status, its header fields, and its body in one piece, which is not copied; that of a history is a text,
-/// which is streamed.
+/// Returns the response as which an outcome is sent; it is the connection's last or not. That of a
+/// reply has its status, its header fields, and its body in one piece, which is not copied. That of
+/// a history is a text, which is streamed.
 ///
 /// # Errors
-/// `BadStatus` if the reply's status does not have three digits, else `OutOfMemory`; the outcome is then
-/// dropped.
+/// `BadStatus` if the reply's status does not have three digits, else `OutOfMemory`; the outcome is
+/// then dropped.
 pub(crate) fn response_to<H: Drop>(
     alloc: Global,
     is_last: bool,

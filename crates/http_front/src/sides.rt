@@ -18,20 +18,20 @@ struct Opened<S: Identity> {
     ghost configured: { (arc_value side).config ≡ S.config },
 }
 
-/// The decider of the last connection's requests: for the next connection at the same port no routes need to
-/// be made.
+/// The decider of the last connection's requests. The next connection at the same port then needs
+/// no new routes.
 #[derive(Drop)]
 pub(crate) struct Sides<S: Identity> {
     last: Option<Opened<S>>,
 }
 
 impl<S: Identity> Sides<S> {
-    /// Before the first connection.
+    /// Makes it, with no decider yet.
     pub(crate) fn new() -> Sides<S> {
         Sides { last: None }
     }
 
-    /// The decider of the last connection's requests, if that was at this port.
+    /// Returns the decider of the last connection's requests, if that was at this port.
     fn known(&self, door: &Door<S>) -> Option<&Arc<Side>>
         ensures same { IfSome result (λ side. arc_value side.now ≡ door.now) }
         ensures configured { IfSome result (λ side. (arc_value side.now).config ≡ S.config) }
@@ -42,7 +42,7 @@ impl<S: Identity> Sides<S> {
         }
     }
 
-    /// The decider of a port's requests. The only error is that memory is refused.
+    /// Returns the decider of a port's requests. The only error is that memory is refused.
     pub(crate) fn of(&mut self, alloc: Global, door: Door<S>) -> Result<Arc<Side>, AllocError>
         ensures same { IfOk result (λ side. arc_value side ≡ door) }
         ensures configured { IfOk result (λ side. (arc_value side).config ≡ S.config) }

@@ -22,25 +22,26 @@ use usage_ledger::{Keep, Tally, Token};
 /// How many milliseconds pass between two checks for something due.
 const BEAT: u64 = 50;
 
-/// The moment of a call that is submitted now: what the clock reads, at most 2^53 - 1.
+/// Returns the moment of a call that is submitted now: the clock's reading, at most 2^53 - 1.
 pub(crate) fn moment<N: Clock>(clock: &N) -> u64
     ensures { result < 2 ^ 53 }
 {
     clock.now().min(GREATEST_MOMENT)
 }
 
-/// By how many milliseconds the time of day has to be ahead of the clock before the clock is set forward.
+/// The greatest lag behind the time of day, in milliseconds, at which the clock is not set forward.
 const MOST_LAG: u64 = 1_000;
 
-/// For how many beats in a row the memory for a tick may be refused after a Stop, before the service ends
-/// without it: ten seconds.
+/// For how many beats in a row the memory for a tick may be refused after a Stop, before the
+/// service ends without it: ten seconds.
 const MOST_REFUSED: u32 = 200;
 
 /// Sets the clock forward if the time of day is ahead of it, as after the machine has slept, and no
-/// deadline is running: what is due stays measured by the clock, and what a runtime is given from now on
-/// is the time of day again (Runtime API, `Lambda-Runtime-Deadline-Ms`). The account is first told the
-/// later moment, by a Tick that is taken only while it rests: so no call that read the clock before can
-/// begin a deadline that has passed. If a deadline is running, it is tried again at the next beat.
+/// deadline is running: what is due stays measured by the clock, and what a runtime is given from
+/// now on is the time of day again (Runtime API, `Lambda-Runtime-Deadline-Ms`). The account first
+/// gets the later moment, by a Tick that is taken only while it rests: so no call that read the
+/// clock before can begin a deadline that has passed. If a deadline is running, it is tried again
+/// at the next beat.
 fn catch_up<S: Identity, N: Clock, K: Keep>(
     rt: &impl Wait,
     account: &Account<S, OneShotBell>,
@@ -76,8 +77,8 @@ fn tick<S: Identity, N: Clock, K: Keep>(
     }
 }
 
-/// For how many beats in a row ticks were refused, once this came of one more. A full journal stays full,
-/// so that counts as the most.
+/// Returns for how many beats in a row ticks were refused, after one more tick with this result. A
+/// full journal stays full, so that counts as the most.
 fn refused_after(before: u32, refusal: Option<Refusal>) -> u32 {
     match refusal {
         None => 0,
@@ -86,8 +87,8 @@ fn refused_after(before: u32, refusal: Option<Refusal>) -> u32 {
     }
 }
 
-/// Whether the service is at its end: after a Stop, once every environment is off, or if ticks were
-/// refused for too long for time to pass.
+/// Returns whether the service is at its end: after a Stop, once every environment is off, or if
+/// ticks were refused for too long for time to pass.
 fn has_ended(life: Life, refused: u32) -> bool {
     match life {
         Life::Open => false,
@@ -96,8 +97,8 @@ fn has_ended(life: Life, refused: u32) -> bool {
     }
 }
 
-/// Ticks until the service has come to its end, and then says so, or until another thread says that it has.
-/// Notes how many entries there are. Returns the tally.
+/// Ticks until the service has come to its end, and then notes that, or until another thread notes
+/// it. Notes how many entries there are. Returns the tally.
 fn tick_on<R: Wait + time::Clock, S: Identity, N: Clock, K: Keep>(
     rt: &R,
     account: &Account<S, OneShotBell>,
@@ -124,8 +125,8 @@ fn tick_on<R: Wait + time::Clock, S: Identity, N: Clock, K: Keep>(
     unreachable!()
 }
 
-/// What the ticker's thread has: what it has in common with the others, the notices, and the tally in which its
-/// calls count.
+/// What the ticker's thread has: what it has in common with the others, the notices, and the tally
+/// in which its calls count.
 #[derive(Drop)]
 pub(crate) struct Ticker<R, S: Identity, N, K: Keep> {
     pub(crate) rt: R,

@@ -1,5 +1,5 @@
--- What is done with a request on the account's port (Lambda API, and this service's own routes).
--- It is refused by the first of these that holds: its path, its method, the function that it names, a header, its body.
+-- The decision on a request on the account's port (Lambda API, and this service's own routes).
+-- A refusal is for the first of these at fault: its path, its method, the function that it names, a header, its body.
 use Rattle.std.specs.Prelude.{ℕ, Bool, if◌then◌else◌, List, Option, Some, None, Result, Ok, Err, option_and_then}
 use Rattle.http.specs.Uri.{uri_path}
 use Rattle.http.specs.declared.request.Parts.{Parts}
@@ -25,13 +25,13 @@ use Rattle.http_routes.specs.declared.routes.AccountRoute.{AccountRoute}
 use Rattle.http_routes.specs.declared.routes.AccountRoute.TheVariants.{Invoke, Concurrency, ReadConcurrency, Stop}
 use Rattle.http_routes.specs.declared.routes.AccountRoute.TheVariants.{Spindown, Stats, History}
 
--- what is done about a function
+-- the decision about a function
 abbrev pub about : Target → (ℕ → Bool → Decision) → Decision
 about Malformed then_do = refused cause.MalformedName
 about Unknown then_do = refused cause.UnknownFunction
 about (Function f qualified) then_do = then_do f qualified
 
--- Invoke, with the payload that its body is; no reading of a body is a want of memory
+-- Invoke, by the payload read from its body; reading a body never gives `OutOfMemory`
 abbrev pub by_payload : ℕ → Bool → Option (List ℕ) → Result (List ℕ) WireFault → Decision
 by_payload f qualified trace (Ok payload) = Submit (call.Invoke f qualified trace payload)
 by_payload f qualified trace (Err TooLong) = refused cause.PayloadTooLarge
@@ -46,7 +46,7 @@ invoke p body f qualified =
     if is_synchronous p then by_payload f qualified (trace_of p) (read_payload body)
     else refused cause.WrongInvocationType
 
--- PutFunctionConcurrency, with the count that its body asks for
+-- PutFunctionConcurrency, by the count that its body asks for
 abbrev pub reserve : ℕ → Result ℕ WireFault → Decision
 reserve f (Ok count) = Submit (call.Reserve f (Some count))
 reserve f (Err TooLong) = refused cause.PayloadTooLarge
@@ -55,24 +55,24 @@ reserve f (Err BadShape) = refused cause.UnreadableReservation
 reserve f (Err BadEvent) = refused cause.UnreadableReservation
 reserve f (Err OutOfMemory) = refused cause.UnreadableReservation
 
--- PutFunctionConcurrency, or else DeleteFunctionConcurrency, whose body isn't looked at
+-- PutFunctionConcurrency, or else DeleteFunctionConcurrency, whose body is ignored
 abbrev pub set_reservation : Bool → List ℕ → ℕ → Bool → Decision
 set_reservation puts body f qualified = if puts then reserve f (read_count body) else Submit (call.Reserve f None)
 
--- GetFunctionConcurrency, whose body isn't looked at
+-- GetFunctionConcurrency, whose body is ignored
 abbrev pub show_reservation : ℕ → Bool → Decision
 show_reservation f qualified = Show (shown.Reservation f)
 
--- the environment that a path names, behind three slashes: a decimal number without leading zeros
+-- the environment that a path names after three slashes: a decimal number without leading zeros
 abbrev pub environment_of : Config → Parts → Option ℕ
 environment_of config p = option_and_then (env_in config) (path_part 3 (uri_path p.uri))
 
--- a request with a method that its route has
+-- the decision, if the route has the request's method
 abbrev pub with_method : AccountRoute → Parts → Decision → Decision
 with_method route p decision =
     if is_account_method route p.method then decision else wrong_method (account_methods route)
 
--- an environment is taken down; one that isn't there is no path
+-- an environment is taken down; if there is none of this number, the path is not found
 abbrev pub spindown : Parts → Option ℕ → Decision
 spindown p None = refused cause.NotFound
 spindown p (Some e) = with_method Spindown p (Submit (call.Spindown e))
@@ -82,13 +82,13 @@ abbrev pub show_from : Option ℕ → Decision
 show_from None = refused cause.WrongTicket
 show_from (Some ticket) = Show (shown.History (Some ticket))
 
--- The history: from the ticket that the query's first `from` is, or whole if the query has none. A ticket is decimal,
+-- The history: from the ticket in the query's first `from`, or whole if the query has none. A ticket is decimal,
 -- without leading zeros, and below 2^64.
 abbrev pub show_history : Option (List ℕ) → Decision
 show_history None = Show (shown.History None)
 show_history (Some text) = show_from (number_in greatest_ticket text)
 
--- What is done on a route. The bodies of this service's own routes aren't looked at.
+-- The decision on a route. The bodies of requests on this service's own routes are ignored.
 abbrev pub at_account : Config → Parts → List ℕ → Option AccountRoute → Decision
 at_account config p body None = refused cause.NotFound
 at_account config p body (Some Invoke) =
@@ -102,6 +102,6 @@ at_account config p body (Some Spindown) = spindown p (environment_of config p)
 at_account config p body (Some Stats) = with_method Stats p (Show shown.Stats)
 at_account config p body (Some History) = with_method History p (show_history (from_of p))
 
--- What is done with a request on the account's port.
+-- The decision on a request on the account's port.
 unfoldable pub account_decision : Config → Parts → List ℕ → Decision
 account_decision config p body = at_account config p body (route_in account_rows (uri_path p.uri))

@@ -1,4 +1,4 @@
--- What is done with a request.
+-- The decision on a request.
 use Rattle.std.specs.Prelude.{ℕ, List}
 use Rattle.http.specs.declared.request.Parts.{Parts}
 use Rattle.arn_ids.specs.declared.config.Config.{Config}
@@ -9,22 +9,22 @@ use Rattle.http_routes.specs.AccountDecisions.{account_decision}
 use Rattle.http_routes.specs.declared.side.Port.{Port}
 use Rattle.http_routes.specs.declared.side.Port.TheVariants.{Account, Environment}
 
--- A port of the service: whose it is, in which configuration, and what the identifiers are made with.
+-- A port of the service: its configuration, its salt for identifiers, and whose port it is.
 pub record Served : Type 0 where
   pub config : Config
   pub salt : ℕ
   pub port : Port
 
--- an environment's port is that of an environment which is there
+-- an environment's port is that of a configured environment
 abbrev pub IsPortOf : Config → Port → Type 0
 IsPortOf config Account = Unit {0}
 IsPortOf config (Environment e) = IsEnv config e
 
--- what is done with a request on a port
+-- the decision on a request on a port
 abbrev pub decision_on : Config → ℕ → Port → Parts → List ℕ → Decision
 decision_on config salt Account p body = account_decision config p body
 decision_on config salt (Environment e) p body = environment_decision config salt e p body
 
--- What is done with a request, by its head and its body.
+-- The decision on a request, by its head and its body.
 abbrev pub decision : Served → Parts → List ℕ → Decision
 decision side p body = decision_on side.config side.salt side.port p body

@@ -1,5 +1,6 @@
--- What is done with a request on an environment's port (Runtime API, Extensions API).
--- It is refused by the first of these that holds: its path, its method, whom it names, a header, its body.
+-- The decision on a request on an environment's port (Runtime API, Extensions API).
+-- A refusal is for the first of these at fault: its path, its method, the invocation or extension that it names, a
+-- header, its body.
 use Rattle.std.specs.Prelude.{ℕ, Bool, nat_lt, if◌then◌else◌, List, length, codes, Option, Some, None, Result, Ok, Err}
 use Rattle.http.specs.Uri.{uri_path}
 use Rattle.http.specs.declared.request.Parts.{Parts}
@@ -32,7 +33,7 @@ is_too_long body = nat_lt longest_body (length body)
 abbrev pub submitted : List ℕ → Call → Decision
 submitted body made = if is_too_long body then refused cause.TooLarge else Submit made
 
--- Invocation response: one that is too long is a call of its own, without its bytes
+-- Invocation response: if it is too long, a call of its own kind, without the bytes
 abbrev pub response : ℕ → List ℕ → Option ℕ → Decision
 response e body None = refused cause.WrongRequest
 response e body (Some id) = Submit (if is_too_long body then call.ResponseTooLarge e id else call.Response e id body)
@@ -42,7 +43,7 @@ abbrev pub failure : ℕ → List ℕ → Option ℕ → Decision
 failure e body None = refused cause.WrongRequest
 failure e body (Some id) = submitted body (call.Failure e id body)
 
--- Register, with the events that its body asks for; no reading of a body is a want of memory
+-- Register, by the events that its body asks for; reading a body never gives `OutOfMemory`
 abbrev pub registered : ℕ → List ℕ → Bool → Result Events WireFault → Decision
 registered e name account (Ok events) = Submit (call.Register e name events.invoke events.shutdown account)
 registered e name account (Err TooLong) = refused cause.TooLarge
@@ -60,16 +61,16 @@ abbrev pub ext_next : ℕ → List ℕ → Option ℕ → Decision
 ext_next e body None = refused cause.UnknownExtension
 ext_next e body (Some x) = submitted body (call.ExtNext e x)
 
--- Init error, Exit error: the header with the error's type must be there, whatever it says
+-- Init error, Exit error: the header with the error's type must be present, whatever its value
 abbrev pub ext_report : Bool → List ℕ → (ℕ → Call) → Option ℕ → Decision
 ext_report has_type body made None = refused cause.UnknownExtension
 ext_report has_type body made (Some x) = if has_type then submitted body (made x) else refused cause.MissingHeader
 
--- whether the header with an error's type is there (Extensions API, Init error, Exit error)
+-- whether the header with an error's type is present (Extensions API, Init error, Exit error)
 abbrev pub has_error_type : Parts → Bool
 has_error_type p = has_header (codes "lambda-extension-function-error-type") p
 
--- What is done on a route, with a method that it has.
+-- The decision on a route, with a method that it has.
 unfoldable pub on_environment_route : Config → ℕ → ℕ → Parts → List ℕ → EnvironmentRoute → Decision
 on_environment_route config salt e p body Next = submitted body (call.RuntimeNext e)
 on_environment_route config salt e p body Response = response e body (request_of salt (function_of config e) p)
@@ -82,14 +83,14 @@ on_environment_route config salt e p body ExtInitFailure =
 on_environment_route config salt e p body ExtExitFailure =
     ext_report (has_error_type p) body (λ x. call.ExtExitFailure e x body) (extension_of salt e p)
 
--- What is done on a route.
+-- The decision on a route.
 abbrev pub at_environment : Config → ℕ → ℕ → Parts → List ℕ → Option EnvironmentRoute → Decision
 at_environment config salt e p body None = refused cause.NotFound
 at_environment config salt e p body (Some route) =
     if is_environment_method route p.method then on_environment_route config salt e p body route
     else wrong_method (environment_methods route)
 
--- What is done with a request on the port of environment e.
+-- The decision on a request on the port of environment e.
 unfoldable pub environment_decision : Config → ℕ → ℕ → Parts → List ℕ → Decision
 environment_decision config salt e p body =
     at_environment config salt e p body (route_in environment_rows (uri_path p.uri))

@@ -1,4 +1,4 @@
--- The headers of a request that are looked at. Of a header that stands more than once, the first counts.
+-- The headers of a request that count. If a header appears more than once, the first one counts.
 use Rattle.std.specs.Prelude.{ℕ, Bool, true, false, ◌==◌, if◌then◌else◌, List, [], ◌∷◌, codes, bytes_eq, Option, Some}
 use Rattle.std.specs.Prelude.{None, option_map, option_and_then, is_some, reverse}
 use Rattle.std.specs.List.{list_all, list_any, slice_split}
@@ -12,15 +12,15 @@ use Rattle.call_types.specs.Within.{is_trace}
 abbrev pub header : List ℕ → Parts → Option (List ℕ)
 header name p = option_map (λ v. v.bytes) (get p.headers name)
 
--- whether there is a header of a name
+-- whether there is a header of this name
 abbrev pub has_header : List ℕ → Parts → Bool
 has_header name p = is_some (header name p)
 
--- what passes a test
+-- the text, if it passes a test
 abbrev pub that : (List ℕ → Bool) → List ℕ → Option (List ℕ)
 that passes bytes = if passes bytes then Some bytes else None
 
--- the text of a header, where it is visible
+-- the text of a header, if it is visible
 abbrev pub header_text : List ℕ → Parts → Option (List ℕ)
 header_text name p = option_and_then (that (list_all is_visible_or_blank)) (header name p)
 
@@ -45,7 +45,7 @@ trimmed bytes = reverse (past_spaces (reverse (past_spaces bytes)))
 abbrev pub parts : List ℕ → List (List ℕ)
 parts bytes = slice_split (λ b. b == 44) bytes
 
--- one of the parts between the commas is this, freed of the spaces round it
+-- one of the parts between the commas is this one, without the spaces around it
 abbrev pub lists : List ℕ → List ℕ → Bool
 lists feature bytes = list_any (λ part. bytes_eq (trimmed part) feature) (parts bytes)
 
@@ -58,7 +58,7 @@ passes_or absent passes (Some bytes) = passes bytes
 abbrev pub asks_for_account : Parts → Bool
 asks_for_account p = passes_or false (lists (codes "accountId")) (header (codes "lambda-extension-accept-feature") p)
 
--- an invocation whose caller waits for it, as a caller does who doesn't say how (Lambda API, Invoke: InvocationType)
+-- an invocation whose caller waits for it, which is the default (Lambda API, Invoke: InvocationType)
 abbrev pub is_synchronous : Parts → Bool
 is_synchronous p =
     passes_or true (λ kind. bytes_eq kind (codes "RequestResponse")) (header (codes "x-amz-invocation-type") p)

@@ -1,4 +1,4 @@
--- Identifiers as requests bring them: texts in any form of a UUID (RFC 9562, section 4).
+-- Identifiers in requests: texts in any form of a UUID (RFC 9562, section 4).
 use Rattle.std.specs.Prelude.{ℕ, ◌&&◌, ◌==◌, if◌then◌else◌, List, Option, Some, None, option_and_then, codes}
 use Rattle.uuid.specs.Text.{parsed}
 use Rattle.arn_ids.specs.Identifiers.{high_word, parts_of}
@@ -14,7 +14,7 @@ use Rattle.http_routes.specs.Heads.{header_text}
 abbrev pub count_of : ℕ → ℕ → IdParts → Option ℕ
 count_of salt number id = if id.salt_word == high_word salt && id.number == number then Some id.count else None
 
--- of a request's identifier; of an extension's
+-- the count, if the identifier is of a request; if it is of an extension
 abbrev pub of_request : IdKind → Option ℕ → Option ℕ
 of_request Request count = count
 of_request Extension count = None
@@ -25,7 +25,7 @@ of_extension Request count = None
 of_extension Extension count = count
 of_extension Event count = None
 
--- what a text says that is an identifier of this service
+-- the parts of a text that is an identifier of this service
 unfoldable pub identifier_in : List ℕ → Option IdParts
 identifier_in text = option_and_then parts_of (parsed text)
 
@@ -38,7 +38,7 @@ request_count salt function text =
 abbrev pub extension_count : ℕ → ℕ → List ℕ → Option ℕ
 extension_count salt env text = option_and_then (λ id. of_extension id.kind (count_of salt env id)) (identifier_in text)
 
--- the invocation that a path names, behind four slashes (Runtime API: AwsRequestId)
+-- the invocation that a path names after four slashes (Runtime API: AwsRequestId)
 abbrev pub request_of : ℕ → ℕ → Parts → Option ℕ
 request_of salt function p = option_and_then (request_count salt function) (path_part 4 (uri_path p.uri))
 

@@ -1,4 +1,4 @@
--- What is done with a request, from the outside in: `decision` of its head and body, at the port where it came.
+-- The decision on a request, from the outside in: `decision` of its head and body, at the port where it came.
 pub mod Decisions
 pub mod AccountDecisions
 pub mod EnvironmentDecisions
@@ -8,8 +8,8 @@ pub mod Paths
 pub mod Names
 pub mod Identifiers
 pub mod Heads
--- The replies that refuse it before there is a call.
+-- The replies that refuse a request before there is a call.
 pub mod Refusals
--- What the code keeps of these: private contracts and the invariants of types alone have the words of these.
+-- What the code keeps of these: only private contracts and the invariants of types use these words.
 pub mod Sides
 pub mod Views

@@ -1,4 +1,4 @@
--- Which function a request to the Lambda API is about.
+-- The function that a request to the Lambda API is about.
 use Rattle.std.specs.Prelude.{ℕ, Bool, ◌||◌, ◌==◌, if◌then◌else◌, List, Option, Some, None, Result, Ok, Err}
 use Rattle.std.specs.Prelude.{is_some, count_by}
 use Rattle.arn_ids.specs.Grammar.{is_latest, is_qualifier, is_none_or, named_in}
@@ -10,19 +10,19 @@ use Rattle.arn_ids.specs.declared.names.NameFault.TheVariants as fault
 use Rattle.http_routes.specs.declared.names.Target.{Target}
 use Rattle.http_routes.specs.declared.names.Target.TheVariants.{Malformed, Unknown, Function}
 
--- a configured function, or one that isn't there
+-- a configured function, or an unknown one
 abbrev pub numbered : Bool → Option ℕ → Target
 numbered qualified None = Unknown
 numbered qualified (Some f) = Function f qualified
 
--- no other version is known than $LATEST
+-- the function at a version; the one known version is $LATEST
 abbrev pub at_version : Config → Option (List ℕ) → Named → Target
 at_version config qualifier named =
     if is_none_or is_latest qualifier
     then numbered (named.qualified || is_some qualifier) (number_named config named.name)
     else Unknown
 
--- what a name was read as; no reading of a name is a want of memory
+-- the function by the result of reading its name; reading a name never gives `OutOfMemory`
 abbrev pub by_name : Config → Option (List ℕ) → Result Named NameFault → Target
 by_name config qualifier (Ok named) = at_version config qualifier named
 by_name config qualifier (Err fault.Malformed) = Malformed
@@ -30,20 +30,20 @@ by_name config qualifier (Err fault.ForeignAccount) = Unknown
 by_name config qualifier (Err fault.UnknownQualifier) = Unknown
 by_name config qualifier (Err fault.OutOfMemory) = Unknown
 
--- The function that an Invoke is about, by the name of its path and the qualifier of its query (Lambda API, Invoke).
--- A malformed qualifier is as bad as a malformed name.
+-- The function that an Invoke is about, by the name in its path and the qualifier in its query (Lambda API, Invoke).
+-- A malformed qualifier has the same effect as a malformed name.
 unfoldable pub invoked : Config → Option (List ℕ) → Option (List ℕ) → Target
 invoked config None qualifier = Malformed
 invoked config (Some name) qualifier =
     if is_none_or is_qualifier qualifier then by_name config qualifier (named_in config.home name) else Malformed
 
--- A name has a qualifier behind one, three or seven colons: NAME:QUALIFIER, ACCOUNT:function:NAME:QUALIFIER,
+-- A name has a qualifier after one, three or seven colons: NAME:QUALIFIER, ACCOUNT:function:NAME:QUALIFIER,
 -- arn:aws:lambda:REGION:ACCOUNT:function:NAME:QUALIFIER.
 abbrev pub has_qualifier : List ℕ → Bool
 has_qualifier name = let colons : ℕ = count_by (λ b. b == 58) name in colons == 1 || colons == 3 || colons == 7
 
--- The function whose reservation is meant. No version has one of its own: a name with a qualifier is malformed
--- (Lambda API, PutFunctionConcurrency: FunctionName).
+-- The function whose reservation a request is about. Versions have no reservations of their own: a name with a
+-- qualifier is malformed (Lambda API, PutFunctionConcurrency: FunctionName).
 unfoldable pub reserved : Config → Option (List ℕ) → Target
 reserved config None = Malformed
 reserved config (Some name) = if has_qualifier name then Malformed else by_name config None (named_in config.home name)

@@ -9,11 +9,11 @@ use Rattle.form_urlencoded.specs.Form.{decode, raw_pairs}
 use Rattle.http.specs.Uri.{uri_path, uri_query}
 use Rattle.http.specs.declared.request.Parts.{Parts}
 
--- the part of a path behind this many slashes, as it stands
+-- the part of a path after this many slashes, not decoded
 abbrev pub path_part : ℕ → List ℕ → Option (List ℕ)
 path_part n path = slice_get (slice_split (λ b. b == 47) path) n
 
--- the text that a part of a path stands for, where it is UTF-8 (RFC 3986, section 2.1)
+-- the decoded text of a part of a path, if it is UTF-8 (RFC 3986, section 2.1)
 abbrev pub path_text : List ℕ → Option (List ℕ)
 path_text part = if is_utf8 (percent_decode part) then Some (percent_decode part) else None
 
@@ -34,10 +34,10 @@ qualifier_in query = first_named (codes "Qualifier") (raw_pairs query)
 abbrev pub qualifier_of : Parts → Option (List ℕ)
 qualifier_of p = option_and_then qualifier_in (uri_query p.uri)
 
--- the first `from` of a request for the history (this service's own)
+-- the first `from` of a request for the history (an operation of this service alone)
 abbrev pub from_of : Parts → Option (List ℕ)
 from_of p = option_and_then (λ query. first_named (codes "from") (raw_pairs query)) (uri_query p.uri)
 
--- the name of a function in a path of the Lambda API, which stands behind three slashes
+-- the name of a function in a path of the Lambda API, after three slashes
 abbrev pub name_of : Parts → Option (List ℕ)
 name_of p = option_and_then path_text (path_part 3 (uri_path p.uri))

@@ -23,11 +23,11 @@ abbrev pub with_read : {R : Type 0} → Result Scan InsertError → R → RowsFo
 with_read (Ok s) route rows = placed (s.pattern, route_from s route) rows
 with_read (Err e) route rows = rows
 
--- the rows with one more route
+-- these rows and one more route
 unfoldable pub with_route : {R : Type 0} → List ℕ → R → RowsFor R → RowsFor R
 with_route text route rows = with_read (parse_route text) route rows
 
--- the rows with those of the Runtime API (2018-06-01)
+-- these rows and those of the Runtime API (2018-06-01)
 unfoldable pub with_runtime_rows : RowsFor EnvironmentRoute → RowsFor EnvironmentRoute
 with_runtime_rows rows =
     with_route (codes "/2018-06-01/runtime/init/error") InitFailure
@@ -35,7 +35,7 @@ with_runtime_rows rows =
     (with_route (codes "/2018-06-01/runtime/invocation/{id}/response") Response
     (with_route (codes "/2018-06-01/runtime/invocation/next") Next rows)))
 
--- the rows with those of the Extensions API (2020-01-01)
+-- these rows and those of the Extensions API (2020-01-01)
 unfoldable pub with_extension_rows : RowsFor EnvironmentRoute → RowsFor EnvironmentRoute
 with_extension_rows rows =
     with_route (codes "/2020-01-01/extension/exit/error") ExtExitFailure
@@ -43,11 +43,11 @@ with_extension_rows rows =
     (with_route (codes "/2020-01-01/extension/event/next") ExtNext
     (with_route (codes "/2020-01-01/extension/register") Register rows)))
 
--- An environment's port.
+-- The rows of an environment's port.
 unfoldable pub environment_rows : RowsFor EnvironmentRoute
 environment_rows = with_extension_rows (with_runtime_rows [])
 
--- the rows with those of the Lambda API (Invoke; PutFunctionConcurrency and DeleteFunctionConcurrency;
+-- these rows and those of the Lambda API (Invoke; PutFunctionConcurrency and DeleteFunctionConcurrency;
 -- GetFunctionConcurrency)
 unfoldable pub with_lambda_rows : RowsFor AccountRoute → RowsFor AccountRoute
 with_lambda_rows rows =
@@ -55,7 +55,7 @@ with_lambda_rows rows =
     (with_route (codes "/2017-10-31/functions/{name}/concurrency") Concurrency
     (with_route (codes "/2015-03-31/functions/{name}/invocations") Invoke rows))
 
--- the rows with those that this service adds for its operator, under `/_local`
+-- these rows and those that this service adds for its operator, under `/_local`
 unfoldable pub with_local_rows : RowsFor AccountRoute → RowsFor AccountRoute
 with_local_rows rows =
     with_route (codes "/_local/history") History
@@ -63,7 +63,7 @@ with_local_rows rows =
     (with_route (codes "/_local/env/{n}/spindown") Spindown
     (with_route (codes "/_local/stop") Stop rows)))
 
--- The account's port.
+-- The rows of the account's port.
 unfoldable pub account_rows : RowsFor AccountRoute
 account_rows = with_local_rows (with_lambda_rows [])
 

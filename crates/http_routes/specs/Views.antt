@@ -1,9 +1,9 @@
--- The parts of a header as the code holds them.
+-- The parts of a header, as the code holds them.
 use Rattle.std.specs.Prelude.{ℕ, List, [], Option, Some, None}
 use Rattle.std.specs.Borrow.{Bor}
 use Rattle.http_routes.specs.Heads.{parts}
 
--- the parts of what is left; none where nothing is left
+-- the parts of what is left; empty if nothing is left
 abbrev pub parts_left : Option (Bor (List ℕ)) → List (List ℕ)
 parts_left None = []
 parts_left (Some rest) = parts rest.now

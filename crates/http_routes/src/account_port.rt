@@ -1,4 +1,4 @@
-//! What is done with a request on the account's port.
+//! The decision on a request on the account's port.
 
 ghost use Rattle.std.specs.Prelude.{◌≡◌, Some, IfOk};
 ghost use Rattle.lambda_wire.specs.Requests.{read_count};
@@ -21,7 +21,7 @@ use lambda_wire::{PayloadScratch, WireFault, read_invoke_body, read_reservation}
 use matchit::Router;
 use std::alloc::{AllocError, Global};
 
-/// Invoke of a function, with the payload that the body is.
+/// Decides an Invoke of a function, with the body as its payload.
 fn invoke(
     alloc: Global,
     scratch: &mut PayloadScratch,
@@ -50,7 +50,7 @@ fn invoke(
     }
 }
 
-/// PutFunctionConcurrency, with the count that the body asks for.
+/// Decides a PutFunctionConcurrency, by the count that its body asks for.
 fn reserve(alloc: Global, body: &Bytes, function: FnNo) -> Result<Decision, AllocError>
     ensures { IfOk result (λ d. d ≡ spec.reserve function (read_count body.now)) }
 {
@@ -67,7 +67,7 @@ fn reserve(alloc: Global, body: &Bytes, function: FnNo) -> Result<Decision, Allo
     }
 }
 
-/// An Invoke.
+/// Decides an Invoke.
 fn on_invoke(
     alloc: Global,
     scratch: &mut PayloadScratch,
@@ -89,7 +89,7 @@ fn on_invoke(
     }
 }
 
-/// PutFunctionConcurrency, or else DeleteFunctionConcurrency, whose body isn't looked at.
+/// Decides a PutFunctionConcurrency, or else a DeleteFunctionConcurrency, whose body is ignored.
 fn on_concurrency(
     alloc: Global,
     config: &Checked,
@@ -115,7 +115,7 @@ fn on_concurrency(
     }
 }
 
-/// GetFunctionConcurrency, whose body isn't looked at.
+/// Decides a GetFunctionConcurrency, whose body is ignored.
 fn on_read_concurrency(
     alloc: Global,
     config: &Checked,
@@ -131,14 +131,14 @@ fn on_read_concurrency(
     }
 }
 
-/// The environment that a path names.
+/// Returns the environment that a path names.
 fn environment_of(config: &Checked, parts: &Parts) -> Option<EnvNo>
     ensures { result ≡ spec.environment_of config.now parts.now }
 {
     read_environment(config, path_part(parts.uri.path(), 3)?.as_bytes())
 }
 
-/// An environment is taken down; one that isn't there is no path.
+/// Decides to take down an environment; if there is none of this number, the path is not found.
 fn spindown(alloc: Global, config: &Checked, parts: &Parts) -> Result<Decision, AllocError>
     ensures { IfOk result (λ d. d ≡ spec.spindown parts.now (spec.environment_of config.now parts.now)) }
 {
@@ -151,7 +151,7 @@ fn spindown(alloc: Global, config: &Checked, parts: &Parts) -> Result<Decision, 
     Ok(Decision::Submit(Call::Spindown { env }))
 }
 
-/// The history is shown: from the ticket that the first `from` of the query is, or whole.
+/// Decides to show the history: from the ticket in the query's first `from`, or whole.
 fn show_history(alloc: Global, parts: &Parts) -> Result<Decision, AllocError>
     ensures { IfOk result (λ d. d ≡ spec.show_history (paths.from_of parts.now)) }
 {
@@ -164,7 +164,7 @@ fn show_history(alloc: Global, parts: &Parts) -> Result<Decision, AllocError>
     }
 }
 
-/// What is done on a route. The bodies of this service's own routes aren't looked at.
+/// Decides a request on a route. The bodies of requests on this service's own routes are ignored.
 fn on_route(
     alloc: Global,
     scratch: &mut PayloadScratch,
@@ -192,7 +192,7 @@ fn on_route(
     }
 }
 
-/// What is done with a request on the account's port.
+/// Decides a request on the account's port.
 #[tactic(auto, unfolding(crate::specs::AccountDecisions::account_decision))]
 pub(crate) fn account_decision(
     alloc: Global,

@@ -1,4 +1,4 @@
-//! What is done with a request on an environment's port.
+//! The decision on a request on an environment's port.
 
 ghost use Rattle.std.specs.Prelude.{◌≡◌, IfOk};
 ghost use Rattle.call_types.specs.Within.{IsEnv};
@@ -25,7 +25,7 @@ fn is_too_long(body: &Bytes) -> bool
     body.len() > LONGEST_BODY
 }
 
-/// A call without bytes.
+/// Submits a call that carries no bytes, if the body isn't too long.
 fn submitted(alloc: Global, body: &Bytes, call: Call) -> Result<Decision, AllocError>
     ensures { IfOk result (λ d. d ≡ spec.submitted body.now call) }
 {
@@ -35,7 +35,7 @@ fn submitted(alloc: Global, body: &Bytes, call: Call) -> Result<Decision, AllocE
     Ok(Decision::Submit(call))
 }
 
-/// Invocation response.
+/// Decides an Invocation response.
 fn response(
     alloc: Global,
     env: EnvNo,
@@ -54,7 +54,7 @@ fn response(
     Ok(Decision::Submit(Call::Response { env, id, body }))
 }
 
-/// Invocation error.
+/// Decides an Invocation error.
 fn failure(alloc: Global, env: EnvNo, body: &Bytes, id: Option<u64>) -> Result<Decision, AllocError>
     ensures { IfOk result (λ d. d ≡ spec.failure env body.now id) }
 {
@@ -68,7 +68,7 @@ fn failure(alloc: Global, env: EnvNo, body: &Bytes, id: Option<u64>) -> Result<D
     Ok(Decision::Submit(Call::Failure { env, id, body }))
 }
 
-/// Initialization error.
+/// Decides an Initialization error.
 fn init_failure(alloc: Global, env: EnvNo, body: &Bytes) -> Result<Decision, AllocError>
     ensures { IfOk result (λ d. d ≡ spec.submitted body.now (calls.InitFailure env body.now)) }
 {
@@ -79,7 +79,7 @@ fn init_failure(alloc: Global, env: EnvNo, body: &Bytes) -> Result<Decision, All
     Ok(Decision::Submit(Call::InitFailure { env, body }))
 }
 
-/// An extension registers, with the events that its body asks for.
+/// Decides a Register, by the events that its body asks for.
 fn register(
     alloc: Global,
     env: EnvNo,
@@ -110,7 +110,7 @@ fn register(
     }
 }
 
-/// An extension's next event.
+/// Decides an extension's Next.
 fn ext_next(
     alloc: Global,
     env: EnvNo,
@@ -125,7 +125,7 @@ fn ext_next(
     }
 }
 
-/// An extension's Init error.
+/// Decides an extension's Init error.
 fn ext_init_failure(
     alloc: Global,
     env: EnvNo,
@@ -148,7 +148,7 @@ fn ext_init_failure(
     Ok(Decision::Submit(Call::ExtInitFailure { env, ext, body }))
 }
 
-/// An extension's Exit error.
+/// Decides an extension's Exit error.
 fn ext_exit_failure(
     alloc: Global,
     env: EnvNo,
@@ -171,7 +171,7 @@ fn ext_exit_failure(
     Ok(Decision::Submit(Call::ExtExitFailure { env, ext, body }))
 }
 
-/// What is done on a route, with a method that it has.
+/// Decides a request on a route, with a method that it has.
 #[tactic(auto, unfolding(crate::specs::EnvironmentDecisions::on_environment_route))]
 fn on_route(
     alloc: Global,
@@ -215,7 +215,7 @@ fn on_route(
     }
 }
 
-/// What is done with a request on the port of an environment.
+/// Decides a request on the port of an environment.
 #[tactic(auto, unfolding(crate::specs::EnvironmentDecisions::environment_decision))]
 pub(crate) fn environment_decision(
     alloc: Global,

@@ -1,4 +1,4 @@
-//! The headers of a request. Of a header that stands more than once, the first counts.
+//! The headers of a request. If a header appears more than once, the first one counts.
 
 ghost use Rattle.std.specs.Prelude.{◌≡◌, ◌==◌, ◌∷◌, codes, bytes_eq, option_map, IfOk, position, reverse};
 ghost use Rattle.std.specs.List.{list_any};
@@ -15,21 +15,22 @@ use std::alloc::{AllocError, Global};
 
 const LONGEST_EXTENSION_NAME: usize = 128;
 
-/// Whether a header's name is this one.
+/// Returns whether a header's name is this one.
 fn is_named(key: &HeaderName, name: &str) -> bool
     ensures { result ≡ bytes_eq key.now name.now }
 {
     key.as_bytes() == name.as_bytes()
 }
 
-/// Whether there is a header of a name. (To compare all names takes less than to find one by its hash.)
+/// Returns whether there is a header of a name. (Comparing all names costs less than finding one by
+/// its hash.)
 fn has_name(parts: &Parts, name: &str) -> bool
     ensures { result ≡ list_any (λ key. bytes_eq key name.now) (keys parts.now.headers) }
 {
     parts.headers.keys().any(|key| is_named(key, name))
 }
 
-/// The bytes of the first header of a name, which is given in lower case. Few requests have one.
+/// Returns the bytes of the first header of a name, which is in lower case. Few requests have one.
 #[tactic(auto, using(crate::proofs::HeadLemmas::no_header))]
 fn header<'p>(parts: &'p Parts, name: &str) -> Option<&'p [u8]>
     requires { lowercase name.now ≡ name.now }
@@ -42,7 +43,7 @@ fn header<'p>(parts: &'p Parts, name: &str) -> Option<&'p [u8]>
     Some(value.as_bytes())
 }
 
-/// The text of a header, where it is visible.
+/// Returns the text of a header, if it is visible.
 fn header_text<'p>(parts: &'p Parts, name: &str) -> Option<&'p str>
     ensures { option_map (λ t. t.now) result ≡ spec.header_text (lowercase name.now) parts.now }
 {
@@ -55,14 +56,15 @@ fn header_text<'p>(parts: &'p Parts, name: &str) -> Option<&'p str>
     }
 }
 
-/// The text in which an extension names itself (Extensions API: Lambda-Extension-Identifier).
+/// Returns the text by which an extension identifies itself (Extensions API:
+/// Lambda-Extension-Identifier).
 pub(crate) fn extension_identifier(parts: &Parts) -> Option<&str>
     ensures { option_map (λ t. t.now) result ≡ spec.header_text (codes "lambda-extension-identifier") parts.now }
 {
     header_text(parts, "lambda-extension-identifier")
 }
 
-/// A copy of a text of 1 to `most` characters that print.
+/// Copies a text of 1 to `most` printing characters; `None` if it is any other.
 fn printable_text(alloc: Global, bytes: &[u8], most: usize) -> Result<Option<Text>, AllocError>
     ensures { IfOk result (λ text. text ≡ spec.that (is_word is_printable_byte most) bytes.now) }
 {
@@ -75,7 +77,7 @@ fn printable_text(alloc: Global, bytes: &[u8], most: usize) -> Result<Option<Tex
     }
 }
 
-/// The name that an extension registers under (Extensions API, Register).
+/// Returns the name under which an extension registers (Extensions API, Register).
 pub(crate) fn extension_name(alloc: Global, parts: &Parts) -> Result<Option<Text>, AllocError>
     ensures { IfOk result (λ name. name ≡ spec.extension_name parts.now) }
 {
@@ -85,7 +87,7 @@ pub(crate) fn extension_name(alloc: Global, parts: &Parts) -> Result<Option<Text
     }
 }
 
-/// The trace of an invocation; one that is out of its form counts as absent.
+/// Returns the trace of an invocation; a malformed one counts as absent.
 pub(crate) fn trace(alloc: Global, parts: &Parts) -> Result<Option<Text>, AllocError>
     ensures { IfOk result (λ trace. trace ≡ spec.trace_of parts.now) }
 {
@@ -95,14 +97,15 @@ pub(crate) fn trace(alloc: Global, parts: &Parts) -> Result<Option<Text>, AllocE
     }
 }
 
-/// Whether an error's type is given, whatever it is (Extensions API, Init error, Exit error).
+/// Returns whether an error's type is given, whatever it is (Extensions API, Init error, Exit
+/// error).
 pub(crate) fn has_error_type(parts: &Parts) -> bool
     ensures { result ≡ spec.has_header (codes "lambda-extension-function-error-type") parts.now }
 {
     header(parts, "lambda-extension-function-error-type").is_some()
 }
 
-/// The bytes without the spaces at their front.
+/// Returns the bytes without the spaces at their front.
 fn past_spaces(bytes: &[u8]) -> &[u8]
     ensures { result.now ≡ spec.past_spaces bytes.now }
 {
@@ -116,7 +119,7 @@ fn past_spaces(bytes: &[u8]) -> &[u8]
     rest
 }
 
-/// The bytes without the spaces at their end.
+/// Returns the bytes without the spaces at their end.
 fn before_spaces(bytes: &[u8]) -> &[u8]
     ensures { result.now ≡ reverse (spec.past_spaces (reverse bytes.now)) }
 {
@@ -130,21 +133,21 @@ fn before_spaces(bytes: &[u8]) -> &[u8]
     rest
 }
 
-/// Whether a part is this, freed of the spaces round it.
+/// Returns whether a part is this one, without the spaces around it.
 fn is_feature(part: &[u8], feature: &[u8]) -> bool
     ensures { result ≡ bytes_eq (spec.trimmed part.now) feature.now }
 {
     before_spaces(past_spaces(part)) == feature
 }
 
-/// Where the first comma is.
+/// Returns the position of the first comma.
 fn comma_at(bytes: &[u8]) -> Option<usize>
     ensures { result ≡ position (λ b. b == 44) bytes.now }
 {
     bytes.iter().position(|b| *b == b',')
 }
 
-/// The part before the first comma, and what follows it.
+/// Returns the part before the first comma, and what follows it.
 fn cut(bytes: &[u8]) -> (&[u8], Option<&[u8]>)
     ensures { spec.parts bytes.now ≡ result.0.now ∷ parts_left result.1 }
 {
@@ -154,7 +157,7 @@ fn cut(bytes: &[u8]) -> (&[u8], Option<&[u8]>)
     }
 }
 
-/// Whether one of the parts between the commas is this, freed of the spaces round it.
+/// Returns whether one of the parts between the commas is this one, without the spaces around it.
 fn lists(bytes: &[u8], feature: &[u8]) -> bool
     ensures { result ≡ spec.lists feature.now bytes.now }
 {
@@ -169,7 +172,7 @@ fn lists(bytes: &[u8], feature: &[u8]) -> bool
     false
 }
 
-/// Whether an extension asks for the account's identifier (Extensions API, Register:
+/// Returns whether an extension asks for the account's identifier (Extensions API, Register:
 /// Lambda-Extension-Accept-Feature).
 pub(crate) fn asks_for_account(parts: &Parts) -> bool
     ensures { result ≡ spec.asks_for_account parts.now }
@@ -180,7 +183,7 @@ pub(crate) fn asks_for_account(parts: &Parts) -> bool
     }
 }
 
-/// Whether the caller waits for the invocation (Lambda API, Invoke: InvocationType).
+/// Returns whether the caller waits for the invocation (Lambda API, Invoke: InvocationType).
 pub(crate) fn is_synchronous(parts: &Parts) -> bool
     ensures { result ≡ spec.is_synchronous parts.now }
 {

@@ -1,4 +1,4 @@
-//! Identifiers as requests bring them: texts in any form of a UUID (RFC 9562, section 4).
+//! Identifiers in requests: texts in any form of a UUID (RFC 9562, section 4).
 
 ghost use Rattle.std.specs.Prelude.{◌≡◌};
 ghost use Rattle.uuid.specs.Text.{parsed};
@@ -20,7 +20,7 @@ fn uuid_in(text: &str) -> Option<Uuid>
     }
 }
 
-/// What a text says that is an identifier of this service.
+/// Returns the parts of a text that is an identifier of this service.
 #[tactic(auto, unfolding(crate::specs::Identifiers::identifier_in))]
 fn identifier_in(text: &str) -> Option<IdParts>
     ensures { result ≡ spec.identifier_in text.now }
@@ -29,7 +29,7 @@ fn identifier_in(text: &str) -> Option<IdParts>
     id_parts(&id)
 }
 
-/// The count in an identifier of this salt and number.
+/// Returns the count in an identifier of this salt and number.
 fn count_of(salt: u64, number: u32, id: &IdParts) -> Option<u64>
     ensures { result ≡ spec.count_of salt number id.now }
 {
@@ -40,7 +40,7 @@ fn count_of(salt: u64, number: u32, id: &IdParts) -> Option<u64>
     }
 }
 
-/// The count in the identifier of a function's invocation.
+/// Returns the count in the identifier of a function's invocation.
 fn request_count(salt: u64, function: FnNo, text: &str) -> Option<u64>
     ensures { result ≡ spec.request_count salt function text.now }
 {
@@ -51,7 +51,7 @@ fn request_count(salt: u64, function: FnNo, text: &str) -> Option<u64>
     }
 }
 
-/// The count in the identifier of an environment's extension.
+/// Returns the count in the identifier of an environment's extension.
 fn extension_count(salt: u64, env: EnvNo, text: &str) -> Option<u64>
     ensures { result ≡ spec.extension_count salt env text.now }
 {
@@ -62,7 +62,7 @@ fn extension_count(salt: u64, env: EnvNo, text: &str) -> Option<u64>
     }
 }
 
-/// The invocation of a function that a path names (Runtime API: AwsRequestId).
+/// Returns the invocation of a function that a path names (Runtime API: AwsRequestId).
 pub(crate) fn request_of(salt: u64, function: FnNo, parts: &Parts) -> Option<u64>
     ensures { result ≡ spec.request_of salt function parts.now }
 {
@@ -73,7 +73,7 @@ pub(crate) fn request_of(salt: u64, function: FnNo, parts: &Parts) -> Option<u64
     )
 }
 
-/// The extension of an environment that a head names (Extensions API:
+/// Returns the extension of an environment that a head names (Extensions API:
 /// Lambda-Extension-Identifier).
 pub(crate) fn extension_of(salt: u64, env: EnvNo, parts: &Parts) -> Option<u64>
     ensures { result ≡ spec.extension_of salt env parts.now }

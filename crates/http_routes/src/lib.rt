@@ -1,5 +1,4 @@
-//! What is done with an HTTP request: the routes of each port, and the decision on a request by its
-//! head and its body.
+//! The decision on an HTTP request, by its head and its body, and the routes of each port.
 #![tactic(auto)]
 
 mod account_port;

@@ -14,12 +14,12 @@ use std::alloc::{AllocError, Global};
 /// The one version that each function has.
 const LATEST: &str = "$LATEST";
 
-/// What a request says of its function.
+/// The function that a request names.
 #[derive(Clone, Copy, Debug, PartialEq, Eq)]
 pub enum Target {
-    /// Its name or its qualifier is out of its form.
+    /// Its name or its qualifier is malformed.
     Malformed,
-    /// There is no such function here, or no such version of it.
+    /// There is no such function, or no such version of it.
     Unknown,
     /// A configured function.
     Function {
@@ -30,7 +30,7 @@ pub enum Target {
     },
 }
 
-/// Whether a qualifier is left out, or of its form.
+/// Returns whether a qualifier is absent or well-formed.
 fn is_none_or_qualifier(qualifier: Option<&str>) -> bool
     ensures { result ≡ grammar.is_none_or grammar.is_qualifier (option_map text_of qualifier.entry) }
 {
@@ -40,7 +40,7 @@ fn is_none_or_qualifier(qualifier: Option<&str>) -> bool
     }
 }
 
-/// Whether a qualifier is left out, or the version that there is.
+/// Returns whether a qualifier is absent or `$LATEST`.
 fn is_none_or_latest(qualifier: Option<&str>) -> bool
     ensures { result ≡ grammar.is_none_or grammar.is_latest (option_map text_of qualifier.entry) }
 {
@@ -50,7 +50,7 @@ fn is_none_or_latest(qualifier: Option<&str>) -> bool
     }
 }
 
-/// The configured function of a name, at a version.
+/// Returns the configured function of a name, at a version.
 fn at_version(config: &Checked, qualifier: Option<&str>, named: Named) -> Target
     ensures { result ≡ spec.at_version config.now (option_map text_of qualifier.entry) named }
 {
@@ -66,7 +66,7 @@ fn at_version(config: &Checked, qualifier: Option<&str>, named: Named) -> Target
     }
 }
 
-/// What a name stands for.
+/// Returns what a name stands for.
 fn by_name(
     alloc: Global,
     config: &Checked,
@@ -104,8 +104,8 @@ fn invoked_by(
     by_name(alloc, config, qualifier, name)
 }
 
-/// The function that an Invoke is about, by the name of its path and the first `Qualifier` of its
-/// query (Lambda API, Invoke).
+/// Returns the function that an Invoke is about, by the name in its path and the first `Qualifier`
+/// of its query (Lambda API, Invoke).
 pub(crate) fn invoked(alloc: Global, config: &Checked, parts: &Parts) -> Result<Target, AllocError>
     ensures { IfOk result (λ target. target
         ≡ spec.invoked config.now (paths.name_of parts.now) (paths.qualifier_of parts.now)) }
@@ -120,7 +120,7 @@ pub(crate) fn invoked(alloc: Global, config: &Checked, parts: &Parts) -> Result<
     )
 }
 
-/// Whether a qualifier stands behind a name: behind its one, three or seven colons.
+/// Returns whether a name has a qualifier, after one, three or seven colons.
 fn has_qualifier(name: &str) -> bool
     ensures { result ≡ spec.has_qualifier name.now }
 {
@@ -138,8 +138,8 @@ fn reserved_by(alloc: Global, config: &Checked, name: Option<&str>) -> Result<Ta
     }
 }
 
-/// The function whose reservation a request is about. Its query isn't looked at, and its name may
-/// have no qualifier (Lambda API, PutFunctionConcurrency).
+/// Returns the function whose reservation a request is about. Its query is ignored, and its name
+/// must not have a qualifier (Lambda API, PutFunctionConcurrency).
 pub(crate) fn reserved(alloc: Global, config: &Checked, parts: &Parts) -> Result<Target, AllocError>
     ensures { IfOk result (λ target. target ≡ spec.reserved config.now (paths.name_of parts.now)) }
 {

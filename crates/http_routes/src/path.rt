@@ -13,7 +13,7 @@ use percent_encoding::{DecodeError, percent_decode};
 use std::alloc::{AllocError, Global};
 use std::borrow::CowStr;
 
-/// The front part, and what follows its slash.
+/// Returns the part before the first slash, and what follows it.
 fn cut(path: &str) -> (&str, Option<&str>)
     ensures { MatchOption result.1 (slice_split (λ b. b == 47) path.now ≡ result.0.now ∷ [])
         (λ rest. slice_split (λ b. b == 47) path.now ≡ result.0.now ∷ slice_split (λ b. b == 47) rest.now) }
@@ -24,7 +24,7 @@ fn cut(path: &str) -> (&str, Option<&str>)
     }
 }
 
-/// The part of a path behind this many slashes, as it stands.
+/// Returns the part of a path after this many slashes, not decoded.
 pub(crate) fn path_part(path: &str, n: usize) -> Option<&str>
     ensures { option_map (λ t. t.now) result ≡ spec.path_part n path.now }
 {
@@ -37,7 +37,8 @@ pub(crate) fn path_part(path: &str, n: usize) -> Option<&str>
     Some(front)
 }
 
-/// The part of a path behind this many slashes, which is found at once if the path begins with this front.
+/// Returns the part of a path after this many slashes. It is found at once if the path begins with
+/// this front.
 pub(crate) fn path_part_behind<'p>(path: &'p str, front: &str, n: usize) -> Option<&'p str>
     requires { (rest : List ℕ) → spec.path_part n (front.now ++ rest) ≡ spec.path_part 0 rest }
     ensures { option_map (λ t. t.now) result ≡ spec.path_part n path.now }
@@ -48,7 +49,7 @@ pub(crate) fn path_part_behind<'p>(path: &'p str, front: &str, n: usize) -> Opti
     }
 }
 
-/// The text that a part of a path stands for, where it is UTF-8 (RFC 3986, section 2.1).
+/// Returns the decoded text of a part of a path, if it is UTF-8 (RFC 3986, section 2.1).
 fn path_text(alloc: Global, part: &str) -> Result<Option<CowStr<'_>>, AllocError>
     ensures { IfOk result (λ text. option_map cow_str_bytes text ≡ spec.path_text part.now) }
 {
@@ -59,7 +60,7 @@ fn path_text(alloc: Global, part: &str) -> Result<Option<CowStr<'_>>, AllocError
     }
 }
 
-/// The name of a function in a path of the Lambda API.
+/// Returns the name of a function in a path of the Lambda API.
 pub(crate) fn name_of(alloc: Global, parts: &Parts) -> Result<Option<CowStr<'_>>, AllocError>
     ensures { IfOk result (λ text. option_map cow_str_bytes text ≡ spec.name_of parts.now) }
 {
@@ -69,7 +70,7 @@ pub(crate) fn name_of(alloc: Global, parts: &Parts) -> Result<Option<CowStr<'_>>
     }
 }
 
-/// The first value of a name in a query.
+/// Returns the first value of a name in a query.
 fn first_named<'q>(
     alloc: Global,
     query: &'q [u8],
@@ -86,7 +87,7 @@ fn first_named<'q>(
     Ok(None)
 }
 
-/// The first `Qualifier` of a request (Lambda API, Invoke: URI Request Parameters).
+/// Returns the first `Qualifier` of a request (Lambda API, Invoke: URI Request Parameters).
 pub(crate) fn qualifier_of(alloc: Global, parts: &Parts) -> Result<Option<CowStr<'_>>, AllocError>
     ensures { IfOk result (λ text. option_map cow_str_bytes text ≡ spec.qualifier_of parts.now) }
 {
@@ -96,7 +97,7 @@ pub(crate) fn qualifier_of(alloc: Global, parts: &Parts) -> Result<Option<CowStr
     }
 }
 
-/// The first `from` of a request for the history (this service's own).
+/// Returns the first `from` of a request for the history (an operation of this service alone).
 pub(crate) fn from_of(alloc: Global, parts: &Parts) -> Result<Option<CowStr<'_>>, AllocError>
     ensures { IfOk result (λ text. option_map cow_str_bytes text ≡ spec.from_of parts.now) }
 {

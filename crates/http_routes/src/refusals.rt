@@ -1,4 +1,4 @@
-//! Replies that refuse a request before there is a call. The only error is want of memory.
+//! Replies that refuse a request before there is a call. The only error is `AllocError`.
 
 ghost use Rattle.std.specs.Prelude.{◌≡◌, true, IfOk};
 ghost use Rattle.std.specs.List.{list_all};
@@ -17,23 +17,23 @@ use std::alloc::{AllocError, Global};
 pub(crate) enum Cause {
     /// No route has the path.
     NotFound,
-    /// What the history is to begin with is not a ticket.
+    /// The text from which the history is to begin is not a ticket.
     WrongTicket,
-    /// The path names no invocation of this environment's function.
+    /// The path does not name an invocation of this environment's function.
     WrongRequest,
-    /// The head names no extension of this environment.
+    /// The head does not name an extension of this environment.
     UnknownExtension,
-    /// A header is absent, or out of its form.
+    /// A header is absent or malformed.
     MissingHeader,
     /// The body is longer than 6,291,456 bytes.
     TooLarge,
-    /// A registration is not JSON of its form.
+    /// A registration is not JSON of the required form.
     UnreadableRegistration,
     /// A registration asks for an event that does not exist.
     WrongEvent,
-    /// A name or a qualifier is out of its form.
+    /// A name or a qualifier is malformed.
     MalformedName,
-    /// The function or its version is not there.
+    /// There is no such function, or no such version of it.
     UnknownFunction,
     /// The caller does not wait for the invocation.
     WrongInvocationType,
@@ -41,11 +41,11 @@ pub(crate) enum Cause {
     PayloadTooLarge,
     /// The payload is not JSON.
     UnreadablePayload,
-    /// A reservation is not JSON of its form.
+    /// A reservation is not JSON of the required form.
     UnreadableReservation,
 }
 
-/// The status, the type and the message of a refusal.
+/// Returns the status, the type and the message of a refusal.
 fn refusal_words(cause: Cause) -> (u16, &'static str, &'static str)
     ensures status { result.0 ≡ (spec.refusal_words cause).0 }
     ensures kind { result.1.now ≡ (spec.refusal_words cause).1 }
@@ -94,7 +94,8 @@ fn refusal_words(cause: Cause) -> (u16, &'static str, &'static str)
     }
 }
 
-/// Whose fault it is, which replies of the Lambda API say; none of the Runtime API and the Extensions API.
+/// Returns whose fault it is, which only replies of the Lambda API say; `None` for the Runtime API
+/// and the Extensions API.
 fn fault_of(cause: Cause) -> Option<InvokeFault>
     ensures { result ≡ spec.fault_of cause }
 {
@@ -129,7 +130,7 @@ fn refused_by_api(
     invoke_fault_reply(alloc, status, kind, fault, message)
 }
 
-/// The reply to a request that is refused.
+/// Makes the reply to a refused request.
 #[tactic(auto, unfolding(crate::specs::Refusals::refused))]
 pub(crate) fn refused(alloc: Global, cause: Cause) -> Result<Decision, AllocError>
     ensures { IfOk result (λ d. d ≡ spec.refused cause) }
@@ -142,7 +143,7 @@ pub(crate) fn refused(alloc: Global, cause: Cause) -> Result<Decision, AllocErro
     Ok(Decision::Reply(reply))
 }
 
-/// The reply that names the methods of a route which has not that of the request.
+/// Makes the reply that lists a route's methods, if it does not have the request's.
 #[tactic(auto, unfolding(crate::specs::Refusals::wrong_method))]
 pub(crate) fn wrong_method(alloc: Global, methods: HeaderValue) -> Result<Decision, AllocError>
     ensures { IfOk result (λ d. d ≡ spec.wrong_method methods) }

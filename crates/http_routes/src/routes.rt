@@ -12,13 +12,13 @@ use http_header::HeaderValue;
 use matchit::{InsertError, Router};
 use std::alloc::Global;
 
-/// The path of a Next, which every second request of a runtime has.
+/// The path of a Next, that of every second request of a runtime.
 const NEXT: &str = "/2018-06-01/runtime/invocation/next";
 
-/// What the path of a response begins with, before the invocation's identifier.
+/// The front of a response's path, before the invocation's identifier.
 pub(crate) const INVOCATION: &str = "/2018-06-01/runtime/invocation/";
 
-/// What the path of an Invoke begins with, before the function's name.
+/// The front of an Invoke's path, before the function's name.
 pub(crate) const FUNCTIONS: &str = "/2015-03-31/functions/";
 
 /// A route of an environment's port (Runtime API 2018-06-01, Extensions API 2020-01-01).
@@ -57,12 +57,12 @@ pub enum AccountRoute {
     Spindown,
     /// The account's counts.
     Stats,
-    /// The text of its history.
+    /// The text of the account's history.
     History,
 }
 
 impl EnvironmentRoute {
-    /// Whether the route has a method.
+    /// Returns whether the route has this method.
     pub(crate) fn allows(self, method: &str) -> bool
         ensures { result ≡ is_environment_method self method.now }
     {
@@ -77,7 +77,7 @@ impl EnvironmentRoute {
         }
     }
 
-    /// The methods that the route has, as the field `Allow` lists them (RFC 9110, section 10.2.1).
+    /// Returns the route's methods, as the field `Allow` lists them (RFC 9110, section 10.2.1).
     pub(crate) fn methods(self) -> HeaderValue
         ensures { result ≡ environment_methods self }
     {
@@ -94,7 +94,7 @@ impl EnvironmentRoute {
 }
 
 impl AccountRoute {
-    /// Whether the route has a method.
+    /// Returns whether the route has this method.
     pub(crate) fn allows(self, method: &str) -> bool
         ensures { result ≡ is_account_method self method.now }
     {
@@ -107,7 +107,7 @@ impl AccountRoute {
         }
     }
 
-    /// The methods that the route has, as the field `Allow` lists them.
+    /// Returns the route's methods, as the field `Allow` lists them.
     pub(crate) fn methods(self) -> HeaderValue
         ensures { result ≡ account_methods self }
     {
@@ -177,7 +177,8 @@ fn add_extensions(router: &mut Router<EnvironmentRoute>) -> Result<(), InsertErr
     )
 }
 
-/// The routes of an environment's port. They don't conflict: the error is want of memory.
+/// Makes the routes of an environment's port. They don't conflict: the only error is that memory is
+/// refused.
 pub(crate) fn environment_routes(alloc: Global) -> Result<Router<EnvironmentRoute>, InsertError>
     ensures { IfOk result (λ router. router ≡ environment_rows) }
 {
@@ -208,7 +209,7 @@ fn add_lambda(router: &mut Router<AccountRoute>) -> Result<(), InsertError>
     )
 }
 
-/// Adds the routes that are this service's own.
+/// Adds this service's own routes.
 fn add_local(router: &mut Router<AccountRoute>) -> Result<(), InsertError>
     ensures { OnOk result (router.new ≡ with_local_rows router.old) }
 {
@@ -218,7 +219,8 @@ fn add_local(router: &mut Router<AccountRoute>) -> Result<(), InsertError>
     add(router, "/_local/history", AccountRoute::History)
 }
 
-/// The routes of the account's port. They don't conflict: the error is want of memory.
+/// Makes the routes of the account's port. They don't conflict: the only error is that memory is
+/// refused.
 pub(crate) fn account_routes(alloc: Global) -> Result<Router<AccountRoute>, InsertError>
     ensures { IfOk result (λ router. router ≡ account_rows) }
 {
@@ -228,12 +230,13 @@ pub(crate) fn account_routes(alloc: Global) -> Result<Router<AccountRoute>, Inse
     Ok(router)
 }
 
-/// What bytes are: numbers below 256.
+/// Bytes are numbers below 256.
 fn bytes_fit(bytes: &[u8])
     ensures { All (λ b. b < 256) bytes.now }
 {}
 
-/// The first byte and the others of the part of a path between a front and a slash with this back.
+/// Returns the part of a path between this front and a slash with this back: its first byte, and
+/// the others.
 fn part_between<'p>(path: &'p str, front: &str, back: &str) -> Option<(u8, &'p [u8])>
     ensures { MatchOption result Unit (λ p. (p.0 < 256) × (path.now ≡ front.now ++ (p.0 ∷ (p.1.now ++ (47 ∷ back.now))))
         × All (λ b. b ≢ 47) (p.0 ∷ p.1.now)) }
@@ -249,7 +252,8 @@ fn part_between<'p>(path: &'p str, front: &str, back: &str) -> Option<(u8, &'p [
     None
 }
 
-/// Whether a path is that of a response, unless its identifier begins as that of a Next does.
+/// Returns whether a path is that of a response. It misses an identifier that begins with an `n`,
+/// as `next` does.
 fn is_response(path: &str) -> bool
     ensures { IsTrue result → route_in environment_rows path.now ≡ Some Response }
 {
@@ -259,7 +263,7 @@ fn is_response(path: &str) -> bool
     }
 }
 
-/// Whether a path is that of an Invoke.
+/// Returns whether a path is that of an Invoke.
 fn is_invoke(path: &str) -> bool
     ensures { IsTrue result → route_in account_rows path.now ≡ Some Invoke }
 {
@@ -269,8 +273,8 @@ fn is_invoke(path: &str) -> bool
     }
 }
 
-/// The route of an environment's port that a path matches. Those of a Next and of nearly every response
-/// are found without the router.
+/// Returns the route of an environment's port that a path matches. Those of a Next and of nearly
+/// every response are found without the router.
 pub(crate) fn environment_route(
     router: &Router<EnvironmentRoute>,
     path: &str,
@@ -290,7 +294,8 @@ pub(crate) fn environment_route(
     }
 }
 
-/// The route of the account's port that a path matches. That of an Invoke is found without the router.
+/// Returns the route of the account's port that a path matches. That of an Invoke is found without
+/// the router.
 pub(crate) fn account_route(router: &Router<AccountRoute>, path: &str) -> Option<AccountRoute>
     requires { router.now ≡ account_rows }
     ensures { result ≡ route_in account_rows path.now }

@@ -51,7 +51,7 @@ fn routes_of(alloc: Global, port: Port) -> Result<Routes, AllocError>
     }
 }
 
-/// One port of the service: whose it is, in which configuration, with which salt, and its routes.
+/// One port of the service: its configuration, its salt, whose port it is, and its routes.
 #[derive(Drop)]
 pub struct Side {
     config: Arc<Checked>,
@@ -71,7 +71,7 @@ impl Model for Side {
     ghost invariant = { λ s. IsPortOf (arc_value s.config) (port_of s.routes) × AreWhole s.routes };
 }
 
-/// A body that is too long.
+/// Makes a body that is too long.
 fn long_body(alloc: Global) -> Result<Bytes, AllocError>
     ensures { IfOk result (λ body. longest_body < length body) }
 {
@@ -81,9 +81,9 @@ fn long_body(alloc: Global) -> Result<Bytes, AllocError>
 }
 
 impl Side {
-    /// A port of the configuration, with the salt that the identifiers are made with: the account's,
-    /// or that of an environment from 1 to `Checked::environments`. Its routes are made here, once;
-    /// the only error is want of memory.
+    /// Opens a port of the configuration, with the salt of its identifiers: the account's port, or
+    /// that of an environment from 1 to `Checked::environments`. Its routes are made here, once.
+    /// The only error is that memory is refused.
     pub fn open(
         alloc: Global,
         config: Arc<Checked>,
@@ -101,10 +101,9 @@ impl Side {
         })
     }
 
-    /// What is done with a request of this head and body: `Submit` its call, `Reply` with a refusal,
-    /// or `Show` what is asked for. The first refusal that holds is given; the call shares
-    /// the body, which isn't copied. A payload is read in the scratch's room. The only error is want of
-    /// memory.
+    /// Decides a request by its head and body: to `Submit` its call, to `Reply` with the first
+    /// refusal that holds, or to `Show` what is asked for. The call shares the body, which isn't
+    /// copied. A payload is read in the scratch's room. The only error is `AllocError`.
     pub fn decide(
         &self,
         alloc: Global,
@@ -113,7 +112,7 @@ impl Side {
         body: &Bytes,
     ) -> Result<Decision, AllocError>
         ensures decision { IfOk result (λ d. d ≡ decision self.now parts.now body.now) }
-        // A call is one that the account's book takes, and a function that is shown is there.
+        // A call is one that the account's book takes, and a function that is shown is configured.
         ensures allowed { IfOk result (IsAllowed self.now.config) }
     {
         match &self.routes {
@@ -139,8 +138,8 @@ impl Side {
 }
 
 impl Side {
-    /// What is done with a request of this head whose body is longer than 6,291,456 bytes: it is the same
-    /// for each such body, so it is decided by one. The only error is want of memory.
+    /// Decides a request of this head whose body is longer than 6,291,456 bytes. The decision is
+    /// the same for each such body, so it is made with one of them. The only error is `AllocError`.
     pub fn decide_too_long(&self, alloc: Global, parts: &Parts) -> Result<Decision, AllocError>
         ensures decision_too_long { IfOk result (IsForTooLong (λ body d. d ≡ decision self.now parts.now body)) }
         ensures allowed_too_long { IfOk result (IsAllowed self.now.config) }

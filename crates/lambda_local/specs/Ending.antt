@@ -1,4 +1,4 @@
--- What a service ends with.
+-- The settled end of a service.
 use Rattle.std.specs.Prelude.{◌≡◌, ◌^◌, ℕ, List, ◌++◌, codes, decimal}
 use Rattle.arn_ids.specs.declared.config.Config.{Config}
 use Rattle.call_types.specs.declared.call.Entry.{Entry}
@@ -7,9 +7,9 @@ use Rattle.usage_ledger.specs.Tallies.{Tallied}
 use Rattle.account_lock.specs.Counting.{counts_of}
 use Rattle.headline.specs.Headline.{Headline}
 
--- The counts are those of a history of the configuration, of which the headline holds; and a tally that has all parts
--- of the account's four ledgers, so that no share of what its threads counted is anywhere else, has counted what that
--- history counts.
+-- The counts are those of a history of the configuration, for which the headline holds. The tally has counted what
+-- that history counts; it has all parts of the account's four ledgers, so no share of what the threads counted is
+-- anywhere else.
 pub record IsSettled (config : Config) (counts : Stats) (tally : Tallied) : Type 0 where
   pub history : List Entry
   pub headline : Headline config history counts

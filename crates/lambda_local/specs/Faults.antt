@@ -1,4 +1,4 @@
--- What a service says of the faults of its parts.
+-- The faults of a service, from the faults of its parts.
 use Rattle.lambda_wire.specs.declared.fault.WireFault.{WireFault}
 use Rattle.lambda_wire.specs.declared.fault.WireFault.TheVariants as wire
 use Rattle.account_lock.specs.declared.fault.SettleFault.{SettleFault}
@@ -9,12 +9,12 @@ use Rattle.lambda_local.specs.declared.serve_fault.ServeFault.{ServeFault}
 use Rattle.lambda_local.specs.declared.serve_fault.ServeFault.TheVariants.{Config, Wire, Settlement, Network}
 use Rattle.lambda_local.specs.declared.serve_fault.ServeFault.TheVariants.{TooFewDescriptors, OutOfMemory}
 
--- of a configuration that is not read
+-- the fault for a configuration that is not read
 abbrev pub of_wire : WireFault → ServeFault
 of_wire wire.OutOfMemory = OutOfMemory
 of_wire fault = Wire fault
 
--- of a host that does not open, or does not come to its end: the account lacks the tally of a thread that never ended
+-- the fault for a host that does not open or does not end; the account lacks the tally of a thread that never ended
 abbrev pub of_host : HostFault → ServeFault
 of_host (host.Config fault) = Config fault
 of_host host.Network = Network
@@ -22,7 +22,7 @@ of_host host.TooFewDescriptors = TooFewDescriptors
 of_host host.StillShared = Settlement settling.TallyMissing
 of_host host.OutOfMemory = OutOfMemory
 
--- of an account that does not settle
+-- the fault for an account that does not settle
 abbrev pub of_settling : SettleFault → ServeFault
 of_settling settling.OutOfMemory = OutOfMemory
 of_settling fault = Settlement fault

@@ -4,28 +4,29 @@ use std::sync::atomic::AtomicU64;
 use std::sync::atomic::Ordering::SeqCst;
 use std::time::{self, Duration};
 
-/// The machine's clock, as the server reads it: in Unix milliseconds, so that a deadline that a runtime
-/// is given is what the Runtime API says it is. It reads the time of day once, when it is made, and counts
-/// on from there by the machine's monotonic clock, which no one can set: so no deadline comes early or late. The
-/// monotonic clock does not advance while the machine sleeps, so this clock may be set forward to the time of
-/// day while no deadline is running. It never goes back: if the time of day is set back, it stays ahead.
+/// The machine's clock, as the server reads it: in Unix milliseconds, the unit of the deadlines in
+/// the Runtime API. It reads the time of day once, when it is made, and advances from there by the
+/// machine's monotonic clock, which no one can set: so no deadline comes early or late. The
+/// monotonic clock does not advance while the machine sleeps, so this clock may be set forward to
+/// the time of day while no deadline is running. It never goes back: if the time of day is set
+/// back, it stays ahead.
 #[derive(Drop)]
 pub struct UnixClock<R> {
     rt: R,
-    // What the two clocks read when this one was made.
+    // The readings of the two clocks when this one was made.
     since_1970: Duration,
     monotonic: Duration,
     // By how many milliseconds it was set forward since then.
     forward: AtomicU64,
 }
 
-/// A time in milliseconds.
+/// Returns a time in milliseconds.
 fn millis(time: Duration) -> u64 {
     u64::try_from(time.as_millis()).unwrap_or(u64::MAX)
 }
 
 impl<R: time::Clock> UnixClock<R> {
-    /// The clock of this machine, from now on. A clock that fails counts as one that reads 0.
+    /// Makes the clock of this machine, from now on. A clock that fails counts as one that reads 0.
     pub fn new(rt: R) -> UnixClock<R> {
         let since_1970 = rt.since_1970().unwrap_or(Duration::ZERO);
         let monotonic = rt.monotonic().unwrap_or(Duration::ZERO);
@@ -39,7 +40,7 @@ impl<R: time::Clock> UnixClock<R> {
 }
 
 impl<R: time::Clock> long_poll::Clock for UnixClock<R> {
-    /// A clock that fails reads 0, which counts as the last moment.
+    /// Returns its reading. A clock that fails reads 0, which counts as the last moment.
     fn now(&self) -> u64 {
         match self.rt.monotonic() {
             Ok(monotonic) => {

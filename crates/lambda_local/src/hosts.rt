@@ -1,4 +1,4 @@
-//! Which hosts the service answers for beside the local ones.
+//! The hosts that the service answers for in addition to the local ones.
 
 use crate::setting_fault::SettingFault;
 use request_guard::Hosts;
@@ -7,8 +7,9 @@ use std::env::{self, Env, VarError};
 /// The variable that lists them.
 const NAME: &str = "LAMBDA_LOCAL_HOSTS";
 
-/// The hosts that the service answers for beside the local ones: those that the environment variable lists, names
-/// of letters, digits, `-`, `.` and `_` with commas between them. If it is empty or absent, there are none.
+/// Reads the hosts that the service answers for in addition to the local ones. The environment
+/// variable lists them: names of letters, digits, `-`, `.` and `_`, separated by commas. If it is
+/// empty or absent, there are none.
 ///
 /// # Errors
 /// `Malformed` if it is not such a list, else `OutOfMemory`.

@@ -12,13 +12,13 @@ use std::time::{self, Duration};
 /// How many milliseconds pass between two checks for something to say.
 const BEAT: u64 = 20;
 
-/// How many times it is checked whether the last line was written, and how many milliseconds pass between two
-/// checks: a second in all.
+/// How many times it is checked whether the last line was written, and how many milliseconds pass
+/// between two checks: a second in all.
 const LOOKS: u32 = 200;
 
 const BETWEEN_LOOKS: u64 = 5;
 
-/// What the service and its log's thread note for each other.
+/// The notes that the service and its log's thread leave for each other.
 #[derive(Drop)]
 struct Progress {
     // Whether the service is over.
@@ -27,7 +27,7 @@ struct Progress {
     has_ended: AtomicBool,
 }
 
-/// Says how much room the journal has left.
+/// Logs how much room the journal has left.
 fn warn_of<R: Log>(rt: &R, room: Room) {
     match room {
         Room::Ample => {}
@@ -38,7 +38,7 @@ fn warn_of<R: Log>(rt: &R, room: Room) {
     }
 }
 
-/// Writes the log of a service until it is over. Each warning is said once.
+/// Writes the log of a service until the service is over. Each warning is logged once.
 fn write<R: Log + Wait + time::Clock>(rt: &R, notices: &Notices, progress: &Progress) {
     info!(rt; "listening");
     let mut said = Room::Ample;
@@ -58,8 +58,9 @@ fn write<R: Log + Wait + time::Clock>(rt: &R, notices: &Notices, progress: &Prog
     unreachable!()
 }
 
-/// Writes the log of a service while that runs. A write to a pipe that is not read blocks, so the log has a
-/// thread of its own: the service waits for it only at its end, and then for a second at most.
+/// Writes the log of a service while the service runs. A write to a pipe that is not read blocks,
+/// so the log has a thread of its own: the service waits for it only at its end, and then for a
+/// second at most.
 #[derive(Drop)]
 pub struct LogWriter {
     progress: Arc<Progress>,
@@ -67,7 +68,7 @@ pub struct LogWriter {
 }
 
 impl LogWriter {
-    /// Starts the thread, which says that the service listens, and then what its notices have to say.
+    /// Starts the thread, which logs that the service listens, and then what its notices say.
     ///
     /// # Errors
     /// If memory or a thread is refused.
@@ -82,8 +83,8 @@ impl LogWriter {
         Ok(LogWriter { progress, thread })
     }
 
-    /// Lets the thread say that the service has stopped, and waits until it has: for a second at most, since what
-    /// it writes may not be read.
+    /// Lets the thread log that the service has stopped, and waits until it has, for a second at
+    /// most: its output may not be read.
     pub fn finish<R: Machine>(self, rt: &R) {
         let LogWriter { progress, thread } = self;
         progress.is_over.store(true, SeqCst);

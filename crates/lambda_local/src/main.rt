@@ -1,6 +1,6 @@
 //! A local Lambda service. `lambda_local`, or `lambda_local replay`, replays a script of calls from
-//! standard input and writes what each is answered to standard output. `lambda_local serve PATH`
-//! serves the configuration of a file over HTTP until it is stopped, and then writes the account's
+//! standard input and writes each call's answer to standard output. `lambda_local serve PATH`
+//! serves the configuration in a file over HTTP until it is stopped, and then writes the account's
 //! counts.
 #![tactic(auto)]
 
@@ -32,9 +32,9 @@ use thiserror::Error;
 /// What the arguments ask for.
 #[derive(Drop)]
 enum Asked {
-    /// To replay standard input.
+    /// Replay standard input.
     Replay,
-    /// To serve the configuration of the file with this path.
+    /// Serve the configuration in the file with this path.
     Serve(String),
     /// Anything else: the program prints its usage.
     Nothing,
@@ -43,7 +43,7 @@ enum Asked {
 /// Why the program fails. It prints as the line on standard error.
 #[derive(Clone, Copy, Debug, PartialEq, Eq, Error)]
 enum ProgramFault {
-    /// The arguments ask for anything else, or a variable of the environment is out of its form.
+    /// The arguments ask for anything else, or an environment variable is malformed.
     #[error("usage: lambda_local [replay | serve PATH]")]
     Usage,
     /// The replay ended before its input.
@@ -55,7 +55,7 @@ enum ProgramFault {
 }
 
 impl ProgramFault {
-    /// The exit status: 2 for a usage fault.
+    /// Returns the exit status: 2 for a usage fault.
     fn status(self) -> u8 {
         match self {
             ProgramFault::Usage => 2,

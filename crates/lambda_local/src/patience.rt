@@ -1,11 +1,11 @@
-//! How long a premature Invoke is held back: one that comes a moment before its environment is ready again.
+//! How long a premature Invoke is held back: one that comes just before its environment is ready.
 
 ghost use Rattle.std.specs.Prelude.{◌≤◌, IfSome};
 
 use crate::setting_fault::SettingFault;
 use std::env::{self, Env, VarError};
 
-/// The variable that has the number of milliseconds.
+/// The variable with the number of milliseconds.
 const NAME: &str = "LAMBDA_LOCAL_PATIENCE_MS";
 
 /// The number if the variable is absent.
@@ -24,8 +24,8 @@ fn patience_of(text: &str) -> Option<u32>
     }
 }
 
-/// The most milliseconds for which a premature Invoke is held back: the environment variable's number, from 0
-/// (not at all) to 2,000, or 100 if it is absent.
+/// Reads the most milliseconds for which a premature Invoke is held back: the environment
+/// variable's number, from 0 (not at all) to 2,000, or 100 if it is absent.
 ///
 /// # Errors
 /// `Malformed` if it is not such a number, else `OutOfMemory`.

@@ -21,10 +21,10 @@ use std::marker::Brand;
 use std::rt::Files;
 use usage_ledger::{Blanks, KeepNone, Ledgers, Tally};
 
-/// How many bytes of a configuration are read: the longest one, and one more.
+/// The most bytes of a configuration that are read: one more than the longest one has.
 const MOST_READ: u64 = 20_000_001;
 
-/// The plan that a file holds.
+/// Reads the plan in a file.
 fn read_plan<R: Files + AllocGlobal>(rt: &R, path: &str) -> Result<Plan, ServeFault>
 where
     R::File: Read + Drop,
@@ -37,7 +37,8 @@ where
     Ok(Plan::check(rt.alloc(), setup)?)
 }
 
-/// What a service has counted: the counts of its history, and the shares of all its threads in one tally.
+/// What a service has counted: the counts of its history, and the shares of all its threads in one
+/// tally.
 #[derive(Drop)]
 pub struct Counted<L: Ledgers> {
     /// The counts.
@@ -46,8 +47,8 @@ pub struct Counted<L: Ledgers> {
     pub tally: Tally<KeepNone, L>,
 }
 
-/// The counts of an account that was served, once it is found that its threads have counted what its history
-/// counts, with the shares that show it.
+/// Returns the counts of an account that was served, with the shares of its threads, after a check
+/// that the shares count what its history counts.
 ///
 /// # Errors
 /// `Settlement` if they have not, else `OutOfMemory`.
@@ -62,9 +63,9 @@ fn settled<S: Identity>(hosted: Hosted<S, KeepNone>) -> Result<Counted<S>, Serve
     })
 }
 
-/// Serves a plan until it is stopped, settles, and returns the account's counts with the shares of all its
-/// threads, which add up to them: shares of the account's ledgers come from nowhere else. `S` names the
-/// configuration, the salt, the limit, the ledgers and the history of the account.
+/// Serves a plan until it is stopped, settles, and returns the account's counts with the shares of
+/// all its threads, which add up to them: no share of the account's ledgers is anywhere else. `S`
+/// names the configuration, the salt, the limit, the ledgers and the history of the account.
 fn serve_counted<R: Machine + Log, S: Identity + Drop + Send + Sync + 'static>(
     rt: R,
     plan: Plan,
@@ -89,7 +90,7 @@ fn serve_counted<R: Machine + Log, S: Identity + Drop + Send + Sync + 'static>(
     settled(served?)
 }
 
-/// The same, but returns the counts alone.
+/// Does the same, but returns the counts alone.
 fn serve_plan<R: Machine + Log, S: Identity + Drop + Send + Sync + 'static>(
     rt: R,
     plan: Plan,
@@ -109,7 +110,7 @@ fn serve_plan<R: Machine + Log, S: Identity + Drop + Send + Sync + 'static>(
     }
 }
 
-/// Names the configuration, the salt, the limit, the ledgers and the history.
+/// Names the configuration, the salt, the limit, the ledgers and the history, and serves the plan.
 fn serve_by_brand<R: Machine + Log>(
     rt: R,
     plan: Plan,
@@ -122,12 +123,12 @@ fn serve_by_brand<R: Machine + Log>(
     serve_plan::<R, Brand>(rt, plan, patience, hosts, blanks)
 }
 
-/// Serves the configuration of a file until it is stopped, settles, and writes the account's counts on standard
-/// output. A premature Invoke is held back for up to `patience` milliseconds, and a request is refused if it
-/// names a host which is neither local nor one of `hosts` ([`Host::open`]).
+/// Serves the configuration in a file until it is stopped, settles, and writes the account's counts
+/// to standard output. A premature Invoke is held back for up to `patience` milliseconds. A request
+/// is refused if it names a host that is neither local nor one of `hosts` ([`Host::open`]).
 ///
 /// # Errors
-/// As the fault says; nothing is then written on standard output.
+/// As the fault says; nothing is then written to standard output.
 pub fn serve<R: Machine + Log + Files + Print>(
     rt: R,
     path: &str,

@@ -15,7 +15,7 @@ use usage_ledger::Ledgers;
 /// Why a service did not come to a settled end. It prints as the program's line on standard error.
 #[derive(Clone, Copy, Debug, PartialEq, Eq, Error)]
 pub enum ServeFault {
-    /// The configuration is one that no account can have.
+    /// The configuration has a fault.
     #[error("configuration: {0}")]
     Config(ConfigFault),
     /// The file does not hold a configuration.
@@ -42,8 +42,8 @@ pub enum ServeFault {
 }
 
 impl ServeFault {
-    /// The exit status of a program that ends with it: 2 if the configuration is at fault, 3 if the account does
-    /// not settle, and 4 if the machine is at fault.
+    /// Returns the exit status of a program that ends with it: 2 if the configuration is at fault,
+    /// 3 if the account does not settle, and 4 if the machine is at fault.
     pub fn status(self) -> u8
         ensures { result ≡ status_of self }
     {
@@ -58,7 +58,7 @@ impl ServeFault {
         }
     }
 
-    /// The fault for an error while the configuration is read.
+    /// Returns the fault for an error while the configuration is read.
     pub fn at_input(fault: &io::Error) -> ServeFault {
         match fault.kind() {
             io::ErrorKind::OutOfMemory => ServeFault::OutOfMemory,
@@ -66,7 +66,7 @@ impl ServeFault {
         }
     }
 
-    /// The fault for an error on standard output.
+    /// Returns the fault for an error on standard output.
     pub fn at_output(fault: &io::Error) -> ServeFault {
         match fault.kind() {
             io::ErrorKind::OutOfMemory => ServeFault::OutOfMemory,

@@ -1,10 +1,10 @@
-//! Why a variable of the environment says nothing that the program can use.
+//! Why an environment variable cannot be used.
 
 /// Why no setting was read.
 #[derive(Clone, Copy, Debug, PartialEq, Eq)]
 pub enum SettingFault {
-    /// The variable's value is out of its form.
+    /// The variable's value is malformed.
     Malformed,
-    /// There was no memory.
+    /// Memory was refused.
     OutOfMemory,
 }

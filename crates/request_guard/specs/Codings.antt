@@ -11,6 +11,6 @@ is_chunked_at_most [] = true
 is_chunked_at_most (value ∷ []) = str_eq_ignore_ascii_case value.bytes (codes "chunked")
 is_chunked_at_most (value ∷ other ∷ values) = false
 
--- The bytes that come of a request's body are its content: the connection takes off `chunked`, and no other coding.
+-- The bytes that arrive of a request's body are its content: the connection decodes `chunked`, and no other coding.
 abbrev pub is_plainly_coded : Parts → Bool
 is_plainly_coded parts = is_chunked_at_most (get_all parts.headers (codes "transfer-encoding"))

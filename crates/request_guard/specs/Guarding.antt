@@ -1,4 +1,4 @@
--- Which requests never become a call, by their heads.
+-- Requests that never become a call, by their heads.
 use Rattle.std.specs.Prelude.{ℕ, if◌then◌else◌, List, Option, Some, None}
 use Rattle.http.specs.declared.request.Parts.{Parts}
 use Rattle.request_guard.specs.Hosts.{has_malformed_host, has_served_host}
@@ -8,7 +8,7 @@ use Rattle.request_guard.specs.declared.refusal.Refusal.{Refusal}
 use Rattle.request_guard.specs.declared.refusal.Refusal.TheVariants.{MalformedHost, FromPage}
 use Rattle.request_guard.specs.declared.refusal.Refusal.TheVariants.{ForeignHost, ForeignCoding}
 
--- Why a request of this head is refused, the first cause that holds. The names are those that are listed.
+-- Why a request of this head is refused, the first cause that holds, with these names of hosts listed.
 abbrev pub refusal_of : List ℕ → Parts → Option Refusal
 refusal_of listed p =
     if has_malformed_host p then Some MalformedHost

@@ -1,4 +1,4 @@
--- The name of a host as the code holds it.
+-- The name of a host, as the code holds it.
 use Rattle.std.specs.Prelude.{◌≡◌, ℕ, true, false, List, Option, option_map, Result, Ok, Err}
 use Rattle.std.specs.Borrow.{Bor}
 use Rattle.http.specs.declared.request.Parts.{Parts}
@@ -7,13 +7,13 @@ use Rattle.request_guard.specs.Views.{text_of}
 use Rattle.request_guard.specs.declared.refusal.Refusal.{Refusal}
 use Rattle.request_guard.specs.declared.refusal.Refusal.TheVariants.{MalformedHost}
 
--- what a host's text comes to: it is served just where its name is, or it names no host
+-- the result for a host's text: a name that is served exactly if the host is, or that the text is not a host
 abbrev pub IsNamedBy : Option (List ℕ) → Result (Option (Bor (List ℕ))) Refusal → Type 0
 IsNamedBy text (Ok name) =
     (is_host text ≡ true) × ((listed : List ℕ) → is_served listed text ≡ serves listed (option_map text_of name))
 IsNamedBy text (Err refusal) = (is_host text ≡ false) × (refusal ≡ MalformedHost)
 
--- what the host of a request comes to
+-- the result for the host of a request
 abbrev pub IsNameOf : Parts → Result (Option (Bor (List ℕ))) Refusal → Type 0
 IsNameOf p (Ok name) =
     (has_malformed_host p ≡ false)

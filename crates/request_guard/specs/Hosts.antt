@@ -1,4 +1,4 @@
--- The host that a request names, and the hosts that are listed beside the local ones.
+-- The host that a request names, and the hosts that are listed in addition to the local ones.
 use Rattle.std.specs.Prelude.{ℕ, Bool, true, false, not, ◌&&◌, ◌||◌, ◌==◌, nat_lt, if◌then◌else◌, List, [], ◌∷◌, length}
 use Rattle.std.specs.Prelude.{codes, Option, Some, None, option_map}
 use Rattle.std.specs.Char.{is_ascii_alphanumeric}
@@ -9,15 +9,15 @@ use Rattle.http.specs.declared.request.Parts.{Parts}
 use Rattle.http_header.specs.FieldValue.{FieldValue}
 use Rattle.request_guard.specs.Names.{is_named, is_literal, name_of, relative, is_local}
 
--- a byte of a name that is listed
+-- a byte of a listed name
 abbrev pub is_listed_byte : ℕ → Bool
 is_listed_byte b = is_ascii_alphanumeric b || list_any (λ other. other == b) (codes "-._")
 
--- a name that is listed
+-- a listed name
 abbrev pub is_listed : List ℕ → Bool
 is_listed name = nat_lt 0 (length name) && list_all is_listed_byte name
 
--- names with commas between them, or nothing
+-- names separated by commas, or nothing
 abbrev pub is_list : List ℕ → Bool
 is_list text = length text == 0 || list_all is_listed (slice_split (λ b. b == 44) text)
 
@@ -33,22 +33,22 @@ or_else None other = other
 abbrev pub host_text : Parts → Option (List ℕ)
 host_text p = or_else (uri_authority p.uri) (option_map (λ v. v.bytes) (get p.headers (codes "host")))
 
--- there is more than one
+-- there is more than one field
 abbrev pub are_several : List FieldValue → Bool
 are_several [] = false
 are_several (value ∷ []) = false
 are_several (value ∷ other ∷ values) = true
 
--- a name or an address, and perhaps a port (RFC 9110, section 7.2)
+-- a name or an address, with an optional port (RFC 9110, section 7.2)
 abbrev pub is_host : Option (List ℕ) → Bool
 is_host None = true
 is_host (Some text) = is_literal text || is_named text
 
--- The host is named in two fields, or by what is no host (RFC 9112, section 3.2).
+-- The host is named in two fields, or by a text that is not a host (RFC 9112, section 3.2).
 abbrev pub has_malformed_host : Parts → Bool
 has_malformed_host p = are_several (get_all p.headers (codes "host")) || not (is_host (host_text p))
 
--- an address, a local name or one that is listed; a request of HTTP/1.0 may name none
+-- an address, a local name or a listed one; a request of HTTP/1.0 may name no host
 abbrev pub is_served : List ℕ → Option (List ℕ) → Bool
 is_served listed None = true
 is_served listed (Some text) = is_literal text || is_local listed (relative (name_of text))

@@ -13,7 +13,7 @@ is_name_byte b = is_ascii_alphanumeric b || list_any (λ other. other == b) (cod
 abbrev pub is_address_byte : ℕ → Bool
 is_address_byte b = is_ascii_hexdigit b || b == 58 || b == 46
 
--- how many bytes pass before the first one that doesn't
+-- how many bytes pass a test before the first one that doesn't
 abbrev pub passed : (ℕ → Bool) → List ℕ → ℕ
 passed passes text = unwrap_or (position (λ b. not (passes b)) text) (length text)
 
@@ -26,58 +26,58 @@ is_port_part (b ∷ digits) = b == 58 && list_all is_ascii_digit digits
 abbrev pub name_of : List ℕ → List ℕ
 name_of text = take (passed is_name_byte text) text
 
--- a name and perhaps a port
+-- a name, with an optional port
 abbrev pub is_named : List ℕ → Bool
 is_named text = is_port_part (drop (passed is_name_byte text) text)
 
--- the bracket that ends an address, and perhaps a port
+-- the bracket that ends an address, with an optional port after it
 abbrev pub closes : List ℕ → Bool
 closes [] = false
 closes (b ∷ port) = b == 93 && is_port_part port
 
--- what follows the bracket that begins an address: the address, the bracket that ends it, and perhaps a port
+-- what follows the bracket that begins an address: the address, the bracket that ends it, and an optional port
 abbrev pub is_address : List ℕ → Bool
 is_address rest = nat_lt 0 (passed is_address_byte rest) && closes (drop (passed is_address_byte rest) rest)
 
--- an address in brackets and perhaps a port
+-- an address in brackets, with an optional port
 abbrev pub is_literal : List ℕ → Bool
 is_literal [] = false
 is_literal (b ∷ rest) = b == 91 && is_address rest
 
--- the rest behind a dot at the front
+-- the rest after a dot at the front
 abbrev pub past_dot : List ℕ → List ℕ
 past_dot [] = []
 past_dot (b ∷ bs) = if b == 46 then bs else b ∷ bs
 
--- a name without the dot of the root at its end (RFC 1034, section 3.1)
+-- a name without the root's dot at its end (RFC 1034, section 3.1)
 abbrev pub relative : List ℕ → List ℕ
 relative name = reverse (past_dot (reverse name))
 
--- the name ends so, in whatever case
+-- the name ends with this suffix, in any case
 abbrev pub ends_as : List ℕ → List ℕ → Bool
 ends_as suffix name =
     if nat_lt (length name) (length suffix) then false
     else str_eq_ignore_ascii_case (drop (length name - length suffix) name) suffix
 
--- one of the names between the commas is this one, in whatever case
+-- one of the names between the commas is this one, in any case
 abbrev pub lists : List ℕ → List ℕ → Bool
 lists listed name = list_any (λ part. str_eq_ignore_ascii_case part name) (slice_split (λ b. b == 44) listed)
 
--- one label, as `localhost` and the names of containers
+-- one label, like `localhost` and the names of containers
 abbrev pub is_one_label : List ℕ → Bool
 is_one_label name = not (list_any (λ b. b == 46) name)
 
--- an IPv4 address: no registered name is made of digits and dots alone
+-- an IPv4 address: no registered name consists of digits and dots alone
 abbrev pub is_numeric : List ℕ → Bool
 is_numeric name = list_all (λ b. is_ascii_digit b || b == 46) name
 
--- below a domain that is no one's on the public network (RFC 6761, RFC 6762; ICANN's `.internal`)
+-- below a domain that no one has on the public network (RFC 6761, RFC 6762; ICANN's `.internal`)
 abbrev pub is_below_local : List ℕ → Bool
 is_below_local name =
     ends_as (codes ".localhost") name || ends_as (codes ".internal") name
     || ends_as (codes ".local") name || ends_as (codes ".localdomain") name
 
--- A name of this machine, of a container, or one that is listed.
+-- A name of this machine or of a container, or a listed one.
 abbrev pub is_local : List ℕ → List ℕ → Bool
 is_local listed name =
     nat_lt 0 (length name)

@@ -1,4 +1,4 @@
--- What the requests are answered that never become a call.
+-- Answers to requests that never become a call.
 use Rattle.std.specs.Prelude.{Bool, true, false, codes}
 use Rattle.lambda_wire.specs.Replies.{fault_reply, invoke_fault_reply}
 use Rattle.lambda_wire.specs.declared.body_writer.InvokeFault.TheVariants.{User, Service}
@@ -9,7 +9,7 @@ use Rattle.request_guard.specs.declared.refusal.Refusal.{Refusal}
 use Rattle.request_guard.specs.declared.refusal.Refusal.TheVariants.{MalformedHost, FromPage, ForeignHost}
 use Rattle.request_guard.specs.declared.refusal.Refusal.TheVariants.{ForeignCoding, BrokenBody, OutOfMemory}
 
--- The connection ends behind the reply, whatever is left of the request. (Behind a broken body it ends by itself.)
+-- The connection ends after the reply, whatever is left of the request. (After a broken body it ends by itself.)
 abbrev pub closes : Refusal → Bool
 closes MalformedHost = false
 closes FromPage = false
@@ -18,7 +18,7 @@ closes ForeignCoding = true
 closes BrokenBody = false
 closes OutOfMemory = true
 
--- on a port of the Lambda API
+-- the reply on a port of the Lambda API
 abbrev pub lambda_reply : Refusal → Reply
 lambda_reply MalformedHost = invoke_fault_reply 400 (codes "InvalidParameterValueException") User
     (codes "Host is malformed")
@@ -31,7 +31,7 @@ lambda_reply BrokenBody = invoke_fault_reply 400 (codes "InvalidRequestContentEx
     (codes "Body is malformed")
 lambda_reply OutOfMemory = invoke_fault_reply 500 (codes "ServiceException") Service (codes "Out of memory")
 
--- on a port of the Runtime API and the Extensions API
+-- the reply on a port of the Runtime API and the Extensions API
 abbrev pub runtime_reply : Refusal → Reply
 runtime_reply MalformedHost = fault_reply 400 (codes "Host is malformed") (codes "InvalidHost")
 runtime_reply FromPage = fault_reply 403 (codes "Web pages may not call this service") (codes "AccessDenied")
@@ -41,7 +41,7 @@ runtime_reply ForeignCoding = fault_reply 501 (codes "Transfer coding not suppor
 runtime_reply BrokenBody = fault_reply 400 (codes "Body is malformed") (codes "InvalidRequestFormat")
 runtime_reply OutOfMemory = fault_reply 500 (codes "Out of memory") (codes "OutOfMemory")
 
--- What a refused request is answered, in the form of its port's API.
+-- The reply to a refused request, in the form of its port's API.
 abbrev pub refusal_reply : Api → Refusal → Reply
 refusal_reply Lambda = lambda_reply
 refusal_reply Runtime = runtime_reply

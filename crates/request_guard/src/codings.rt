@@ -6,8 +6,8 @@ ghost use Rattle.request_guard.specs.Codings as spec;
 use http::header;
 use http::request::Parts;
 
-/// Whether the bytes that come of a request's body are its content: `hyper` takes off `chunked`, and
-/// hands a coding before it on to the service, which knows none.
+/// Returns whether the bytes that arrive of a request's body are its content: `hyper` decodes
+/// `chunked`, and leaves any coding before it to the service, which knows none.
 pub(crate) fn is_plainly_coded(parts: &Parts) -> bool
     ensures { result ≡ spec.is_plainly_coded parts.now }
 {

@@ -1,4 +1,4 @@
-//! The host that a request names, and the hosts that are listed beside the local ones.
+//! The host that a request names, and the hosts that are listed in addition to the local ones.
 
 ghost use Rattle.std.specs.Prelude.{◌≡◌, ◌==◌, [], Some, option_map, string_bytes, codes};
 ghost use Rattle.std.specs.List.{list_all, slice_split};
@@ -14,7 +14,7 @@ use http::request::Parts;
 use std::alloc::Global;
 use std::marker::Model;
 
-/// Names of hosts that this service answers for beside the local ones, with commas between them.
+/// Names of hosts that this service answers for in addition to the local ones, separated by commas.
 #[derive(Debug, Drop)]
 pub struct Hosts {
     listed: String,
@@ -28,7 +28,7 @@ impl Model for Hosts {
     ghost view = { λ hosts. string_bytes hosts.listed };
 }
 
-/// Whether a byte may stand in a name that is listed.
+/// Returns whether a byte may occur in a listed name.
 fn is_listed_byte(byte: u8) -> bool
     ensures { result ≡ spec.is_listed_byte byte }
 {
@@ -41,7 +41,7 @@ fn are_listed_bytes(name: &[u8]) -> bool
     name.iter().all(|b| is_listed_byte(*b))
 }
 
-/// Whether each piece between the commas is a name.
+/// Returns whether each piece between the commas is a name.
 fn are_names(text: &[u8]) -> bool
     ensures { result ≡ list_all spec.is_listed (slice_split (λ b. b == 44) text.now) }
 {
@@ -57,7 +57,7 @@ fn are_names(text: &[u8]) -> bool
 }
 
 impl Hosts {
-    /// None beside the local ones. It takes no memory.
+    /// Returns an empty list, for the local ones alone. It takes no memory.
     pub fn none(alloc: Global) -> Hosts
         ensures { result ≡ [] }
     {
@@ -66,8 +66,8 @@ impl Hosts {
         }
     }
 
-    /// Those that a text lists, names of letters, digits, `-`, `.` and `_` with commas between them; none
-    /// where it is empty. `None` where the text is no such list.
+    /// Reads a list of hosts: names of letters, digits, `-`, `.` and `_`, separated by commas. An
+    /// empty text lists none. Returns `None` if the text is not such a list.
     pub fn read(text: String) -> Option<Hosts>
         ensures { result ≡ spec.listed_in (string_bytes text) }
     {
@@ -78,7 +78,7 @@ impl Hosts {
         None
     }
 
-    /// Whether a host of this name is one that this service answers for.
+    /// Returns whether this service answers for a host of this name.
     pub(crate) fn serve(&self, name: Option<&[u8]>) -> bool
         ensures { result ≡ spec.serves self.now (option_map (λ t. t.now) name.entry) }
     {
@@ -89,7 +89,7 @@ impl Hosts {
     }
 }
 
-/// The first field `Host`, and whether there is another one.
+/// Returns the first field `Host`, and whether there is another one.
 fn host_fields(parts: &Parts) -> (Option<&[u8]>, bool)
     ensures first { option_map (λ t. t.now) result.0
         ≡ option_map (λ v. v.bytes) (get parts.now.headers (codes "host")) }
@@ -102,7 +102,8 @@ fn host_fields(parts: &Parts) -> (Option<&[u8]>, bool)
     }
 }
 
-/// What names the host: the authority of the target, else the field `Host` (RFC 9112, section 3.2.2).
+/// Returns what names the host: the authority of the target, else the field `Host` (RFC 9112,
+/// section 3.2.2).
 fn host_text<'p>(parts: &'p Parts, field: Option<&'p [u8]>) -> Option<&'p [u8]>
     ensures { option_map (λ t. t.now) result
         ≡ spec.or_else (uri_authority parts.now.uri) (option_map (λ t. t.now) field.entry) }
@@ -113,7 +114,7 @@ fn host_text<'p>(parts: &'p Parts, field: Option<&'p [u8]>) -> Option<&'p [u8]>
     }
 }
 
-/// The name in a host's text; none if an address in brackets stands there.
+/// Returns the name in a host's text, `None` if it is an address in brackets.
 fn named_by(text: &[u8]) -> Result<Option<&[u8]>, Refusal>
     ensures { IsNamedBy (Some text.now) result }
 {
@@ -126,11 +127,12 @@ fn named_by(text: &[u8]) -> Result<Option<&[u8]>, Refusal>
     }
 }
 
-/// The name of the host that a request names, which may be an IPv4 address; none if it names no host, or
-/// an address in brackets.
+/// Returns the name of the host that a request names, which may be an IPv4 address, or `None` if
+/// the request names no host, or an address in brackets.
 ///
 /// # Errors
-/// `MalformedHost` if the host is named in two fields, or by what is no host (RFC 9112, section 3.2).
+/// `MalformedHost` if the host is named in two fields, or by a text that is not a host (RFC 9112,
+/// section 3.2).
 pub(crate) fn host_name(parts: &Parts) -> Result<Option<&[u8]>, Refusal>
     ensures { IsNameOf parts.now result }
 {

@@ -1,5 +1,5 @@
-//! Which requests never become a call, whatever they ask for, and what they are answered: by their heads
-//! alone, before a route is looked for.
+//! Requests that never become a call, whatever they ask for, and the answers to them: by their
+//! heads alone, before a route is looked for.
 #![tactic(auto)]
 
 mod codings;

@@ -6,28 +6,29 @@ ghost use Rattle.std.specs.Char.{is_ascii_digit};
 ghost use Rattle.request_guard.specs.Names as spec;
 ghost use Rattle.request_guard.specs.Views.{pieces_left};
 
-/// Whether a byte may stand in a registered name or an IPv4 address (RFC 3986, section 3.2.2).
+/// Returns whether a byte may occur in a registered name or an IPv4 address (RFC 3986, section
+/// 3.2.2).
 fn is_name_byte(byte: u8) -> bool
     ensures { result ≡ spec.is_name_byte byte }
 {
     byte.is_ascii_alphanumeric() || b"-._~%!$&'()*+,;=".contains(&byte)
 }
 
-/// Whether a byte may stand in an IPv6 address.
+/// Returns whether a byte may occur in an IPv6 address.
 fn is_address_byte(byte: u8) -> bool
     ensures { result ≡ spec.is_address_byte byte }
 {
     byte.is_ascii_hexdigit() || byte == b':' || byte == b'.'
 }
 
-/// Where the first byte is that is none of a name.
+/// Returns the position of the first byte that cannot be in a name.
 fn other_than_name(text: &[u8]) -> Option<usize>
     ensures { result ≡ position (λ b. not (spec.is_name_byte b)) text.now }
 {
     text.iter().position(|b| !is_name_byte(*b))
 }
 
-/// How many bytes of a name are at the front.
+/// Returns how many bytes of a name are at the front.
 #[tactic(auto, using(crate::proofs::Passed::passed_within))]
 fn name_length(text: &[u8]) -> usize
     ensures value { result ≡ spec.passed spec.is_name_byte text.now }
@@ -39,14 +40,14 @@ fn name_length(text: &[u8]) -> usize
     }
 }
 
-/// Where the first byte is that is none of an IPv6 address.
+/// Returns the position of the first byte that cannot be in an IPv6 address.
 fn other_than_address(text: &[u8]) -> Option<usize>
     ensures { result ≡ position (λ b. not (spec.is_address_byte b)) text.now }
 {
     text.iter().position(|b| !is_address_byte(*b))
 }
 
-/// How many bytes of an IPv6 address are at the front.
+/// Returns how many bytes of an IPv6 address are at the front.
 #[tactic(auto, using(crate::proofs::Passed::passed_within))]
 fn address_length(text: &[u8]) -> usize
     ensures value { result ≡ spec.passed spec.is_address_byte text.now }
@@ -64,7 +65,7 @@ fn are_digits(text: &[u8]) -> bool
     text.iter().all(|b| b.is_ascii_digit())
 }
 
-/// Whether it is nothing, or a colon and the digits of a port (RFC 3986, section 3.2.3).
+/// Returns whether it is nothing, or a colon and the digits of a port (RFC 3986, section 3.2.3).
 fn is_port_part(text: &[u8]) -> bool
     ensures { result ≡ spec.is_port_part text.now }
 {
@@ -74,7 +75,7 @@ fn is_port_part(text: &[u8]) -> bool
     }
 }
 
-/// The name in front of a port, if it is a name and perhaps a port.
+/// Returns the name before the port, if it is a name with an optional port.
 pub(crate) fn name_in(text: &[u8]) -> Option<&[u8]>
     ensures there { is_some result ≡ spec.is_named text.now }
     ensures value { IfSome result (λ name. name.now ≡ spec.name_of text.now) }
@@ -86,7 +87,7 @@ pub(crate) fn name_in(text: &[u8]) -> Option<&[u8]>
     None
 }
 
-/// Whether it is the bracket that ends an address, and perhaps a port.
+/// Returns whether it is the bracket that ends an address, with an optional port after it.
 fn closes(text: &[u8]) -> bool
     ensures { result ≡ spec.closes text.now }
 {
@@ -96,8 +97,8 @@ fn closes(text: &[u8]) -> bool
     }
 }
 
-/// Whether it is what follows the bracket that begins an address: the address, the bracket that ends it, and
-/// perhaps a port.
+/// Returns whether it is what follows the bracket that begins an address: the address, the bracket
+/// that ends it, and an optional port.
 fn is_address(rest: &[u8]) -> bool
     ensures { result ≡ spec.is_address rest.now }
 {
@@ -105,7 +106,7 @@ fn is_address(rest: &[u8]) -> bool
     length > 0 && closes(&rest[length..])
 }
 
-/// Whether it is an address in brackets and perhaps a port.
+/// Returns whether it is an address in brackets, with an optional port.
 pub(crate) fn is_literal(text: &[u8]) -> bool
     ensures { result ≡ spec.is_literal text.now }
 {
@@ -115,7 +116,7 @@ pub(crate) fn is_literal(text: &[u8]) -> bool
     }
 }
 
-/// A name without the dot of the root at its end (RFC 1034, section 3.1).
+/// Returns a name without the root's dot at its end (RFC 1034, section 3.1).
 pub(crate) fn relative(name: &[u8]) -> &[u8]
     ensures { result.now ≡ spec.relative name.now }
 {
@@ -125,7 +126,7 @@ pub(crate) fn relative(name: &[u8]) -> &[u8]
     }
 }
 
-/// Whether a name ends so, in whatever case.
+/// Returns whether a name ends with this suffix, in any case.
 fn ends_as(name: &[u8], suffix: &[u8]) -> bool
     ensures { result ≡ spec.ends_as suffix.now name.now }
 {
@@ -136,14 +137,14 @@ fn ends_as(name: &[u8], suffix: &[u8]) -> bool
     end.eq_ignore_ascii_case(suffix)
 }
 
-/// Where the first comma is.
+/// Returns the position of the first comma.
 fn comma_at(bytes: &[u8]) -> Option<usize>
     ensures { result ≡ position (λ b. b == 44) bytes.now }
 {
     bytes.iter().position(|b| *b == b',')
 }
 
-/// The piece before the first comma, and what follows it.
+/// Returns the piece before the first comma, and what follows it.
 pub(crate) fn cut(bytes: &[u8]) -> (&[u8], Option<&[u8]>)
     ensures { slice_split (λ b. b == 44) bytes.now ≡ result.0.now ∷ pieces_left result.1 }
 {
@@ -153,7 +154,7 @@ pub(crate) fn cut(bytes: &[u8]) -> (&[u8], Option<&[u8]>)
     }
 }
 
-/// Whether one of the names between the commas is this one, in whatever case.
+/// Returns whether one of the names between the commas is this one, in any case.
 fn lists(listed: &[u8], name: &[u8]) -> bool
     ensures { result ≡ spec.lists listed.now name.now }
 {
@@ -168,22 +169,22 @@ fn lists(listed: &[u8], name: &[u8]) -> bool
     false
 }
 
-/// Whether it is one label, as `localhost` and the names of containers.
+/// Returns whether it is one label, like `localhost` and the names of containers.
 fn is_one_label(name: &[u8]) -> bool
     ensures { result ≡ spec.is_one_label name.now }
 {
     !name.contains(&b'.')
 }
 
-/// Whether it is an IPv4 address: no registered name is made of digits and dots alone.
+/// Returns whether it is an IPv4 address: no registered name consists of digits and dots alone.
 fn is_numeric(name: &[u8]) -> bool
     ensures { result ≡ spec.is_numeric name.now }
 {
     name.iter().all(|b| b.is_ascii_digit() || *b == b'.')
 }
 
-/// Whether it is below a domain that is no one's on the public network (RFC 6761, RFC 6762; ICANN's
-/// `.internal`).
+/// Returns whether it is below a domain that no one has on the public network (RFC 6761, RFC 6762;
+/// ICANN's `.internal`).
 fn is_below_local(name: &[u8]) -> bool
     ensures { result ≡ spec.is_below_local name.now }
 {
@@ -193,7 +194,7 @@ fn is_below_local(name: &[u8]) -> bool
         || ends_as(name, b".localdomain")
 }
 
-/// Whether it is a name of this machine, of a container, or one that is listed.
+/// Returns whether it is a name of this machine or of a container, or a listed one.
 pub(crate) fn is_local(listed: &[u8], name: &[u8]) -> bool
     ensures { result ≡ spec.is_local listed.now name.now }
 {

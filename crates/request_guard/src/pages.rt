@@ -1,4 +1,4 @@
-//! What a browser says of a request that a web page sends.
+//! What a browser says about a request that a web page sends.
 
 ghost use Rattle.std.specs.Prelude.{◌≡◌, codes};
 ghost use Rattle.std.specs.List.{list_all, list_any};
@@ -9,14 +9,15 @@ use http::header;
 use http::request::Parts;
 use http_header::HeaderName;
 
-/// Whether it was the user's own doing, as an address that is typed, or a page of this very service.
+/// Returns whether the request is by the user's own action, such as a typed address, or by a page
+/// of this service itself.
 fn is_own_site(site: &[u8]) -> bool
     ensures { result ≡ spec.is_own_site site.now }
 {
     site == b"none".as_slice() || site == b"same-origin".as_slice()
 }
 
-/// Whether a request has an `Origin`, whatever it says (RFC 6454, section 7).
+/// Returns whether a request has an `Origin`, of whatever value (RFC 6454, section 7).
 fn has_origin(parts: &Parts) -> bool
     ensures { result ≡ spec.are_some (get_all parts.now.headers (codes "origin")) }
 {
@@ -28,8 +29,8 @@ fn has_origin(parts: &Parts) -> bool
         .is_some()
 }
 
-/// Whether each `Sec-Fetch-Site` says that no other site sent the request (W3C, Fetch Metadata Request
-/// Headers).
+/// Returns whether each `Sec-Fetch-Site` says that no other site sent the request (W3C, Fetch
+/// Metadata Request Headers).
 fn is_of_own_site(parts: &Parts) -> bool
     ensures { result ≡ list_all (λ v. spec.is_own_site v.bytes) (get_all parts.now.headers (codes "sec-fetch-site")) }
 {
@@ -40,7 +41,7 @@ fn is_of_own_site(parts: &Parts) -> bool
         .all(|site| is_own_site(site.as_bytes()))
 }
 
-/// Whether a field is one that a browser adds to what a page sends.
+/// Returns whether a field is one that a browser adds to a page's requests.
 fn is_of_page(name: &HeaderName) -> bool
     ensures { result ≡ spec.is_of_page name.now }
 {
@@ -48,14 +49,15 @@ fn is_of_page(name: &HeaderName) -> bool
     name == b"origin".as_slice() || name == b"sec-fetch-site".as_slice()
 }
 
-/// Whether a request has such a field. (Few requests have, and to look at all names takes less than to find one.)
+/// Returns whether a request has such a field. (Few requests have one, and comparing all names
+/// costs less than finding one.)
 fn has_field_of_page(parts: &Parts) -> bool
     ensures { result ≡ list_any spec.is_of_page (keys parts.now.headers) }
 {
     parts.headers.keys().any(|name| is_of_page(name))
 }
 
-/// Whether a web page sent it.
+/// Returns whether a web page sent the request.
 #[tactic(auto, using(crate::proofs::PageFields::none_is_of_page))]
 pub(crate) fn is_from_page(parts: &Parts) -> bool
     ensures { result ≡ spec.is_from_page parts.now }

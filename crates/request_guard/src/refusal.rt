@@ -1,4 +1,4 @@
-//! Why a request never becomes a call, and what it is answered.
+//! Why a request never becomes a call, and the answer to it.
 
 ghost use Rattle.std.specs.Prelude.{◌≡◌, true, IfOk};
 ghost use Rattle.std.specs.List.{list_all};
@@ -10,7 +10,7 @@ ghost use Rattle.request_guard.specs.declared.refusal.Refusal.TheVariants.{Forei
 use lambda_wire::{InvokeFault, Reply, fault_reply, invoke_fault_reply};
 use std::alloc::{AllocError, Global};
 
-/// Whose API a port speaks, and so which form its refusals have.
+/// The API that a port speaks, and so the form of its refusals.
 #[derive(Clone, Copy, Debug, PartialEq, Eq)]
 pub enum Api {
     /// The Lambda API, for callers.
@@ -22,7 +22,7 @@ pub enum Api {
 /// Why a request never becomes a call, whatever it asks for.
 #[derive(Clone, Copy, Debug, PartialEq, Eq)]
 pub enum Refusal {
-    /// Its host is named in two fields, or by what is no host (RFC 9112, section 3.2).
+    /// Its host is named in two fields, or by a text that is not a host (RFC 9112, section 3.2).
     MalformedHost,
     /// A web page sent it.
     FromPage,
@@ -37,7 +37,7 @@ pub enum Refusal {
 }
 
 impl Refusal {
-    /// Whether the connection ends behind the reply, whatever is left of the request.
+    /// Returns whether the connection ends after the reply, whatever is left of the request.
     pub fn closes(self) -> bool
         ensures { result ≡ spec.closes self }
     {
@@ -64,7 +64,7 @@ fn by_lambda(
     invoke_fault_reply(alloc, status, kind, form, message)
 }
 
-/// The reply on a port of the Lambda API.
+/// Makes the reply on a port of the Lambda API.
 fn lambda_reply(alloc: Global, refusal: Refusal) -> Result<Reply, AllocError>
     ensures { IfOk result (λ reply. reply ≡ spec.lambda_reply refusal) }
 {
@@ -119,7 +119,7 @@ fn foreign_coding(alloc: Global) -> Result<Reply, AllocError>
     )
 }
 
-/// The reply on a port of the Runtime API and the Extensions API.
+/// Makes the reply on a port of the Runtime API and the Extensions API.
 fn runtime_reply(alloc: Global, refusal: Refusal) -> Result<Reply, AllocError>
     ensures { IfOk result (λ reply. reply ≡ spec.runtime_reply refusal) }
 {
@@ -143,7 +143,8 @@ fn runtime_reply(alloc: Global, refusal: Refusal) -> Result<Reply, AllocError>
     }
 }
 
-/// What a refused request is answered, in the form of its port's API. The only error is want of memory.
+/// Makes the reply to a refused request, in the form of its port's API. The only error is
+/// `AllocError`.
 pub fn refusal_reply(alloc: Global, api: Api, refusal: Refusal) -> Result<Reply, AllocError>
     ensures { IfOk result (λ reply. reply ≡ spec.refusal_reply api refusal) }
 {
