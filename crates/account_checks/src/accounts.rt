@@ -168,7 +168,7 @@ fn push_other(given: &mut Given, other: &Given) -> Result<(), CaseFault> {
 /// |---|---|
 /// | `open` | the configuration; by default one function `f` on environment 1 |
 /// | `keep none` | the tallies keep no receipts and no calls |
-/// | `calls N` | calls as the lines of scripts, submitted by the tally with this number (by default 0) |
+/// | `calls N` | calls as the lines of scripts, submitted with tally N (by default 0) |
 /// | `quietly N` | the same, but nothing is added about them |
 /// | `ask` | questions: `looks`, `look T`, `history T`, `render T`, `due MOMENT`, `life`, `stats` |
 /// | `ask`, also | `opening`, `reservation FUNCTION`, `tally N`, `bells` |

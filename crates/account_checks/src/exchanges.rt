@@ -171,14 +171,14 @@ fn play<
 /// | Part | What it says |
 /// |---|---|
 /// | `open` | the configuration; by default one function `f` on environment 1 |
-/// | `board MOOD` | a board instead of an account; its mood is `answers`, `loses-bells`, or one of the next two |
+/// | `board MOOD` | a board, not an account; MOOD is `answers`, `loses-bells` or one of the next two |
 /// | moods | `refuses JournalFull`; `premature N`: the first N calls that are offered are premature |
 /// | `patience N` | connections hold back premature calls for N milliseconds, not for 0 |
 /// | `asks` | requests, one per line, made one after another |
 /// | `at-once` | three requests, made at the same time |
 /// | `drops` | requests that are dropped as soon as they wait |
 /// | `lost T` | a `Poll` for the answer of ticket T, whose bell is dropped |
-/// | `across` | a `Poll` on another thread for a runtime's Next, and a request that is dropped once it waits |
+/// | `across` | a `Poll` on another thread for a Next, and a request that is dropped once it waits |
 ///
 /// A request is a moment, which its connection's clock reads; a path; and a body. The body is one
 /// piece, `=TEXT` or `letters N`. With `pieces N` before it, it is N such pieces; with `broken N`,

@@ -52,8 +52,8 @@ fn play_by_brand<K: Keep>(part: &Part, given: &mut Given) -> Result<(), CaseFaul
 ///
 /// | Step | What it does |
 /// |---|---|
-/// | `look N` | adds tally N's parts, whether it was joined, and the calls and receipts that it keeps |
-/// | `note N RECEIPT` | tally N notes that the call was `delivered`, given its `output`, or `accepted` |
+/// | `look N` | adds tally N's parts, whether it was joined, and its calls and receipts |
+/// | `note N RECEIPT` | tally N notes that the call was `delivered`, `accepted`, or given its `output` |
 /// | `make N CALL` | tally N notes that the call `next`, `invoke` or `response` was made |
 /// | `split N` | a tally with one part of tally N is appended |
 /// | `join N` | tally N and the next one are joined, and moved to the end |
