@@ -63,7 +63,7 @@ def starts():
 
 
 def costs():
-    """CPU time, of which other work on this machine takes nothing."""
+    """Returns CPU time, which does not depend on other work on this machine."""
     with copied() as root:
         first_call(root)
         first_call(root)
