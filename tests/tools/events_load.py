@@ -143,7 +143,7 @@ class Story:
                             " ".join(status for status, _ in self.told)) is not None
 
     def runs_untold(self):
-        """Whether an invocation ran twice, or without a line about it. (A late one may begin after its next attempt.)"""
+        """Whether an invocation ran twice, or without a line. (A late one may begin after its next attempt.)"""
         return len(set(self.runs)) < len(self.runs) or not set(self.runs) <= {invocation for _, invocation in self.told}
 
     def differs(self):

@@ -63,7 +63,7 @@ def starts():
 
 
 def costs():
-    """Returns CPU time, which does not depend on other work on this machine."""
+    """Checks the CPU time, which other work on this machine does not affect."""
     with copied() as root:
         first_call(root)
         first_call(root)
