@@ -115,7 +115,7 @@ def with_context(handler):
         inspect.signature(handler).bind(None, None)
     except TypeError:
         return lambda event, context: handler(event)
-    except ValueError:  # a callable that tells nothing of itself
+    except ValueError:  # a callable without a signature
         pass
     return handler
 

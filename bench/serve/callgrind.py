@@ -116,5 +116,5 @@ def read(paths):
 
 
 def short(name):
-    """A function's name without what tells its instances apart."""
+    """Returns a function's name without the part that distinguishes its instances."""
     return INSTANCE.sub("", name)

@@ -1,8 +1,8 @@
 #!/usr/bin/env python3
 """Measures how long a caller of 100 B waits for its answers, alone and while readers get `/_local/history` in a loop:
-p50, p99 and the longest. Before, it fills the history with N entries of 6 MiB: invocations whose payload a runtime
-sends back. Caller, runtimes and readers are processes of their own. Wants Linux and the proved program
-(./lambda_local build), or another one by its path.
+p50, p99 and the longest. First, it fills the history with N entries of 6 MiB: invocations whose payload a runtime
+sends back. Caller, runtimes and readers are separate processes. Needs Linux, and the proved program
+(./lambda_local build) or the path of another one.
 
 usage: bench/serve/history_beside_callers.py [--program PROGRAM] [--entries N] [--readers N] [--seconds S]"""
 import argparse
@@ -19,7 +19,7 @@ ROOT = os.path.dirname(os.path.dirname(os.path.dirname(os.path.abspath(__file__)
 BUILT = os.path.join(ROOT, "crates", "lambda_local", "out", "lambda_local")
 NEXT = "/2018-06-01/runtime/invocation/next"
 INVOKE = "/2015-03-31/functions/f/invocations"
-ENVIRONMENTS = 4  # so that the caller, who is alone, never waits until a runtime asks again
+ENVIRONMENTS = 4  # so that the only caller never waits for a runtime to ask again
 SMALL = b'"' + 98 * b"x" + b'"'
 LARGE = b'"' + b"some words " * ((6_291_456 - 2) // 11) + b'"'
 

@@ -50,7 +50,7 @@ struct answer {
     char id[64];
 };
 
-/* Tells what differs, once, and ends. */
+/* Reports what differs, once, and ends. */
 static void fail(const char *form, ...) {
     static int is_told;
     if (__sync_lock_test_and_set(&is_told, 1)) pause();
@@ -101,7 +101,7 @@ static void send_all(int s, const char *bytes, size_t count) {
     }
 }
 
-/* Sends a request, in one piece where it is short. */
+/* Sends a request, in one piece if it is short. */
 static void ask(int s, const char *line, const char *body, size_t count) {
     char head[8192];
     int length = snprintf(head, 1024, "%s HTTP/1.1\r\nHost: localhost\r\nContent-Length: %zu\r\n\r\n", line, count);

@@ -89,7 +89,7 @@ static int text(struct connection *c, int status, const char *body) {
     return reply(c, status, "", body, strlen(body));
 }
 
-/* The end of the digits from here on, none where there is none. */
+/* Returns the end of the digits from here on, or NULL if there are none. */
 static const char *digits(const char *at, const char *end) {
     const char *from = at;
     while (at < end && *at >= '0' && *at <= '9') at++;
@@ -101,7 +101,7 @@ static const char *spaces(const char *at, const char *end) {
     return at;
 }
 
-/* The end of the string whose quote is here, none where it is no JSON. */
+/* Returns the end of the string whose quote is here, or NULL if it is not JSON. */
 static const char *string(const char *at, const char *end) {
     for (at++; at < end; at++) {
         if (*at == '"') return at + 1;
@@ -131,7 +131,7 @@ static const char *number(const char *at, const char *end) {
     return at;
 }
 
-/* The end of the value from here on, none where it is no JSON. */
+/* Returns the end of the value from here on, or NULL if it is not JSON. */
 static const char *value(const char *at, const char *end, int depth) {
     static const char *const words[] = {"null", "true", "false"};
     if ((at = spaces(at, end)) == end || depth > 127) return 0;
@@ -233,7 +233,7 @@ static int invoke(struct connection *c, char *payload, size_t size) {
     return failed;
 }
 
-/* Waits for the bell; -1 where the runtime went away. */
+/* Waits for the bell; returns -1 if the runtime went away. */
 static int hear(struct connection *c) {
     struct pollfd ends[2] = {{.fd = c->bell, .events = POLLIN}, {.fd = c->socket, .events = POLLRDHUP}};
     eventfd_t count;

@@ -1,6 +1,6 @@
 """What bench/serve/run measures, and how it prints it: tables that can be pasted into docs/speed.md. Runs are
-interleaved: each run starts every service once, anew, beginning with another one each time, and a ratio is of two
-services in the same run. A figure is the median of the runs; in brackets stand the least and the greatest."""
+interleaved: each run starts every service anew, beginning with a different one each time, and a ratio is of two
+services in the same run. A figure is the median of the runs, with the least and the greatest in brackets."""
 import statistics
 import sys
 import time
@@ -59,7 +59,7 @@ class Tables:
         return count // 10 if self.is_quick else count
 
     def interleaved(self, what, measure, runs=None):
-        """The samples of each service; none of one that was in trouble, which is told at once."""
+        """Returns the samples of each service; a service that failed has none, and is reported at once."""
         samples = {kind: [] for kind in self.kinds}
         for run in range(runs or self.runs):
             at = run % len(self.kinds)
@@ -89,13 +89,13 @@ class Tables:
         return [it for it in (self.plain, self.go, self.before) if it]
 
     def against(self, samples, kind, base, name):
-        """The ratios run by run, none where there are none."""
+        """Returns the ratios run by run, if there are any."""
         if kind is base or not samples[kind] or not samples[base]:
             return None
         return [mine[name] / its[name] for mine, its in zip(samples[kind], samples[base]) if its[name] > 0]
 
     def beside(self, samples, kind, base, name, aim=None):
-        """The cell of these ratios: ours to each base, and of the others only to plain C. An aim stands by it."""
+        """Returns the cell of these ratios: ours to each base, the others' only to plain C; with the aim, if any."""
         is_ours = kind is self.kinds[0]
         values = self.against(samples, kind, base, name) if is_ours or base is self.plain else None
         return (ratios(values) + (f", aim {aim}" if aim and is_ours else "")) if values else "-"

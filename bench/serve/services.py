@@ -15,7 +15,7 @@ import json
 
 HERE = os.path.dirname(os.path.abspath(__file__))
 LISTENS = 20    # seconds until a service listens
-ANSWERS = 300   # seconds until its client has done what it measures; by itself it gives up where nothing moves for 60
+ANSWERS = 300   # seconds until its client has finished; the client gives up by itself after 60 without progress
 
 
 class Trouble(Exception):
@@ -80,7 +80,7 @@ def compile_go(folder):
 
 
 def free_ports(count):
-    """The first of so many ports in a row that nobody has, below those that the system gives to clients."""
+    """Returns the first of `count` consecutive free ports, below those that the system gives to clients."""
     for first in random.sample(range(10_000, 32_000 - count, 100), 100):
         taken = []
         try:

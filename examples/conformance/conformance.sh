@@ -40,7 +40,7 @@ seen() {
     "$first" "$(remaining)" "$_X_AMZN_TRACE_ID"
 }
 
-# Prints the report, which has type and message as they stand in the event.
+# Prints the report, with type and message exactly as in the event.
 fail() {
   type=${1#*'"type":'}
   printf '{"errorType":%s,"errorMessage":%s' "${type%%,*}" "${1#*'"message":'}"

@@ -14,7 +14,7 @@ def files_of(root):
 
 
 def copy_to(folder, without_release=False):
-    """Puts the files there as they stand, with or without release/."""
+    """Copies the files there unchanged, with or without release/."""
     for name in files_of(ROOT):
         if not (without_release and name.startswith("release/")):
             os.makedirs(os.path.dirname(os.path.join(folder, name)), exist_ok=True)

@@ -1,10 +1,10 @@
-"""Checks that are told one by one and counted: the last line is 'N passed, M failed'."""
+"""Checks that are printed one by one and counted: the last line is 'N passed, M failed'."""
 
 passed = failed = 0
 
 
 def check(name, seen, wanted=True):
-    """Tells whether what was seen is what is wanted, and counts it."""
+    """Prints whether what was seen is what is expected, and counts it."""
     global passed, failed
     if seen == wanted:
         passed += 1
@@ -15,14 +15,14 @@ def check(name, seen, wanted=True):
 
 
 def check_sound(name, fault):
-    """Tells what is wrong, if anything, and counts it."""
+    """Prints what is wrong, if anything, and counts it."""
     global passed, failed
     passed, failed = passed + (not fault), failed + bool(fault)
     print("FAIL" if fault else "ok  ", name + (f"\n     {fault}" if fault else ""), flush=True)
 
 
 def end():
-    """Tells how many checks passed and failed. The exit status."""
+    """Prints how many checks passed and failed. Returns the exit status."""
     print(f"{passed} passed, {failed} failed")
     return failed != 0
 

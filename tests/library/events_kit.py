@@ -1,4 +1,4 @@
-"""Callers of a front that keep their connection, and the service that is behind it."""
+"""Callers of a front that keep their connection, and the service behind the front."""
 import http.client
 import json
 import time

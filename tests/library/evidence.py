@@ -14,13 +14,13 @@ SOURCES = ("src", "specs", "proofs")
 
 
 def git(root, *words):
-    """What git says, or nothing where it knows no answer."""
+    """Returns what git prints, or nothing if it fails."""
     ran = subprocess.run(["git", "-C", root, *words], stdout=subprocess.PIPE, stderr=subprocess.DEVNULL, text=True)
     return ran.stdout.strip() if ran.returncode == 0 else ""
 
 
 def misfit(edit, crate):
-    """Why an edit does not fit its crate: each text that it replaces stands in its file exactly once."""
+    """Returns why an edit does not fit its crate: each text that it replaces must occur in its file exactly once."""
     texts, path, old = {}, "", ""
     for key, value in re.findall(r"^(file|old|new):(?: (.*))?$", text_of(edit), re.M):
         if key == "file":

@@ -87,7 +87,7 @@ def sources_of(root, crate):
 
 
 def names(root, page, text):
-    """A name such as account_book::Book::apply stands in that crate's sources."""
+    """Each name such as account_book::Book::apply occurs in that crate's sources."""
     crates = uses(root)
     for span in code_of(text)[1]:
         found = re.fullmatch(r"(\w+)((?:::\w+)+)(?:\(.*\))?", span)

@@ -8,8 +8,8 @@ from lambda_local.service import is_taken  # noqa: E402
 
 
 def free_range(count):
-    """The first of so many ports side by side on which no one listens, none of them one that the system gives to
-    connections."""
+    """Returns the first of `count` consecutive ports on which no one listens, none of them one that the system gives
+    to connections."""
     with open("/proc/sys/net/ipv4/ip_local_port_range") as file:
         lowest, highest = map(int, file.read().split())
     sides = [side for side in ((20000, lowest), (highest + 1, 65536)) if side[1] - side[0] >= 10 * count]

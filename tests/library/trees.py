@@ -62,8 +62,8 @@ def copied():
 
 
 def copy_tree(folder, released=None):
-    """Puts the files of this checkout there as they stand, but for release/. With the path of a program, that is
-    released for these sources."""
+    """Copies the files of this checkout there unchanged, except release/. A program whose path is given is released for
+    these sources."""
     copy_to(folder, without_release=True)
     if released:
         release(folder, released)

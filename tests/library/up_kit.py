@@ -53,7 +53,7 @@ def lives(pid):
 
 
 def until(condition, seconds):
-    """Whether it comes to that within so many seconds."""
+    """Whether the condition holds within this many seconds."""
     end = time.monotonic() + seconds
     while not condition():
         if time.monotonic() > end:

@@ -42,7 +42,7 @@ class Side:
             self.met.append("sends in vain")
 
     def read(self, count):
-        """So many bytes, or fewer where they end."""
+        """Returns this many bytes, or fewer if they end before."""
         data = bytearray()
         while len(data) < count:
             try:
@@ -57,7 +57,7 @@ class Side:
         return bytes(data)
 
     def takes(self, count):
-        """Reads so many bytes, and notes them."""
+        """Reads this many bytes, and notes them."""
         self.met.append(self.read(count))
 
     def counts(self, count):
@@ -241,7 +241,7 @@ def a_reset():
 
 
 def pipelined():
-    """(The proxy hands on one request at a time.)"""
+    """(The proxy forwards one request at a time.)"""
     def answers_one_by_one(side):
         for _ in range(2):
             side.counts(len(NEXT))

@@ -225,7 +225,7 @@ HEADS = (  # of requests that are refused by their heads alone, and of others
 
 
 def raw_answer(address, request):
-    """The bytes of the answer to a request of these, and whether the connection is kept behind it."""
+    """Returns the bytes of the answer to a request with these bytes, and whether the connection stays open after it."""
     parts = urllib.parse.urlsplit(address)
     data = request.encode("latin-1") if "\r\n\r\n" in request else request.encode("latin-1") + b"\r\n"
     with socket.create_connection((parts.hostname, parts.port), timeout=30) as peer, peer.makefile("rb") as stream:

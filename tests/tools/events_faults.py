@@ -1,7 +1,7 @@
 #!/usr/bin/env python3
-"""Checks what becomes of an event if the service, or the connection to it, fails: before it has the event, while its
-function runs, and behind that. Here the service is one that does what it is told. No event runs again unless a line has
-told why, and none is lost. Ends with 'N passed, M failed'."""
+"""Checks what happens to an event if the service, or the connection to it, fails: before it has the event, while its
+function runs, and after that. The service here does what a check asks for. No event runs again unless a line has said
+why, and none is lost. Ends with 'N passed, M failed'."""
 import contextlib
 import json
 import os
@@ -89,7 +89,7 @@ class Service(threading.Thread):
 
 @contextlib.contextmanager
 def front_of(service):
-    """A front over this service, a caller of it, and what it tells of events: (identifier, status)."""
+    """A front over this service, a caller of it, and what it reports about events: (identifier, status)."""
     whole = {"functions": [{"name": "f"}, {"name": "sink"}], "asynchronous": {"delays": [0.05], "onFailure": "sink"}}
     told = []
 
@@ -114,7 +114,7 @@ def statuses(told, function="f"):
 
 
 def attempts():
-    """Each deed once, and then the event succeeds: how often it is sent, and what is told."""
+    """Each deed once, and then the event succeeds: how often it is sent, and what is reported."""
     for deed, wanted in (("ok", ["ok"]), ("ok, and closes", ["ok"]), ("fails", ["retry", "ok"]), ("throttles", ["ok"]),
                          ("has no memory", ["fault", "ok"]), ("closes", ["retry", "ok"]),
                          ("breaks off in the head", ["retry", "ok"]), ("breaks off in the body", ["retry", "ok"]),
@@ -171,7 +171,7 @@ def synchronous():
 
 
 def ended():
-    """A service that is stopped, or gone: what is left is told."""
+    """A service that is stopped, or gone: the events that are left are reported."""
     service = Service("is stopped")
     with front_of(service) as (front, caller, told):
         caller.event("f", {"number": 1})

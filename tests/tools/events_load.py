@@ -80,7 +80,7 @@ class Load:
             return self.left
 
     def all_answered(self):
-        """Whether what the service answered is known of each attempt that was told."""
+        """Whether the service's answer is known for each attempt that was reported."""
         return all(invocation in self.answers for lines in self.told.values() for _, invocation in lines if invocation)
 
     def send(self):
@@ -119,7 +119,7 @@ class Load:
 
 
 class Story:
-    """One event: its attempts as they were told, its runs as they noted themselves, and its record."""
+    """One event: its attempts as they were reported, its runs as they noted themselves, and its record."""
 
     def __init__(self, load, number):
         self.number, self.told = number, load.told.get(load.names[number], [])
@@ -143,12 +143,11 @@ class Story:
                             " ".join(status for status, _ in self.told)) is not None
 
     def runs_untold(self):
-        """An invocation was run twice, or one that no line names. (One that is late may begin behind its next
-        attempt.)"""
+        """Whether an invocation ran twice, or without a line. (A late one may begin after its next attempt.)"""
         return len(set(self.runs)) < len(self.runs) or not set(self.runs) <= {invocation for _, invocation in self.told}
 
     def differs(self):
-        """The service's own answer to a run is not what was told of it."""
+        """Whether the service's own answer to a run is not what was reported."""
         told = {invocation: "ok" if status == "ok" else "failed" for status, invocation in self.told}
         return any(told.get(invocation) != ("ok" if answer == "ok" else "failed")
                    for invocation, answer in self.answers.items())
@@ -180,7 +179,7 @@ def mixed_load():
     check("every event comes to an end", until(lambda: load.open_events() == 0, DRAIN) or load.open_events())
     until(lambda: len(os.listdir(os.path.join(up.at, "records"))) >= up.count("its record goes to sink"), 60)
     until(lambda: load.open_events() >= 0 and load.all_answered(), 60)
-    # (Only of an event that has ended is it known what was told of each of its runs.)
+    # (What was reported of each run is known only once the event has ended.)
     stories = [story for story in (Story(load, number) for number in load.sent) if story.has_ended]
     for name, fault in (("each succeeds once, after up to two failures, or fails three times",
                          lambda story: not story.is_whole),

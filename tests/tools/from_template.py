@@ -492,7 +492,7 @@ def other_types():
 
 
 def places():
-    """A template's function is found from wherever its UP.json stands, and wherever tools/up is started."""
+    """A template's function is found wherever its UP.json is, and wherever tools/up is started."""
     with tempfile.TemporaryDirectory() as root:
         for name in ("app/src", "made", "else where"):
             os.makedirs(os.path.join(root, name))

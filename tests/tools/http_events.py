@@ -22,7 +22,7 @@ from counted import check  # noqa: E402
 from events_kit import READY, READY_SECONDS, Caller  # noqa: E402
 from up_kit import Up, until  # noqa: E402
 
-# What it gives stands in the query; without one it is the event.
+# What it returns is in the query; without a query it is the event.
 APP = '''import json
 def run(event, context):
     if "queryStringParameters" in event and "gives" in event["queryStringParameters"]:

@@ -63,7 +63,7 @@ def starts():
 
 
 def costs():
-    """CPU time, of which other work on this machine takes nothing."""
+    """Checks the CPU time, which other work on this machine does not affect."""
     with copied() as root:
         first_call(root)
         first_call(root)

@@ -211,7 +211,7 @@ def wheel():
 
 
 def plugin():
-    """Under pytest, where a Python on this machine has it."""
+    """Under pytest, if a Python on this machine has it."""
     python = python_with_pytest()
     if python is None:
         return print("skip no Python here has pytest")
@@ -284,7 +284,7 @@ def jobs():
 
 
 def github_steps(text):
-    """The commands behind `run:`."""
+    """Returns the commands after `run:`."""
     return re.findall(r"^ *(?:- )?run: ([^|\n]+)$", text, re.M)
 
 

@@ -1,5 +1,5 @@
 #!/usr/bin/env python3
-"""Checks the pytest plugin, by itself and under pytest where a Python on this machine has it. The program is
+"""Checks the pytest plugin, by itself and, if a Python on this machine has pytest, under it. The program is
 LAMBDA_LOCAL_PROGRAM, else ./lambda_local. Ends with 'N passed, M failed'."""
 import contextlib
 import io
@@ -260,7 +260,7 @@ def launcher():
 
 
 def folder_of(module, python):
-    """Where a Python has a module; nothing where it doesn't."""
+    """Returns the folder of a Python's module; nothing if it does not have the module."""
     try:
         done = subprocess.run([python, "-c",
                                f"import os, {module}; print(os.path.dirname(os.path.dirname({module}.__file__)))"],

@@ -86,7 +86,7 @@ def rows():
 
 
 def written(parts):
-    """The script that the parts of a case make; none where there are parts of other kinds."""
+    """Returns the script in the parts of a case; nothing if there are parts of other kinds."""
     made = []
     for title, text in parts:
         word, _, argument = title.partition(" ")
@@ -106,7 +106,7 @@ def written(parts):
 
 
 def worked():
-    """The cases of worked examples that are scripts, with the answers that their tables want of them."""
+    """Returns the cases of worked examples that are scripts, with the answers that their tables expect."""
     drawn = 0
     with tempfile.TemporaryDirectory() as folder:
         wanted = os.path.join(folder, "answers")
@@ -194,7 +194,7 @@ def pictures():
 
 
 def history_lines(count):
-    """A history of so many lines; four invocations stay open at a time."""
+    """Returns a history of this many lines; four invocations stay open at a time."""
     yield "form 2\n" + (WHOLE % 4294967296).replace("[9001]", "[9001,9002,9003,9004]") + "\n"
     moment, entry, request, lines = 1795556558434, 0, 0, 2
     while lines < count:

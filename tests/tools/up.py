@@ -73,7 +73,7 @@ def commands():
 
 
 def extension_that(seconds):
-    """The command of an extension that crashes after so many seconds."""
+    """Returns the command of an extension that crashes after this many seconds."""
     return [sys.executable, "-c",
             "import http.client,os,time\nc=http.client.HTTPConnection(os.environ['AWS_LAMBDA_RUNTIME_API'])\n"
             "c.request('POST','/2020-01-01/extension/register','{\"events\":[]}',{'Lambda-Extension-Name':'x'})\n"
@@ -104,7 +104,7 @@ def reload():
 
 
 def own_log():
-    """What tools/up writes into a watched folder is no change."""
+    """What tools/up writes into a watched folder does not count as a change."""
     with tempfile.TemporaryDirectory() as folder:
         with open(os.path.join(folder, "up.json"), "w") as file:
             json.dump({"functions": [{"name": "f", "command": ["sleep", "100"]}]}, file)

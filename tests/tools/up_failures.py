@@ -1,5 +1,5 @@
 #!/usr/bin/env python3
-"""Checks what tools/up tells and does when functions fail: a line for each invocation, Inits that fail, extensions that
+"""Checks what tools/up says and does when functions fail: a line for each invocation, Inits that fail, extensions that
 exit. The program is LAMBDA_LOCAL_PROGRAM, else ./lambda_local. Ends with 'N passed, M failed'."""
 import json
 import os
@@ -30,7 +30,7 @@ exit 1
 '''
 REPORT = {"errorType": "Runtime.ImportModuleError", "errorMessage": "Unable to import module x",
           "stackTrace": ['  File "app.py", line 3, in <module>\n    import x\n']}
-# An extension as Lambda's documents have it: it registers, waits, and exits once it is told the end.
+# An extension as in Lambda's documents: it registers, waits, and exits once it is notified of the end.
 EXITING = '''#!/bin/sh
 api=http://$AWS_LAMBDA_RUNTIME_API/2020-01-01/extension
 id=$(curl -s -o /dev/null -D - -H "Lambda-Extension-Name: exiting" -d '{"events":["SHUTDOWN"]}' $api/register |

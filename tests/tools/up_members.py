@@ -1,5 +1,5 @@
 #!/usr/bin/env python3
-"""Checks what tools/up says of an UP.json that cannot be: one line that names file, function and member, status 2, and
+"""Checks what tools/up says about an invalid UP.json: one line that names file, function and member, status 2, and
 nothing left behind. The program is LAMBDA_LOCAL_PROGRAM, else ./lambda_local. Ends with 'N passed, M failed'."""
 import glob
 import json
@@ -25,7 +25,7 @@ def told(text, folder, *options):
     return done.returncode, done.stderr.splitlines()
 
 
-# Members of the function greet, whose command is `true`, and what is said behind "up: up.json: function greet: ".
+# Members of the function greet, whose command is `true`, and what is said after "up: up.json: function greet: ".
 OF_FUNCTION = {
     "a member that nobody knows": ({"timeuot": 5}, "unknown member timeuot, did you mean timeout?"),
     "one that is like no other": ({"zzz": 1}, "unknown member zzz; there are command, directory, environments, "
@@ -65,7 +65,7 @@ OF_FUNCTION = {
     "a handler": ({"handler": ""},
                   'handler must have 1 to 128 printable ASCII characters, not "" (the service says BadHandler)'),
 }
-# What UP.json says instead of one function `a`, and what is said behind "up: up.json: ".
+# What UP.json says instead of one function `a`, and what is said after "up: up.json: ".
 OF_SERVICE = {
     "a member that is nearly one": ({"acount": "123456789012"}, "unknown member acount, did you mean account?"),
     "a function without a name": ({"functions": [{"command": ["true"]}]},

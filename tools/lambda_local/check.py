@@ -2,9 +2,8 @@
 
   lambda_local check HISTORY     HISTORY as GET /_local/history gives it, or `-` for standard input
 
-A history is a script whose answers stand in it, in lines `# ENTRY TICKET WORDS`; other lines that begin with `#` are
-comments. Its calls are answered again, by the program that is given, and each answer is held against the one of its
-place.
+A history is a script that contains its answers, in lines `# ENTRY TICKET WORDS`; other lines that begin with `#` are
+comments. The given program answers its calls again, and each answer is compared with the one at the same place.
 
 Exit statuses: 0, the answers are the same; 1, they differ, and the first difference is named with its line; 2, this is
 not a history; 4, the program could not be started or ended otherwise."""
@@ -52,7 +51,7 @@ def answers_of(lines):
 
 
 def first_difference(lines, answers):
-    """Where the answers first differ from those of the history, in words; nothing if they are the same."""
+    """Returns where the answers first differ from those of the history, in words; nothing if they are the same."""
     saved = answers_of(lines)
     for place, answer in itertools.zip_longest(saved, answers):
         if place is None:

@@ -1,7 +1,7 @@
-"""What a service's configuration may say (docs/formats.md), and in words what is wrong with one that is refused.
+"""What a service's configuration may contain (docs/formats.md), and in words what is wrong with one that is refused.
 
-The service decides; this finds the member that it means. `mistakes` looks for members that nobody knows or that have
-another type; `explained` says of one of the service's own names, such as `BadTimeout`, which function has it."""
+The service decides; this finds the member that it means. `mistakes` finds members that are unknown or have another
+type; `explained` says which function one of the service's own faults, such as `BadTimeout`, is about."""
 import difflib
 import json
 import re
@@ -12,7 +12,7 @@ from typing import Callable, NamedTuple
 class Kind(NamedTuple):
     """The type of a member."""
     accepts: Callable[[object], bool]
-    expected: str  # in words, behind "must be"
+    expected: str  # in words, after "must be"
 
 
 def is_whole(value, below):
@@ -62,14 +62,14 @@ def mistakes_of(members, kinds, where, required=()):
 
 
 def place_of(member, number):
-    """How a sentence names the function that stands at this place of the list, from 1."""
+    """Returns how a sentence names the function at this place of the list, from 1."""
     name = member.get("name")
     return f"function {name}: " if isinstance(name, str) else f"function number {number}: "
 
 
 def mistakes(configuration, of_service=OF_SERVICE, of_function=OF_FUNCTION, required=REQUIRED,
              required_of_function=REQUIRED_OF_FUNCTION):
-    """What is wrong with the members of a configuration by name and type, in the order in which they stand."""
+    """Returns what is wrong with the names and types of a configuration's members, in their order."""
     if not isinstance(configuration, dict):
         yield f"it must be an object with a list of \"functions\", not {shown(configuration)}"
         return
@@ -138,7 +138,7 @@ def environments_of(functions):
 
 
 def owners_of(port, whole, functions):
-    """Who has a port: the callers, or functions."""
+    """Returns the owners of a port: the callers, or functions."""
     return (["invokePort"] if whole.get("invokePort", 9000) == port else []) + [
         f"function {member['name']}" for member in functions for other in member["ports"] if other == port]
 

@@ -1,9 +1,9 @@
 """Leaves no process behind even if the tool itself is killed: a second process ends what the tool holds.
 
 `hold` and `release` name what is to be ended: a process group (its number), a single process (`Single`), a folder (a
-path). They go down a pipe of which only this process has the end for writing. When that closes, however this process
-ended, the guard kills what is still held. What is released before its status is asked for cannot be another's by
-then."""
+path). They go through a pipe whose writing end only this process has. When that closes, however this process ended, the
+guard kills what is still held. A process must be released before its status is asked for: until then, its number cannot
+be another's."""
 import atexit
 import contextlib
 import os
@@ -30,8 +30,8 @@ class Guard:
         self._say("-", target)
 
     def announcing(self, words):
-        """These words behind a shell that holds its own group before it becomes them, and the pipe that must be its
-        standard input: so that there is no moment at which the group lives and the guard does not know it."""
+        """Returns these words after those of a shell that holds its own group before it becomes them, and the pipe that
+        must be its standard input: so the guard knows the group from the moment that it exists."""
         self._start()
         return ["/bin/sh", "-c", '(echo "+ group $$" >&0) 2>/dev/null; exec "$@" </dev/null', "sh", *words], self.pipe
 
@@ -92,4 +92,4 @@ def main():
 
 if __name__ == "__main__":
     main()
-    os._exit(0)  # (at once: whoever ends this waits for it)
+    os._exit(0)  # (at once: the one that ends this waits for it)

@@ -5,8 +5,7 @@
         for entry in follower.read():           # those that have come since the last time, the oldest first
             print(entry.number, entry.moment, entry.kind, entry.environment, entry.own)
 
-An entry never changes once it is there: the answers that a call gave, also to calls before it, stand in its own
-entry."""
+An entry never changes once it is there: the answers that a call gave, also to earlier calls, are in its own entry."""
 import http.client
 import io
 import json
@@ -92,7 +91,7 @@ def request_identifier(salt, function, count):
 
 
 def entries_of(lines, first=0):
-    """The entries of the lines behind a history's opening, which begin with the entry number `first`."""
+    """Returns the entries of the lines after a history's opening, which begin with entry number `first`."""
     number, head, answers = first - 1, None, []
     for line in lines:
         if line.startswith("# "):
@@ -182,7 +181,7 @@ class Follower:
                 self._connection.close()
 
     def _new_lines(self, text):
-        """The lines behind what was read before."""
+        """Returns the lines after those that were read before."""
         first = text.readline()
         self._gives_all = first == OPENING
         if self._gives_all and not self.next:

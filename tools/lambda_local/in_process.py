@@ -45,7 +45,7 @@ class FunctionError(Exception):
 
 @functools.lru_cache(maxsize=None)
 def prepared(program):
-    """The program behind the launcher, which looks at all sources each time that it is started: once is enough."""
+    """The program that the launcher starts: the launcher reads all sources at each start, and once is enough."""
     if os.path.realpath(program) != os.path.join(ROOT, "lambda_local"):
         return program
     told = subprocess.run([program, "path"], stdout=subprocess.PIPE, text=True)
@@ -88,7 +88,7 @@ def takes_context(handler):
         inspect.signature(handler).bind(None, None)
     except TypeError:
         return False
-    except ValueError:  # a callable that tells nothing of itself
+    except ValueError:  # a callable without a signature
         pass
     return True
 

@@ -5,7 +5,7 @@
         for event in life.take(entry):
             ..
 
-What is told as an event: an invocation that ended, one that was throttled, and an environment that closes."""
+The events are an invocation that ended, one that was throttled, and an environment that closes."""
 from collections import Counter
 from typing import Dict, NamedTuple, Optional, Union
 

@@ -1,4 +1,4 @@
-"""Where the files that come with the tools stand: in a checkout or a package of it, or installed by pip."""
+"""Where the files are that come with the tools: in a checkout or a package of it, or installed by pip."""
 import os
 import sys
 
@@ -19,7 +19,7 @@ def own_program():
 
 
 def tool(name):
-    """The words that start one of the tools with this Python, from wherever they stand."""
+    """Returns the words that start one of the tools with this Python, wherever they are."""
     above = os.path.dirname(PACKAGE)
     code = f"import sys; sys.path.insert(0, {above!r}); from lambda_local.cli import main; sys.exit(main())"
     return [sys.executable, "-c", code, name]

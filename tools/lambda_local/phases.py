@@ -1,5 +1,5 @@
 """Who takes part in a generation of an environment, who asks for work, and what begins its end (docs/semantics.md):
-what a history says of that, for the timeline that draws it and for those who follow a service."""
+what a history says about that, for the timeline that draws it and for each caller that follows a service."""
 from .history import EXPIRE
 
 FAILURES = ("init-failure", "ext-init-failure", "ext-exit-failure")

@@ -54,7 +54,7 @@ if pytest:
                               text=True).stdout
 
     def sections(history, folder):
-        """What a report says of a history, which stands whole in the folder, as does a page with its timeline."""
+        """Returns what a report says of a history; the folder has all of it, and a page with its timeline."""
         path, page = folder / "history.txt", folder / "timeline.html"
         path.write_text(history)
         yield f"{TITLE}: {path}", last_lines(history, path)

@@ -4,7 +4,7 @@
     def test_yesterday(lambda_local):
         lambda_local.start(orders=app.handler)
 
-The file is looked for beside the test. `one_by_one=True` sends them one after the other. docs/rerun.md tells more."""
+The file is looked for beside the test. `one_by_one=True` sends them one after the other. docs/rerun.md says more."""
 import os
 
 import pytest
@@ -21,7 +21,7 @@ def pytest_configure(config):
 
 @pytest.hookimpl(trylast=True)
 def pytest_runtest_call(item):
-    """Behind the test itself, if that did not fail."""
+    """Runs after the test itself, if that did not fail."""
     marker = item.get_closest_marker(NAME)
     if marker and not getattr(item, "lambda_local_reran", False):
         item.lambda_local_reran = True  # (also if the plugin is named twice)

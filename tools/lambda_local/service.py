@@ -70,7 +70,7 @@ def undisturbed():
 
 
 def free_ports(count, taken):
-    """So many ports that nobody listens on now, none of those taken."""
+    """Returns this many ports that no one listens on now, none of those taken."""
     first, last = 0, 0
     if words := os.environ.get("LAMBDA_LOCAL_PORTS"):
         try:
@@ -218,7 +218,7 @@ class Service:
         return ask(self.port, "GET", "/_local/history", timeout=300)[2].decode()
 
     def stop(self, seconds=20):
-        """Stops it in order: its status, and the line with its counts. It is killed after so many seconds."""
+        """Stops it in order, or kills it after this many seconds. Returns its status, and the line with its counts."""
         end = time.monotonic() + seconds
         while self.process.poll() is None:
             try:
@@ -239,7 +239,7 @@ class Service:
         return self.process.returncode, counts
 
     def _kill_group(self):
-        """Where the launcher builds the program, it cleans up when it is asked to end."""
+        """If the launcher is building the program, it cleans up when it is asked to end."""
         for number in (signal.SIGTERM, signal.SIGKILL):
             if self.process.poll() is None:
                 os.killpg(self.process.pid, number)
@@ -247,7 +247,7 @@ class Service:
                     self.process.wait(3 if number == signal.SIGTERM else None)
 
     def kill(self):
-        """Ends it in any case, and leaves nothing behind."""
+        """Ends it in any case, and leaves nothing running."""
         if hasattr(self, "process"):
             self._kill_group()
             GUARD.release(self.process.pid)

@@ -1,4 +1,4 @@
-"""The names of the tools in their --help and messages: `lambda_local NAME`, or `tools/NAME` where a file of tools/ was
+"""The names of the tools in their --help and messages: `lambda_local NAME`, or `tools/NAME` if a file of tools/ was
 started."""
 import argparse
 import re

@@ -1,5 +1,5 @@
 # shellcheck shell=sh disable=SC2154
-# What the launcher and tools/build have in common: where a program may stand, and what its choice depends on.
+# What the launcher and tools/build have in common: where a program may be, and what its choice depends on.
 # Both read this file with $root, the folder of the checkout, and $rt, the kit's rt or nothing (symbolic links
 # resolved).
 

@@ -9,7 +9,7 @@ import tarfile
 
 ROOT = os.path.dirname(os.path.dirname(os.path.dirname(os.path.realpath(__file__))))
 PACKAGED = ("lambda_local", "README.md", "CHANGELOG.md", "LICENSE", "docs", "examples", "tools", "tests/clients")
-# which stand in a checkout alone
+# which only a checkout has
 MAKERS = ("tools/package", "tools/packages/", "tools/release", "tools/proof_costs", "tools/library/crate_list.py")
 PROVED = ("crates.txt", "HANDLES", ":(glob)crates/*/src/**", ":(glob)crates/*/specs/**", ":(glob)crates/*/proofs/**")
 STAMP = ("sources", "kit", "program", "gate")  # the lines of what proved a program
@@ -17,7 +17,7 @@ TRIAL, ANSWER = "examples/first_call.txt", "crates/lambda_local/stdout"
 
 
 class Fault(Exception):
-    """Why there is no package: a status, and a line that says what to do."""
+    """Why there is no package: a status, and a line with what to do."""
 
     def __init__(self, status, message):
         super().__init__(message)

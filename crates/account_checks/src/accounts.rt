@@ -1,4 +1,4 @@
-//! Cases of accounts: each is run by an account, and by a desk that is put behind a lock.
+//! Cases of accounts: each runs on an account, and on a desk that is then put behind a lock.
 
 mod bells;
 mod crowds;
@@ -25,7 +25,7 @@ use std::sync::Wait;
 use std::thread::Threads;
 use usage_ledger::{Blanks, Keep, KeepAll, KeepNone};
 
-/// Makes what a part says happen.
+/// Performs a part.
 fn play_part<
     R: Wait + Threads + Copy + Send + Sync + Drop + 'static,
     S: Identity + Send + Sync + Drop,
@@ -42,7 +42,7 @@ fn play_part<
     }
 }
 
-/// Makes what the parts of a case say happen, in their order.
+/// Performs the parts of a case, in their order.
 fn play_parts<
     R: Wait + Threads + Copy + Send + Sync + Drop + 'static,
     S: Identity + Send + Sync + Drop,
@@ -59,7 +59,7 @@ fn play_parts<
     Ok(())
 }
 
-/// Runs the parts of a case in their order, and then the settlement.
+/// Performs the parts of a case in their order, and then the settlement.
 fn run_case<
     R: Wait + Threads + Copy + Send + Sync + Drop + 'static,
     S: Identity + Send + Sync + Drop,
@@ -77,7 +77,7 @@ fn run_case<
     }
 }
 
-/// Tells why nothing was opened.
+/// Adds why nothing was opened.
 fn push_unopened(fault: OpenFault, given: &mut Given) -> Result<(), CaseFault> {
     match fault {
         OpenFault::OutOfMemory => Err(CaseFault::Memory),
@@ -88,7 +88,7 @@ fn push_unopened(fault: OpenFault, given: &mut Given) -> Result<(), CaseFault> {
     }
 }
 
-/// Opens what a case says, and runs it.
+/// Opens what a case configures, and runs the case.
 fn play<
     R: Wait + Threads + Copy + Send + Sync + Drop + 'static,
     S: Identity + Send + Sync + Drop,
@@ -135,7 +135,7 @@ fn keeps_all(case: &Case) -> Result<bool, CaseFault> {
     }
 }
 
-/// Runs a case in a way.
+/// Runs a case on an account or on a desk.
 fn run_in<R: Wait + Threads + Copy + Send + Sync + Drop + 'static>(
     rt: R,
     case: &Case,
@@ -152,7 +152,7 @@ fn run_in<R: Wait + Threads + Copy + Send + Sync + Drop + 'static>(
     }
 }
 
-/// Adds what a desk gave, where that is something else than an account gave.
+/// Adds what a desk gave, if it differs from what an account gave.
 fn push_other(given: &mut Given, other: &Given) -> Result<(), CaseFault> {
     other.end()?;
     if given.as_str() != other.as_str() {
@@ -162,23 +162,23 @@ fn push_other(given: &mut Given, other: &Given) -> Result<(), CaseFault> {
     given.end()
 }
 
-/// What a case of the tables gives. It has these parts, in the order in which they are to happen:
+/// Adds what a case of the tables gives. It has these parts, in the order in which they happen:
 ///
 /// | Part | What it says |
 /// |---|---|
-/// | `open` | the configuration; else it has one function `f` on environment 1 |
+/// | `open` | the configuration; by default one function `f` on environment 1 |
 /// | `keep none` | the tallies keep no receipts and no calls |
-/// | `calls N` | calls as the lines of scripts, which the tally with this number submits; 0 if none stands there |
-/// | `quietly N` | the same, of which nothing is told |
+/// | `calls N` | calls as the lines of scripts, submitted with tally N (by default 0) |
+/// | `quietly N` | the same, but nothing is added about them |
 /// | `ask` | questions: `looks`, `look T`, `history T`, `render T`, `due MOMENT`, `life`, `stats` |
 /// | `ask`, also | `opening`, `reservation FUNCTION`, `tally N`, `bells` |
-/// | `crowd N` | what each of four threads calls N times |
-/// | `join` | the tallies 1 and 2 are joined |
-/// | `hold-back` | the tally 1 is not there when the account is settled |
-/// | `forge WAY` | what the tally 1 keeps is forged |
+/// | `crowd N` | the calls that each of four threads makes N times |
+/// | `join` | tallies 1 and 2 are joined |
+/// | `hold-back` | tally 1 is missing when the account is settled |
+/// | `forge WAY` | what tally 1 keeps is forged |
 ///
-/// Of a call its ticket is told, the bells that rang (each call has one; the first has number 0), and
-/// the answers that were given. Behind the parts the account is settled.
+/// For a call, the case gives its ticket, the bells that rang (each call has one, numbered from 0),
+/// and the answers. After the parts, the account is settled.
 pub fn give<R: Wait + Threads + Copy + Send + Sync + Drop + 'static>(
     rt: R,
     case: &Case,

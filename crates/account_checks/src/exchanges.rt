@@ -1,4 +1,4 @@
-//! Cases of polls and exchanges: what each is run over.
+//! Cases of polls and exchanges, and what each runs over.
 
 mod asks;
 mod board;
@@ -27,7 +27,7 @@ use std::thread::Threads;
 use std::time::Clock;
 use usage_ledger::{Blanks, KeepNone, Tally};
 
-/// What becomes of the calls of a board.
+/// Reads how a board treats calls.
 fn mood_in(part: &Part) -> Result<Mood, CaseFault> {
     match part.arguments() {
         "refuses JournalFull" => Ok(Mood::Refuses),
@@ -40,16 +40,16 @@ fn mood_in(part: &Part) -> Result<Mood, CaseFault> {
     }
 }
 
-/// What a case says of its service and of its connections.
+/// What a case says about its service and its connections.
 #[derive(Clone, Copy)]
 struct Terms {
-    /// What becomes of the calls of its board, if it has one.
+    /// How its board treats calls, if it has a board.
     mood: Option<Mood>,
-    /// For how many milliseconds a connection holds a premature call back.
+    /// How long a connection holds back a premature call, in milliseconds.
     patience: u32,
 }
 
-/// The terms of a case.
+/// Reads the terms of a case.
 fn terms_of(case: &Case) -> Result<Terms, CaseFault> {
     let patience = match case.part("patience") {
         None => 0,
@@ -62,7 +62,7 @@ fn terms_of(case: &Case) -> Result<Terms, CaseFault> {
     Ok(Terms { mood, patience })
 }
 
-/// Who decides for a configuration, which is to have an environment and a function.
+/// Returns the decider for a configuration, which must have an environment and a function.
 fn rows_of<S: Identity>(
     alloc: Global,
     line: u64,
@@ -76,7 +76,7 @@ fn rows_of<S: Identity>(
     Ok(Arc::new(alloc, Rows::new())?)
 }
 
-/// Why a case has no account.
+/// Returns the fault of a case whose account cannot be opened.
 fn not_opened(line: u64, fault: OpenFault) -> CaseFault {
     match fault {
         OpenFault::OutOfMemory => CaseFault::Memory,
@@ -130,7 +130,7 @@ fn play_over_board<
     played
 }
 
-/// Runs a case with a new account, over it or over a board.
+/// Opens a new account, and runs a case over it or over a board.
 fn play<
     R: Wait + Threads + Clock + RandomSource + AllocGlobal + Copy + Send + Sync + Drop,
     S: Identity + Drop + Send + Sync,
@@ -165,29 +165,29 @@ fn play<
     }
 }
 
-/// What a case of the tables gives. It has these parts; but for the first three, in the order in which
-/// they are to happen:
+/// Adds what a case of the tables gives. It has these parts; all but the first three are in the
+/// order in which they happen:
 ///
 /// | Part | What it says |
 /// |---|---|
-/// | `open` | the configuration; else it has one function `f` on environment 1 |
-/// | `board MOOD` | not an account: a service of this mood, `answers`, `loses-bells` or one of the next two |
-/// | its moods | `refuses JournalFull`; `premature N`: N of the calls that are offered are premature |
-/// | `patience N` | connections hold premature calls back for N milliseconds, not for 0 |
-/// | `asks` | requests, one a line, which are made one after another |
-/// | `at-once` | three requests, which are made at once |
-/// | `drops` | requests that are let go once they wait |
+/// | `open` | the configuration; by default one function `f` on environment 1 |
+/// | `board MOOD` | a board, not an account; MOOD is `answers`, `loses-bells` or one of the next two |
+/// | moods | `refuses JournalFull`; `premature N`: the first N calls that are offered are premature |
+/// | `patience N` | connections hold back premature calls for N milliseconds, not for 0 |
+/// | `asks` | requests, one per line, made one after another |
+/// | `at-once` | three requests, made at the same time |
+/// | `drops` | requests that are dropped as soon as they wait |
 /// | `lost T` | a `Poll` for the answer of ticket T, whose bell is dropped |
-/// | `across` | a `Poll` on another thread for a runtime's Next, whose request is let go once it waits |
+/// | `across` | a `Poll` on another thread for a Next, and a request that is dropped once it waits |
 ///
-/// A request is a moment, what its connection's clock reads; a path; and a body, `=TEXT` or `letters N` in
-/// one piece, or as many pieces as `pieces N` says before it, behind which with `broken N` it fails. The
-/// paths `/next`, `/invoke` (of function 1), `/response` (to invocation 1) and `/withdraw` (of ticket 0) are
-/// calls of environment 1; `/stats`, `/history` and `/reservation` are shown; `/echo` gives the body back,
-/// and any other path says how long it is.
+/// A request is a moment, which its connection's clock reads; a path; and a body. The body is one
+/// piece, `=TEXT` or `letters N`. With `pieces N` before it, it is N such pieces; with `broken N`,
+/// it fails after them. The paths `/next`, `/invoke` (of function 1), `/response` (to invocation 1)
+/// and `/withdraw` (of ticket 0) are calls of environment 1; `/stats`, `/history` and
+/// `/reservation` are shown; `/echo` returns the body, and any other path its length.
 ///
-/// Of a request its reply is told, or the history, or why there is none, or that it `waits`; then the Next
-/// that its connection has open. Of a board the calls are told at the end.
+/// For a request, the case gives the reply or the history, or why there is none, or that it
+/// `waits`; then the Next that its connection has open. For a board, it gives the calls at the end.
 pub fn give<R: Wait + Threads + Clock + RandomSource + AllocGlobal + Copy + Send + Sync + Drop>(
     rt: R,
     case: &Case,

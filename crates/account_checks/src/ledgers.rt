@@ -1,4 +1,4 @@
-//! Cases of ledgers: the tallies of one account from the root to their join, with each way to keep.
+//! Cases of ledgers: the tallies of one account from the root to their join, for each way to keep.
 
 mod grudging;
 mod steps;
@@ -11,7 +11,7 @@ use case_tables::{Case, CaseFault, Given, Part};
 use std::marker::Brand;
 use usage_ledger::{Blanks, Keep, KeepAll, KeepNone, Ledgers, root};
 
-/// Does what the lines of a part say.
+/// Performs the steps in the lines of a part.
 fn all_steps<K: Keep, L: Ledgers>(
     bench: &mut Bench<K, L>,
     part: &Part,
@@ -25,7 +25,7 @@ fn all_steps<K: Keep, L: Ledgers>(
     Ok(())
 }
 
-/// Opens the ledgers of a new account, and does with them what a part says.
+/// Opens the ledgers of a new account, and performs a part's steps on them.
 fn play<K: Keep, L: Ledgers>(
     blanks: Blanks,
     part: &Part,
@@ -46,23 +46,23 @@ fn play_by_brand<K: Keep>(part: &Part, given: &mut Given) -> Result<(), CaseFaul
     play::<K, Brand>(blanks, part, given)
 }
 
-/// What a case of the tables gives. Its one part `keep all`, `keep none`, or `keep grudging` says what
-/// tallies keep: those that keep grudgingly keep everything, but refuse every other request for room.
-/// Each of its lines is a step:
+/// Adds what a case of the tables gives. Its one part, `keep all`, `keep none` or `keep grudging`,
+/// says what tallies keep: those that keep grudgingly keep everything, but refuse every other
+/// request for room. Each of its lines is a step:
 ///
 /// | Step | What it does |
 /// |---|---|
-/// | `look N` | tells of the tally N its parts, whether it was joined, what calls and receipts it keeps |
-/// | `note N RECEIPT` | the tally N notes that the call was `delivered`, given its `output`, or `accepted` |
-/// | `make N CALL` | the tally N notes that the call `next`, `invoke` or `response` was made |
-/// | `split N` | a tally with one part of the tally N is put behind the others |
-/// | `join N` | the tally N and the next one are joined, and put behind the others |
-/// | `refuse N` | the same where memory is refused: the fault is told, and both are put behind the others |
-/// | `room N` | the tally N is asked for more room than there is, and tells that it is refused |
-/// | `count N` | three calls, of which one was admitted, are counted by the tally N |
-/// | `audit N` | the counts of the tally N, which has all parts, are held against the totals |
+/// | `look N` | adds tally N's parts, whether it was joined, and its calls and receipts |
+/// | `note N RECEIPT` | tally N notes that the call was `delivered`, `accepted`, or given its `output` |
+/// | `make N CALL` | tally N notes that the call `next`, `invoke` or `response` was made |
+/// | `split N` | a tally with one part of tally N is appended |
+/// | `join N` | tally N and the next one are joined, and moved to the end |
+/// | `refuse N` | the same while memory is refused: adds the fault, and moves both to the end |
+/// | `room N` | asks tally N for more room than there is, and adds that it is refused |
+/// | `count N` | tally N counts three calls, one of which was admitted |
+/// | `audit N` | compares the counts of tally N, which must have all parts, with the totals |
 ///
-/// The tally 0 is there at the beginning, and has all parts.
+/// Tally 0 is there from the start, and has all parts.
 pub fn give(case: &Case, given: &mut Given) -> Result<(), CaseFault> {
     let Some(part) = case.part("keep") else {
         return Err(CaseFault::Missing { part: "keep" });

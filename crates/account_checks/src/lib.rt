@@ -1,7 +1,7 @@
-//! The checks of accounts in memory, in the tables below `accounts`, `ledgers` and `exchanges`: desks
-//! behind their locks, the bells of waiting callers, threads that share an account, and settlements of
-//! true and of forged tallies; the ledgers of their counts; and the polls and exchanges of `long_poll`,
-//! over an account and over a service that behaves as a case says.
+//! The checks of accounts in memory, in the tables below `accounts`, `ledgers` and `exchanges`:
+//! desks behind their locks, the bells of waiting callers, threads that share an account, and
+//! settlements of true and of forged tallies; the ledgers of their counts; and the polls and
+//! exchanges of `long_poll`, over an account and over a service that behaves as a case says.
 #![tactic(auto)]
 
 mod accounts;
@@ -19,7 +19,7 @@ use std::sync::Wait;
 use std::thread::Threads;
 use std::time::Clock;
 
-/// What the cases of a file are about.
+/// The subject of a file's cases.
 #[derive(Clone, Copy)]
 enum Table {
     Accounts,
@@ -40,7 +40,7 @@ const TABLES: [(&str, Table); 9] = [
     ("exchanges/services.txt", Table::Exchanges),
 ];
 
-/// Tells what a case gives.
+/// Adds what a case gives.
 fn tell<
     R: Wait + Threads + Clock + RandomSource + AllocGlobal + Copy + Send + Sync + Drop + 'static,
 >(rt: R, table: Table, case: &Case, given: &mut Given) -> Result<(), CaseFault> {
@@ -53,7 +53,7 @@ fn tell<
     given.end()
 }
 
-/// Runs a case of a table, and says whether it agrees.
+/// Runs a case of a table, and returns whether it agrees.
 fn run_case<
     R: Wait
         + Threads
@@ -72,7 +72,7 @@ fn run_case<
     judge_case(&rt, file, case, came, given.as_str())
 }
 
-/// Runs the cases of a table, and says whether all agree.
+/// Runs the cases of a table, and returns whether all agree.
 fn run_cases<
     R: Wait
         + Threads
@@ -98,7 +98,7 @@ fn run_cases<
     Ok(agree)
 }
 
-/// Reads a table and runs its cases, and says whether all agree.
+/// Reads a table, runs its cases, and returns whether all agree.
 fn run_table<
     R: Wait
         + Threads
@@ -120,11 +120,12 @@ where
     run_cases(rt, file, table, cases.as_slice())
 }
 
-/// Runs the tables in the current folder, and says whether all of their cases agree. It prints how
-/// many cases a table has, or the first line that differs of each case that gives something else.
+/// Runs the tables in the current folder, and returns whether all of their cases agree. Prints the
+/// number of cases in each table; for each case that gives something else, prints the first line
+/// that differs.
 ///
 /// # Errors
-/// As the fault says; the tables behind it are not run.
+/// Any `TableFault`; the tables after it are not run.
 pub fn run<
     R: Wait
         + Threads

@@ -2,12 +2,12 @@
 
 use case_tables::{CaseFault, Part};
 
-/// That a line does not hold what it is to hold.
+/// Returns the fault of a line that does not contain what it must.
 pub fn malformed(line: u64, what: &'static str) -> CaseFault {
     CaseFault::Malformed { line, what }
 }
 
-/// The first word of a text, and what stands behind it.
+/// Splits a text into its first word and the rest.
 pub fn split_word(text: &str) -> (&str, &str) {
     match text.split_once(' ') {
         Some(words) => words,
@@ -15,7 +15,7 @@ pub fn split_word(text: &str) -> (&str, &str) {
     }
 }
 
-/// The number that a text of a line says.
+/// Reads a number from a line's text.
 pub fn number_of(line: u64, text: &str) -> Result<u64, CaseFault> {
     match text.parse::<u64>() {
         Ok(number) => Ok(number),
@@ -23,12 +23,12 @@ pub fn number_of(line: u64, text: &str) -> Result<u64, CaseFault> {
     }
 }
 
-/// The number behind the word of a part.
+/// Reads the number after the word of a part.
 pub fn number_behind(part: &Part) -> Result<u64, CaseFault> {
     number_of(part.line(), part.arguments())
 }
 
-/// The number of a tally that a text of a line says; 0 where it is empty.
+/// Reads the number of a tally from a line's text; 0 if the text is empty.
 pub fn seat_in(line: u64, text: &str) -> Result<usize, CaseFault> {
     if text.is_empty() {
         return Ok(0);

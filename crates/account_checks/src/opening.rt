@@ -14,7 +14,7 @@ use std::sync::Arc;
 const ONE: &str =
     r#"{"account":"123456789012","region":"us-east-2","functions":[{"name":"f","ports":[9001]}]}"#;
 
-/// What an account is opened with. It shares its configuration with those who read calls beside it.
+/// What an account is opened with. It shares its configuration with the readers of its calls.
 #[derive(Drop)]
 pub struct Opening {
     pub config: Arc<Checked>,
@@ -24,7 +24,7 @@ pub struct Opening {
     ghost same: { arc_value beside ≡ arc_value config },
 }
 
-/// The setup that a text of a line says.
+/// Reads a setup from a line's text.
 fn setup(alloc: Global, line: u64, text: &[u8]) -> Result<Setup, CaseFault> {
     match read_config(alloc, text) {
         Ok(setup) => Ok(setup),
@@ -33,7 +33,7 @@ fn setup(alloc: Global, line: u64, text: &[u8]) -> Result<Setup, CaseFault> {
     }
 }
 
-/// What the text of a line opens.
+/// Reads an opening from a line's text.
 fn opening_in(alloc: Global, line: u64, text: &[u8]) -> Result<Opening, CaseFault> {
     let Setup {
         config,
@@ -52,7 +52,7 @@ fn opening_in(alloc: Global, line: u64, text: &[u8]) -> Result<Opening, CaseFaul
     })
 }
 
-/// What the part `open` of a case says; where it has none, one function `f` on environment 1.
+/// Reads the part `open` of a case; by default one function `f` on environment 1.
 pub fn opening_of(alloc: Global, case: &Case) -> Result<Opening, CaseFault> {
     match case.part("open") {
         Some(part) => opening_in(alloc, part.line(), part.text().as_bytes()),

@@ -1,4 +1,4 @@
-//! Tallies, by which callers keep their shares of the counts: what cases do to them, and what is
+//! Tallies, with which callers keep their shares of the counts: what cases do to them, and what is
 //! seen of them.
 
 ghost use Rattle.std.specs.Prelude.{◌<◌, ◌≤◌, ◌+◌, OnOk, vec_len, vec_capacity};
@@ -9,18 +9,18 @@ use case_tables::{CaseFault, Given};
 use std::alloc::{AllocError, AllocFailed, Global};
 use usage_ledger::{JoinFault, Keep, Ledgers, Tally};
 
-/// Why something was not done to tallies.
+/// Why a step with tallies failed.
 #[derive(Clone, Copy)]
 pub enum SeatFault {
     /// There is no such tally.
     NoTally,
     /// The tally has too few parts.
     NoParts,
-    /// The word stands for nothing.
+    /// The word has no meaning here.
     NoWord,
-    /// Two tallies were joined that are not to be.
+    /// Two tallies were joined that must not be.
     NoFault,
-    /// There was no memory.
+    /// Memory ran out.
     Memory,
 }
 
@@ -37,7 +37,7 @@ impl<X: Drop> From<AllocFailed<X>> for SeatFault {
 }
 
 impl SeatFault {
-    /// What a case suffers from that has this fault at a line.
+    /// Returns the fault of a case with this failure at a line.
     pub fn at(self, line: u64) -> CaseFault {
         match self {
             SeatFault::Memory => CaseFault::Memory,
@@ -58,7 +58,7 @@ pub struct Seat<'a> {
     pub calls: &'a [(Ticket, Head)],
 }
 
-/// What is seen of the tally with a number.
+/// Returns what is seen of the tally with this number.
 pub fn seat_at<K: Keep, L: Ledgers>(tallies: &[Tally<K, L>], seat: usize) -> Option<Seat<'_>> {
     let tally = tallies.get(seat)?;
     Some(Seat {
@@ -69,7 +69,7 @@ pub fn seat_at<K: Keep, L: Ledgers>(tallies: &[Tally<K, L>], seat: usize) -> Opt
     })
 }
 
-/// Tallies of which this one is the first.
+/// Returns a row of tallies that starts with this one.
 pub fn first_of<K: Keep, L: Ledgers>(
     alloc: Global,
     tally: Tally<K, L>,
@@ -79,7 +79,7 @@ pub fn first_of<K: Keep, L: Ledgers>(
     Ok(tallies)
 }
 
-/// A new tally with a part of another one.
+/// Returns a new tally with a part of another one.
 pub fn part_of<K: Keep, L: Ledgers>(
     tally: Option<&mut Tally<K, L>>,
 ) -> Result<Tally<K, L>, SeatFault> {
@@ -92,7 +92,7 @@ pub fn part_of<K: Keep, L: Ledgers>(
     Ok(tally.split())
 }
 
-/// Takes a tally out of these. There is then room for it.
+/// Takes a tally out of the row. There is then room to put it back.
 pub fn taken_out<K: Keep, L: Ledgers>(
     tallies: &mut Vec<Tally<K, L>>,
     seat: usize,
@@ -105,7 +105,7 @@ pub fn taken_out<K: Keep, L: Ledgers>(
     Ok(tallies.remove(seat))
 }
 
-/// Puts a tally with a part of another one behind these.
+/// Appends a tally with a part of another one.
 pub fn split_off<K: Keep, L: Ledgers>(
     tallies: &mut Vec<Tally<K, L>>,
     seat: usize,
@@ -117,7 +117,7 @@ pub fn split_off<K: Keep, L: Ledgers>(
     }
 }
 
-/// Takes a tally and the next one out of these. There is then room for both.
+/// Takes a tally and the next one out of the row. There is then room to put both back.
 pub fn two_taken_out<K: Keep, L: Ledgers>(
     tallies: &mut Vec<Tally<K, L>>,
     seat: usize,
@@ -131,7 +131,7 @@ pub fn two_taken_out<K: Keep, L: Ledgers>(
     Ok((one, tallies.remove(seat)))
 }
 
-/// Joins a tally and the next one, and puts them behind the others.
+/// Joins a tally and the next one, and moves them to the end.
 pub fn join_next<K: Keep, L: Ledgers>(
     tallies: &mut Vec<Tally<K, L>>,
     seat: usize,
@@ -146,7 +146,7 @@ pub fn join_next<K: Keep, L: Ledgers>(
     }
 }
 
-/// Makes room for one receipt and one call, and asks again where it was refused.
+/// Makes room for one receipt and one call; tries again if it is refused.
 fn make_room<K: Keep, L: Ledgers>(tally: &mut Tally<K, L>) -> Result<(), SeatFault>
     ensures notes { OnOk result (0 < tally.new.spare_notes) }
     ensures calls { OnOk result (0 < tally.new.spare_calls) }
@@ -181,7 +181,7 @@ pub fn note_calls<K: Keep, L: Ledgers>(
     Ok(())
 }
 
-/// Adds the line of what a ticket was answered.
+/// Adds the line of a ticket's answer.
 pub fn push_answered(given: &mut Given, ticket: Ticket, answer: Answer) {
     given.push("  ");
     given.print(&ticket);
@@ -190,7 +190,7 @@ pub fn push_answered(given: &mut Given, ticket: Ticket, answer: Answer) {
     given.push("\n");
 }
 
-/// Adds receipts, but for so many of the first.
+/// Adds receipts, except the first `but`.
 pub fn push_receipts(given: &mut Given, receipts: &[(Ticket, Answer)], but: usize) {
     for receipt in receipts.iter().skip(but) {
         push_answered(given, receipt.0, receipt.1);

@@ -1,4 +1,4 @@
-//! What a part of a bench comes to.
+//! What a part of a bench amounts to.
 
 use std::time::{Clock, Duration};
 
@@ -9,12 +9,12 @@ pub struct Made {
     pub nanoseconds: u128,
 }
 
-/// What the monotonic clock says; 0 if it fails.
+/// Returns the reading of the monotonic clock; 0 if it fails.
 pub fn now(rt: &impl Clock) -> Duration {
     rt.monotonic().unwrap_or(Duration::ZERO)
 }
 
-/// So many calls since the clock said this.
+/// Returns the result of `count` calls since the clock read `begun`.
 pub fn made_since(rt: &impl Clock, begun: Duration, count: u64) -> Made {
     let elapsed = now(rt).saturating_sub(begun);
     Made {

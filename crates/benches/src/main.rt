@@ -1,6 +1,7 @@
-//! The calls that `bench/requests` and `bench/submits` time. `benches PART BESIDE COUNT` makes those of a part
-//! COUNT times, and prints how many were answered as they should be, and how many nanoseconds that took.
-//! `benches` makes those of each part a few times, and prints how many were answered so.
+//! The calls that `bench/requests` and `bench/submits` time. `benches PART BESIDE COUNT` makes
+//! those of a part COUNT times, and prints how many were answered as they should be, and how many
+//! nanoseconds they took. `benches` makes those of each part a few times, and prints how many were
+//! answered as they should be.
 #![tactic(auto)]
 
 mod made;
@@ -18,24 +19,24 @@ use std::sync::Wait;
 use std::thread::Threads;
 use std::time::Clock;
 
-/// What is made again and again.
+/// The parts of the bench.
 #[derive(Clone, Copy)]
 enum Part {
     /// `Side::decide` on an Invoke with a body of BESIDE bytes.
     DecideInvoke,
-    /// The same on a response.
+    /// `Side::decide` on a response with a body of BESIDE bytes.
     DecideResponse,
     /// `Book::render` of a delivery with a body of BESIDE bytes.
     RenderDelivery,
-    /// The same of an output.
+    /// `Book::render` of an output with a body of BESIDE bytes.
     RenderOutput,
     /// `Account::submit` from BESIDE threads, in turns of three calls.
     Submit,
-    /// `Desk::apply` beside BESIDE polls that are parked, in the same turns.
+    /// `Desk::apply` beside BESIDE parked polls, in the same turns.
     Apply,
 }
 
-/// The parts by their words, with what stands beside each in a run of a few times.
+/// The parts, by their words, each with the BESIDE of a short run.
 const PARTS: [(&str, Part, u64); 6] = [
     ("decide_invoke", Part::DecideInvoke, 100),
     ("decide_response", Part::DecideResponse, 100),
@@ -45,10 +46,10 @@ const PARTS: [(&str, Part, u64); 6] = [
     ("apply", Part::Apply, 248),
 ];
 
-/// How often each part is made where none is named.
+/// How often each part is made in a short run.
 const FEW: u64 = 24;
 
-/// The part of this word, if it is one.
+/// Returns the part with this word, if there is one.
 fn part_named(word: &str) -> Option<Part> {
     for (name, part, _) in PARTS {
         if name == word {
@@ -58,7 +59,8 @@ fn part_named(word: &str) -> Option<Part> {
     None
 }
 
-/// Makes a part so many times. None if memory ran out, or the part takes no such number beside it.
+/// Makes a part `count` times. Returns `None` if memory ran out, or BESIDE is out of the part's
+/// range.
 fn make<R: Wait + Threads + Clock + Sync>(
     rt: &R,
     alloc: Global,
@@ -79,11 +81,11 @@ fn make<R: Wait + Threads + Clock + Sync>(
 /// How a run ended.
 #[derive(Clone, Copy)]
 enum Ended {
-    /// All that was asked for was made.
+    /// Everything that was asked for was made.
     Made,
-    /// The arguments ask for nothing that there is.
+    /// The arguments do not name a part and its numbers.
     Misused,
-    /// Memory ran out, or a part takes no such number beside it.
+    /// Memory ran out, or BESIDE is out of the part's range.
     Unmade,
 }
 
@@ -98,7 +100,7 @@ fn make_all<R: Wait + Threads + Clock + Print + Sync>(rt: &R, alloc: Global) -> 
     Ok(Ended::Made)
 }
 
-/// The number that a word stands for.
+/// Reads a number from a word.
 fn number(word: Option<String>) -> Option<u64> {
     match word?.as_str().parse::<u64>() {
         Ok(number) => Some(number),
@@ -106,7 +108,7 @@ fn number(word: Option<String>) -> Option<u64> {
     }
 }
 
-/// Does what the arguments ask for, if they ask for anything.
+/// Makes the part that the arguments name; without arguments, makes each part a few times.
 fn run<R: Wait + Threads + Clock + Env + Print + AllocGlobal + Sync>(rt: &R) -> io::Result<Ended> {
     let alloc = rt.alloc();
     let mut words = env::args(rt)?.skip(1);

@@ -1,4 +1,4 @@
-//! Requests that are decided, and replies that are rendered.
+//! Requests to decide, and replies to render.
 
 ghost use Rattle.std.specs.Prelude.{◌≡◌, true, IfSome};
 ghost use Rattle.call_types.specs.Within.{is_body};
@@ -24,7 +24,7 @@ const INVOKE: &str = "/2015-03-31/functions/f/invocations";
 const RESPONSE: &str =
     "/2018-06-01/runtime/invocation/00000000-0000-8000-8001-000000000001/response";
 
-/// A JSON text of so many bytes, from two to the longest body's.
+/// Returns a JSON text of `size` bytes, from two to the longest body's size.
 fn body(alloc: Global, size: u64) -> Option<Bytes>
     ensures { IfSome result (λ body. is_body body ≡ true) }
 {
@@ -42,14 +42,14 @@ fn body(alloc: Global, size: u64) -> Option<Bytes>
     Some(body)
 }
 
-/// The configuration.
+/// Returns the configuration.
 fn config(alloc: Global) -> Option<Arc<Checked>> {
     let setup = read_config(alloc, CONFIG.as_bytes()).ok()?;
     let checked = setup.config.check().ok()?;
     Arc::new(alloc, checked).ok()
 }
 
-/// The head of a request for this target.
+/// Returns the head of a request for this target.
 fn head(alloc: Global, target: &str) -> Option<Parts> {
     let uri = Uri::from_bytes(alloc, target.as_bytes()).ok()?;
     let request = Request::builder(alloc)
@@ -60,7 +60,7 @@ fn head(alloc: Global, target: &str) -> Option<Parts> {
     Some(parts)
 }
 
-/// Decides a request for this target.
+/// Decides a request for this target, `count` times.
 fn decide<R: Clock>(
     rt: &R,
     alloc: Global,
@@ -82,13 +82,14 @@ fn decide<R: Clock>(
     Some(made_since(rt, begun, decided))
 }
 
-/// Decides an Invoke with a body of this size. None if memory ran out, or there is no such body.
+/// Decides an Invoke with a body of this size. Returns `None` if memory ran out, or there is no
+/// such body.
 pub fn decide_invoke<R: Clock>(rt: &R, alloc: Global, size: u64, count: u64) -> Option<Made> {
     let side = Side::open(alloc, config(alloc)?, 0, Port::Account).ok()?;
     decide(rt, alloc, &side, INVOKE, size, count)
 }
 
-/// The same of a response.
+/// Decides a response, with the same limits.
 pub fn decide_response<R: Clock>(rt: &R, alloc: Global, size: u64, count: u64) -> Option<Made> {
     let config = config(alloc)?;
     if config.environments() < 1 {
@@ -98,7 +99,7 @@ pub fn decide_response<R: Clock>(rt: &R, alloc: Global, size: u64, count: u64) -
     decide(rt, alloc, &side, RESPONSE, size, count)
 }
 
-/// A book of one invocation, which was delivered and answered.
+/// Returns a book of one invocation, which was delivered and answered.
 fn book(alloc: Global, size: u64) -> Option<Book> {
     let config = config(alloc)?;
     let mut book = Book::open(alloc, config, 0, 1_000_000).ok()?;
@@ -128,7 +129,7 @@ fn book(alloc: Global, size: u64) -> Option<Book> {
     Some(book)
 }
 
-/// Renders the answer of a ticket.
+/// Renders the answer of a ticket, `count` times.
 fn render<R: Clock>(rt: &R, alloc: Global, ticket: Ticket, size: u64, count: u64) -> Option<Made> {
     let book = book(alloc, size)?;
     let begun = now(rt);
@@ -141,12 +142,12 @@ fn render<R: Clock>(rt: &R, alloc: Global, ticket: Ticket, size: u64, count: u64
     Some(made_since(rt, begun, rendered))
 }
 
-/// Renders the delivery, to the runtime that asked first. None as above.
+/// Renders the delivery to the runtime that asked first. Returns `None` as `decide_invoke` does.
 pub fn render_delivery<R: Clock>(rt: &R, alloc: Global, size: u64, count: u64) -> Option<Made> {
     render(rt, alloc, 0, size, count)
 }
 
-/// Renders the output, to the caller. None as above.
+/// Renders the output to the caller. Returns `None` as `decide_invoke` does.
 pub fn render_output<R: Clock>(rt: &R, alloc: Global, size: u64, count: u64) -> Option<Made> {
     render(rt, alloc, 1, size, count)
 }

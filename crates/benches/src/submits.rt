@@ -1,4 +1,4 @@
-//! Calls on one account, from threads that share it, and through its desk.
+//! Calls on one account: from threads that share it, and through its desk.
 
 ghost use Rattle.std.specs.Prelude.{◌≡◌, ◌<◌, ◌≤◌, ◌^◌, length, true, IfSome};
 ghost use Rattle.std.specs.Arc.{arc_value};
@@ -19,10 +19,10 @@ use std::thread::{self, Threads};
 use std::time::Clock;
 use usage_ledger::{Blanks, KeepNone, Ledgers, Tally};
 
-/// How many functions have an environment of their own; one more has the others.
+/// How many functions have an environment of their own; one more function has all the others.
 const OWN: u32 = 8;
 
-/// How many environments that one has.
+/// How many environments that function has.
 const OTHERS: u32 = 248;
 
 /// A bell that no one hears.
@@ -40,7 +40,7 @@ struct Job<L: Ledgers> {
     env: u32,
 }
 
-/// The configuration's text.
+/// Returns the text of the configuration.
 fn config_text(alloc: Global) -> Result<String, AllocError> {
     let mut text = String::new(alloc);
     text.push_str(r#"{"account":"123456789012","region":"us-east-2","functions":["#)?;
@@ -57,7 +57,7 @@ fn config_text(alloc: Global) -> Result<String, AllocError> {
     Ok(text)
 }
 
-/// The configuration.
+/// Returns the configuration.
 fn config(alloc: Global) -> Option<Arc<Checked>> {
     let text = config_text(alloc).ok()?;
     let setup = read_config(alloc, text.as_str().as_bytes()).ok()?;
@@ -65,7 +65,7 @@ fn config(alloc: Global) -> Option<Arc<Checked>> {
     Arc::new(alloc, checked).ok()
 }
 
-/// A short body.
+/// Returns a short body.
 fn body(alloc: Global) -> Option<Bytes>
     ensures { IfSome result (λ body. is_body body ≡ true) }
 {
@@ -76,8 +76,8 @@ fn body(alloc: Global) -> Option<Bytes>
     Some(body)
 }
 
-/// The first, second or third call of a turn, at the environment and the function of this number: a
-/// poll, an invocation and its response.
+/// Returns the first, second or third call of a turn, at the environment and the function with this
+/// number: a poll, an invocation or its response.
 fn call(alloc: Global, env: u32, part: u32, turn: u64) -> Option<Call>
     requires from_one { 1 ≤ env }
     requires own { env ≤ 8 }
@@ -103,7 +103,7 @@ fn call(alloc: Global, env: u32, part: u32, turn: u64) -> Option<Call>
     })
 }
 
-/// The turns of one thread.
+/// Makes the turns of one thread, and returns how many calls were taken.
 fn work<S: Identity>(
     rt: &impl Wait,
     alloc: Global,
@@ -136,7 +136,7 @@ fn work<S: Identity>(
     Some(taken)
 }
 
-/// A job for each thread, with a part of the tally.
+/// Returns a job for each thread, with a part of the tally.
 fn jobs<L: Ledgers>(alloc: Global, tally: Tally<KeepNone, L>, threads: u64) -> Option<Vec<Job<L>>> {
     let mut root = tally;
     let mut jobs = Vec::new(alloc);
@@ -156,7 +156,7 @@ fn jobs<L: Ledgers>(alloc: Global, tally: Tally<KeepNone, L>, threads: u64) -> O
     Some(jobs)
 }
 
-/// As many threads make as many turns.
+/// Makes the turns of all threads.
 fn submits<R: Wait + Threads + Clock + Sync, S: Identity + Send + Sync>(
     rt: &R,
     alloc: Global,
@@ -186,7 +186,7 @@ fn submits<R: Wait + Threads + Clock + Sync, S: Identity + Send + Sync>(
     Some(made_since(rt, begun, taken))
 }
 
-/// One call through the desk.
+/// Makes one call through the desk.
 fn apply_once<L: Ledgers>(
     desk: &mut Desk<Quiet, L>,
     tally: &mut Tally<KeepNone, L>,
@@ -198,7 +198,7 @@ fn apply_once<L: Ledgers>(
     desk.apply(tally, 0, call, Some(Quiet)).is_ok()
 }
 
-/// Parks so many polls at the environments that have no function of their own. Gives whether all were taken.
+/// Parks `parked` polls at the environments of the last function. Returns whether all were taken.
 fn park<L: Ledgers>(
     desk: &mut Desk<Quiet, L>,
     tally: &mut Tally<KeepNone, L>,
@@ -244,16 +244,16 @@ fn applies<R: Clock, L: Ledgers>(
     Some(made_since(rt, begun, taken))
 }
 
-/// How the calls come to the account.
+/// How the calls reach the account.
 #[derive(Clone, Copy)]
 enum Way {
-    /// From so many threads.
+    /// From this many threads.
     Threads(u64),
-    /// Through its desk, beside so many parked polls.
+    /// Through its desk, beside this many parked polls.
     Desk(u64),
 }
 
-/// Opens an account, and makes as many calls.
+/// Opens an account, and makes `count` calls.
 fn run<R: Wait + Threads + Clock + Sync, S: Identity + Send + Sync>(
     rt: &R,
     alloc: Global,
@@ -313,8 +313,8 @@ fn run_by_brand<R: Wait + Threads + Clock + Sync>(
     run::<R, Brand>(rt, alloc, config, 1 << 32, blanks, way, count)
 }
 
-/// Submits as many calls, in turns of three, from so many threads, at most eight. None if
-/// memory ran out, or there are more threads.
+/// Submits `count` calls, in turns of three, from at most eight threads. Returns `None` if memory
+/// ran out, or there are more threads.
 pub fn submit<R: Wait + Threads + Clock + Sync>(
     rt: &R,
     alloc: Global,
@@ -324,8 +324,8 @@ pub fn submit<R: Wait + Threads + Clock + Sync>(
     run_by_brand(rt, alloc, Way::Threads(threads), count)
 }
 
-/// Applies as many calls to a desk, in turns of three, beside so many parked polls, at most 248.
-/// None if memory ran out, or there are more polls.
+/// Applies `count` calls to a desk, in turns of three, beside at most 248 parked polls. Returns
+/// `None` if memory ran out, or there are more polls.
 pub fn apply<R: Wait + Threads + Clock + Sync>(
     rt: &R,
     alloc: Global,

@@ -1,10 +1,10 @@
-//! The bytes that parts say.
+//! The bytes in parts.
 
 use crate::case::Part;
 use crate::fault::CaseFault;
 use std::alloc::AllocError;
 
-/// The byte that a hexadecimal number says.
+/// Reads a byte from a hexadecimal number.
 fn byte_in(part: &Part, text: &str) -> Result<u8, CaseFault> {
     match u8::from_str_radix(text, 16) {
         Ok(byte) => Ok(byte),
@@ -12,7 +12,7 @@ fn byte_in(part: &Part, text: &str) -> Result<u8, CaseFault> {
     }
 }
 
-/// Adds the bytes of hexadecimal numbers.
+/// Appends the bytes of hexadecimal numbers.
 fn push_hex(bytes: &mut Vec<u8>, part: &Part) -> Result<(), CaseFault> {
     for text in part.arguments().split(' ') {
         bytes.push(byte_in(part, text)?)?;
@@ -20,13 +20,13 @@ fn push_hex(bytes: &mut Vec<u8>, part: &Part) -> Result<(), CaseFault> {
     Ok(())
 }
 
-/// Adds a byte so many times.
+/// Appends `count` copies of a byte.
 fn fill(bytes: &mut Vec<u8>, count: usize, byte: u8) -> Result<(), AllocError> {
     let length = bytes.len().saturating_add(count);
     bytes.resize(length, byte)
 }
 
-/// Adds a byte as often as a part says.
+/// Appends a byte as often as a part says.
 fn push_times(bytes: &mut Vec<u8>, part: &Part) -> Result<(), CaseFault> {
     let Some((count, byte)) = part.arguments().split_once(' ') else {
         return Err(part.malformed("a number and a byte are wanted"));
@@ -38,7 +38,7 @@ fn push_times(bytes: &mut Vec<u8>, part: &Part) -> Result<(), CaseFault> {
     Ok(())
 }
 
-/// Adds the bytes that a part says.
+/// Appends the bytes of a part.
 ///
 /// | Part | What it says |
 /// |---|---|
@@ -47,7 +47,7 @@ fn push_times(bytes: &mut Vec<u8>, part: &Part) -> Result<(), CaseFault> {
 /// | `times N 61` | the byte of this hexadecimal number, N times |
 ///
 /// # Errors
-/// `Unknown` for another part, `Malformed` where the numbers are none, and `Memory`.
+/// `Unknown` for another part, `Malformed` if a number cannot be read, and `Memory`.
 pub fn push_bytes(bytes: &mut Vec<u8>, part: &Part) -> Result<(), CaseFault> {
     match part.word() {
         "body" => Ok(bytes.extend_from_slice(part.lines().as_bytes())?),

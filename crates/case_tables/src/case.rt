@@ -3,10 +3,10 @@
 use crate::fault::{CaseFault, malformed};
 use std::alloc::{AllocError, Global};
 
-/// The word of the part that says what a case gives.
+/// The word of the part with what a case gives.
 const GIVES: &str = "gives";
 
-/// Whether a line says nothing where no part is open.
+/// Whether a line outside all parts is ignored.
 pub(crate) fn is_aside(line: &str) -> bool {
     line.is_empty() || line.starts_with('#')
 }
@@ -29,7 +29,7 @@ pub struct Part {
 }
 
 impl Part {
-    /// A part of this title, whose text is empty.
+    /// Creates a part with this title and an empty text.
     fn open(alloc: Global, title: &str, line: u64) -> Result<Part, AllocError> {
         let (word, arguments) = title.split_once(' ').unwrap_or((title, ""));
         Ok(Part {
@@ -40,50 +40,50 @@ impl Part {
         })
     }
 
-    /// Adds a line to the text.
+    /// Appends a line to the text.
     fn push_line(&mut self, line: &str) -> Result<(), AllocError> {
         self.text.push_str(line.strip_prefix('\\').unwrap_or(line))?;
         self.text.push('\n')
     }
 
-    /// Whether the part says what its case gives.
+    /// Whether the part holds what its case gives.
     fn gives(&self) -> bool {
         self.word.as_str() == GIVES
     }
 
-    /// What the part is called.
+    /// Returns the word that names the part.
     pub fn word(&self) -> &str {
         self.word.as_str()
     }
 
-    /// What stands behind the word.
+    /// Returns what follows the word.
     pub fn arguments(&self) -> &str {
         self.arguments.as_str()
     }
 
-    /// The lines of the part, each with its line feed.
+    /// Returns the lines of the part, each with its line feed.
     pub fn text(&self) -> &str {
         self.text.as_str()
     }
 
-    /// The lines of the part, the last one without its line feed.
+    /// Returns the lines of the part, the last one without its line feed.
     pub fn lines(&self) -> &str {
         let text = self.text.as_str();
         text.strip_suffix('\n').unwrap_or(text)
     }
 
-    /// The number of the line that begins the part; the first line of a file is 1.
+    /// Returns the number of the line that begins the part; the first line of a file is 1.
     pub fn line(&self) -> u64 {
         self.line
     }
 
-    /// That the part does not hold what it is to hold.
+    /// Returns the fault of a part that does not contain what it must.
     pub fn malformed(&self, what: &'static str) -> CaseFault {
         malformed(self.line, what)
     }
 }
 
-/// A case: its parts, and what it is to give. While it is read, the part `gives` is one of the parts.
+/// A case: its parts, and what it should give. While it is read, `gives` is one of the parts.
 #[derive(Drop)]
 pub struct Case {
     name: String,
@@ -93,7 +93,7 @@ pub struct Case {
 }
 
 impl Case {
-    /// A case of this name without parts.
+    /// Creates a case with this name and no parts.
     pub(crate) fn open(alloc: Global, name: &str, line: u64) -> Result<Case, AllocError> {
         Ok(Case {
             name: String::from_str(alloc, name)?,
@@ -103,7 +103,7 @@ impl Case {
         })
     }
 
-    /// Looks whether another part may follow.
+    /// Checks that another part may follow.
     fn check_open(&self) -> Result<(), CaseFault> {
         match self.parts.last() {
             Some(part) if part.gives() => Err(part.malformed("a part gives that is not the last")),
@@ -111,14 +111,14 @@ impl Case {
         }
     }
 
-    /// Opens a part of this title.
+    /// Opens a part with this title.
     fn open_part(&mut self, alloc: Global, title: &str, line: u64) -> Result<(), CaseFault> {
         self.check_open()?;
         let part = Part::open(alloc, title, line)?;
         Ok(self.parts.push(part)?)
     }
 
-    /// Takes a line of the case, which has this number.
+    /// Takes the line of the case with this number.
     pub(crate) fn take_line(
         &mut self,
         alloc: Global,
@@ -135,7 +135,7 @@ impl Case {
         }
     }
 
-    /// Takes away the empty line that stands before the next case.
+    /// Removes the empty line before the next case.
     pub(crate) fn drop_blank_line(&mut self) {
         if let Some(part) = self.parts.last_mut() {
             if ends_blank(part.text.as_str()) {
@@ -144,7 +144,7 @@ impl Case {
         }
     }
 
-    /// Ends the case, whose last part says what it gives.
+    /// Ends the case, whose last part must hold what it gives.
     pub(crate) fn close(&mut self) -> Result<(), CaseFault> {
         match self.parts.pop() {
             Some(part) if part.gives() => {
@@ -155,17 +155,17 @@ impl Case {
         }
     }
 
-    /// What the case is called.
+    /// Returns the name of the case.
     pub fn name(&self) -> &str {
         self.name.as_str()
     }
 
-    /// The parts in their order, without `gives`.
+    /// Returns the parts in their order, without `gives`.
     pub fn parts(&self) -> &[Part] {
         self.parts.as_slice()
     }
 
-    /// The first part that is called so.
+    /// Returns the first part with this word.
     pub fn part(&self, word: &str) -> Option<&Part> {
         for part in self.parts.iter() {
             if part.word() == word {
@@ -175,12 +175,12 @@ impl Case {
         None
     }
 
-    /// The text of the part `gives`.
+    /// Returns the text of the part `gives`.
     pub fn wanted(&self) -> &str {
         self.wanted.as_str()
     }
 
-    /// The number of the line that begins the case.
+    /// Returns the number of the line that begins the case.
     pub fn line(&self) -> u64 {
         self.line
     }

@@ -4,20 +4,20 @@ use std::alloc::{AllocError, AllocFailed};
 use std::io;
 use thiserror::Error;
 
-/// What a case that cannot be run suffers from.
+/// Why a case cannot be run.
 #[derive(Clone, Copy)]
 pub enum CaseFault {
-    /// There was no memory.
+    /// Memory ran out.
     Memory,
-    /// The part of this line is none that the subject knows.
+    /// The part at this line is unknown to the subject.
     Unknown { line: u64 },
-    /// The case lacks a part of this word.
+    /// The case lacks a part with this word.
     Missing { part: &'static str },
-    /// The part of this line does not hold what it is to hold.
+    /// The part at this line does not contain what it must.
     Malformed { line: u64, what: &'static str },
 }
 
-/// That the line of this number does not hold what it is to hold.
+/// Returns the fault of a line that does not contain what it must.
 pub(crate) fn malformed(line: u64, what: &'static str) -> CaseFault {
     CaseFault::Malformed { line, what }
 }
@@ -34,40 +34,41 @@ impl<T: Drop> From<AllocFailed<T>> for CaseFault {
     }
 }
 
-/// Why a table was not run to its end. Printed, it is the line that a program writes on standard
-/// error.
+/// Why a table was not run to its end. It is displayed as the line that a program writes to
+/// standard error.
 #[derive(Clone, Copy, Debug, Error)]
 pub enum TableFault {
-    /// The file says at this line what no table can say, or what its subject does not take.
+    /// The file has at this line something that a table cannot contain, or that its subject does
+    /// not accept.
     #[error("{file}:{line}: {what}")]
     Malformed {
         file: &'static str,
         line: u64,
         what: &'static str,
     },
-    /// The case that begins at this line lacks a part of this word.
+    /// The case that begins at this line lacks a part with this word.
     #[error("{file}:{line}: a part {part} is missing")]
     Missing {
         file: &'static str,
         line: u64,
         part: &'static str,
     },
-    /// The file was not read.
+    /// The file could not be read.
     #[error("{file}: failed")]
     Read {
         file: &'static str,
     },
-    /// Standard output took nothing.
+    /// Standard output accepted nothing.
     #[error("output: failed")]
     Write,
-    /// There was no memory.
+    /// Memory ran out.
     #[error("out of memory")]
     OutOfMemory,
 }
 
 impl TableFault {
-    /// The exit status of a program that ends with it: 2 where a table is at fault, 4 where the
-    /// machine is.
+    /// Returns the exit status of a program that ends with this fault: 2 if a table is at fault, 4
+    /// if the machine is.
     pub fn status(self) -> u8 {
         match self {
             TableFault::Malformed { .. } | TableFault::Missing { .. } => 2,
@@ -75,7 +76,7 @@ impl TableFault {
         }
     }
 
-    /// That a file was not read.
+    /// Returns the fault of a file that could not be read.
     pub(crate) fn at_input(file: &'static str, fault: &io::Error) -> TableFault {
         match fault.kind() {
             io::ErrorKind::OutOfMemory => TableFault::OutOfMemory,
@@ -83,7 +84,7 @@ impl TableFault {
         }
     }
 
-    /// That nothing was written.
+    /// Returns the fault of an output that could not be written.
     pub(crate) fn at_output(fault: &io::Error) -> TableFault {
         match fault.kind() {
             io::ErrorKind::OutOfMemory => TableFault::OutOfMemory,
@@ -91,7 +92,7 @@ impl TableFault {
         }
     }
 
-    /// What a case of a file suffers from.
+    /// Returns the fault of a file's case.
     pub(crate) fn of_case(file: &'static str, line: u64, fault: CaseFault) -> TableFault {
         match fault {
             CaseFault::Memory => TableFault::OutOfMemory,

@@ -1,12 +1,12 @@
-//! What a case gives, as it is written.
+//! What a case gives, while it is being written.
 
 use crate::fault::CaseFault;
 use std::alloc::Global;
 use std::fmt::{Debug, Display};
 use std::str;
 
-/// Text that is being written. Where there is no memory it takes nothing more, and says so at its
-/// end; so who writes need not ask behind each word.
+/// Text that is being written. If memory runs out, it accepts no more and reports that at its end,
+/// so a writer need not check after each word.
 #[derive(Drop)]
 pub struct Given {
     alloc: Global,
@@ -15,7 +15,7 @@ pub struct Given {
 }
 
 impl Given {
-    /// No text yet.
+    /// Creates an empty text.
     pub fn new(alloc: Global) -> Given {
         Given {
             alloc,
@@ -24,14 +24,14 @@ impl Given {
         }
     }
 
-    /// Adds a text.
+    /// Appends a text.
     pub fn push(&mut self, text: &str) {
         if self.is_cut || self.text.push_str(text).is_err() {
             self.is_cut = true;
         }
     }
 
-    /// Adds bytes as text.
+    /// Appends bytes as text.
     pub fn push_bytes(&mut self, bytes: &[u8]) {
         match str::from_utf8(bytes) {
             Ok(text) => self.push(text),
@@ -39,13 +39,13 @@ impl Given {
         }
     }
 
-    /// Adds a text as a line.
+    /// Appends a text as a line.
     pub fn line(&mut self, text: &str) {
         self.push(text);
         self.push("\n");
     }
 
-    /// Adds a value as people read it.
+    /// Appends a value in its form for people.
     pub fn print<T: Display>(&mut self, value: &T) {
         match format!(in self.alloc; "{value}") {
             Ok(text) => self.push(text.as_str()),
@@ -53,7 +53,7 @@ impl Given {
         }
     }
 
-    /// Adds a value as it is spelled in a program.
+    /// Appends a value as it is spelled in a program.
     pub fn show<T: Debug>(&mut self, value: &T) {
         match format!(in self.alloc; "{value:?}") {
             Ok(text) => self.push(text.as_str()),
@@ -61,25 +61,25 @@ impl Given {
         }
     }
 
-    /// Notes that there was no memory for something that was to be told.
+    /// Notes that memory ran out for something that had to be added.
     pub fn cut(&mut self) {
         self.is_cut = true;
     }
 
-    /// What was written.
+    /// Returns what was written.
     pub fn as_str(&self) -> &str {
         self.text.as_str()
     }
 
-    /// Where memory is taken from.
+    /// Returns the allocator.
     pub fn alloc(&self) -> Global {
         self.alloc
     }
 
-    /// Whether all that was told is written.
+    /// Checks that everything added was written.
     ///
     /// # Errors
-    /// `Memory`, where it is not.
+    /// `Memory`, if it was not.
     pub fn end(&self) -> Result<(), CaseFault> {
         match self.is_cut {
             true => Err(CaseFault::Memory),
@@ -87,10 +87,10 @@ impl Given {
         }
     }
 
-    /// Adds all that was told to a text.
+    /// Appends everything that was written to a text.
     ///
     /// # Errors
-    /// `Memory`, where there was none for it.
+    /// `Memory`, if there was not enough for it.
     pub fn hand_over(&self, text: &mut String) -> Result<(), CaseFault> {
         match self.is_cut || text.push_str(self.as_str()).is_err() {
             true => Err(CaseFault::Memory),

@@ -1,5 +1,5 @@
-//! Worked examples in plain text: a table's file holds cases, a subject says what each gives, and
-//! the lines that differ are told.
+//! Worked examples in plain text: a table's file holds cases, a subject computes what each gives,
+//! and the lines that differ are printed.
 #![tactic(auto)]
 
 mod bytes;

@@ -1,4 +1,4 @@
-//! Runs the cases of a file, and tells which differ.
+//! Runs the cases of a file, and prints which differ.
 
 use crate::case::Case;
 use crate::fault::{CaseFault, TableFault};
@@ -9,13 +9,13 @@ use std::io::Read;
 use std::process::ExitCode;
 use std::rt::Files;
 
-/// What the cases of a file are about.
+/// The subject of a file's cases.
 pub trait Subject {
     /// Appends what the case gives, as lines, to `given`.
     fn give(&self, alloc: Global, case: &Case, given: &mut String) -> Result<(), CaseFault>;
 }
 
-/// The first line in which two texts differ: its number, and what each of them has there.
+/// The first line in which two texts differ: its number, and the line in each text.
 #[derive(Clone, Copy)]
 struct Difference<'a> {
     number: u64,
@@ -23,7 +23,7 @@ struct Difference<'a> {
     given: Option<&'a str>,
 }
 
-/// The first line in which the texts differ.
+/// Returns the first line in which the texts differ.
 fn first_difference<'a>(wanted: &'a str, given: &'a str) -> Option<Difference<'a>> {
     let mut wanted = wanted.split('\n');
     let mut given = given.split('\n');
@@ -44,7 +44,7 @@ fn first_difference<'a>(wanted: &'a str, given: &'a str) -> Option<Difference<'a
     None
 }
 
-/// Tells that a case of a file differs.
+/// Prints that a case of a file differs.
 fn tell(
     rt: &impl Print,
     file: &'static str,
@@ -60,10 +60,10 @@ fn tell(
     ).map_err(|fault| TableFault::at_output(&fault))
 }
 
-/// Says whether a case gave what it is to give, and tells where it differs.
+/// Returns whether a case gave what it should; if not, prints where it differs.
 ///
 /// # Errors
-/// What the case suffers from, where it came to no end.
+/// The fault of a case that could not be run.
 pub fn judge_case(
     rt: &impl Print,
     file: &'static str,
@@ -83,10 +83,10 @@ pub fn judge_case(
     }
 }
 
-/// The cases of a file in the current folder.
+/// Reads the cases of a file in the current folder.
 ///
 /// # Errors
-/// As the fault says.
+/// Any `TableFault`.
 pub fn read_file<R: Files + AllocGlobal>(
     rt: &R,
     file: &'static str,
@@ -104,16 +104,16 @@ where
     }
 }
 
-/// Tells that all these cases of a file agree.
+/// Prints that all these cases of a file agree.
 ///
 /// # Errors
-/// `Write`, or `OutOfMemory`.
+/// `Write` or `OutOfMemory`.
 pub fn tell_count(rt: &impl Print, file: &'static str, cases: &[Case]) -> Result<(), TableFault> {
     let count = cases.len();
     println!(rt; "{file}: {count} cases").map_err(|fault| TableFault::at_output(&fault))
 }
 
-/// Runs a case, and says whether it agrees.
+/// Runs a case, and returns whether it agrees.
 fn run_case<R: Print + AllocGlobal, S: Subject>(
     rt: &R,
     file: &'static str,
@@ -125,7 +125,7 @@ fn run_case<R: Print + AllocGlobal, S: Subject>(
     judge_case(rt, file, case, came, given.as_str())
 }
 
-/// Runs the cases of a file, and says whether all agree.
+/// Runs the cases of a file, and returns whether all agree.
 fn run_cases<R: Print + AllocGlobal, S: Subject>(
     rt: &R,
     file: &'static str,
@@ -144,13 +144,13 @@ fn run_cases<R: Print + AllocGlobal, S: Subject>(
     Ok(agree)
 }
 
-/// Reads the file of that name in the current folder, runs each case, prints a line for each that
-/// gives another text than it is to give, and says whether there was none; then it prints how many
-/// cases there are. (A case that starts threads can't be run by a method: who has such cases reads
-/// the file, runs each and judges it.)
+/// Runs each case of a file in the current folder. Prints a line for each case that gives another
+/// text than it should, and then the number of cases; returns whether all agreed. (A method cannot
+/// run a case that starts threads: a caller with such cases reads the file, and runs and judges
+/// each.)
 ///
 /// # Errors
-/// As the fault says; a fault of a case ends the run of its file.
+/// Any `TableFault`; a fault of a case ends the run of its file.
 pub fn run_file<R: Files + Print + AllocGlobal, S: Subject>(
     rt: &R,
     file: &'static str,
@@ -163,10 +163,10 @@ where
     run_cases(rt, file, subject, cases.as_slice())
 }
 
-/// Runs files one after the other, each with what its cases are about, and says whether all agree.
+/// Runs files in order, each with its subject, and returns whether all agree.
 ///
 /// # Errors
-/// As the fault says; it ends the run of the files.
+/// Any `TableFault`; it ends the run of the files.
 pub fn run_files<R: Files + Print + AllocGlobal, S: Subject>(
     rt: &R,
     files: &[(&'static str, S)],
@@ -183,14 +183,14 @@ where
     Ok(agree)
 }
 
-/// How a program ends that ran its tables: 0 where all agree, 1 where a case differs, and else as
-/// the fault says, with its line on standard error.
+/// Returns the exit code of a program that ran its tables: 0 if all agree, 1 if a case differs;
+/// otherwise that of the fault, which is printed on standard error.
 pub fn end(rt: &impl Eprint, outcome: Result<bool, TableFault>) -> ExitCode {
     match outcome {
         Ok(true) => ExitCode::SUCCESS,
         Ok(false) => ExitCode::from(1),
         Err(fault) => {
-            // Where standard error takes nothing either, the status alone tells.
+            // If standard error accepts nothing either, only the status tells.
             let _told = eprintln!(rt; "{fault}");
             ExitCode::from(fault.status())
         }

@@ -4,7 +4,7 @@ use crate::case::{Case, is_aside};
 use crate::fault::{CaseFault, malformed};
 use std::alloc::Global;
 
-/// Whether one of these cases is called so.
+/// Whether one of these cases has this name.
 fn is_there(cases: &[Case], name: &str) -> bool {
     for case in cases {
         if case.name() == name {
@@ -14,7 +14,7 @@ fn is_there(cases: &[Case], name: &str) -> bool {
     false
 }
 
-/// A table that is being read up to a line: its cases, the last of which is open.
+/// A table that has been read up to a line: its cases, the last of which is open.
 #[derive(Drop)]
 struct Reader {
     alloc: Global,
@@ -23,12 +23,12 @@ struct Reader {
 }
 
 impl Reader {
-    /// That the line does not say what it is to say.
+    /// Returns the fault of a line that does not contain what it must.
     fn malformed(&self, what: &'static str) -> CaseFault {
         malformed(self.line, what)
     }
 
-    /// Ends the case that another one follows, if there is one.
+    /// Ends the current case, if there is one, before the next.
     fn close(&mut self) -> Result<(), CaseFault> {
         let Some(case) = self.cases.last_mut() else {
             return Ok(());
@@ -37,7 +37,7 @@ impl Reader {
         case.close()
     }
 
-    /// Opens a case of this name.
+    /// Opens a case with this name.
     fn open(&mut self, name: &str) -> Result<(), CaseFault> {
         if name.is_empty() {
             return Err(self.malformed("a case without a name"));
@@ -49,7 +49,7 @@ impl Reader {
         Ok(self.cases.push(case)?)
     }
 
-    /// Takes a line that begins no case.
+    /// Takes a line that does not begin a case.
     fn take_inner(&mut self, line: &str) -> Result<(), CaseFault> {
         match self.cases.last_mut() {
             Some(case) => case.take_line(self.alloc, line, self.line),
@@ -87,7 +87,7 @@ impl Reader {
     }
 }
 
-/// The cases of a table.
+/// Reads the cases of a table.
 pub fn read_cases(alloc: Global, text: &str) -> Result<Vec<Case>, CaseFault> {
     let mut reader = Reader {
         alloc,

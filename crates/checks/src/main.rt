@@ -1,4 +1,4 @@
-//! Runs the tables of checks in the current folder: `checks`, all of them, or `checks GROUP`, those of
+//! Runs the tables of checks in the current folder: `checks` runs all, and `checks GROUP` those of
 //! one subject: `examples`, `accounts` or `sockets`.
 #![tactic(auto)]
 
@@ -11,7 +11,7 @@ use std::net::{TcpListener, TcpStream};
 use std::process::ExitCode;
 use std::rt::Files;
 
-/// Which tables are run.
+/// Which tables to run.
 #[derive(Clone, Copy)]
 enum Group {
     All,
@@ -20,7 +20,7 @@ enum Group {
     Sockets,
 }
 
-/// The group of this name, if it is one.
+/// Returns the group with this name, if there is one.
 fn group_named(word: &str) -> Option<Group> {
     match word {
         "examples" => Some(Group::Examples),
@@ -30,7 +30,7 @@ fn group_named(word: &str) -> Option<Group> {
     }
 }
 
-/// The group that the arguments ask for, if they ask for one.
+/// Reads the group from the arguments, if they name one.
 fn read_arguments<R: Env + AllocGlobal>(rt: &R) -> io::Result<Option<Group>> {
     let mut words = env::args(rt)?.skip(1);
     let Some(word) = words.next() else {
@@ -42,7 +42,7 @@ fn read_arguments<R: Env + AllocGlobal>(rt: &R) -> io::Result<Option<Group>> {
     }
 }
 
-/// Runs all tables, and says whether all of their cases agree.
+/// Runs all tables, and returns whether all of their cases agree.
 fn run_all<R: Machine + Files + Print>(rt: R) -> Result<bool, TableFault>
 where
     R::File: Read + Drop,
@@ -53,7 +53,7 @@ where
     Ok(examples && accounts && sockets)
 }
 
-/// Runs the tables of a group, and says whether all of their cases agree.
+/// Runs the tables of a group, and returns whether all of their cases agree.
 fn run<R: Machine + Files + Print>(rt: R, group: Group) -> Result<bool, TableFault>
 where
     R::File: Read + Drop,
@@ -76,7 +76,7 @@ fn main(rt: HostRuntime) -> ExitCode {
             end(&rt, Err(TableFault::OutOfMemory))
         }
         _ => {
-            // Where standard error takes nothing either, the status alone tells.
+            // If standard error accepts nothing either, only the status tells.
             let _told = eprintln!(rt; "usage: checks [examples | accounts | sockets]");
             ExitCode::from(2)
         }

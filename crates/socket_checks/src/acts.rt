@@ -11,10 +11,10 @@ use socket_peers::{
 use std::str;
 use std::time::Duration;
 
-/// How often a crowd is tried: an answer may come late too where the machine had other things to do.
+/// How often a crowd is tried: an answer may also be late because the machine was busy.
 const CROWDS: u32 = 5;
 
-/// How many entries a service says that its history has; none where it says something else.
+/// Returns the number of entries in a service's counts; `None` if it said anything else.
 fn entries_of(heard: &Heard) -> Option<u64> {
     entries_in(str::from_utf8(heard.bytes.as_slice()).ok()?)
 }
@@ -24,7 +24,7 @@ fn takes_lines(word: &str) -> bool {
     matches!(word, "serves" | "opens" | "asks" | "sends" | "repeats")
 }
 
-/// Adds how many entries were seen last, where they are not as many as are wanted.
+/// Adds the last number of entries that was seen, if it is not the one wanted.
 fn tell_entries(given: &mut Given, seen: Option<u64>, wanted: u64) -> Progress {
     if seen == Some(wanted) {
         return Progress::On;
@@ -35,7 +35,7 @@ fn tell_entries(given: &mut Given, seen: Option<u64>, wanted: u64) -> Progress {
     Progress::Stuck
 }
 
-/// Adds how many seconds a check has taken, where they are out of a range.
+/// Adds how many seconds a check has taken, if they are out of a range.
 fn tell_seconds(part: &Part, given: &mut Given, taken: u64) -> Result<Progress, CaseFault> {
     let (least, most) = split_word(part.arguments());
     let least = u64::from(number(part, least)?);
@@ -59,7 +59,7 @@ impl<R: Machine> Stage<R> {
         Ok(Progress::On)
     }
 
-    /// Performs a step (docs/architecture.md, "Adding a case", has a table of them).
+    /// Performs a step. (docs/architecture.md, "Adding a case", has a table of the steps.)
     fn perform(&mut self, part: &Part, given: &mut Given) -> Result<Progress, CaseFault> {
         if !part.text().is_empty() && !takes_lines(part.word()) {
             return Err(part.malformed("no lines are wanted here"));
@@ -79,7 +79,7 @@ impl<R: Machine> Stage<R> {
         }
     }
 
-    /// The number of the port that a word of a part names.
+    /// Returns the number of the port that a part's word names.
     pub fn port(&self, part: &Part, name: &str) -> Result<u16, CaseFault> {
         match self.ports.number(name) {
             Some(port) => Ok(port),
@@ -87,7 +87,7 @@ impl<R: Machine> Stage<R> {
         }
     }
 
-    /// Connects a peer of this name to a port, and sends these bytes.
+    /// Connects a peer with this name to a port, and sends these bytes.
     fn connect(
         &mut self,
         given: &mut Given,
@@ -104,7 +104,7 @@ impl<R: Machine> Stage<R> {
         }
     }
 
-    /// A peer connects, and sends the lines of the part.
+    /// Connects a peer, which sends the lines of the part.
     fn open(&mut self, part: &Part, given: &mut Given) -> Result<Progress, CaseFault> {
         let (name, port) = split_word(part.arguments());
         self.peers.expect_newcomer(part, name)?;
@@ -113,7 +113,7 @@ impl<R: Machine> Stage<R> {
         self.connect(given, name, port, bytes.as_slice())
     }
 
-    /// A peer connects, and sends a request.
+    /// Connects a peer, which sends a request.
     fn ask(&mut self, part: &Part, given: &mut Given) -> Result<Progress, CaseFault> {
         let (name, words) = split_word(part.arguments());
         let (port, words) = split_word(words);
@@ -124,7 +124,7 @@ impl<R: Machine> Stage<R> {
         self.connect(given, name, port, request.as_str().as_bytes())
     }
 
-    /// How many entries the history has, once it has so many; or what was said last.
+    /// Waits until the history has `wanted` entries, and returns the last number that was seen.
     fn entries(&self, port: u16, request: &str, wanted: u64) -> Option<u64> {
         let mut seen = None;
         for _ in 0..self.peers.turns {
@@ -141,7 +141,7 @@ impl<R: Machine> Stage<R> {
         seen
     }
 
-    /// Waits until the history has so many entries, and not more.
+    /// Waits until the history has exactly a number of entries.
     fn wait_for_entries(&self, part: &Part, given: &mut Given) -> Result<Progress, CaseFault> {
         let wanted = u64::from(number(part, part.arguments())?);
         let port = self.port(part, "invoke")?;
@@ -150,7 +150,7 @@ impl<R: Machine> Stage<R> {
         Ok(tell_entries(given, seen, wanted))
     }
 
-    /// Whether a request to a port is answered while two others crowd another one.
+    /// Whether a request to one port is answered while two peers crowd another.
     fn is_answered_in_a_crowd(&self, crowded: u16, port: u16, request: &str) -> bool {
         for _ in 0..CROWDS {
             if is_answered_meanwhile(&self.rt, crowded, port, request, self.peers.turns) {
@@ -160,7 +160,7 @@ impl<R: Machine> Stage<R> {
         false
     }
 
-    /// Two others crowd a port while the service's counts are asked for.
+    /// Crowds a port with two peers, and asks for the service's counts meanwhile.
     fn crowd(&self, part: &Part, given: &mut Given) -> Result<Progress, CaseFault> {
         let crowded = self.port(part, part.arguments())?;
         let port = self.port(part, "invoke")?;
@@ -187,7 +187,7 @@ impl<R: Machine> Stage<R> {
         Ok(progress)
     }
 
-    /// Adds how many seconds the check has taken, where they are out of a range.
+    /// Adds how many seconds the check has taken, if they are out of a range.
     fn compare_seconds(&self, part: &Part, given: &mut Given) -> Result<Progress, CaseFault> {
         let now = self.rt.monotonic().unwrap_or(Duration::ZERO);
         tell_seconds(part, given, now.saturating_sub(self.begun).as_secs())

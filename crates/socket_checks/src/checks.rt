@@ -6,7 +6,7 @@ use http_connection::Machine;
 use socket_peers::Progress;
 use std::cell::Cell;
 
-/// What peers hear of a service. A case gives the lines of what they heard, and how the service ended.
+/// What peers hear of a service. A case gives the lines that they heard, and how the service ended.
 #[derive(Drop)]
 pub struct Checks<R> {
     rt: R,
@@ -15,7 +15,7 @@ pub struct Checks<R> {
 }
 
 impl<R: Machine> Checks<R> {
-    /// Checks of which none has waited in vain.
+    /// Creates checks, none of which has waited in vain.
     pub fn new(rt: R) -> Checks<R> {
         Checks {
             rt,
@@ -34,7 +34,7 @@ impl<R: Machine> Checks<R> {
         }
     }
 
-    /// Runs a check, where none before it has waited in vain, and adds what it gives.
+    /// Runs a check, unless an earlier one has waited in vain, and adds what it gives.
     pub fn give(&self, case: &Case, given: &mut Given) -> Result<(), CaseFault> {
         if self.is_stuck.get() {
             given.line("not run: a check before it waited in vain");

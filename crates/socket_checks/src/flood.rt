@@ -8,14 +8,13 @@ use std::sync::atomic::Ordering::SeqCst;
 use std::thread;
 use std::time::Duration;
 
-/// How often each of the crowd connects at most.
+/// The most times that each peer of the crowd connects.
 const MOST: u32 = 4_000;
 
-/// How many milliseconds the crowd is ahead.
+/// How long the crowd runs before the request, in milliseconds.
 const AHEAD_MS: u64 = 5;
 
-/// Connects and goes away again and again, until it is told to end. Gives whether it was told before
-/// it had done so as often as it may.
+/// Connects and disconnects up to `MOST` times, until asked to end. Returns whether it was asked.
 fn connect_on<N>(net: &N, port: u16, is_over: &AtomicBool) -> bool
 where
     N: Net<Listener = TcpListener, Stream = TcpStream>,
@@ -30,8 +29,8 @@ where
     false
 }
 
-/// Two crowd a port until they are told to end. Gives whether both were told before they had done so as
-/// often as they may.
+/// Crowds a port with two peers, each up to `MOST` times, until they are asked to end. Returns
+/// whether both were asked.
 fn crowd<R: Machine>(rt: &R, port: u16, is_over: &AtomicBool) -> bool {
     let (one, other) = thread::join(
         rt,
@@ -41,7 +40,7 @@ fn crowd<R: Machine>(rt: &R, port: u16, is_over: &AtomicBool) -> bool {
     one && other
 }
 
-/// Whether a request to a port is answered with 200, behind which the crowd is told to end.
+/// Whether a request to a port is answered with 200; the crowd is then asked to end.
 fn is_answered<R: Machine>(
     rt: &R,
     port: u16,
@@ -55,7 +54,7 @@ fn is_answered<R: Machine>(
     heard.is_ok_and(|heard| heard.bytes.as_slice().starts_with(b"HTTP/1.1 200 "))
 }
 
-/// Whether a request to a port is answered with 200 while two others crowd another port.
+/// Whether a request to one port is answered with 200 while two peers crowd another.
 pub fn is_answered_meanwhile<R: Machine>(
     rt: &R,
     crowded: u16,

@@ -1,5 +1,5 @@
-//! Checks of the service over sockets, in the tables below `sockets`. A check serves a configuration
-//! on ports that are free, lets peers send and hear bytes, and gives what they heard.
+//! Checks of the service over sockets, in the tables below `sockets`. A check serves a
+//! configuration on free ports, lets peers send and receive bytes, and gives what they received.
 #![tactic(auto)]
 
 mod acts;
@@ -24,7 +24,7 @@ use std::thread::JoinHandle;
 /// The file of readings.
 const READING_CASES: &str = "sockets/readings.txt";
 
-/// The files of checks that take no long time.
+/// The files of short checks.
 const QUICK_CHECKS: [&str; 8] = [
     "sockets/calls.txt",
     "sockets/words.txt",
@@ -36,11 +36,11 @@ const QUICK_CHECKS: [&str; 8] = [
     "sockets/history.txt",
 ];
 
-/// The checks of peers that stand still, whom the service bears with for twenty seconds. They run
-/// beside the others, and tell what they saw behind them.
+/// The checks of peers that stop responding, which the service tolerates for twenty seconds. They
+/// run beside the others, and their results are printed after those.
 const SLOW_CHECKS: &str = "sockets/standing_still.txt";
 
-/// Tells the last line of what a check gave, and says whether it gave what it is to give.
+/// Prints the last line of what a check gave, and returns whether it gave what it should.
 fn tell_check<R: Print>(
     rt: &R,
     file: &'static str,
@@ -50,12 +50,12 @@ fn tell_check<R: Print>(
 ) -> Result<bool, TableFault> {
     let name = case.name();
     let ended = given.lines().last().unwrap_or("");
-    // Where standard output takes nothing the count of the cases doesn't stand there either.
+    // If standard output accepts nothing, it doesn't get the count of the cases either.
     let _told = println!(rt; "{name}: {ended}");
     judge_case(rt, file, case, came, given)
 }
 
-/// Runs a check of a file, which is told at once, and says whether it agrees.
+/// Runs a check of a file, prints its result at once, and returns whether it agrees.
 fn run_check<R: Machine + Print>(
     rt: &R,
     file: &'static str,
@@ -67,7 +67,7 @@ fn run_check<R: Machine + Print>(
     tell_check(rt, file, case, came, given.as_str())
 }
 
-/// Runs the checks of a file, each of which is told at once, and says whether all agree.
+/// Runs the checks of a file, prints each result at once, and returns whether all agree.
 fn run_checks<R: Machine + Files + Print>(
     rt: R,
     file: &'static str,
@@ -89,7 +89,7 @@ where
     Ok(agree)
 }
 
-/// Runs the files that take no long time.
+/// Runs the files of short checks.
 fn run_quick<R: Machine + Files + Print>(rt: R) -> Result<bool, TableFault>
 where
     R::File: Read + Drop,
@@ -111,21 +111,21 @@ struct Ran {
     given: Given,
 }
 
-/// Checks that were run, of which nothing is told yet.
+/// Checks that were run, and whose results are not printed yet.
 #[derive(Drop)]
 struct Slow {
     cases: Vec<Case>,
     ran: Result<Vec<Ran>, AllocError>,
 }
 
-/// Runs a check, of which nothing is told.
+/// Runs a check, and prints nothing.
 fn ran_of<R: Machine>(alloc: Global, checks: &Checks<R>, case: &Case) -> Ran {
     let mut given = Given::new(alloc);
     let came = checks.give(case, &mut given);
     Ran { came, given }
 }
 
-/// Runs checks, of which nothing is told.
+/// Runs checks, and prints nothing.
 fn all_ran<R: Machine>(rt: R, cases: &[Case]) -> Result<Vec<Ran>, AllocError> {
     let checks = Checks::new(rt);
     let mut ran = Vec::with_capacity(rt.alloc(), cases.len())?;
@@ -135,7 +135,7 @@ fn all_ran<R: Machine>(rt: R, cases: &[Case]) -> Result<Vec<Ran>, AllocError> {
     Ok(ran)
 }
 
-/// Runs checks, and gives them back.
+/// Runs checks, and returns them with what they gave.
 fn run_slow<R: Machine>(rt: R, cases: Vec<Case>) -> Slow {
     let ran = all_ran(rt, cases.as_slice());
     Slow { cases, ran }
@@ -149,7 +149,7 @@ fn start_slow<R: Machine>(rt: R, cases: Vec<Case>) -> Result<JoinHandle<Slow>, A
     }
 }
 
-/// Tells checks that were run, and says whether all agree.
+/// Prints the results of checks that were run, and returns whether all agree.
 fn tell_slow<R: Print>(rt: &R, slow: &Slow) -> Result<bool, TableFault> {
     let Ok(ran) = &slow.ran else {
         return Err(TableFault::OutOfMemory);
@@ -166,11 +166,12 @@ fn tell_slow<R: Print>(rt: &R, slow: &Slow) -> Result<bool, TableFault> {
     Ok(agree)
 }
 
-/// Runs the checks in the current folder, and says whether all agree. It prints how each ended and how
-/// many a table has, or the first line that differs of each that gives something else.
+/// Runs the checks in the current folder, and returns whether all agree. Prints how each ended and
+/// the number of checks in each table; for each that gives something else, prints the first line
+/// that differs.
 ///
 /// # Errors
-/// As the fault says; the tables behind it are not run.
+/// Any `TableFault`; the tables after it are not run.
 pub fn run<R: Machine + Files + Print>(rt: R) -> Result<bool, TableFault>
 where
     R::File: Read + Drop,

@@ -1,14 +1,14 @@
-//! What is shown of bytes that came over a connection: how the checks read, checked without one.
+//! What is shown of bytes that came over a connection: how the checks read, without a connection.
 
 use case_tables::{Case, CaseFault, Given, Part, Subject};
 use socket_peers::{Heard, View, bytes_of, push_heard};
 use std::alloc::Global;
 
 /// How bytes are read. The lines of a part `came` are what came until the end, and those of a part
-/// `came-so-far` what came without an end; the fields of the head that are shown stand behind the word.
+/// `came-so-far` what came without an end; the fields of the head that are shown follow the word.
 pub struct Readings;
 
-/// What came, as a part says.
+/// Returns what came, from a part.
 fn heard_in(alloc: Global, part: &Part) -> Result<Heard, CaseFault> {
     let has_ended = match part.word() {
         "came" => true,

@@ -1,4 +1,4 @@
-//! A service on a thread of its own.
+//! A service on its own thread.
 
 ghost use Rattle.std.specs.Prelude.{◌≡◌, ◌^◌};
 ghost use Rattle.std.specs.Arc.{arc_value};
@@ -20,10 +20,10 @@ use std::thread;
 use std::thread::JoinHandle;
 use usage_ledger::{Blanks, Keep, KeepAll, Ledgers, Tally};
 
-/// How many connections a service has at once, unless a step says otherwise.
+/// The most connections that a service has at once, unless a step says otherwise.
 const PLACES: u32 = 64;
 
-/// A clock that a check sets, in milliseconds, and a time of day that it sets too.
+/// A clock that a check sets, in milliseconds, and a time of day that it also sets.
 #[derive(Drop)]
 struct SetClock {
     board: Arc<Board>,
@@ -43,7 +43,7 @@ impl Clock for SetClock {
     }
 }
 
-/// What a check and its service tell each other.
+/// What a check and its service share.
 #[derive(Drop)]
 pub struct Board {
     pub moment: AtomicU64,
@@ -53,7 +53,7 @@ pub struct Board {
 }
 
 impl Board {
-    /// With the clock at this moment, before the service begins.
+    /// Creates a board whose clock reads this moment, before the service begins.
     fn at(alloc: Global, moment: u64) -> Result<Arc<Board>, AllocError> {
         let board = Board {
             moment: AtomicU64::new(moment),
@@ -65,19 +65,19 @@ impl Board {
     }
 }
 
-/// How a service is opened, and settled.
+/// How a service is opened and settled.
 #[derive(Clone, Copy)]
 pub struct Terms {
-    /// How many connections there may be at once.
+    /// The most connections at once.
     places: u32,
-    /// For how many milliseconds an Invoke is held back that comes too early.
+    /// How long an Invoke that comes too early is held back, in milliseconds.
     patience: u32,
     /// Whether a tally is missing when the account is settled.
     holds_back: bool,
 }
 
 impl Terms {
-    /// What holds unless a step says otherwise.
+    /// Returns the terms that hold unless a step says otherwise.
     pub fn new() -> Terms {
         Terms {
             places: PLACES,
@@ -86,7 +86,7 @@ impl Terms {
         }
     }
 
-    /// What a step says holds from now on.
+    /// Sets a term, from now on, as a step says.
     pub fn set(&mut self, part: &Part) -> Result<Progress, CaseFault> {
         match part.word() {
             "places" => self.places = number(part, part.arguments())?,
@@ -106,8 +106,8 @@ pub struct Order {
     pub terms: Terms,
 }
 
-/// What a service left: how many entries, how many calls and receipts its tallies keep, and what its
-/// account settled with.
+/// What a service left: the number of entries, the numbers of calls and receipts that its tallies
+/// keep, and the counts that its account settled with.
 #[derive(Clone, Copy)]
 pub struct Left {
     pub entries: u64,
@@ -116,7 +116,7 @@ pub struct Left {
     pub settled: Result<Stats, SettleFault>,
 }
 
-/// Drops the first tally in whose steps a call was made.
+/// Drops the first tally that had a call made in its steps.
 fn hold_one_back<K: Keep, L: Ledgers>(tallies: &mut Vec<Tally<K, L>>) {
     for place in 0..tallies.len() {
         if !tallies[place].calls().is_empty() {
@@ -126,7 +126,7 @@ fn hold_one_back<K: Keep, L: Ledgers>(tallies: &mut Vec<Tally<K, L>>) {
     }
 }
 
-/// Adds up how many calls and how many receipts these tallies keep.
+/// Counts the calls and the receipts that these tallies keep.
 fn count<K: Keep, L: Ledgers>(tallies: &[Tally<K, L>]) -> (u64, u64) {
     let mut calls = 0u64;
     let mut receipts = 0u64;
@@ -137,7 +137,7 @@ fn count<K: Keep, L: Ledgers>(tallies: &[Tally<K, L>]) -> (u64, u64) {
     (calls, receipts)
 }
 
-/// The counts with which an account settles.
+/// Returns the counts with which an account settles.
 fn settled_by<S: Identity>(
     account: Account<S, OneShotBell>,
     tallies: Vec<Tally<KeepAll, S>>,
@@ -148,7 +148,7 @@ fn settled_by<S: Identity>(
     }
 }
 
-/// What a host left that ran to its end.
+/// Returns what a host left that ran to its end.
 fn left_by<R: Machine, S: Identity + Drop>(
     rt: &R,
     hosted: Hosted<S, KeepAll>,
@@ -216,7 +216,7 @@ fn run<R: Machine, S: Identity + Drop + Send + Sync + 'static>(
     }
 }
 
-/// What a text says is to be served.
+/// Reads from a text what to serve.
 fn plan_of(alloc: Global, text: &str) -> Result<Plan, HostFault> {
     match read_config(alloc, text.as_bytes()) {
         Ok(setup) => Plan::check(alloc, setup),
@@ -224,7 +224,7 @@ fn plan_of(alloc: Global, text: &str) -> Result<Plan, HostFault> {
     }
 }
 
-/// Serves by this clock until it is stopped, and settles.
+/// Serves with this clock until it is stopped, and settles.
 fn serve<R: Machine>(
     rt: R,
     order: &Order,
@@ -236,7 +236,7 @@ fn serve<R: Machine>(
     run::<R, Brand>(rt, plan, order.terms, clock, board, blanks)
 }
 
-/// Serves, and tells that it has come to its end.
+/// Serves, and notes on the board that it has ended.
 fn serve_to_end<R: Machine>(
     rt: R,
     order: &Order,
@@ -248,7 +248,7 @@ fn serve_to_end<R: Machine>(
     left
 }
 
-/// A service on a thread of its own.
+/// A service on its own thread.
 #[derive(Drop)]
 pub struct Server {
     pub board: Arc<Board>,
@@ -256,7 +256,7 @@ pub struct Server {
 }
 
 impl Server {
-    /// Begins to serve, with the clock at this moment.
+    /// Starts a service, with its clock at this moment.
     pub fn start<R: Machine>(rt: R, order: Order, moment: u64) -> Result<Server, AllocError> {
         let board = Board::at(rt.alloc(), moment)?;
         let told = Arc::try_clone(&board)?;
@@ -267,17 +267,17 @@ impl Server {
         Ok(Server { board, thread })
     }
 
-    /// Whether it listens on its ports.
+    /// Whether the service listens on its ports.
     pub fn listens(&self) -> bool {
         self.board.listens.load(SeqCst)
     }
 
-    /// Whether it has come to its end.
+    /// Whether the service has ended.
     pub fn has_ended(&self) -> bool {
         self.board.has_ended.load(SeqCst)
     }
 
-    /// What it left, once it has come to its end.
+    /// Returns what the service left, once it has ended.
     pub fn join<R: Machine>(self, rt: &R) -> Result<Left, HostFault> {
         self.thread.join(rt)
     }

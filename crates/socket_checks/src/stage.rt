@@ -14,20 +14,20 @@ use std::sync::atomic::Ordering::SeqCst;
 use std::thread;
 use std::time::Duration;
 
-/// How many turns a service is waited for that begins or ends: ten seconds.
+/// How many turns to wait for a service to begin or to end: ten seconds.
 const TURNS: u32 = 1_000;
 
-/// How often ports are looked for at most, where another program was faster to take one.
+/// How often to look for free ports, if other programs take them first.
 const TRIES: u32 = 5;
 
-/// What a check works with: a service, its ports and its clock, and the peers that have names.
+/// What a check works with: a service, its ports and its clock, and the named peers.
 #[derive(Drop)]
 pub struct Stage<R> {
     pub rt: R,
     pub alloc: Global,
     pub ports: Ports,
     pub peers: Peers,
-    /// What the monotonic clock said when the check began.
+    /// The reading of the monotonic clock when the check began.
     pub begun: Duration,
     terms: Terms,
     moment: u64,
@@ -44,13 +44,13 @@ fn push_fault<F: Debug>(given: &mut Given, fault: &F) {
     given.push("\n");
 }
 
-/// Adds a number of something, behind which stands what it is.
+/// Adds a number of something, followed by its name.
 fn push_count(given: &mut Given, count: u64, what: &str) {
     given.print(&count);
     given.push(what);
 }
 
-/// Adds what a service left whose account has settled with these counts.
+/// Adds what a service left, if its account settled with these counts.
 fn push_settled(given: &mut Given, left: Left, stats: Stats) {
     given.push("ended: ");
     push_count(given, left.entries, " entries, ");
@@ -73,7 +73,7 @@ fn push_ending(given: &mut Given, left: Result<Left, HostFault>) {
 }
 
 impl<R: Machine> Stage<R> {
-    /// A stage without a service.
+    /// Creates a stage without a service.
     pub fn new(rt: R, alloc: Global, case: &Case) -> Result<Stage<R>, CaseFault> {
         let Ok(ports) = Ports::probe(&rt, alloc) else {
             return Err(CaseFault::Malformed {
@@ -95,12 +95,12 @@ impl<R: Machine> Stage<R> {
         })
     }
 
-    /// A turn passes.
+    /// Waits for one turn.
     pub fn pause(&self) {
         thread::sleep(&self.rt, Duration::from_millis(TURN_MS));
     }
 
-    /// That the service has yet to begin.
+    /// Checks that the service has not been started yet.
     fn expect_no_service(&self, part: &Part) -> Result<(), CaseFault> {
         match self.server {
             Some(_) => Err(part.malformed("the service has begun")),
@@ -108,7 +108,7 @@ impl<R: Machine> Stage<R> {
         }
     }
 
-    /// Says how the service is opened that is to begin.
+    /// Sets how the next service is opened.
     pub fn set_terms(&mut self, part: &Part) -> Result<Progress, CaseFault> {
         self.expect_no_service(part)?;
         self.terms.set(part)
@@ -132,7 +132,7 @@ impl<R: Machine> Stage<R> {
         Ok(Progress::On)
     }
 
-    /// Starts a service on the ports of this stage, and waits until it listens or has come to its end.
+    /// Starts a service on the ports of this stage, and waits until it listens or has ended.
     fn start(&mut self, text: &str, taken: Option<&str>) -> Result<Server, CaseFault> {
         let order = Order {
             config: self.ports.filled(self.alloc, text)?,
@@ -144,7 +144,7 @@ impl<R: Machine> Stage<R> {
         Ok(server)
     }
 
-    /// Waits until a service listens or has come to its end.
+    /// Waits until a service listens or has ended.
     fn wait_for(&self, server: &Server) {
         for _ in 0..TURNS {
             if server.listens() || server.has_ended() {
@@ -154,7 +154,7 @@ impl<R: Machine> Stage<R> {
         }
     }
 
-    /// The port that another program has: what stands behind `taken`.
+    /// Returns the port that another program has taken: the name after `taken`.
     fn taken<'a>(&self, part: &'a Part) -> Result<Option<&'a str>, CaseFault> {
         match part.arguments().split_once(' ') {
             None if part.arguments().is_empty() => Ok(None),
@@ -163,8 +163,8 @@ impl<R: Machine> Stage<R> {
         }
     }
 
-    /// Starts a service, and says whether that is all: it serves, or its end is told. Else another
-    /// program was faster to take a port.
+    /// Starts a service, and returns whether that is final: it serves, or its end was added.
+    /// Otherwise another program had taken a port first.
     fn serve_once(
         &mut self,
         part: &Part,
@@ -184,7 +184,7 @@ impl<R: Machine> Stage<R> {
         Ok(true)
     }
 
-    /// Serves the configuration that a part says. Where the service doesn't open, that is its end.
+    /// Serves the configuration in a part. If the service doesn't open, adds how it ended.
     pub fn serve(&mut self, part: &Part, given: &mut Given) -> Result<Progress, CaseFault> {
         self.expect_no_service(part)?;
         let taken = self.taken(part)?;
@@ -208,7 +208,7 @@ impl<R: Machine> Stage<R> {
         }
     }
 
-    /// Asks the service to stop, and says whether it does; none where it keeps silent.
+    /// Asks the service to stop, and returns whether it does; `None` if it does not answer.
     fn is_stopped(&self) -> Result<Option<bool>, CaseFault> {
         let Some(port) = self.ports.number("invoke") else {
             return Ok(None);
@@ -221,7 +221,7 @@ impl<R: Machine> Stage<R> {
         }
     }
 
-    /// Asks the service to stop until it does: it may have to see first that others have gone.
+    /// Asks the service to stop until it does: it may first have to notice that others have gone.
     pub fn stop(&mut self) -> Result<Progress, CaseFault> {
         self.is_stopping = true;
         for _ in 0..TURNS {

@@ -1,4 +1,4 @@
-//! Responses as lines: each its status and its body, and of its head what is asked for.
+//! Responses as lines: the status and the body of each, and the requested fields of its head.
 
 use crate::peer::Heard;
 use crate::steps::push_line;
@@ -15,7 +15,7 @@ const LONGEST_SHOWN: usize = 1_000;
 struct Answer {
     head: Given,
     body: Given,
-    /// In how many chunks the body came; 0 where it had a length or ended with the connection.
+    /// The number of chunks of the body; 0 if it had a length or ended with the connection.
     chunks: usize,
 }
 
@@ -24,24 +24,24 @@ struct Answer {
 pub struct View<'a> {
     /// The connection's name.
     pub name: &'a str,
-    /// The fields of the head that are shown, with a space between two; `chunks` is the number of
+    /// The fields of the head that are shown, separated by a space; `chunks` is the number of
     /// chunks.
     pub fields: &'a str,
 }
 
-/// Responses of which each reads like the others, one behind the other.
+/// Consecutive responses with the same text.
 #[derive(Drop)]
 struct Run {
     text: Given,
     times: u64,
 }
 
-/// The value of a field, if this line of a head is one of this name.
+/// Returns the value of a field, if this line of a head has the field with this name.
 fn value_in<'a>(line: &'a str, name: &str) -> Option<&'a str> {
     line.strip_prefix(name)?.strip_prefix(": ")
 }
 
-/// The value of a field of a head.
+/// Returns the value of a field of a head.
 fn field<'a>(head: &'a str, name: &str) -> Option<&'a str> {
     for line in head.split("\r\n") {
         if let Some(value) = value_in(line, name) {
@@ -51,7 +51,7 @@ fn field<'a>(head: &'a str, name: &str) -> Option<&'a str> {
     None
 }
 
-/// The status that a head says.
+/// Returns the status in a head.
 fn status(head: &str) -> Option<&str> {
     let (version, behind) = head.split_once(' ')?;
     if version != "HTTP/1.1" && version != "HTTP/1.0" {
@@ -60,8 +60,8 @@ fn status(head: &str) -> Option<&str> {
     behind.get(..3)
 }
 
-/// The first part of a text, of this length, and the rest; none where the text is shorter, or the
-/// length isn't one.
+/// Splits a text after this length; returns `None` if the text is shorter, or the length cannot be
+/// read.
 fn cut(text: &str, length: Result<usize, ParseIntError>) -> Option<(&str, &str)> {
     match length {
         Ok(length) => text.split_at_checked(length),
@@ -77,8 +77,8 @@ fn take_chunk<'a>(rest: &mut &'a str) -> Option<&'a str> {
     Some(chunk)
 }
 
-/// Takes the body behind a head off the front of a text, which has a length or ends with the connection;
-/// none where it didn't come whole.
+/// Takes the body of a head off the front of a text; it has a length or ends with the connection.
+/// Returns `None` if it did not come whole.
 fn take_whole<'a>(head: &str, rest: &mut &'a str) -> Option<&'a str> {
     let text = *rest;
     let (body, behind) = match field(head, "content-length") {
@@ -90,7 +90,7 @@ fn take_whole<'a>(head: &str, rest: &mut &'a str) -> Option<&'a str> {
 }
 
 impl Answer {
-    /// Takes the chunks of its body off the front of a text. Gives whether the last one came.
+    /// Takes the chunks of its body off the front of a text. Returns whether the last one came.
     fn take_chunks(&mut self, rest: &mut &str) -> bool {
         for _ in 0..rest.len() {
             let Some(chunk) = take_chunk(rest) else {
@@ -105,7 +105,7 @@ impl Answer {
         false
     }
 
-    /// Takes a body that has no chunks off the front of a text. Gives whether it came whole.
+    /// Takes a body without chunks off the front of a text. Returns whether it came whole.
     fn take_piece(&mut self, rest: &mut &str) -> bool {
         let Some(body) = take_whole(self.head.as_str(), rest) else {
             return false;
@@ -114,7 +114,7 @@ impl Answer {
         true
     }
 
-    /// Takes the body behind its head off the front of a text. Gives whether it came whole.
+    /// Takes the body of its head off the front of a text. Returns whether it came whole.
     fn take_body(&mut self, rest: &mut &str) -> bool {
         match field(self.head.as_str(), "transfer-encoding") {
             Some(_) => self.take_chunks(rest),
@@ -123,7 +123,7 @@ impl Answer {
     }
 }
 
-/// Takes a response off the front of a text; none where it didn't come whole.
+/// Takes a response off the front of a text; returns `None` if it did not come whole.
 fn take_answer(alloc: Global, rest: &mut &str) -> Option<Answer> {
     let (head, behind) = rest.split_once("\r\n\r\n")?;
     *rest = behind;
@@ -139,14 +139,14 @@ fn take_answer(alloc: Global, rest: &mut &str) -> Option<Answer> {
     }
 }
 
-/// Notes that a text was cut, where this part of it was.
+/// Marks a text as cut, if this part of it was cut.
 fn cut_with(given: &mut Given, part: &Given) {
     if part.end().is_err() {
         given.cut();
     }
 }
 
-/// Adds a body: on the same line, or below it where it has lines itself.
+/// Adds a body: on the same line, or below it if the body itself has lines.
 fn tell_body(given: &mut Given, body: &Given) {
     let text = body.as_str();
     if text.contains('\n') {
@@ -184,7 +184,7 @@ fn tell_fields(given: &mut Given, fields: &str, answer: &Answer) {
     cut_with(given, &answer.head);
 }
 
-/// Adds a response: its status and body, and below it the fields that are shown.
+/// Adds a response: its status and body, and below them the fields that are shown.
 fn tell_answer(given: &mut Given, fields: &str, answer: &Answer) {
     match status(answer.head.as_str()) {
         None => given.push("no response"),
@@ -196,7 +196,7 @@ fn tell_answer(given: &mut Given, fields: &str, answer: &Answer) {
     }
 }
 
-/// The text of the response that is next.
+/// Returns the text of the next response.
 fn next_text(alloc: Global, rest: &mut &str, fields: &str) -> Given {
     let mut text = Given::new(alloc);
     match take_answer(alloc, rest) {
@@ -210,8 +210,8 @@ fn next_text(alloc: Global, rest: &mut &str, fields: &str) -> Given {
 }
 
 impl Run {
-    /// Takes the text of the response that is next. Where it reads otherwise, the lines of the run
-    /// before it are added.
+    /// Takes the text of the next response. If it differs from the run's, adds the lines of the
+    /// run.
     fn take(&mut self, given: &mut Given, name: &str, text: Given) {
         cut_with(given, &text);
         if text.as_str() != self.text.as_str() {
@@ -253,8 +253,8 @@ fn tell_answers(given: &mut Given, view: &View<'_>, whole: &str) {
     tell_run(given, view.name, &run);
 }
 
-/// Adds what came over a connection: its responses, `closed` where it ended with none, and `no end`
-/// where it didn't.
+/// Adds what came over a connection: its responses, `closed` if it ended without any, and `no end`
+/// if it did not end.
 pub fn push_heard(given: &mut Given, view: &View<'_>, heard: &Heard) {
     match str::from_utf8(heard.bytes.as_slice()) {
         Ok(text) => tell_answers(given, view, text),

@@ -1,5 +1,5 @@
-//! The peers of checks over sockets: which ports are free, what they send and hear over one, and what
-//! is shown of it. They know nothing of the service.
+//! The peers of checks over sockets: the ports that are free, what peers send and receive over a
+//! port, and what is shown of it. They do not depend on the service.
 #![tactic(auto)]
 
 mod answers;

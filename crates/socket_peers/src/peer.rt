@@ -1,4 +1,4 @@
-//! A peer of the service: a connection over which a check sends what bytes it likes.
+//! A peer of the service: a connection over which a check sends any bytes.
 
 ghost use Rattle.std.specs.Prelude.{◌≤◌, length, IfOk, IfSome};
 
@@ -7,13 +7,13 @@ use std::io::{self, Read, Write};
 use std::net::{IpAddr, Ipv4Addr, Net, Shutdown, SocketAddr, TcpListener, TcpStream};
 use std::time::Duration;
 
-/// How long a read waits for bytes, in milliseconds: a turn.
+/// How long a read waits for bytes, in milliseconds: one turn.
 pub const TURN_MS: u64 = 10;
 
 /// How long a write waits for its peer, in seconds.
 const WRITE_SECONDS: u64 = 10;
 
-/// How many bytes one read takes, and one write of many bytes.
+/// The most bytes in one read, and in one of many writes.
 const PIECE: usize = 16_384;
 
 /// Whether a read that failed may succeed later.
@@ -38,7 +38,7 @@ pub struct Peer {
     stream: TcpStream,
 }
 
-/// Has a connection send at once, and wait no longer than it may.
+/// Makes a connection send at once, and limits how long it waits.
 fn prepare(stream: &TcpStream) -> io::Result<()> {
     stream.set_nodelay(true)?;
     stream.set_read_timeout(Some(Duration::from_millis(TURN_MS)))?;
@@ -46,7 +46,7 @@ fn prepare(stream: &TcpStream) -> io::Result<()> {
 }
 
 impl Peer {
-    /// Connects.
+    /// Connects to a port of this machine.
     pub fn connect<N>(net: &N, port: u16) -> io::Result<Peer>
     where
         N: Net<Listener = TcpListener, Stream = TcpStream>,
@@ -62,7 +62,7 @@ impl Peer {
         self.stream.write_all(bytes)
     }
 
-    /// Sends so many letters.
+    /// Sends a number of letters.
     pub fn fill(&mut self, count: usize) -> io::Result<()> {
         let letters = [b'x'; PIECE];
         let mut left = count;
@@ -77,13 +77,13 @@ impl Peer {
         Ok(())
     }
 
-    /// Says that nothing more is sent. What comes is still heard.
+    /// Announces that nothing more is sent. What comes is still received.
     pub fn end_side(&self) -> io::Result<()> {
         self.stream.shutdown(Shutdown::Write)
     }
 
-    /// One read, of a turn at most: how many bytes came, 0 at the other side's end or where it has gone,
-    /// none where none came in time.
+    /// Reads once, for a turn at most. Returns how many bytes came: 0 at the other side's end or if
+    /// it has gone, and `None` if no bytes came in time.
     fn read_piece(&mut self, buffer: &mut [u8]) -> io::Result<Option<usize>>
         ensures { IfOk result (λ read. IfSome read (λ count. count ≤ length buffer.new)) }
     {
@@ -97,7 +97,7 @@ impl Peer {
         }
     }
 
-    /// Whether bytes come within so many turns. They are not taken.
+    /// Whether bytes come within a number of turns. They are not consumed.
     pub fn await_bytes(&self, turns: u32) -> bool {
         let mut first = [0u8; 1];
         for _ in 0..turns {
@@ -110,7 +110,7 @@ impl Peer {
         false
     }
 
-    /// What comes until the other side's end, while no more than so many turns pass without a byte.
+    /// Returns what comes until the other side's end, unless a number of turns pass without a byte.
     pub fn hear(&mut self, alloc: Global, turns: u32) -> io::Result<Heard> {
         let mut bytes = Vec::new(alloc);
         let mut buffer = [0u8; PIECE];
@@ -135,7 +135,7 @@ impl Peer {
     }
 }
 
-/// What comes of a request over a connection of its own.
+/// Returns what a request gets over its own connection.
 pub fn exchange<R>(rt: &R, port: u16, request: &str, turns: u32) -> io::Result<Heard>
 where
     R: Net<Listener = TcpListener, Stream = TcpStream> + AllocGlobal,

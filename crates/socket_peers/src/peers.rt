@@ -1,4 +1,4 @@
-//! The peers of a check, by their names, and the steps that are theirs alone.
+//! The peers of a check, by their names, and the steps of peers.
 
 use crate::answers::{View, push_heard};
 use crate::peer::{Heard, Peer};
@@ -7,14 +7,14 @@ use crate::steps::{Progress, bytes_of, number, push_line, split_word};
 use case_tables::{CaseFault, Given, Part};
 use std::alloc::Global;
 
-/// How many turns something is waited for: ten seconds. A step may say otherwise for the steps behind
+/// How many turns to wait for something: ten seconds. A step can change this for the steps after
 /// it.
 const TURNS: u32 = 1_000;
 
-/// How many turns are a second.
+/// The number of turns in a second.
 const TURNS_A_SECOND: u32 = 100;
 
-/// How many turns a peer listens to hear that nothing comes.
+/// How many turns a peer listens to check that nothing comes.
 const MOMENT: u32 = 5;
 
 /// A connection with its name.
@@ -25,7 +25,7 @@ struct Named {
 }
 
 impl Named {
-    /// It sends these bytes so many times.
+    /// Sends these bytes a number of times.
     fn send_times(&mut self, given: &mut Given, bytes: &[u8], times: u32) {
         for _ in 0..times {
             if self.peer.send(bytes).is_err() {
@@ -36,7 +36,7 @@ impl Named {
     }
 }
 
-/// Adds what a peer has heard.
+/// Adds what a peer has received.
 fn push_came(
     given: &mut Given,
     ports: &Ports,
@@ -53,7 +53,7 @@ fn push_came(
     }
 }
 
-/// What is told of a peer that was to hear nothing.
+/// Returns what to say about a peer that should receive nothing.
 fn silence_of(heard: &Heard) -> &'static str {
     match heard.bytes.is_empty() && !heard.has_ended {
         true => "nothing yet",
@@ -61,17 +61,17 @@ fn silence_of(heard: &Heard) -> &'static str {
     }
 }
 
-/// The peers that are connected.
+/// The connected peers.
 #[derive(Drop)]
 pub struct Peers {
     alloc: Global,
     named: Vec<Named>,
-    /// How many turns of ten milliseconds something is waited for.
+    /// How many turns of ten milliseconds to wait for something.
     pub turns: u32,
 }
 
 impl Peers {
-    /// None is connected.
+    /// Creates peers, none of which is connected.
     pub fn new(alloc: Global) -> Peers {
         Peers {
             alloc,
@@ -80,7 +80,7 @@ impl Peers {
         }
     }
 
-    /// The place of the peer that is called so.
+    /// Returns the index of the peer with this name.
     fn place(&self, part: &Part, name: &str) -> Result<usize, CaseFault> {
         for (place, named) in self.named.iter().enumerate() {
             if named.name.as_str() == name {
@@ -90,7 +90,7 @@ impl Peers {
         Err(part.malformed("no peer of this name is connected"))
     }
 
-    /// The peer that is called so.
+    /// Returns the peer with this name.
     fn named(&mut self, part: &Part, name: &str) -> Result<&mut Named, CaseFault> {
         let place = self.place(part, name)?;
         match self.named.get_mut(place) {
@@ -99,7 +99,7 @@ impl Peers {
         }
     }
 
-    /// That nobody who is connected is called so.
+    /// Checks that no connected peer has this name.
     pub fn expect_newcomer(&self, part: &Part, name: &str) -> Result<(), CaseFault> {
         match self.place(part, name) {
             Ok(_) => Err(part.malformed("a peer of this name is connected")),
@@ -107,7 +107,7 @@ impl Peers {
         }
     }
 
-    /// A peer has connected, which is called so from now on, and sends these bytes.
+    /// Adds a peer that has connected, under this name, and sends these bytes from it.
     pub fn welcome(
         &mut self,
         given: &mut Given,
@@ -122,14 +122,14 @@ impl Peers {
         Ok(Progress::On)
     }
 
-    /// From now on a step waits longer.
+    /// Sets how long later steps wait, in seconds.
     fn wait_longer(&mut self, part: &Part) -> Result<Progress, CaseFault> {
         let seconds = number(part, part.arguments())?;
         self.turns = seconds.saturating_mul(TURNS_A_SECOND);
         Ok(Progress::On)
     }
 
-    /// Performs a step of a peer that is connected, or says how long steps wait.
+    /// Performs a step of a connected peer, or sets how long steps wait.
     pub fn perform(
         &mut self,
         part: &Part,
@@ -150,7 +150,7 @@ impl Peers {
         }
     }
 
-    /// A peer sends the lines of the part.
+    /// Sends the lines of the part from a peer.
     fn send(&mut self, part: &Part, given: &mut Given) -> Result<Progress, CaseFault> {
         let named = self.named(part, part.arguments())?;
         let bytes = bytes_of(given.alloc(), part)?;
@@ -158,7 +158,7 @@ impl Peers {
         Ok(Progress::On)
     }
 
-    /// A peer sends the lines of the part so many times.
+    /// Sends the lines of the part from a peer, a number of times.
     fn repeat(&mut self, part: &Part, given: &mut Given) -> Result<Progress, CaseFault> {
         let (name, times) = split_word(part.arguments());
         let named = self.named(part, name)?;
@@ -168,7 +168,7 @@ impl Peers {
         Ok(Progress::On)
     }
 
-    /// A peer sends so many letters.
+    /// Sends a number of letters from a peer.
     fn fill(&mut self, part: &Part, given: &mut Given) -> Result<Progress, CaseFault> {
         let (name, count) = split_word(part.arguments());
         let named = self.named(part, name)?;
@@ -179,7 +179,7 @@ impl Peers {
         Ok(Progress::On)
     }
 
-    /// A peer ends its own side.
+    /// Ends a peer's own side.
     fn end_side(&mut self, part: &Part, given: &mut Given) -> Result<Progress, CaseFault> {
         let name = part.arguments();
         if self.named(part, name)?.peer.end_side().is_err() {
@@ -188,7 +188,7 @@ impl Peers {
         Ok(Progress::On)
     }
 
-    /// A peer closes its connection.
+    /// Closes a peer's connection.
     fn close(&mut self, part: &Part) -> Result<Progress, CaseFault> {
         let place = self.place(part, part.arguments())?;
         if place < self.named.len() {
@@ -197,7 +197,7 @@ impl Peers {
         Ok(Progress::On)
     }
 
-    /// A peer hears all that comes.
+    /// Adds everything that comes to a peer.
     fn hear(
         &mut self,
         part: &Part,
@@ -216,7 +216,7 @@ impl Peers {
         }
     }
 
-    /// A peer waits until bytes have come.
+    /// Waits until bytes have come to a peer.
     fn wait_for_bytes(&mut self, part: &Part, given: &mut Given) -> Result<Progress, CaseFault> {
         let name = part.arguments();
         let turns = self.turns;
@@ -227,7 +227,7 @@ impl Peers {
         Ok(Progress::Stuck)
     }
 
-    /// A peer hears nothing for a moment.
+    /// Checks that nothing comes to a peer for a moment.
     fn stay(&mut self, part: &Part, given: &mut Given) -> Result<Progress, CaseFault> {
         let name = part.arguments();
         let named = self.named(part, name)?;

@@ -1,20 +1,20 @@
-//! Ports that are free, and texts in which they have names.
+//! Free ports, and texts in which they have names.
 
 use std::alloc::{AllocError, Global};
 use std::io;
 use std::net::{IpAddr, Ipv4Addr, Net, SocketAddr, TcpListener, TcpStream};
 
-/// The names of the ports: the account's, and then one of each environment.
+/// The names of the ports: the account's, followed by one for each environment.
 const NAMES: [&str; 5] = ["$invoke", "$1", "$2", "$3", "$4"];
 
-/// The account in whose identifiers and configurations no port's number may stand, so that a port is
-/// found again in a text by its number.
+/// The account of the checks' identifiers and configurations. No port's number may occur in it, so
+/// that the number identifies the port in a text.
 const ACCOUNT: &str = "123456789012";
 
-/// How many ports are tried at most.
+/// The most ports to try.
 const TRIES: u32 = 100;
 
-/// A port that was free, its name, its number in text, and the listener that keeps it.
+/// A port that was free, its name, its number as text, and the listener that reserves it.
 #[derive(Drop)]
 struct Found {
     name: &'static str,
@@ -29,7 +29,7 @@ pub struct Ports {
     found: Vec<Found>,
 }
 
-/// A port of this machine that nobody has, for this name.
+/// Finds a free port of this machine, for this name.
 fn find<N>(net: &N, alloc: Global, name: &'static str) -> io::Result<Found>
 where
     N: Net<Listener = TcpListener, Stream = TcpStream>,
@@ -45,13 +45,13 @@ where
     })
 }
 
-/// Adds two texts.
+/// Appends two texts.
 fn push_both(made: &mut String, first: &str, second: &str) -> Result<(), AllocError> {
     made.push_str(first)?;
     made.push_str(second)
 }
 
-/// The text in which each place of one piece has another one.
+/// Replaces each occurrence of `from` in a text by `to`.
 fn replaced(alloc: Global, text: &str, from: &str, to: &str) -> Result<String, AllocError> {
     let mut made = String::new(alloc);
     let mut is_first = true;
@@ -64,14 +64,14 @@ fn replaced(alloc: Global, text: &str, from: &str, to: &str) -> Result<String, A
 }
 
 impl Found {
-    /// Whether the port is called so, without the sign of its name.
+    /// Whether the port has this name, without its `$`.
     fn is_called(&self, name: &str) -> bool {
         self.name.strip_prefix('$') == Some(name)
     }
 }
 
 impl Ports {
-    /// Ports that nobody has, one for each name. Nobody else gets one of them until it is released.
+    /// Finds a free port for each name. No other program gets one of them until it is released.
     pub fn probe<N>(net: &N, alloc: Global) -> io::Result<Ports>
     where
         N: Net<Listener = TcpListener, Stream = TcpStream>,
@@ -89,7 +89,7 @@ impl Ports {
         Err(io::ErrorKind::AddrInUse.into())
     }
 
-    /// The number of the port that is called so, without the sign of its name.
+    /// Returns the number of the port with this name, without its `$`.
     pub fn number(&self, name: &str) -> Option<u16> {
         for port in self.found.iter() {
             if port.is_called(name) {
@@ -99,7 +99,7 @@ impl Ports {
         None
     }
 
-    /// Lets the others have all ports but the one that is called so.
+    /// Releases all ports except the one with this name.
     pub fn release(&mut self, kept: Option<&str>) {
         let kept = kept.unwrap_or("");
         for port in self.found.iter_mut() {
@@ -109,7 +109,7 @@ impl Ports {
         }
     }
 
-    /// A text with the numbers of the ports in place of their names.
+    /// Replaces the names of the ports in a text by their numbers.
     pub fn filled(&self, alloc: Global, text: &str) -> Result<String, AllocError> {
         let mut made = String::from_str(alloc, text)?;
         for port in self.found.iter() {
@@ -118,7 +118,7 @@ impl Ports {
         Ok(made)
     }
 
-    /// A text with the names of the ports in place of their numbers.
+    /// Replaces the numbers of the ports in a text by their names.
     pub fn named(&self, alloc: Global, text: &str) -> Result<String, AllocError> {
         let mut made = String::from_str(alloc, text)?;
         for port in self.found.iter() {

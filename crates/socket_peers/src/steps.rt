@@ -1,4 +1,4 @@
-//! What the parts of a case say as steps.
+//! The parts of a case that are steps.
 
 use case_tables::{CaseFault, Given, Part};
 use std::alloc::{AllocError, Global};
@@ -6,18 +6,18 @@ use std::alloc::{AllocError, Global};
 /// How a step went.
 #[derive(Clone, Copy, PartialEq, Eq)]
 pub enum Progress {
-    /// The next one may follow.
+    /// The next step may follow.
     On,
-    /// What it waited for did not come, so nothing follows.
+    /// What it waited for did not come, so no step follows.
     Stuck,
 }
 
-/// The first word behind that of a part, and the others.
+/// Splits the arguments of a part into the first word and the rest.
 pub fn split_word(arguments: &str) -> (&str, &str) {
     arguments.split_once(' ').unwrap_or((arguments, ""))
 }
 
-/// The number that a text of a part says.
+/// Reads a number from the text of a part.
 pub fn number(part: &Part, text: &str) -> Result<u32, CaseFault> {
     match text.parse::<u32>() {
         Ok(number) => Ok(number),
@@ -25,7 +25,7 @@ pub fn number(part: &Part, text: &str) -> Result<u32, CaseFault> {
     }
 }
 
-/// Adds a line with its end: a carriage return and a line feed, or none where it ends with `\`.
+/// Adds a line with its end: a carriage return and a line feed, or nothing if it ends with `\`.
 fn push_with_end(bytes: &mut Vec<u8>, line: &str) -> Result<(), AllocError> {
     let (line, end) = match line.strip_suffix('\\') {
         Some(line) => (line, ""),
@@ -35,8 +35,8 @@ fn push_with_end(bytes: &mut Vec<u8>, line: &str) -> Result<(), AllocError> {
     bytes.extend_from_slice(end.as_bytes())
 }
 
-/// The bytes that a part says: each of its lines ends with a carriage return and a line feed, but one
-/// that ends with `\` has no end.
+/// Returns the bytes of a part: each of its lines ends with a carriage return and a line feed,
+/// except that a line that ends with `\` has no end.
 pub fn bytes_of(alloc: Global, part: &Part) -> Result<Vec<u8>, AllocError> {
     let mut bytes = Vec::new(alloc);
     for line in part.text().split_terminator('\n') {
@@ -45,8 +45,8 @@ pub fn bytes_of(alloc: Global, part: &Part) -> Result<Vec<u8>, AllocError> {
     Ok(bytes)
 }
 
-/// A request that closes its connection, with the lines of a part as its body, but for the end of the
-/// last one.
+/// Returns a request that closes its connection; its body is the lines of a part, without the end
+/// of the last.
 ///
 /// # Errors
 /// Only `Memory`.
@@ -64,13 +64,13 @@ pub fn request_of(alloc: Global, method: &str, path: &str, body: &str) -> Result
     Ok(request)
 }
 
-/// The number of entries that the counts of a service say.
+/// Reads the number of entries from the counts of a service.
 pub fn entries_in(shown: &str) -> Option<u64> {
     let (_, behind) = shown.split_once("\"entries\":")?;
     behind.split(',').next()?.parse::<u64>().ok()
 }
 
-/// Adds a line of something that has a name.
+/// Adds a line about something with a name.
 pub fn push_line(given: &mut Given, name: &str, what: &str) {
     given.push(name);
     given.push(": ");

@@ -5,14 +5,14 @@ use case_tables::{CaseFault, Part};
 use lambda_wire::{Setup, WireFault, read_config};
 use std::alloc::Global;
 
-/// A configuration without a fault, with the salt of its identifiers.
+/// A configuration without a fault, and the salt of its identifiers.
 #[derive(Drop)]
 pub struct Account {
     pub config: Checked,
     pub salt: u64,
 }
 
-/// What a part's text configures.
+/// Reads the configuration in a part's text.
 fn setup_of(alloc: Global, part: &Part) -> Result<Setup, CaseFault> {
     match read_config(alloc, part.lines().as_bytes()) {
         Ok(setup) => Ok(setup),
@@ -21,7 +21,7 @@ fn setup_of(alloc: Global, part: &Part) -> Result<Setup, CaseFault> {
     }
 }
 
-/// The account that a part's text configures.
+/// Opens the account that a part's text configures.
 pub fn account_of(alloc: Global, part: &Part) -> Result<Account, CaseFault> {
     let Setup { config, salt, .. } = setup_of(alloc, part)?;
     match config.check() {

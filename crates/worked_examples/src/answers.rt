@@ -1,21 +1,21 @@
-//! Answers by words that several tables have.
+//! Answers, by words that several tables share.
 
 use call_model::{Answer, Reason};
 
-/// The reasons of an end, by their words.
+/// The reasons for the end of an environment, by their words.
 pub const REASONS: [(&str, Reason); 3] = [
     ("TIMEOUT", Reason::Timeout),
     ("FAILURE", Reason::Failure),
     ("SPINDOWN", Reason::Spindown),
 ];
 
-/// The answer of a word and one number.
+/// Returns the answer for a word and one number.
 ///
 /// | Words | Answer |
 /// |---|---|
 /// | `registered N` | the extension is registered as number N |
-/// | `output T`, `error T` | the report with ticket T brought an output or an error |
-/// | `reserved N` | a reservation is set |
+/// | `output T`, `error T` | the report with ticket T contained an output or an error |
+/// | `reserved N` | the reservation is set to N |
 pub fn numbered_answer(word: &str, number: u64) -> Option<Answer> {
     match word {
         "registered" => Some(Answer::Registered { count: number }),

@@ -1,5 +1,5 @@
-//! The worked examples of what needs no threads: the tables below `parts`, `wire`, `routes` and
-//! `scripts`, run through the public calls.
+//! The worked examples of everything that needs no threads: the tables in `parts`, `wire`, `routes`
+//! and `scripts`, run through the public calls.
 #![tactic(auto)]
 
 mod accounts;
@@ -15,21 +15,21 @@ use std::alloc::{AllocGlobal, Global};
 use std::io::Read;
 use std::rt::Files;
 
-/// What the cases of a file are about.
+/// The subject of a file's cases.
 #[derive(Clone, Copy)]
 enum Table {
-    /// The parts that an account is made of.
+    /// The parts of an account.
     Parts(parts::Table),
     /// Bodies and headers, and the replies of answers.
     Wire(wire::Table),
     /// Requests on a port.
     Routes,
-    /// Scripts, and the books that they make.
+    /// Scripts, and the books that take them.
     Scripts(scripts::Table),
 }
 
-/// The files. Those whose shortest case is long are the last ones: who refuses each request for
-/// memory in turn comes to them the least often.
+/// The files. Those whose shortest case is long come last: a test that refuses each memory request
+/// in turn reaches them least often.
 const TABLES: [(&str, Table); 43] = [
     ("parts/names.txt", Table::Parts(parts::Table::Names)),
     (
@@ -122,7 +122,7 @@ const TABLES: [(&str, Table); 43] = [
 ];
 
 impl Table {
-    /// Tells what a case gives.
+    /// Adds what a case gives.
     fn tell(self, case: &Case, given: &mut Given) -> Result<(), CaseFault> {
         match self {
             Table::Parts(table) => table.tell(case, given),
@@ -141,11 +141,12 @@ impl Subject for Table {
     }
 }
 
-/// Runs the tables in the current folder, and says whether all of their cases agree. It prints how
-/// many cases a table has, or the first line that differs of each case that gives something else.
+/// Runs the tables in the current folder, and returns whether all of their cases agree. Prints the
+/// number of cases in each table; for each case that gives something else, prints the first line
+/// that differs.
 ///
 /// # Errors
-/// As the fault says; the tables behind it are not run.
+/// Any `TableFault`; the tables after it are not run.
 pub fn run<R: Files + Print + AllocGlobal>(rt: &R) -> Result<bool, TableFault>
 where
     R::File: Read + Drop,

@@ -1,4 +1,4 @@
-//! The parts that an account is made of.
+//! The parts of an account.
 
 mod answers;
 mod configurations;
@@ -19,7 +19,7 @@ mod written_answers;
 
 use case_tables::{Case, CaseFault, Given};
 
-/// What a file's cases are about.
+/// The subject of a file's cases.
 #[derive(Clone, Copy)]
 pub enum Table {
     Names,
@@ -37,7 +37,7 @@ pub enum Table {
 }
 
 impl Table {
-    /// Tells what a case gives.
+    /// Adds what a case gives.
     pub fn tell(self, case: &Case, given: &mut Given) -> Result<(), CaseFault> {
         match self {
             Table::Names => names::give(case, given),

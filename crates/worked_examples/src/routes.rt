@@ -1,4 +1,4 @@
-//! Requests: on which port each comes in, and what is done with it.
+//! Requests: the port that each arrives on, and the decision about it.
 
 mod decided;
 mod methods;
@@ -12,7 +12,7 @@ use crate::routes::request::{read_body, read_head};
 use bytes::Bytes;
 use case_tables::{Case, CaseFault, Given, Part};
 
-/// Adds what is done with a request of this body, whose head these lines of a part say.
+/// Adds the decision about a request with this body, whose head is in these lines of a part.
 fn push_headed(
     door: &Door,
     part: &Part,
@@ -25,7 +25,7 @@ fn push_headed(
     Ok(())
 }
 
-/// Adds what is done with the request of a part, to whose body the parts behind it may add.
+/// Adds the decision about the request in a part; the parts after it may extend its body.
 fn push_request(
     door: &Door,
     part: &Part,
@@ -38,7 +38,8 @@ fn push_request(
     push_headed(door, part, lines, &body, given)
 }
 
-/// Adds what is done with the requests of a part, and tells whether the next part may add to a body.
+/// Adds the decisions about the requests in a part, and returns whether the next part may extend a
+/// body.
 fn push_part(
     door: &Door,
     part: &Part,
@@ -60,7 +61,7 @@ fn push_part(
     }
 }
 
-/// Adds what is done with the requests of a case.
+/// Adds the decisions about the requests of a case.
 fn push_requests(door: &Door, parts: &[Part], given: &mut Given) -> Result<(), CaseFault> {
     let mut has_body = false;
     for place in 0..parts.len() {
@@ -69,7 +70,7 @@ fn push_requests(door: &Door, parts: &[Part], given: &mut Given) -> Result<(), C
     Ok(())
 }
 
-/// The first of the parts, which is to be called so, and the others.
+/// Returns the first part, which must have this name, and the other parts.
 fn cut_part<'c>(
     parts: &'c [Part],
     word: &'static str,
@@ -80,7 +81,7 @@ fn cut_part<'c>(
     }
 }
 
-/// What is done with the requests of a case.
+/// Adds the decisions about the requests of a case.
 ///
 /// | Part | What it says |
 /// |---|---|

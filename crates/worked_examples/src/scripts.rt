@@ -1,4 +1,4 @@
-//! Scripts, which are replayed, and the books that take their lines.
+//! Scripts that are replayed, and books that take the lines of scripts.
 
 mod books;
 mod histories;
@@ -11,7 +11,7 @@ mod texts;
 
 use case_tables::{Case, CaseFault, Given};
 
-/// What the cases of a file are about.
+/// The subject of a file's cases.
 #[derive(Clone, Copy)]
 pub enum Table {
     /// Scripts, each replayed in every way.
@@ -23,7 +23,7 @@ pub enum Table {
 }
 
 impl Table {
-    /// Tells what a case gives.
+    /// Adds what a case gives.
     pub fn tell(self, case: &Case, given: &mut Given) -> Result<(), CaseFault> {
         match self {
             Table::Scripts => replays::give(case, true, given),

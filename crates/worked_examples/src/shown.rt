@@ -1,22 +1,22 @@
-//! What is shown of values, bytes and headers, as lines.
+//! Values, bytes and headers, as lines.
 
 use case_tables::Given;
 use lambda_wire::Headers;
 use std::fmt::Debug;
 
-/// Adds the line of a value.
+/// Adds a value as a line.
 pub fn tell<T: Debug>(given: &mut Given, value: &T) {
     given.show(value);
     given.push("\n");
 }
 
-/// Adds bytes that end no line as a line.
+/// Adds bytes as a line; they contain no line feed.
 pub fn push_line(given: &mut Given, bytes: &[u8]) {
     given.push_bytes(bytes);
     given.push("\n");
 }
 
-/// Adds headers, a line each.
+/// Adds headers, one per line.
 pub fn push_headers(given: &mut Given, headers: &Headers) {
     for (name, value) in headers.as_slice() {
         given.push(name.as_str());

@@ -1,5 +1,5 @@
-//! What stands on the wire: bodies and headers as they are written, bodies as they are read, and
-//! the replies that answers come to.
+//! What is on the wire: the bodies and headers that are written, the bodies that are read, and the
+//! replies that answers become.
 
 mod answers;
 mod arguments;
@@ -15,29 +15,29 @@ use crate::wire::readings::Reading;
 use crate::wire::written::Written;
 use case_tables::{Case, CaseFault, Given};
 
-/// What the cases of a file are about.
+/// The subject of a file's cases.
 #[derive(Clone, Copy)]
 pub enum Table {
     /// The bodies of replies.
     Bodies,
     /// The headers of replies.
     Headers,
-    /// Whole replies that refuse.
+    /// Whole replies that report a refusal.
     Refusals,
-    /// The payloads of Invokes, as they are read.
+    /// The payloads of Invokes, as read.
     Payloads,
-    /// Registrations, as they are read.
+    /// Registrations, as read.
     Registrations,
-    /// Reservations, as they are read.
+    /// Reservations, as read.
     Reservations,
-    /// Configurations, as they are read and written again.
+    /// Configurations, as read and written again.
     Configurations,
-    /// The replies that answers come to.
+    /// The replies that answers become.
     Replies,
 }
 
 impl Table {
-    /// Tells what a case gives.
+    /// Adds what a case gives.
     pub fn tell(self, case: &Case, given: &mut Given) -> Result<(), CaseFault> {
         match self {
             Table::Bodies => written::give(Written::Bodies, case, given),

@@ -1,4 +1,4 @@
-"""One execution environment, as docs/semantics.md tells it, with faults that can be planted: each is a flag.
+"""One execution environment, as docs/semantics.md describes it, with faults that can be planted: each is a flag.
 
 It is written apart from the definitions, in some other words of its own, and answers with futures: a poll, or an
 Invoke, that waits has one without a result."""

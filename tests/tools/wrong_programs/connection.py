@@ -29,7 +29,7 @@ class Connection:
         self.address, self.sock, self.timeout, self.received = address, None, None, bytearray()
 
     def request(self, method, path, body=None, headers=None):
-        """Sends a request; a body that is no bytes is a sequence of parts, each of which becomes a chunk."""
+        """Sends a request; a body that is not bytes is a sequence of parts, each of which becomes a chunk."""
         if self.sock is None:
             host, _, port = self.address.rpartition(":")
             self.sock = socket.create_connection((host, int(port)), self.timeout)

@@ -1,4 +1,4 @@
-"""Runtimes with one mistake each in what they read, hand to the handler, or send. A class is named after its mistake,
+"""Runtimes with one mistake each in what they read, pass to the handler, or send. A class is named after its mistake,
 and `check` is the check that catches it."""
 import io
 import json
@@ -37,7 +37,7 @@ class WrapsScalars(Runtime):
 
 
 class ManglesUtf8(Runtime):
-    """Writes what is beyond ASCII as question marks, where it does not come from an escape."""
+    """Writes non-ASCII characters as question marks, unless they come from an escape."""
     check = "utf8"
 
     def call(self, event, headers):

@@ -125,7 +125,7 @@ class LeavesFilesOpen(Runtime):
 
 
 class SharesAFile(Runtime):
-    """Hands the output on by a file that all environments of the function share."""
+    """Passes the output on through a file that all environments of the function share."""
     check = "environments_apart"
 
     def respond(self, request, output):

@@ -38,7 +38,7 @@ class Clock:
             return self._slowness
 
     def wait(self, wait_once, seconds):
-        """Calls `wait_once` with parts of so many seconds until it gives true: whether it did."""
+        """Calls `wait_once` with parts of this many seconds until it returns true. Returns whether it did."""
         end = self.now() + seconds
         while not wait_once(max(0, min(0.1, end - self.now()))):
             if self.now() >= end:
@@ -46,7 +46,7 @@ class Clock:
         return True
 
     def sleep(self, seconds):
-        """Lets so many seconds pass."""
+        """Lets this many seconds pass."""
         self.wait(lambda part: time.sleep(part), seconds)
 
     def _run(self):

@@ -2,7 +2,7 @@
 
 
 class Malformed(Exception):
-    """What the peer sends is no HTTP/1.1."""
+    """What the peer sends is not HTTP/1.1."""
 
 
 class Message:

@@ -35,7 +35,7 @@ def variables_of(configuration, function, port, number, more):
 
 
 class Processes:
-    """All that were started and not ended yet, so that none is left behind whatever happens."""
+    """The processes that were started and have not ended yet, so that none is left running in any case."""
 
     def __init__(self):
         self._lock, self._running, self.closed = threading.Lock(), set(), False
@@ -90,7 +90,7 @@ class Process:
         return self._ended.is_set()
 
     def wait(self, seconds):
-        """Whether it ends within so many seconds."""
+        """Whether it ends within this many seconds."""
         return CLOCK.wait(self._ended.wait, seconds)
 
     def signal(self, number):

@@ -1,4 +1,4 @@
-"""Stands between a runtime or an extension and an environment's port: forwards bytes as they come, and how each of the
+"""A proxy between a runtime or an extension and an environment's port: forwards bytes as they come, and how each of the
 two ends the connection, and records each request with its reply and their times. A rule may answer in the service's
 place, or close the connection after a reply.
 
@@ -112,7 +112,7 @@ class Proxy:
         threading.Thread(target=self._accept, daemon=True).start()
 
     def wait(self, condition, seconds):
-        """Waits until the condition over the exchanges holds, at most so many seconds: its value."""
+        """Waits until the condition over the exchanges holds, up to this many seconds. Returns its value."""
         def wait_once(part):
             with self.changed:
                 return self.changed.wait_for(lambda: self._closed or condition(), part)
@@ -189,8 +189,8 @@ class Link:
         self.service = None
         self.request = self.reply = self.exchange = None
         self.held = b""  # a head that is not whole yet
-        self.waiting = b""  # what the client has sent behind a whole request
-        self.reads = True  # until what comes is no HTTP/1.1, or no request that the service would take
+        self.waiting = b""  # what the client has sent after a whole request
+        self.reads = True  # until what comes is not HTTP/1.1, or not a request that the service would take
         self.service_ended = self.service_refuses = False  # it sends no more; it has reset the connection
         client.setsockopt(socket.IPPROTO_TCP, socket.TCP_NODELAY, 1)
 
@@ -202,7 +202,7 @@ class Link:
                     return
 
     def take_from(self, side):
-        """Hands on what came: whether the link goes on."""
+        """Forwards what came. Returns whether the link continues."""
         try:
             data = side.recv(PART)
         except OSError:
@@ -264,7 +264,7 @@ class Link:
         return self.forward(data)
 
     def forward(self, data):
-        """Hands on bytes of a request: its head once it is whole, the rest as it comes."""
+        """Forwards bytes of a request: its head once it is whole, the rest as it comes."""
         self.request = self.request or Message()
         had_head = self.request.head_ended
         try:
@@ -339,7 +339,7 @@ class Link:
 
         def change():
             exchange.reply, exchange.answered = reply, time.monotonic()
-        if exchange:  # (noted first: who has the reply may act on it before this thread runs again)
+        if exchange:  # (noted first: the receiver of the reply may act on it before this thread runs again)
             self.proxy.note(change)
         if data:
             self.client.sendall(data)

@@ -45,7 +45,7 @@ def seconds(text):
 
 
 def split(words):
-    """The options, and the command behind `--`."""
+    """Returns the options, and the command after `--`."""
     if "--" not in words:
         return words, []
     place = words.index("--")

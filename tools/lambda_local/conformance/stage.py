@@ -1,5 +1,5 @@
-"""What a scenario plays on: a service of its own with one function, a proxy before each environment, the tested command
-behind it, and callers."""
+"""The stage of a scenario: its own service with one function, a proxy in front of each environment, the tested command
+behind the proxy, and callers."""
 import concurrent.futures
 import http.client
 import json
@@ -49,7 +49,7 @@ class Answer(NamedTuple):
 
     @property
     def report(self):
-        """The error report; an empty one if it is no JSON object."""
+        """Returns the error report; an empty one if it is not a JSON object."""
         try:
             value = json.loads(self.body)
         except ValueError:
@@ -91,8 +91,8 @@ class Environment:
             self.process.kill()
 
     def asked(self, count=1, seconds=None, kind="next", real_seconds=0, in_vain=lambda: False):
-        """Whether it has made its count-th request of a kind before so many seconds (by default those of the Init) are
-        over, by the kit's clock and by the real one, or its process has ended, or it is waited for in vain."""
+        """Whether it makes its count-th request of a kind. Waits up to this many seconds (by default those of the Init)
+        by the kit's clock and by the real one, or until its process ends or `in_vain` holds."""
         process, real_end = self.process, time.monotonic() + real_seconds
         end = CLOCK.now() + (self.stage.patience if seconds is None else seconds)
         while len(self.proxy.of(kind)) < count and not (process and process.ended) and not in_vain():
@@ -102,12 +102,12 @@ class Environment:
         return len(self.proxy.of(kind)) >= count
 
     def asked_after(self, exchange, seconds, kind="next", real_seconds=0):
-        """Whether it asks again within so many seconds after the answer to this exchange."""
+        """Whether it asks again within this many seconds after the answer to this exchange."""
         before = sum(one.begun < exchange.answered for one in self.proxy.of(kind))
         return self.asked(before + 1, seconds, kind, real_seconds)
 
     def given_up(self, kind, seconds):
-        """The poll of a kind that it gives up within so many seconds; None if it waits."""
+        """Returns the poll of a kind that it gives up within this many seconds; None if it waits."""
         def found():
             return next((poll for poll in self.proxy.exchanges if poll.kind == kind and poll.left), None)
         self.proxy.wait(found, seconds)
@@ -195,7 +195,7 @@ class Stage:
     # -- calling
 
     def invoke(self, event, qualified=False, trace=None):
-        """Invokes the function, once more where no environment is free yet: what its caller received."""
+        """Invokes the function, and again if no environment is free yet. Returns what its caller received."""
         headers = {"X-Amzn-Trace-Id": trace} if trace else {}
         path = f"/2015-03-31/functions/{self.name}/invocations" + ("?Qualifier=$LATEST" if qualified else "")
         end = CLOCK.now() + ANSWERED_WITHIN
@@ -236,7 +236,7 @@ class Stage:
         return self._callers.submit(call, *arguments, **named)
 
     def output(self, event, **named):
-        """What the handler returned for this event, as JSON; Missing if that is no output."""
+        """Returns what the handler returned for this event, as JSON; Missing if that is not an output."""
         answer = self.invoke(event, **named)
         if answer.failed:
             raise Missing(f"in place of an output the caller received the error {shown(answer.body)}")

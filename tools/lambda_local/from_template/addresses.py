@@ -12,8 +12,8 @@ REST = "is of a REST API: its events have payload format 1.0 there, and 2.0 here
 
 
 def cors_of(given, where, scope, tell):
-    """The member `cors` of a Cors in one of its forms; none if it allows no site. What it says and is not taken is
-    told."""
+    """Returns the member `cors` of a Cors in one of its forms; None if it allows no site. Reports what it leaves
+    out."""
     try:
         given, placeholders = scope.known(given)
     except Unknown as reason:
@@ -42,7 +42,7 @@ def url_with(cors):
 
 
 class Addresses:
-    """`tell` says of the function what is left out, or is otherwise here."""
+    """`tell` reports what is left out of the function, or differs here."""
 
     def __init__(self, properties, scope, tell):
         self.properties, self.scope, self.tell = properties, scope, tell
@@ -119,7 +119,7 @@ class Addresses:
                 yield key, OF_SERVERLESS if kind == "httpApi" else None
 
     def route(self, where, method, path):
-        """One route, or none if it cannot be known, which is told. One without a method and a path takes all else."""
+        """Returns one route, or reports it if it is unknown. One without a method and a path takes everything else."""
         both, placeholders = self.scope.known_or_why([method, path])
         if placeholders:
             return self.tell(f"leaves out its {where}: it needs {' and '.join(placeholders)}") or ()

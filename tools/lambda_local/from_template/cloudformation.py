@@ -20,7 +20,7 @@ def with_globals(properties, shared):
 
 
 def properties_of(key, resource, shared):
-    """A function's properties; none if they cannot be read, which is told."""
+    """Returns a function's properties; None, with a report, if they cannot be read."""
     properties = resource.get("Properties", {})
     if not isinstance(properties, dict):
         tell(f"leaves out {key}: its Properties must be an object, not {shown(properties)}")
@@ -35,7 +35,7 @@ def properties_of(key, resource, shared):
 
 
 def is_wanted(key, resource, scope):
-    """Whether its condition, if it has one, is met; told if not."""
+    """Whether its condition, if it has one, is met; reported if not."""
     condition = resource.get("Condition")
     if condition is None:
         return True

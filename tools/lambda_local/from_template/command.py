@@ -79,7 +79,7 @@ def place(functions, template, folder):
 
 
 def folder_of_output():
-    """The folder of the file that standard output is; none if it is no file."""
+    """Returns the folder of the file that standard output is; None if it is not a file."""
     if not stat.S_ISREG(os.fstat(sys.stdout.fileno()).st_mode):
         return None
     try:

@@ -1,5 +1,5 @@
 """A function's part of UP.json, made of its properties by the names that CloudFormation gives them. What cannot be
-taken is told and left out: never is a whole template refused for one function."""
+taken is reported and left out: a whole template is never refused because of one function."""
 import importlib.util
 import os
 import re
@@ -63,7 +63,7 @@ class Maker:
         tell(f"{self.name}: {line}")
 
     def known(self, name):
-        """A property's value; None if it is not there or not known, which is told. A placeholder will not do."""
+        """Returns a property's value; None if it is absent, or unknown, which is reported. A placeholder is unknown."""
         if name not in self.properties:
             return None
         value, placeholders = self.scope.known_or_why(self.properties[name])

@@ -44,8 +44,7 @@ class ServerlessScope(Scope):
         return text_of(value) if is_scalar(value) and not placeholders else otherwise
 
     def text(self, text):
-        """A text with its variables replaced, the innermost first; one that is a single variable is what that stands
-        for."""
+        """Returns a text with its variables replaced, the innermost first; for a single variable, returns its value."""
         for _ in range(MOST_STEPS):
             found = INNERMOST.search(text)
             if found is None:

@@ -1,5 +1,5 @@
-"""What the expressions of a template come to here: parameters by their defaults, pseudo parameters by the service's
-account and region, functions by their names. A reference to anything else is a placeholder, which is told."""
+"""The values of a template's expressions here: parameters have their defaults, pseudo parameters the service's account
+and region, functions their names. A reference to anything else is a placeholder, which is reported."""
 import datetime
 import re
 from typing import NamedTuple, Tuple

@@ -11,7 +11,7 @@ IDLE_SECONDS = 60  # (the service closes one after 300)
 
 
 class Unreached(Gone):
-    """There is no connection to the service, which so has nothing of the request."""
+    """There is no connection to the service, so it has received nothing of the request."""
 
 
 class Client:

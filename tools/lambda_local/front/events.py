@@ -17,7 +17,7 @@ def target_of(function):
 
 
 def function_of(target):
-    """The name of the function that an Invoke's target has in one of its forms; none if it is no Invoke."""
+    """Returns the name of the function in an Invoke's target, in one of its forms; None if it is not an Invoke."""
     found = PATH.fullmatch(target)
     named = NAMED.fullmatch(unquote(found[1])) if found else None
     return (named[1] or named[2]) if named else None

@@ -1,4 +1,4 @@
-"""All that stands in front of the functions of one run: its ports, and the thread that serves them."""
+"""Everything in front of the functions of one run: its ports, and the thread that serves them."""
 import asyncio
 import socket
 import threading

@@ -24,7 +24,7 @@ def without_body(request):
 
 
 def answered(headers):
-    """The headers of an answer. If the service ends the connection behind it, so does the front."""
+    """Returns the headers of an answer. If the service ends the connection after it, so does the front."""
     words = words_of(headers, "connection")
     dropped = OF_CONNECTION.union(words) - ({"connection"} if "close" in words else set())
     kept = [(name, value) for name, value in headers if name.lower() not in dropped]

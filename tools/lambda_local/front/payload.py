@@ -15,7 +15,7 @@ FRAMING = OF_CONNECTION | {"content-length"}
 
 
 class Unmappable(Exception):
-    """Why a function's result is no answer."""
+    """Why a function's result is not an answer."""
 
 
 def event_of(request, body, context, parameters=None):
@@ -41,7 +41,7 @@ def cookies_of(request):
 
 
 def headers_of(request):
-    """By their names in lower case; the values of one that stands more than once between commas."""
+    """Returns headers by their names in lower case; the values of a repeated header are joined by commas."""
     found = {}
     for name, value in request.headers:
         name = name.lower()

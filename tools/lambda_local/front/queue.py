@@ -54,7 +54,7 @@ class Queue:
         return len(self.events)
 
     def put(self, event, always=False):
-        """Full if there is no room, unless the event must be taken."""
+        """Raises Full if there is no room, unless the event must be taken."""
         if not always and (self.count >= MOST_EVENTS or self.size + len(event.payload) > MOST_BYTES):
             raise Full
         self.events[event.identifier] = event
@@ -102,7 +102,7 @@ class Queue:
             status, headers, body = None, [], b""
         lane.running -= 1
         if status == 500 and is_stop(body):
-            return  # (what is left is told at the end)
+            return  # (what is left is reported at the end)
         if status == 429:
             return self.postpone(lane, event)
         if status is not None and status >= 500:  # (which may come after the function has run)
@@ -113,7 +113,7 @@ class Queue:
         self.release(lane)
 
     def postpone(self, lane, event, why=None):
-        """After a throttle, or a fault of the service, which is told: the attempt does not count."""
+        """After a throttle or a fault of the service, which is reported: the attempt does not count."""
         pause = lane.throttled()
         if why:
             self.say(event, f"{why}: again after {pause:g} s", "warning", "fault")
@@ -181,7 +181,7 @@ class Queue:
             await asyncio.sleep(0.01)
 
     async def close(self):
-        """Once the service has ended: what still comes of attempts is taken, and what is lost is told."""
+        """Once the service has ended: takes the outcomes of attempts that still come, and reports what is lost."""
         self.is_closed = True
         if self.tasks:
             await asyncio.wait(self.tasks, timeout=LAST_SECONDS)

@@ -1,4 +1,4 @@
-"""The members of UP.json that say what stands in front of the functions."""
+"""The members of UP.json that say what is in front of the functions."""
 from typing import Dict, NamedTuple, Optional, Tuple
 
 from ..configuration import PORT, Kind, is_list_of, is_text, is_whole, mistakes_of, shown
@@ -134,7 +134,7 @@ def asynchronous_of(given):
 
 
 def settings_of(whole):
-    """What UP.json says, in which there is no mistake; none if nothing stands in front of the functions."""
+    """Returns the settings in a valid UP.json; None if nothing is in front of the functions."""
     asynchronous = asynchronous_of(whole.get("asynchronous"))
     urls = {member["name"]: address_of(member["url"]) for member in whole["functions"]
             if member.get("url") or member.get("url") == {}}

@@ -75,7 +75,7 @@ class Wire(asyncio.Protocol):
             self.waiting = None
 
     def take(self, count):
-        """Up to so many bytes of what has come."""
+        """Returns up to this many bytes of what has come."""
         if count >= len(self.buffer):
             taken, self.buffer = bytes(self.buffer), bytearray()
         else:

@@ -15,7 +15,7 @@ def silent(*_, **__):
 
 
 class Functions(Session):
-    """Tells nothing of its own, unless it is verbose, and saves no history."""
+    """Prints nothing itself, unless it is verbose, and saves no history."""
 
     def __init__(self, path, recording, program, ready, verbose):
         options = SimpleNamespace(up=path, debug=None, salt=recording.salt, program=program, reload=False,

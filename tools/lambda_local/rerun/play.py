@@ -21,7 +21,7 @@ class Sent(NamedTuple):
 
 
 class Attempt(threading.Thread):
-    """One invocation. `is_sent` once the service has it, so that the next one comes behind it."""
+    """One invocation. `is_sent` is set once the service has it, so that the next one comes after it."""
 
     def __init__(self, port, invocation, timeout):
         super().__init__(daemon=True)

@@ -119,7 +119,7 @@ def watched(entries):
 
 
 class Input:
-    """What is read: its lines behind the configuration, and a file with the whole of it if a replay needs one."""
+    """What is read: its lines after the configuration, and a file with all of it if a replay needs one."""
 
     def __init__(self, name):
         self.name = name
@@ -149,7 +149,7 @@ class Input:
 
 
 def scripted(chosen, given, world, closing):
-    """The entries of a script, with the answers of the program or of a file; and what comes behind the last one."""
+    """Returns the entries of a script, with the answers of the program or of a file; and what follows the last one."""
     if chosen.answers:
         answers, finish = Answers(open_input(chosen.answers), chosen.answers), lambda: None
     else:

@@ -62,7 +62,7 @@ class Drawing(Kept):
             top += height
         self.height = top + 26
         self.draw_axis(top)
-        taken = {}  # per lane, what stands where: no label is written over it
+        taken = {}  # per lane, what is where: no label is written over it
         for e, phase, generation, reason, since, since_entry, moment, entry, deadline in self.bands:
             self.draw_band(e, phase, generation, reason, since, since_entry, moment, entry, deadline)
         for work, moment, entry in self.works:

@@ -1,4 +1,4 @@
-"""What a drawing shows: the calls of a window, what went on around them, and where each entry stands."""
+"""What a drawing shows: the calls of a window, what went on around them, and the position of each entry."""
 import bisect
 
 from .sink import Sink
@@ -80,10 +80,10 @@ class Kept(Sink):
         self.works.sort(key=lambda work: work[0].entry)
         self.place_entries()
 
-    # where things stand
+    # positions
 
     def place_entries(self):
-        """Each entry has a place of its own, so that what happens in one moment can be told apart."""
+        """Gives each entry its own place, so that entries of the same moment can be distinguished."""
         at, self.places = 16.0, []
         for i, moment in enumerate(self.moments):
             if i:
@@ -102,13 +102,13 @@ class Kept(Sink):
         return 16 if gap == 0 else 20 + 16 * (gap.bit_length() + gap / (1 << gap.bit_length()) - 0.5) / 1.7
 
     def x(self, entry):
-        """Where an entry stands; an entry before the window stands at its left edge, one after it at its right edge."""
+        """Returns an entry's position; one before the window is at its left edge, one after it at its right edge."""
         if entry is None or self.first is None or entry - self.first >= len(self.places):
             return self.width - 24
         return self.places[entry - self.first] if entry >= self.first else 4
 
     def x_of_moment(self, moment):
-        """Where a deadline stands, between the entries around it; None where it is after them all."""
+        """Returns a deadline's position, between the entries around it; None if it is after them all."""
         i = bisect.bisect_left(self.moments, moment)
         if i == len(self.moments):
             return None

@@ -38,7 +38,7 @@ summary{cursor:pointer;margin-top:1rem}
 
 
 def sign(kind, inset=0):
-    """What stands for an outcome in a list."""
+    """Returns the sign of an outcome in a list."""
     if kind == "refused":
         shape = '<path class="cross" d="M7 4l8 8m0 -8l-8 8"/>'
     else:

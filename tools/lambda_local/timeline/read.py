@@ -76,7 +76,7 @@ class Configuration:
         except (KeyError, TypeError, AttributeError):
             raise Fault(
                 2, "configuration: BadShape: a member is missing or of another type; docs/formats.md lists them")
-        # The service writes every member, a person few of them: that tells a history from a script.
+        # The service writes every member, a person few of them: that distinguishes a history from a script.
         self.is_of_a_history = form_2 and members.keys() >= {
             "account", "accountLimit", "functions", "invokePort", "leastRemainder", "maxEntries", "region", "salt"
         } and all(f.keys() >= {"extensions", "handler", "name", "ports", "timeout"} for f in functions)
@@ -99,7 +99,7 @@ class Call:
 
 
 def read_call(line, configuration, form_2):
-    """The call of a line; None where it is none."""
+    """Returns the call of a line; None if it is not a call."""
     words = line.split(b" ")
     moment = number(words[0])
     if moment is None or len(words) < 2 or words[1] not in FIELDS:

@@ -8,7 +8,7 @@ from .read import read_call
 from .window import Window
 from .world import World
 
-ENTRIES_OF_A_CALL = 4  # at most so many entries are kept for each call that is shown: others may be hidden, or expiries
+ENTRIES_OF_A_CALL = 4  # the most entries kept for each call that is shown: others may be hidden, or expiries
 TAKEN_AT_ONCE = 1000  # entries, before those that are not shown any more are dropped
 
 

@@ -70,7 +70,7 @@ def ready_program():
 
 
 def difference(path, replay):
-    """Where a history's replay first answers otherwise, in words; nothing if it nowhere does."""
+    """Returns where a history's replay first answers otherwise, in words; nothing if it never does."""
     number = 0
     with open(path, "rb") as file:
         for number, line in enumerate(file, 1):

@@ -19,7 +19,7 @@ HEADERS = (
 
 def is_own(headers):
     """Whether a request may be from this page, or from a person's own client. Other sites that a browser shows are kept
-    out: a name of theirs that leads to this machine stands in `Host`, and they stand in `Origin`."""
+    out: `Origin` names them, and `Host` any name of theirs that resolves to this machine."""
     hosts, origins = headers.get_all("Host", []), headers.get_all("Origin", [])
     if len(hosts) != 1 or not is_this_machine(hosts[0]):
         return False
@@ -103,4 +103,4 @@ class Server(http.server.ThreadingHTTPServer):
         self.server_name, self.server_port = self.server_address[:2]
 
     def handle_error(self, request, client_address):
-        """A browser that goes away in the middle of an answer is no fault."""
+        """Reports an error, unless a browser went away in the middle of an answer."""

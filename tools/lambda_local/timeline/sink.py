@@ -8,7 +8,7 @@ class Sink:
         """The first entry, before anything else."""
 
     def reservation(self, moment, entry, f, count):
-        """From this entry on a function has so many environments reserved; no reservation if `count` is None."""
+        """From this entry on, a function has `count` environments reserved; None means no reservation."""
 
     def full(self, moment, call):
         """A call that a full journal refused: it has no ticket and no entry."""
@@ -35,7 +35,7 @@ class Sink:
         """A runtime or an extension has done what it was given; with the history if `entry` is None."""
 
     def entered(self, entry, moment):
-        """All of an entry has been told."""
+        """Everything about an entry has been reported."""
 
     def end(self, world):
         """The history ends."""

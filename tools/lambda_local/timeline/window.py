@@ -1,4 +1,4 @@
-"""What is shown of a history: the calls of a window of time, at most so many, and what goes on around them."""
+"""What is shown of a history: the calls of a window of time, up to a limit, and what goes on around them."""
 from ..service import Fault
 from .sink import Sink
 from .words import since_words
@@ -8,7 +8,7 @@ OF_UP = "lambda_local.up"  # the extension as which tools/up registers in each e
 
 
 class Moment:
-    """A moment of the command line: on the axis of the history, or so many milliseconds after its first entry."""
+    """A moment of the command line: on the axis of the history, or in milliseconds after its first entry."""
 
     def __init__(self, milliseconds, is_relative):
         self.milliseconds, self.is_relative = milliseconds, is_relative

@@ -63,7 +63,7 @@ class Extension(phases.Extension):
 
 
 class Environment(phases.Members):
-    """An environment's phase, as docs/semantics.md tells it; the answers say all that a call itself doesn't."""
+    """An environment's phase, as in docs/semantics.md; the answers say everything that a call itself doesn't."""
 
     def __init__(self, number, function):
         super().__init__()
@@ -74,8 +74,8 @@ class Environment(phases.Members):
 
 
 class Work:
-    """What a runtime does between its delivery and its response, or an extension between being told and asking
-    again."""
+    """What a runtime does between its delivery and its response, or an extension between an event and its next
+    poll."""
 
     __slots__ = ("lane", "name", "moment", "entry", "until", "request", "outcome")
 
@@ -86,7 +86,7 @@ class Work:
 
 
 class World:
-    """Follows the entries, and tells a sink each thing that was begun, ended, or reset."""
+    """Follows the entries, and reports to a sink each thing that was begun, ended, or reset."""
 
     def __init__(self, configuration, sink):
         self.configuration, self.sink = configuration, sink
@@ -205,7 +205,7 @@ class World:
         return None
 
     def note_call(self, environment, call, own):
-        """What a call says of who asks for the next event, and who is there."""
+        """Notes what a call says about who asks for the next event, and who is there."""
         if call is None:
             return
         if call.kind == "ext-next" and call.count in environment.extensions:
@@ -249,7 +249,7 @@ class World:
                 heapq.heapify(self.deadlines)
 
     def settle(self, environment, call, moment):
-        """A Closing that waits for nobody ends; else all who have asked make an environment ready."""
+        """A Closing that waits for no one ends; otherwise an environment becomes ready once all have asked."""
         if environment.phase == "Closing":
             if not environment.is_awaited() or (environment.was == "Closing" and call is None):
                 self.rests(environment, environment)

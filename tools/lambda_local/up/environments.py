@@ -1,7 +1,7 @@
 """The processes of one environment: one generation of them after the other, as the service says.
 
-tools/up is an extension of the environment, registered for SHUTDOWN alone: so it is told the end of a generation, and
-can report the end of a process."""
+tools/up is an extension of the environment, registered for SHUTDOWN alone: so it is notified of the end of a
+generation, and can report the end of a process."""
 import contextlib
 import http.client
 import json
@@ -15,7 +15,7 @@ from .processes import Process, reason_of
 
 SHUTDOWN_SECONDS = 2.0  # an environment's, for its extensions
 SPARE = 0.1  # of them, for tools/up itself
-SOON = 1.0  # a runtime that ends within so many seconds of its start, without an invocation, ended early
+SOON = 1.0  # a runtime that ends within this many seconds of its start, without an invocation, ended early
 
 
 class Environment(threading.Thread):
@@ -88,8 +88,8 @@ class Environment(threading.Thread):
                 return None
 
     def start_extensions(self):
-        """Before the runtime: once it and all who came have asked, nobody registers. (For a debugger behind it, since
-        the first to register starts Init's clock, and this tool is awaited too.)"""
+        """Before the runtime: once it and all that came have asked, no extension can register. (With a debugger, after
+        it: the first to register starts Init's clock, and this tool is awaited too.)"""
         for name, words in self.function.extensions.items():
             if words:
                 self.extensions.append(
@@ -132,7 +132,7 @@ class Environment(threading.Thread):
         told = waiting.sock.fileno()
         ready = {source for source, _ in sources.poll()}
         if told not in ready:
-            # A runtime that is told the end can have gone before this tool is told: a short wait tells the two apart.
+            # A runtime that is notified of the end can exit before this tool is notified: a short wait tells.
             for process in processes:
                 sources.unregister(process.handle)
             ready |= {source for source, _ in sources.poll(50)}
@@ -205,7 +205,7 @@ class Environment(threading.Thread):
         return True
 
     def end(self, seconds, gently=False):
-        """Ends all processes: the runtime at once or gently, extensions by themselves within so many seconds."""
+        """Ends all processes: the runtime at once or gently, extensions by themselves within this many seconds."""
         until = time.monotonic() + seconds
         if self.runtime:
             self.runtime.end(min(0.5, max(0.0, seconds)) if gently else 0)
@@ -218,8 +218,8 @@ class Environment(threading.Thread):
                 self.say_done(name)
 
     def say_done(self, name):
-        """Asks in the name of an extension that has gone. One that had not been told the end yet is told by the first
-        time; what it asks after that says that it is done."""
+        """Asks in the name of an extension that has gone. If it was not yet notified of the end, the first request does
+        that; a request after it says that the extension is done."""
         generation = self.watch.generation(self.number, self.identifier) if self.identifier else None
         extension = generation.named(name) if generation and generation.closes else None
         if extension is None or not extension.shutdown or extension.is_done:
@@ -257,7 +257,7 @@ class Environment(threading.Thread):
             self.tried = waiting
 
     def fail_init(self, report):
-        """Reports a failed Init for the runtime, which its caller hears; no line is told of it."""
+        """Reports a failed Init for the runtime, which its caller receives; prints no line."""
         try:
             kind = str(json.loads(report).get("errorType") or "Runtime.ExitError")
         except (ValueError, AttributeError):

@@ -66,7 +66,7 @@ class Lines:
 
     @staticmethod
     def waited_for(environment, generation):
-        """Who has not come in an Init."""
+        """Returns who has not come in an Init."""
         late = [f"its extension {name}, which must "
                 f"{'ask for its next event' if generation.named(name) else 'register by this name'}"
                 for name in generation.missing(environment.expected) if name != NAME]

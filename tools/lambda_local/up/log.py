@@ -9,11 +9,11 @@ from datetime import datetime, timezone
 
 OUTPUT = "output"  # the kind of a line that a process wrote
 COLOURS = {"error": "31", "warning": "33", "ok": "32"}
-NAMES = ("36", "35", "34", "96", "95", "94")  # by turns, so that functions can be told apart
+NAMES = ("36", "35", "34", "96", "95", "94")  # by turns, so that functions can be distinguished
 
 
 class Log:
-    """`form` is "text" or "json". If it is quiet, only what processes write, warnings and errors are told."""
+    """`form` is "text" or "json". If it is quiet, prints only what processes write, warnings and errors."""
 
     def __init__(self, form="text", quiet=False, stream=None):
         self.form, self.quiet, self.stream, self.lock = form, quiet, stream or sys.stderr, threading.Lock()

@@ -93,7 +93,7 @@ class Function:
         return [program, path]
 
     def _extensions(self, given):
-        """The words of each extension's command by its name; none for one that is started by hand."""
+        """Returns the words of each extension's command by its name; None for one that is started by hand."""
         commands = dict.fromkeys(given) if isinstance(given, list) else given
         return {name: words_of(command, f"{self.where}: extension {name}") if command else None
                 for name, command in commands.items()}
@@ -140,7 +140,7 @@ def read(path):
 
 
 def load(path, debug=None, salt=None):
-    """The service's configuration and the functions of UP.json, of which one may be for a debugger, and what stands in
+    """Returns the service's configuration, the functions of UP.json, one of which may be for a debugger, and what is in
     front of them."""
     whole = read(path)
     functions = [Function(member, path, member["name"] == debug) for member in whole["functions"]]

@@ -37,7 +37,7 @@ class Process:
                 self.log(self.name, line.decode(errors="replace").rstrip("\r\n"), kind=OUTPUT)
 
     def ended(self, seconds=0.0):
-        """Whether it ends within so many seconds."""
+        """Whether it ends within this many seconds."""
         waiting = select.poll()
         waiting.register(self.handle, select.POLLIN)
         return bool(waiting.poll(max(0, seconds) * 1000))
@@ -58,7 +58,7 @@ class Process:
         if seconds > 0 and not self.ended():
             self.signal(signal.SIGTERM)
             self.ended(seconds)
-        # (its number can't be another's yet, since nobody has asked for its status)
+        # (its number can't be another's yet, since its status has not been asked for)
         self.signal(signal.SIGKILL)
         GUARD.release(self.child.pid)
         self.child.wait()
@@ -67,7 +67,7 @@ class Process:
 
 
 def reason_of(status, who="Runtime"):
-    """How Lambda tells a caller that a process has ended."""
+    """Returns how Lambda reports to a caller that a process has ended."""
     if status == 0:
         return f"{who} exited without providing a reason"
     return (f"{who} exited with error: signal {-status}" if status < 0

@@ -1,11 +1,11 @@
 """When an environment's processes are started again."""
 PAUSES = (1, 2, 4, 5)
-MOST_WITH_RELOAD = 3  # after so many in vain, only a changed file helps
+MOST_WITH_RELOAD = 3  # after this many in vain, only a changed file helps
 
 
 class Restarts:
-    """A generation that ends well is followed by the next one at once, and so is the first one that ends early; behind
-    each further early one in a row there is a pause."""
+    """The next generation follows at once after one that ends well, and after the first that ends early. There is a
+    pause after each further early one in a row."""
 
     def __init__(self, waits_for_changes):
         self.waits_for_changes, self.early = waits_for_changes, 0

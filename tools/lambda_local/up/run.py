@@ -28,8 +28,8 @@ def has_terminal():
 
 class Run:
     """A command that runs. In a terminal's foreground it shares this process's group: so it reads from the terminal,
-    and Ctrl-C comes to both. Elsewhere it has a group of its own: so whoever interrupts this process, or its whole
-    group, interrupts it once, by this process."""
+    and Ctrl-C reaches both. Elsewhere it has its own group: a signal to this process, or to its whole group,
+    interrupts the command once, through this process."""
 
     def __init__(self, words, variables, when_ended):
         self.shares = has_terminal()

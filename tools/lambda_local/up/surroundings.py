@@ -20,7 +20,7 @@ LONGEST_SECONDS = 10.0  # for a client to say its version
 
 
 def of_callers(service, keeps_credentials):
-    """The variables of whoever calls functions: this process's own, and those that lead here."""
+    """Returns the variables of a command that calls functions: this process's own, and those that lead here."""
     region = service.configuration["region"]
     found = {name: value for name, value in os.environ.items() if name != "AWS_IGNORE_CONFIGURED_ENDPOINT_URLS"}
     if not keeps_credentials:

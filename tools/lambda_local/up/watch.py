@@ -25,7 +25,7 @@ class Watch(threading.Thread):
             begun = time.monotonic()
             self.refresh()
             took = time.monotonic() - begun
-            # (A service that has just ended answers nobody.)
+            # (A service that has just ended answers no one.)
             with contextlib.suppress(OSError, http.client.HTTPException):
                 for hook in self.hooks:
                     hook()
@@ -46,7 +46,7 @@ class Watch(threading.Thread):
 
     @contextlib.contextmanager
     def muted(self, environment):
-        """What is reported here of this environment is told elsewhere."""
+        """What this would report about the environment is reported elsewhere."""
         with self.lock:
             self.refresh()
             self.mute = environment

@@ -1,4 +1,4 @@
-//! Bells that tell in which order they rang.
+//! Bells that record the order in which they rang.
 
 use account_lock::Bell;
 use case_tables::CaseFault;
@@ -6,17 +6,17 @@ use std::alloc::{AllocError, Global};
 use std::sync::Arc;
 use std::sync::atomic::{AtomicU64, Ordering};
 
-/// How many bells of one step are told apart.
+/// How many bells of one step can be told apart.
 const MOST_RINGS: u64 = 9;
 
-/// What is heard of bells.
+/// What was heard of bells.
 #[derive(Drop)]
 struct Heard {
-    /// How many rang in all.
+    /// How many rang in total.
     all: AtomicU64,
     /// How many rang in this step.
     rings: AtomicU64,
-    /// Their numbers and one, seven bits each; the first that rang has the lowest.
+    /// Their numbers plus one, seven bits each; the first that rang is in the lowest bits.
     numbers: AtomicU64,
 }
 
@@ -27,7 +27,7 @@ pub struct Numbered {
     heard: Arc<Heard, Global>,
 }
 
-/// What a number adds to those that were heard, if so many rang before it.
+/// Returns what the bell with this number adds to `numbers` if `before` bells rang before it.
 fn place_of(number: u64, before: u64) -> u64 {
     if before >= MOST_RINGS {
         return 0;
@@ -45,7 +45,7 @@ impl Bell for Numbered {
     }
 }
 
-/// Makes bells, numbered from 0 in the order in which they are made, and hears them.
+/// Makes bells, numbered from 0 in the order of their creation, and hears them.
 #[derive(Drop)]
 pub struct Bells {
     next: u64,
@@ -53,7 +53,7 @@ pub struct Bells {
 }
 
 impl Bells {
-    /// Before any bell was made.
+    /// Creates a maker that has made no bell.
     pub fn new(alloc: Global) -> Result<Bells, AllocError> {
         let heard = Heard {
             all: AtomicU64::new(0),
@@ -66,14 +66,14 @@ impl Bells {
         })
     }
 
-    /// A new bell.
+    /// Makes a bell.
     pub fn make(&mut self) -> Result<Numbered, CaseFault> {
         let number = self.next;
         self.next = number.wrapping_add(1);
         self.unnumbered(number)
     }
 
-    /// A bell of this number, as threads make them that only count what rings.
+    /// Makes a bell with this number, for threads that only count what rings.
     pub fn unnumbered(&self, number: u64) -> Result<Numbered, CaseFault> {
         match Arc::try_clone(&self.heard) {
             Ok(heard) => Ok(Numbered { number, heard }),
@@ -81,18 +81,18 @@ impl Bells {
         }
     }
 
-    /// From now on a next step is heard.
+    /// Begins the next step.
     pub fn begin_step(&self) {
         self.heard.rings.store(0, Ordering::SeqCst);
         self.heard.numbers.store(0, Ordering::SeqCst);
     }
 
-    /// How many bells rang in this step.
+    /// Returns how many bells rang in this step.
     pub fn rings(&self) -> u64 {
         self.heard.rings.load(Ordering::SeqCst)
     }
 
-    /// The number of the bell that rang in this step behind so many others.
+    /// Returns the number of the bell that rang in this step after `before` others.
     pub fn rang(&self, before: u64) -> u64 {
         if before >= MOST_RINGS {
             return 0;
@@ -101,7 +101,7 @@ impl Bells {
         (numbers >> (7 * before) & 127).wrapping_sub(1)
     }
 
-    /// How many bells rang in all.
+    /// Returns how many bells rang in total.
     pub fn all(&self) -> u64 {
         self.heard.all.load(Ordering::SeqCst)
     }

@@ -1,5 +1,5 @@
-//! Threads that share an account. Which of them comes first is not known; that every call has its
-//! ticket, and every bell rings once, is.
+//! Threads that share an account. Which of them comes first is not known, but every call gets its
+//! ticket, and every bell rings once.
 
 use crate::accounts::bells::Bells;
 use crate::accounts::places::{Place, Taken};
@@ -14,17 +14,17 @@ use std::sync::Wait;
 use std::thread::{self, Threads};
 use usage_ledger::{Keep, Ledgers, Tally, Token};
 
-/// How many milliseconds go by in a turn.
+/// The length of a turn, in milliseconds.
 const TURN: u64 = 500;
 
-/// What a thread works with: its tally, and the environment at which it polls.
+/// What a thread works with: its tally, and the environment where it polls.
 #[derive(Drop)]
 struct Job<K: Keep, L: Ledgers> {
     tally: Tally<K, L>,
     env: u64,
 }
 
-/// What the words of a line stand for.
+/// The values of the words in a line.
 #[derive(Clone, Copy)]
 struct Words {
     now: u64,
@@ -32,8 +32,8 @@ struct Words {
     parked: Ticket,
 }
 
-/// Adds a word: NOW is the moment of the turn, ENV the environment of the thread, and PARKED the
-/// ticket of its last Next.
+/// Adds a word: NOW becomes the moment of the turn, ENV the environment of the thread, and PARKED
+/// the ticket of its last Next.
 fn push_word(text: &mut Given, word: &str, words: Words) {
     match word {
         "NOW" => text.print(&words.now),
@@ -43,7 +43,7 @@ fn push_word(text: &mut Given, word: &str, words: Words) {
     }
 }
 
-/// A line with its words.
+/// Returns a line with the values of its words.
 fn line_with(alloc: Global, line: &str, words: Words) -> Given {
     let mut text = Given::new(alloc);
     for word in line.split(' ') {
@@ -65,7 +65,7 @@ struct Worker<'a, R, S: Identity, K: Keep> {
 }
 
 impl<R: Wait, S: Identity, K: Keep> Worker<'_, R, S, K> {
-    /// Makes the call of a line; its ticket.
+    /// Makes the call of a line, and returns its ticket.
     fn call(&mut self, number: u64, line: &Given) -> Result<Ticket, CaseFault> {
         line.end()?;
         let bell = self.bells.unnumbered(0)?;
@@ -80,7 +80,7 @@ impl<R: Wait, S: Identity, K: Keep> Worker<'_, R, S, K> {
         }
     }
 
-    /// Makes the calls of all lines once; the ticket of the last Next.
+    /// Makes the calls of all lines once, and returns the ticket of the last Next.
     fn turn(&mut self, turns: Turns<'_>, words: Words) -> Result<Ticket, CaseFault> {
         let mut words = words;
         let mut number = turns.first;
@@ -105,7 +105,7 @@ impl<R: Wait, S: Identity, K: Keep> Worker<'_, R, S, K> {
     }
 }
 
-/// The calls of a thread; its tally.
+/// Makes the calls of a thread, and returns its tally.
 fn work<R: Wait, S: Identity, K: Keep>(
     place: &Place<R, S>,
     bells: &Bells,
@@ -124,7 +124,7 @@ fn work<R: Wait, S: Identity, K: Keep>(
     }
 }
 
-/// Adds the job for an environment, which has a part of the first tally.
+/// Adds the job for an environment, with a part of the first tally.
 fn push_job<K: Keep, L: Ledgers>(
     jobs: &mut Vec<Job<K, L>>,
     tallies: &mut [Tally<K, L>],
@@ -139,7 +139,7 @@ fn push_job<K: Keep, L: Ledgers>(
     }
 }
 
-/// A job for each of four environments.
+/// Returns a job for each of four environments.
 fn jobs_of<K: Keep, L: Ledgers>(
     alloc: Global,
     tallies: &mut [Tally<K, L>],
@@ -151,7 +151,7 @@ fn jobs_of<K: Keep, L: Ledgers>(
     Ok(jobs)
 }
 
-/// Puts the tally of a thread behind the others.
+/// Appends the tally of a thread.
 fn put_behind<K: Keep, L: Ledgers>(
     tallies: &mut Vec<Tally<K, L>>,
     worked: Result<Tally<K, L>, CaseFault>,
@@ -162,7 +162,7 @@ fn put_behind<K: Keep, L: Ledgers>(
     }
 }
 
-/// Puts the tallies of all threads behind the others.
+/// Appends the tallies of all threads.
 fn put_all<K: Keep, L: Ledgers>(
     tallies: &mut Vec<Tally<K, L>>,
     worked: Vec<Result<Tally<K, L>, CaseFault>>,
@@ -173,7 +173,7 @@ fn put_all<K: Keep, L: Ledgers>(
     Ok(())
 }
 
-/// Makes the calls of four threads at once. Their tallies are put behind the others.
+/// Makes the calls of four threads at the same time, and appends their tallies.
 pub fn crowd_of<R: Wait + Threads + Sync, S: Identity + Send + Sync, K: Keep + Send + Sync>(
     place: &Place<R, S>,
     tallies: &mut Vec<Tally<K, S>>,

@@ -1,4 +1,4 @@
-//! What a tally keeps, and how it is forged.
+//! What a tally keeps, and ways to forge it.
 
 use call_model::{Answer, Head, Ticket};
 use std::alloc::{AllocError, Global};
@@ -19,15 +19,15 @@ pub enum Forgery {
     NoReceipt,
     /// The call of ticket 0 has another head.
     AnotherHead,
-    /// The calls stand backwards.
+    /// The calls are in reverse order.
     Backwards,
     /// The call of ticket 0 is gone.
     NoCall,
-    /// The first call stands in place of the second one too.
+    /// The first call is repeated in place of the second.
     Twice,
 }
 
-/// The names of forgeries.
+/// The forgeries, by their names.
 pub const FORGERIES: [(&str, Forgery); 6] = [
     ("another-answer", Forgery::AnotherAnswer),
     ("no-receipt", Forgery::NoReceipt),
@@ -38,7 +38,7 @@ pub const FORGERIES: [(&str, Forgery); 6] = [
 ];
 
 impl Kept {
-    /// A copy of these.
+    /// Copies receipts and calls.
     pub fn copy(
         alloc: Global,
         receipts: &[(Ticket, Answer)],
@@ -68,7 +68,7 @@ impl Kept {
         }
     }
 
-    /// Puts the first call in place of the second one too.
+    /// Puts the first call in place of the second.
     fn repeat_first_call(&mut self) {
         let first = self.calls.first().copied();
         if let (Some(first), Some(second)) = (first, self.calls.get_mut(1)) {

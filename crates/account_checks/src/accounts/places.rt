@@ -15,7 +15,7 @@ use std::alloc::{AllocError, Global};
 use std::sync::{Arc, Wait};
 use usage_ledger::{Blanks, Keep, Tally, Token, root};
 
-/// What became of a line.
+/// The outcome of a line.
 #[derive(Clone, Copy)]
 pub enum Taken {
     /// Its call has this ticket.
@@ -26,11 +26,11 @@ pub enum Taken {
     BellGone,
     /// It stands for no call.
     NoCall,
-    /// There was no memory.
+    /// Memory ran out.
     NoMemory,
 }
 
-/// What an account is asked.
+/// A question to an account.
 #[derive(Clone, Copy)]
 pub enum Question {
     Look(Ticket),
@@ -43,7 +43,7 @@ pub enum Question {
     History(Ticket),
 }
 
-/// What an account says.
+/// An account's answer.
 #[derive(Drop)]
 pub enum Said {
     Look(Look),
@@ -68,7 +68,7 @@ pub struct Place<R, S: Identity> {
     ghost configured: { arc_value config ≡ S.config },
 }
 
-/// What comes of a call that was not taken.
+/// Returns the outcome of a call that was not taken.
 fn untaken(refused: &Refused<Numbered>) -> Taken {
     match (refused.refusal, refused.bell.is_some()) {
         (Refusal::OutOfMemory, _) => Taken::NoMemory,
@@ -78,8 +78,8 @@ fn untaken(refused: &Refused<Numbered>) -> Taken {
 }
 
 impl<R: Wait, S: Identity> Place<R, S> {
-    /// Submits the call of a line by a tally, with a bell, which comes back where it is refused. The
-    /// token has then seen the history.
+    /// Submits the call of a line with a tally and a bell, which comes back if the call is refused.
+    /// The token has then seen the history.
     fn submit_once<K: Keep>(
         &self,
         tally: &mut Tally<K, S>,
@@ -102,9 +102,9 @@ impl<R: Wait, S: Identity> Place<R, S> {
         }
     }
 
-    /// Submits the call of a line, with a bell, by a tally; once more, with the bell that came back,
-    /// where memory was refused: account and tally are then as they were. The token has then seen the
-    /// history.
+    /// Submits the call of a line with a bell and a tally. If memory was refused, which leaves
+    /// account and tally unchanged, submits it once more, with the bell that came back. The token
+    /// has then seen the history.
     pub fn submit<K: Keep>(
         &self,
         tally: &mut Tally<K, S>,
@@ -118,8 +118,8 @@ impl<R: Wait, S: Identity> Place<R, S> {
         }
     }
 
-    /// Submits the call of a line once more where memory was refused; what came of it, or of the first
-    /// time.
+    /// Submits the call of a line once more if memory was refused; returns the outcome of the last
+    /// try.
     fn submit_again<K: Keep>(
         &self,
         tally: &mut Tally<K, S>,
@@ -136,7 +136,7 @@ impl<R: Wait, S: Identity> Place<R, S> {
         }
     }
 
-    /// The reservation of a function.
+    /// Returns the reservation of a function.
     fn reservation(&self, token: &mut Token<S>, function: FnNo) -> Said {
         if function < 1 || function as usize > self.config.functions().len() {
             return Said::NoFunction;
@@ -144,7 +144,7 @@ impl<R: Wait, S: Identity> Place<R, S> {
         Said::Reservation(self.account.reservation(&self.rt, token, function))
     }
 
-    /// Asks the account, with a token, which then has seen the history that was read.
+    /// Asks the account with a token, which has then seen the history that was read.
     pub fn ask(&self, token: &mut Token<S>, question: Question) -> Said {
         let (rt, account) = (&self.rt, &self.account);
         match question {
@@ -160,14 +160,14 @@ impl<R: Wait, S: Identity> Place<R, S> {
     }
 }
 
-/// An account and the tally that has all parts.
+/// An account, and the tally that has all parts.
 #[derive(Drop)]
 pub struct Opened<R, S: Identity, K: Keep> {
     pub place: Place<R, S>,
     pub root: Tally<K, S>,
 }
 
-/// Whether a case is run by an account or by a desk.
+/// Whether a case runs on an account or on a desk.
 #[derive(Clone, Copy)]
 pub enum Way {
     Account,
@@ -199,7 +199,7 @@ fn open_desk<S: Identity, K: Keep>(
     Ok((Account::share(desk, start.spine, start.pen), start.tally))
 }
 
-/// Opens an account in a way.
+/// Opens an account or a desk.
 pub fn open<R: Drop, S: Identity, K: Keep>(
     rt: R,
     alloc: Global,

@@ -1,4 +1,4 @@
-//! What a case does: its parts, but for a crowd, and the settlement behind them.
+//! What a case does: its parts, except a crowd, and then the settlement.
 
 use crate::accounts::bells::Bells;
 use crate::accounts::forging::FORGERIES;
@@ -11,7 +11,7 @@ use account_lock::SettleFault;
 use case_tables::{Case, CaseFault, Given, Part, value_of};
 use std::alloc::Global;
 
-/// Adds what became of a call: its ticket, or that the journal is full.
+/// Adds the outcome of a call: its ticket, or that the journal is full.
 fn push_taken(given: &mut Given, line: u64, taken: Taken) -> Result<(), CaseFault> {
     match taken {
         Taken::At(ticket) => given.print(&ticket),
@@ -23,7 +23,7 @@ fn push_taken(given: &mut Given, line: u64, taken: Taken) -> Result<(), CaseFaul
     Ok(())
 }
 
-/// How many receipts the tally with a number keeps.
+/// Returns how many receipts the tally with this number keeps.
 fn receipts_of<P: Stand>(stand: &P, seat: usize) -> usize {
     match stand.seat(seat) {
         Some(seen) => seen.receipts.len(),
@@ -31,7 +31,7 @@ fn receipts_of<P: Stand>(stand: &P, seat: usize) -> usize {
     }
 }
 
-/// Adds the bells that rang, and the receipts of a tally behind so many.
+/// Adds the bells that rang, and a tally's receipts after the first `before`.
 fn push_heard<P: Stand>(stand: &P, bells: &Bells, seat: usize, before: usize, given: &mut Given) {
     push_rings(given, bells);
     if let Some(seen) = stand.seat(seat) {
@@ -39,8 +39,8 @@ fn push_heard<P: Stand>(stand: &P, bells: &Bells, seat: usize, before: usize, gi
     }
 }
 
-/// Submits the call of a line by a tally; adds its ticket, the bells that rang, and the answers of
-/// which the tally keeps receipts.
+/// Submits the call of a line with a tally; adds its ticket, the bells that rang, and the answers
+/// whose receipts the tally keeps.
 fn one_call<P: Stand>(
     stand: &mut P,
     bells: &mut Bells,
@@ -60,7 +60,7 @@ fn one_call<P: Stand>(
     Ok(())
 }
 
-/// Sees to it that there is the tally that a part names; its number.
+/// Creates the tally that a part names, unless it is there, and returns its number.
 fn seat_of<P: Stand>(stand: &mut P, part: &Part) -> Result<usize, CaseFault> {
     let seat = seat_in(part.line(), part.arguments())?;
     match stand.make_seat(seat) {
@@ -69,7 +69,7 @@ fn seat_of<P: Stand>(stand: &mut P, part: &Part) -> Result<usize, CaseFault> {
     }
 }
 
-/// Submits the calls of a part by a tally.
+/// Submits the calls of a part with a tally.
 fn all_calls<P: Stand>(
     stand: &mut P,
     bells: &mut Bells,
@@ -85,7 +85,7 @@ fn all_calls<P: Stand>(
     Ok(())
 }
 
-/// How many entries an account has.
+/// Returns how many entries an account has.
 fn entries_of<P: Stand>(stand: &mut P) -> u64 {
     match stand.ask(Question::Stats) {
         Said::Stats(stats) => stats.entries,
@@ -93,7 +93,7 @@ fn entries_of<P: Stand>(stand: &mut P) -> u64 {
     }
 }
 
-/// Adds what each ticket was answered, and the first one behind the history.
+/// Adds each ticket's answer, and that of the ticket past the end.
 fn push_looks<P: Stand>(stand: &mut P, given: &mut Given) {
     given.push("\n");
     for ticket in 0..entries_of(stand).saturating_add(1) {
@@ -103,14 +103,14 @@ fn push_looks<P: Stand>(stand: &mut P, given: &mut Given) {
     }
 }
 
-/// The questions that have no number.
+/// The questions without a number.
 const PLAIN: [(&str, Question); 3] = [
     ("life", Question::Life),
     ("stats", Question::Stats),
     ("opening", Question::Opening),
 ];
 
-/// The question of a word with a number behind it.
+/// Returns the question for a word and a number.
 fn numbered_question(word: &str, number: u64) -> Option<Question> {
     match word {
         "look" => Some(Question::Look(number)),
@@ -122,7 +122,7 @@ fn numbered_question(word: &str, number: u64) -> Option<Question> {
     }
 }
 
-/// The question of a word and the number behind it.
+/// Reads the question of a word and a number.
 fn question_of(line: u64, word: &str, number: &str) -> Result<Question, CaseFault> {
     if let Some(question) = value_of(&PLAIN, word) {
         return Ok(question);
@@ -133,7 +133,7 @@ fn question_of(line: u64, word: &str, number: &str) -> Result<Question, CaseFaul
     }
 }
 
-/// Adds what an account says to the question of a line.
+/// Adds an account's answer to the question in a line.
 fn push_answer<P: Stand>(
     stand: &mut P,
     line: u64,
@@ -146,7 +146,7 @@ fn push_answer<P: Stand>(
     Ok(())
 }
 
-/// Adds what is seen of the tally of a number.
+/// Adds what is seen of the tally with this number.
 fn push_tally<P: Stand>(
     stand: &P,
     line: u64,
@@ -161,7 +161,7 @@ fn push_tally<P: Stand>(
     Ok(())
 }
 
-/// Asks what a line asks, and adds the line and what it is told.
+/// Asks the question in a line, and adds the line and the answer.
 fn one_question<P: Stand>(
     stand: &mut P,
     bells: &Bells,
@@ -181,7 +181,7 @@ fn one_question<P: Stand>(
     Ok(())
 }
 
-/// Asks what the lines of a part ask.
+/// Asks the questions in a part's lines.
 fn all_questions<P: Stand>(
     stand: &mut P,
     bells: &Bells,
@@ -196,7 +196,7 @@ fn all_questions<P: Stand>(
     Ok(())
 }
 
-/// What the four threads of a crowd call, as a part says.
+/// Reads the calls that the four threads of a crowd make.
 pub fn turns_of(part: &Part) -> Result<Turns<'_>, CaseFault> {
     Ok(Turns {
         count: number_behind(part)?,
@@ -205,7 +205,7 @@ pub fn turns_of(part: &Part) -> Result<Turns<'_>, CaseFault> {
     })
 }
 
-/// Forges what the tally 1 keeps, as a part says.
+/// Forges what tally 1 keeps, as a part says.
 fn forge<P: Stand>(stand: &mut P, part: &Part) -> Result<(), SeatFault> {
     match value_of(&FORGERIES, part.arguments()) {
         Some(forgery) => stand.forge(forgery),
@@ -216,7 +216,7 @@ fn forge<P: Stand>(stand: &mut P, part: &Part) -> Result<(), SeatFault> {
 /// What a part does.
 #[derive(Clone, Copy)]
 pub enum Deed {
-    /// It says how the account is opened.
+    /// It says how to open the account.
     Opens,
     Calls,
     CallsQuietly,
@@ -227,7 +227,7 @@ pub enum Deed {
     Forges,
 }
 
-/// The words of parts.
+/// The deeds, by the words of their parts.
 const DEEDS: [(&str, Deed); 9] = [
     ("open", Deed::Opens),
     ("keep", Deed::Opens),
@@ -240,7 +240,7 @@ const DEEDS: [(&str, Deed); 9] = [
     ("forge", Deed::Forges),
 ];
 
-/// What a part does.
+/// Returns what a part does.
 pub fn deed_of(part: &Part) -> Result<Deed, CaseFault> {
     match value_of(&DEEDS, part.word()) {
         Some(deed) => Ok(deed),
@@ -248,7 +248,7 @@ pub fn deed_of(part: &Part) -> Result<Deed, CaseFault> {
     }
 }
 
-/// Does to the tallies what a part says.
+/// Changes the tallies as a part says.
 fn change_tallies<P: Stand>(stand: &mut P, deed: Deed, part: &Part) -> Result<(), CaseFault> {
     let changed = match deed {
         Deed::Joins => stand.join(),
@@ -262,7 +262,7 @@ fn change_tallies<P: Stand>(stand: &mut P, deed: Deed, part: &Part) -> Result<()
     }
 }
 
-/// Submits the calls of a part, of which nothing is told.
+/// Submits the calls of a part, and adds nothing.
 fn quiet_calls<P: Stand>(
     alloc: Global,
     stand: &mut P,
@@ -274,7 +274,7 @@ fn quiet_calls<P: Stand>(
     unseen.end()
 }
 
-/// Does what a part says, but for a crowd.
+/// Performs a part, unless it is a crowd.
 pub fn one_part<P: Stand>(
     stand: &mut P,
     bells: &mut Bells,
@@ -290,7 +290,7 @@ pub fn one_part<P: Stand>(
     }
 }
 
-/// Settles the account behind the parts of a case.
+/// Settles the account after the parts of a case.
 pub fn end_case<P: Stand>(case: &Case, stand: P, given: &mut Given) -> Result<(), CaseFault> {
     let ending = stand.settle();
     if matches!(ending.settled, Err(SettleFault::OutOfMemory)) {

@@ -17,8 +17,8 @@ use std::sync::Wait;
 use std::thread::Threads;
 use usage_ledger::{Keep, Ledgers, Tally, Token};
 
-/// An account with its tallies, with the one that is held back, and with the token by which the account
-/// is asked: each call that is taken gives a new one.
+/// An account with its tallies, the one that is held back, and the token that questions to the
+/// account use: each call that is taken gives a new one.
 #[derive(Drop)]
 pub struct Seats<R, S: Identity, K: Keep> {
     place: Place<R, S>,
@@ -28,7 +28,7 @@ pub struct Seats<R, S: Identity, K: Keep> {
     way: Way,
 }
 
-/// What a tally keeps, forged.
+/// Returns what a tally keeps, forged.
 fn forged_of<K: Keep, L: Ledgers>(
     alloc: Global,
     tally: Option<&Tally<K, L>>,
@@ -45,7 +45,7 @@ fn forged_of<K: Keep, L: Ledgers>(
     Ok(kept)
 }
 
-/// A part of a tally that has noted this.
+/// Returns a part of a tally, with these receipts and calls noted.
 fn part_with<K: Keep, L: Ledgers>(
     root: Option<&mut Tally<K, L>>,
     kept: &Kept,
@@ -56,7 +56,7 @@ fn part_with<K: Keep, L: Ledgers>(
     Ok(part)
 }
 
-/// A part of tally 0 that keeps what tally 1 does, forged.
+/// Returns a part of tally 0 that keeps what tally 1 does, forged.
 fn forged_part<K: Keep, L: Ledgers>(
     alloc: Global,
     tallies: &mut Vec<Tally<K, L>>,
@@ -66,7 +66,7 @@ fn forged_part<K: Keep, L: Ledgers>(
     part_with(tallies.first_mut(), &kept)
 }
 
-/// Puts a tally in place of tally 1, whose share tally 0 takes over.
+/// Puts a tally in place of tally 1; tally 0 takes over the share of the old one.
 fn replace_second<K: Keep, L: Ledgers>(
     tallies: &mut Vec<Tally<K, L>>,
     forged: Tally<K, L>,
@@ -79,12 +79,12 @@ fn replace_second<K: Keep, L: Ledgers>(
     Ok(())
 }
 
-/// The counts of what is settled.
+/// Returns the counts that were settled.
 fn counts_of<K: Keep, L: Ledgers>(settled: &Settled<K, L>) -> (Stats, u64) {
     (settled.stats, settled.book.len())
 }
 
-/// The parts of a tally, where there is one.
+/// Returns the parts of a tally, if there is one.
 fn parts_in<K: Keep, L: Ledgers>(tally: &Option<Tally<K, L>>) -> Option<u64> {
     match tally {
         Some(tally) => Some(tally.parts()),
@@ -92,7 +92,7 @@ fn parts_in<K: Keep, L: Ledgers>(tally: &Option<Tally<K, L>>) -> Option<u64> {
     }
 }
 
-/// Settles an account; the counts.
+/// Settles an account, and returns the counts.
 fn settle_account<S: Identity, K: Keep>(
     account: Account<S, Numbered>,
     tallies: Vec<Tally<K, S>>,
@@ -103,7 +103,7 @@ fn settle_account<S: Identity, K: Keep>(
     }
 }
 
-/// Settles its desk; the counts.
+/// Settles a desk, and returns the counts.
 fn settle_desk<S: Identity, K: Keep>(
     account: Account<S, Numbered>,
     tallies: Vec<Tally<K, S>>,
@@ -115,7 +115,7 @@ fn settle_desk<S: Identity, K: Keep>(
 }
 
 impl<R: Wait + Drop, S: Identity + Drop, K: Keep> Seats<R, S, K> {
-    /// An account with its first tally.
+    /// Opens an account with its first tally.
     pub fn new(opened: Opened<R, S, K>, way: Way) -> Result<Seats<R, S, K>, AllocError> {
         let Opened { place, root } = opened;
         let tallies = first_of(place.alloc, root)?;
@@ -129,7 +129,7 @@ impl<R: Wait + Drop, S: Identity + Drop, K: Keep> Seats<R, S, K> {
     }
 }
 
-/// Makes the calls of four threads at once, each by a tally of its own.
+/// Makes the calls of four threads at the same time, each with its own tally.
 pub fn crowd<R: Wait + Threads + Sync, S: Identity + Send + Sync, K: Keep + Send + Sync>(
     seats: &mut Seats<R, S, K>,
     bells: &Bells,

@@ -1,4 +1,4 @@
-//! An account and its tallies, as scripts see them.
+//! An account and its tallies, as cases see them.
 
 use crate::accounts::bells::Numbered;
 use crate::accounts::forging::Forgery;
@@ -7,7 +7,7 @@ use crate::tallies::{Seat, SeatFault};
 use account_lock::SettleFault;
 use call_model::Stats;
 
-/// What a settlement came to.
+/// The outcome of a settlement.
 #[derive(Clone, Copy)]
 pub struct Ending {
     /// The counts, and how many entries the book has.
@@ -16,7 +16,7 @@ pub struct Ending {
     pub held_back: Option<u64>,
 }
 
-/// The lines of a crowd: each of its four threads makes the calls of all lines so many times.
+/// The lines of a crowd: each of its four threads makes the calls of all lines a number of times.
 #[derive(Clone, Copy)]
 pub struct Turns<'a> {
     pub count: u64,
@@ -25,27 +25,27 @@ pub struct Turns<'a> {
     pub first: u64,
 }
 
-/// An account and its tallies. The tally with number 0 has all parts that no other one has.
+/// An account and its tallies. Tally 0 has all parts that no other tally has.
 pub trait Stand: Drop {
-    /// Sees to it that there is a tally with this number.
+    /// Creates the tally with this number, unless it is there.
     fn make_seat(&mut self, seat: usize) -> Result<(), SeatFault>;
 
-    /// What is seen of a tally.
+    /// Returns what is seen of a tally.
     fn seat(&self, seat: usize) -> Option<Seat<'_>>;
 
-    /// Submits the call of a line by a tally.
+    /// Submits the call of a line with a tally.
     fn take(&mut self, seat: usize, line: &[u8], bell: Numbered) -> Result<Taken, SeatFault>;
 
     /// Asks the account.
     fn ask(&mut self, question: Question) -> Said;
 
-    /// Joins the tallies 1 and 2.
+    /// Joins tallies 1 and 2.
     fn join(&mut self) -> Result<(), SeatFault>;
 
-    /// Holds the tally 1 back from the settlement.
+    /// Holds tally 1 back from the settlement.
     fn hold_back(&mut self) -> Result<(), SeatFault>;
 
-    /// Forges what tally 1 keeps: another one keeps it in its place, and tally 0 takes its share over.
+    /// Forges what tally 1 keeps: another tally keeps it instead, and tally 0 takes over its share.
     fn forge(&mut self, forgery: Forgery) -> Result<(), SeatFault>;
 
     /// Settles the account.

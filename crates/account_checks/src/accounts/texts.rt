@@ -24,14 +24,14 @@ pub fn push_rings(given: &mut Given, bells: &Bells) {
     given.push("\n");
 }
 
-/// Adds how many bells rang in all.
+/// Adds how many bells rang in total.
 pub fn push_all_rings(given: &mut Given, bells: &Bells) {
     given.push(" ");
     given.print(&bells.all());
     given.push(" rang\n");
 }
 
-/// Adds what a ticket was answered, or that it waits.
+/// Adds the answer of a ticket, or that it waits.
 pub fn push_look(given: &mut Given, ticket: Ticket, look: Look) {
     match look {
         Look::Given(answer) => push_answered(given, ticket, answer),
@@ -62,7 +62,7 @@ fn push_shown<T: Debug>(given: &mut Given, value: &T) {
     given.push("\n");
 }
 
-/// Adds what is told of a reply.
+/// Adds what is shown of a reply.
 fn push_reply(given: &mut Given, reply: &Result<Option<Reply>, AllocError>) {
     match reply {
         Ok(Some(reply)) => {
@@ -98,7 +98,7 @@ fn push_entry(given: &mut Given, text: &Result<Option<Vec<u8>>, AllocError>) {
     }
 }
 
-/// Adds what an account says, as the rest of a line or as lines.
+/// Adds an account's answer, as the rest of a line or as lines.
 pub fn push_said(given: &mut Given, said: &Said) {
     match said {
         Said::Look(look) => push_shown(given, look),
@@ -116,7 +116,7 @@ pub fn push_said(given: &mut Given, said: &Said) {
     }
 }
 
-/// Adds what a settlement came to; of a crowd only what no schedule changes.
+/// Adds the outcome of a settlement; for a crowd, only what no schedule changes.
 pub fn push_ending(given: &mut Given, ending: Ending, crowded: bool) {
     match ending.settled {
         Err(fault) => {

@@ -10,10 +10,10 @@ use http_body::{Body, Frame};
 use http_uri::{Uri, UriError};
 use std::alloc::{AllocError, Global};
 
-/// The most letters of a piece.
+/// The most letters in a piece.
 const MOST_LETTERS: u64 = 1 << 24;
 
-/// So many times the same piece; then it ends, or it fails.
+/// The same piece a number of times; then the body ends, or it fails.
 #[derive(Drop)]
 pub struct Pieces {
     piece: Bytes,
@@ -39,7 +39,7 @@ impl Body for Pieces {
     }
 }
 
-/// What is asked: at which moment, with which head and body.
+/// A request: its moment, head and body.
 #[derive(Drop)]
 pub struct Ask {
     pub at: At,
@@ -47,21 +47,21 @@ pub struct Ask {
     pub body: Pieces,
 }
 
-/// The three lines of a part; those that it doesn't have are empty.
+/// Returns the three lines of a part; those that it lacks are empty.
 pub fn three_in(part: &Part) -> (&str, &str, &str) {
     let (first, rest) = part.lines().split_once('\n').unwrap_or(("", ""));
     let (second, third) = rest.split_once('\n').unwrap_or((rest, ""));
     (first, second, third)
 }
 
-/// So many letters.
+/// Returns a number of letters.
 fn letters(alloc: Global, count: u64) -> Result<Bytes, AllocError> {
     let mut piece = Vec::new(alloc);
     piece.resize(count as usize, b'x')?;
     Ok(Bytes::from_vec(piece)?)
 }
 
-/// A piece of a body: `=TEXT` or `letters N`.
+/// Reads a piece of a body: `=TEXT` or `letters N`.
 fn piece_in(alloc: Global, line: u64, text: &str) -> Result<Bytes, CaseFault> {
     if let Some(count) = text.strip_prefix("letters ") {
         let count = number_of(line, count)?.min(MOST_LETTERS);
@@ -71,7 +71,7 @@ fn piece_in(alloc: Global, line: u64, text: &str) -> Result<Bytes, CaseFault> {
     Ok(Bytes::from_vec(Vec::from_slice(alloc, text.as_bytes())?)?)
 }
 
-/// A body: a piece, or so many of them behind `pieces N` or `broken N`.
+/// Reads a body: a piece, repeated after `pieces N` or `broken N`.
 fn body_in(alloc: Global, line: u64, text: &str) -> Result<Pieces, CaseFault> {
     let (word, rest) = split_word(text);
     let (count, text) = match word {
@@ -87,7 +87,7 @@ fn body_in(alloc: Global, line: u64, text: &str) -> Result<Pieces, CaseFault> {
     })
 }
 
-/// The head of a request with this path.
+/// Returns the head of a request with this path.
 fn head_in(alloc: Global, line: u64, path: &str) -> Result<Parts, CaseFault> {
     let uri = match Uri::from_str(alloc, path) {
         Ok(uri) => uri,
@@ -99,7 +99,7 @@ fn head_in(alloc: Global, line: u64, path: &str) -> Result<Parts, CaseFault> {
     Ok(parts)
 }
 
-/// What a line asks: a moment, a path and a body.
+/// Reads a request from a line: a moment, a path and a body.
 pub fn ask_in(alloc: Global, line: u64, text: &str) -> Result<Ask, CaseFault> {
     let (moment, rest) = split_word(text);
     let (path, body) = split_word(rest);

@@ -1,4 +1,4 @@
-//! A service that is no account, and does as a case says.
+//! A service that is not an account, and does as a case says.
 
 use account_book::Refusal;
 use account_lock::{Account, Bell, Declined, Identity, Look, Refused};
@@ -13,22 +13,22 @@ use std::sync::atomic::AtomicU64;
 use std::sync::atomic::Ordering::SeqCst;
 use usage_ledger::{KeepNone, Tally, Token};
 
-/// The ticket of every call that is taken.
+/// The ticket of each call that is taken.
 const TICKET: Ticket = 7;
 
-/// What becomes of its calls.
+/// How the service treats calls.
 #[derive(Clone, Copy)]
 pub enum Mood {
     /// They are refused.
     Refuses,
     /// They wait, and their bells are lost.
     LosesBells,
-    /// So many are premature that are offered; then they are answered.
+    /// The first calls, up to this number, are premature when offered; the others are answered.
     Answers(u64),
 }
 
-/// Notes how many calls came, and the moment of the last one. Its tokens are those of an account that
-/// takes none.
+/// Counts the calls, and notes the moment of the last. Its tokens are those of an account that
+/// takes no calls.
 #[derive(Drop)]
 pub struct Board<S: Identity> {
     alloc: Global,
@@ -40,7 +40,7 @@ pub struct Board<S: Identity> {
 }
 
 impl<S: Identity> Board<S> {
-    /// To which no call came.
+    /// Creates a board that no call has reached.
     pub fn new(alloc: Global, mood: Mood, account: Account<S, OneShotBell>) -> Board<S> {
         Board {
             alloc,
@@ -52,7 +52,7 @@ impl<S: Identity> Board<S> {
         }
     }
 
-    /// Adds which calls came.
+    /// Adds the calls that came.
     pub fn push_noted(&self, given: &mut Given) {
         given.print(&self.offered.load(SeqCst));
         given.push(" offered, ");

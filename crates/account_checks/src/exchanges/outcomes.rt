@@ -1,4 +1,4 @@
-//! What futures come to, and what comes of requests, as lines.
+//! The outcomes of futures and of requests, as lines.
 
 ghost use Rattle.std.specs.Prelude.{IfOk};
 
@@ -15,7 +15,7 @@ use std::random::RandomSource;
 use std::str;
 use std::sync::Wait;
 
-/// Runs a future to its end. An executor fails for want of memory alone.
+/// Runs a future to its end. An executor fails only if memory runs out.
 pub fn finished<R: Wait + RandomSource + AllocGlobal, F: Future>(
     rt: &R,
     future: F,
@@ -28,7 +28,7 @@ pub fn finished<R: Wait + RandomSource + AllocGlobal, F: Future>(
     }
 }
 
-/// Runs a future to its end, or lets it go once it waits: none where it does.
+/// Runs a future to its end, or drops it as soon as it waits and returns `None`.
 fn made<R: Wait + RandomSource + AllocGlobal, F: Future>(
     rt: &R,
     future: F,
@@ -45,14 +45,14 @@ fn made<R: Wait + RandomSource + AllocGlobal, F: Future>(
     }
 }
 
-/// Whether a reply says that its call was refused for want of memory.
+/// Whether a reply says that its call was refused because memory ran out.
 fn lacks_memory(reply: &Reply) -> bool {
     reply.status == 500
         && str::from_utf8(reply.body.as_slice()).is_ok_and(|text| text.contains("Out of memory"))
 }
 
-/// What came of an exchange, with a fault in place of the reply that a call was refused for want of
-/// memory, so that no other exchange waits for that call.
+/// Returns the outcome of an exchange; a reply that memory ran out becomes a fault, so that no
+/// other exchange waits for the refused call.
 fn with_memory<H: Drop>(
     came: Result<Outcome<H>, ExchangeFault>,
 ) -> Result<Outcome<H>, ExchangeFault> {
@@ -64,7 +64,7 @@ fn with_memory<H: Drop>(
     came
 }
 
-/// The reply of a request of a part that begins at this line.
+/// Returns the reply to a request; its part begins at this line.
 fn reply_of<H: Drop>(line: u64, outcome: Outcome<H>) -> Result<Reply, CaseFault> {
     match outcome {
         Outcome::Reply(reply) => Ok(reply),
@@ -72,7 +72,7 @@ fn reply_of<H: Drop>(line: u64, outcome: Outcome<H>) -> Result<Reply, CaseFault>
     }
 }
 
-/// The replies of three requests of a part that begins at this line.
+/// Returns the replies to three requests; their part begins at this line.
 fn replies_of<H: Drop>(
     line: u64,
     outcomes: (Outcome<H>, Outcome<H>, Outcome<H>),
@@ -83,7 +83,7 @@ fn replies_of<H: Drop>(
     Ok((one, other, reply_of(line, last)?))
 }
 
-/// Makes three exchanges of a part that begins at this line, at once.
+/// Makes three exchanges at the same time; their part begins at this line.
 fn made_together<
     R: Wait + RandomSource + AllocGlobal,
     H: Drop,
@@ -105,7 +105,7 @@ fn made_together<
     }
 }
 
-/// The same, where all three could be begun.
+/// Makes three exchanges at the same time, if all three could be begun.
 pub fn made_at_once<
     R: Wait + RandomSource + AllocGlobal,
     H: Drop,
@@ -148,7 +148,7 @@ fn push_reply(given: &mut Given, reply: &Reply) {
     given.push("\n");
 }
 
-/// Adds the reply of a request.
+/// Adds the reply to a request.
 fn push_answer(given: &mut Given, reply: &Reply) {
     match lacks_memory(reply) {
         true => given.cut(),
@@ -165,7 +165,7 @@ fn push_fault(given: &mut Given, fault: ExchangeFault) {
     }
 }
 
-/// Adds what came of an exchange. A history is given back.
+/// Adds the outcome of an exchange. Returns the history, if that is the outcome.
 fn push_came<H: Drop>(given: &mut Given, came: Result<Outcome<H>, ExchangeFault>) -> Option<H> {
     match came {
         Ok(Outcome::Reply(reply)) => push_answer(given, &reply),
@@ -175,7 +175,8 @@ fn push_came<H: Drop>(given: &mut Given, came: Result<Outcome<H>, ExchangeFault>
     None
 }
 
-/// Makes an exchange, or lets it go once it waits, and adds what came of it. A history is given back.
+/// Makes an exchange, or drops it as soon as it waits, and adds its outcome. Returns the history,
+/// if that is the outcome.
 pub fn push_made<
     R: Wait + RandomSource + AllocGlobal,
     H: Drop,
@@ -211,14 +212,14 @@ pub fn push_open(given: &mut Given, open: &OpenPoll) {
     }
 }
 
-/// Adds the line of a request, its reply, and the Next that its connection has open then.
+/// Adds the line of a request, its reply, and the Next that its connection then has open.
 fn push_told(given: &mut Given, text: &str, reply: &Reply, open: &OpenPoll) {
     given.line(text);
     push_reply(given, reply);
     push_open(given, open);
 }
 
-/// The same for three requests, where all were answered.
+/// Adds the same for three requests, if all were answered.
 pub fn push_three(
     given: &mut Given,
     texts: (&str, &str, &str),
@@ -232,7 +233,7 @@ pub fn push_three(
     Ok(())
 }
 
-/// Adds what came of a poll for the answer of a ticket.
+/// Adds the outcome of a poll for a ticket's answer.
 pub fn push_poll(given: &mut Given, ticket: Ticket, came: Result<Answer, BellLost>) {
     given.push("poll ");
     given.print(&ticket);

@@ -1,4 +1,4 @@
-//! What a request is decided to be in these checks, by its path alone, and their clock.
+//! How these checks decide requests, by the path alone, and their clock.
 
 ghost use Rattle.std.specs.Prelude.{◌≡◌, true, IfOk, IfSome};
 ghost use Rattle.call_types.specs.Within.{IsEnv, IsFunction, is_body};
@@ -18,7 +18,7 @@ use std::marker::PhantomData;
 use std::sync::Wait;
 use usage_ledger::{KeepNone, Tally, Token};
 
-/// A clock that stands.
+/// A clock that does not advance.
 #[derive(Clone, Copy)]
 pub struct At(pub u64);
 
@@ -28,7 +28,7 @@ impl Clock for At {
     }
 }
 
-/// A call that was submitted with a bell: its ticket, who hears the bell, and its token.
+/// A call that was submitted with a bell: its ticket, the receiver of its bell, and its token.
 #[derive(Drop)]
 pub struct Parked<S: Identity> {
     pub ticket: Ticket,
@@ -44,7 +44,7 @@ pub struct Rows<S: Identity> {
     ghost function: { IsFunction S.config 1 },
 }
 
-/// A body that a call may have.
+/// Returns the body as a call's payload, or `None` if it is too long for one.
 fn payload(body: &Bytes) -> Result<Option<Bytes>, AllocError>
     ensures { IfOk result (λ payload. IfSome payload (λ bytes. is_body bytes ≡ true)) }
 {
@@ -54,7 +54,7 @@ fn payload(body: &Bytes) -> Result<Option<Bytes>, AllocError>
     Ok(Some(body.clone()?))
 }
 
-/// What is asked for.
+/// What a request asks for.
 #[derive(Clone, Copy)]
 enum Asked {
     Next,
@@ -68,7 +68,7 @@ enum Asked {
     Length,
 }
 
-/// What paths ask for; any other path asks how long the body is.
+/// What each path asks for; any other path asks for the body's length.
 const PATHS: [(&str, Asked); 10] = [
     ("/next", Asked::Next),
     ("/invoke", Asked::Invoke),
@@ -82,7 +82,7 @@ const PATHS: [(&str, Asked); 10] = [
     ("/echo", Asked::Echo),
 ];
 
-/// Gives a text.
+/// Returns a reply with this body.
 fn shown(alloc: Global, body: Bytes) -> Result<Reply, AllocError> {
     Ok(Reply {
         status: 200,
@@ -91,12 +91,12 @@ fn shown(alloc: Global, body: Bytes) -> Result<Reply, AllocError> {
     })
 }
 
-/// Gives a body back.
+/// Returns a reply with the same body.
 fn echo_of(alloc: Global, body: &Bytes) -> Result<Reply, AllocError> {
     shown(alloc, body.clone()?)
 }
 
-/// Says how long a body is.
+/// Returns a reply with the length of a body.
 fn length_of(alloc: Global, body: &Bytes) -> Result<Reply, AllocError> {
     shown(
         alloc,
@@ -105,7 +105,7 @@ fn length_of(alloc: Global, body: &Bytes) -> Result<Reply, AllocError> {
 }
 
 impl<S: Identity> Rows<S> {
-    /// Decides for the configuration that the type names.
+    /// Creates the decider for the configuration that the type names.
     pub fn new() -> Rows<S>
         requires environment { IsEnv S.config 1 }
         requires function { IsFunction S.config 1 }
@@ -137,7 +137,7 @@ impl<S: Identity> Rows<S> {
         }
     }
 
-    /// Gives a reply.
+    /// Returns the decision to give a reply.
     fn replied(&self, reply: Result<Reply, AllocError>) -> Result<Decision, AllocError>
         ensures { IfOk result (IsAllowed S.config) }
     {
@@ -148,7 +148,8 @@ impl<S: Identity> Rows<S> {
         }
     }
 
-    /// A call with a body: a response to invocation 1, or an Invoke of function 1.
+    /// Returns the decision to make a call with a body: a response to invocation 1, or an Invoke of
+    /// function 1.
     fn call(&self, alloc: Global, body: &Bytes, is_response: bool) -> Result<Decision, AllocError>
         ensures { IfOk result (IsAllowed S.config) }
     {

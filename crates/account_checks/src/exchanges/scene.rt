@@ -1,4 +1,4 @@
-//! A service, and what is asked of it.
+//! A service, and the requests made to it.
 
 ghost use Rattle.std.specs.Prelude.{◌≡◌, ⊤, IfOk};
 ghost use Rattle.std.specs.Arc.{arc_value};
@@ -26,10 +26,10 @@ use std::thread::{self, Threads};
 use std::time::Clock;
 use usage_ledger::{KeepNone, Tally};
 
-/// How often a call is withdrawn that another thread waits for, since memory may be refused.
+/// How often to withdraw a call that another thread waits for: memory may be refused.
 const TRIES: u32 = 2;
 
-/// What the connections of a case share: a service, who decides for it, and a tally.
+/// What the connections of a case share: a service, its decider, and a tally.
 #[derive(Drop)]
 pub struct Shared<X: Service<KeepNone, S>, S: Identity> {
     service: Arc<X>,
@@ -38,7 +38,7 @@ pub struct Shared<X: Service<KeepNone, S>, S: Identity> {
     ghost agree: { X.serves (arc_value service) ≡ S.config },
 }
 
-/// What is asked, and for how many milliseconds a connection holds a premature call back.
+/// A service under test, and how long a connection holds back a premature call, in milliseconds.
 #[derive(Drop)]
 pub struct Scene<R, X: Service<KeepNone, S>, S: Identity> {
     rt: R,
@@ -47,10 +47,10 @@ pub struct Scene<R, X: Service<KeepNone, S>, S: Identity> {
     patience: u32,
 }
 
-/// What came of a poll.
+/// The outcome of a poll.
 type Polled = Result<Answer, BellLost>;
 
-/// A value that several have.
+/// Shares a value.
 fn arc_of<T: Drop>(alloc: Global, value: T) -> Result<Arc<T>, AllocError>
     ensures { IfOk result (λ it. arc_value it ≡ value) }
 {
@@ -60,7 +60,7 @@ fn arc_of<T: Drop>(alloc: Global, value: T) -> Result<Arc<T>, AllocError>
     }
 }
 
-/// Who hears a bell that was dropped.
+/// Returns the receiver of a bell that was dropped.
 fn heard_lost(alloc: Global) -> Result<Heard, AllocError> {
     let (bell, heard) = OneShotBell::pair(alloc)?;
     drop(bell);
@@ -68,7 +68,7 @@ fn heard_lost(alloc: Global) -> Result<Heard, AllocError> {
 }
 
 impl<X: Service<KeepNone, S>, S: Identity> Shared<X, S> {
-    /// What the connections to this service share.
+    /// Collects what the connections to this service share.
     pub fn new(
         alloc: Global,
         service: X,
@@ -86,7 +86,7 @@ impl<X: Service<KeepNone, S>, S: Identity> Shared<X, S> {
         })
     }
 
-    /// The same for one more connection.
+    /// Shares it with one more connection.
     fn again(&self) -> Result<Shared<X, S>, AllocError> {
         let service = Arc::try_clone(&self.service)?;
         let rows = Arc::try_clone(&self.rows)?;
@@ -104,7 +104,7 @@ impl<
     X: Service<KeepNone, S>,
     S: Identity + Drop,
 > Scene<R, X, S> {
-    /// What is asked of this service.
+    /// Creates a scene around this service.
     pub fn new(rt: R, alloc: Global, shared: Shared<X, S>, patience: u32) -> Scene<R, X, S> {
         Scene {
             rt,
@@ -114,12 +114,12 @@ impl<
         }
     }
 
-    /// The service of which it is asked.
+    /// Returns the service.
     pub fn service(&self) -> &X {
         &self.shared.service
     }
 
-    /// A connection with this clock and this note of its open Next.
+    /// Opens a connection with this clock and this note of its open Next.
     fn connected(
         &self,
         clock: Arc<At>,
@@ -141,7 +141,7 @@ impl<
         arc_of(self.alloc, connection)
     }
 
-    /// A new connection, whose clock stands at a moment, with the note of its open Next.
+    /// Opens a connection whose clock reads this moment, and returns the note of its open Next.
     fn connection(
         &self,
         at: At,
@@ -152,7 +152,7 @@ impl<
         self.connected(clock, open)
     }
 
-    /// The exchange of a line, over a new connection.
+    /// Makes the exchange of a line, over a new connection.
     fn exchange(
         &self,
         line: u64,
@@ -173,7 +173,7 @@ impl<
         push_collected(given, finished(&self.rt, history.collect(self.alloc)));
     }
 
-    /// Makes the request of a line, or lets it go once it waits, and adds what came of it.
+    /// Makes the request of a line, or drops it as soon as it waits, and adds its outcome.
     fn make(
         &self,
         line: u64,
@@ -189,7 +189,7 @@ impl<
         Ok(())
     }
 
-    /// Adds the line of a request, what comes of it, and the Next that its connection has open then.
+    /// Adds the line of a request, its outcome, and the Next that its connection then has open.
     fn ask(&self, line: u64, text: &str, drops: bool, given: &mut Given) -> Result<(), CaseFault> {
         given.line(text);
         let open = arc_of(self.alloc, OpenPoll::new())?;
@@ -198,7 +198,7 @@ impl<
         given.end()
     }
 
-    /// Makes the requests of a part's lines one after another.
+    /// Makes the requests in a part's lines, one after another.
     fn ask_all(&self, part: &Part, given: &mut Given) -> Result<(), CaseFault> {
         for text in part.lines().split('\n') {
             self.ask(part.line(), text, part.word() == "drops", given)?;
@@ -206,7 +206,7 @@ impl<
         Ok(())
     }
 
-    /// Makes the requests of three lines at once, each over a connection of its own.
+    /// Makes the requests in three lines at the same time, each over its own connection.
     fn make_three(
         &self,
         line: u64,
@@ -219,7 +219,7 @@ impl<
         made_at_once(&self.rt, line, first, second, third)
     }
 
-    /// Makes the requests of a part's three lines at once.
+    /// Makes the requests in a part's three lines at the same time.
     fn ask_three(&self, part: &Part, given: &mut Given) -> Result<(), CaseFault> {
         let texts = three_in(part);
         let open = arc_of(self.alloc, OpenPoll::new())?;
@@ -227,7 +227,7 @@ impl<
         push_three(given, texts, came, &open)
     }
 
-    /// Polls for the answer of a ticket; what came of that.
+    /// Polls for the answer of a ticket, and returns the outcome.
     fn poll(&self, parked: Parked<S>) -> Result<Polled, CaseFault> {
         let service = Arc::try_clone(&self.shared.service)?;
         let poll: Poll<R, X, Heard, KeepNone, S> = Poll::new(
@@ -262,8 +262,8 @@ impl<
             .park(&self.rt, self.alloc, &*self.shared.service, &mut tally)
     }
 
-    /// Begins the request of a part while another thread polls for ticket 0: if that has no answer then,
-    /// it is withdrawn, so that nobody waits in vain.
+    /// Begins the request of a part while another thread polls for ticket 0: a ticket that is not
+    /// answered by then is withdrawn, so that the other thread does not wait forever.
     fn ask_for_other(&self, part: &Part, given: &mut Given) -> Result<(), CaseFault> {
         let asked = self.ask(part.line(), part.lines(), true, given);
         for _ in 0..TRIES {
@@ -274,8 +274,8 @@ impl<
     }
 }
 
-/// Polls on another thread for the answer of a runtime's Next, while this one begins the request of a
-/// part.
+/// Polls on another thread for the answer of a runtime's Next, while this thread begins the request
+/// of a part.
 fn poll_across<
     R: Wait + Threads + Clock + RandomSource + AllocGlobal + Copy + Send + Sync + Drop,
     X: Service<KeepNone, S> + Send + Sync,
@@ -296,7 +296,7 @@ fn poll_across<
 /// What a part does.
 #[derive(Clone, Copy)]
 enum Deed {
-    /// It says what the case is run over.
+    /// It says what the case runs over.
     Opens,
     Asks,
     AsksAtOnce,
@@ -304,7 +304,7 @@ enum Deed {
     PollsAcross,
 }
 
-/// The words of parts.
+/// The deeds, by the words of their parts.
 const DEEDS: [(&str, Deed); 8] = [
     ("open", Deed::Opens),
     ("board", Deed::Opens),
@@ -316,7 +316,7 @@ const DEEDS: [(&str, Deed); 8] = [
     ("across", Deed::PollsAcross),
 ];
 
-/// Does what a part of a case says.
+/// Performs a part of a case.
 fn act<
     R: Wait + Threads + Clock + RandomSource + AllocGlobal + Copy + Send + Sync + Drop,
     X: Service<KeepNone, S> + Send + Sync,
@@ -332,7 +332,7 @@ fn act<
     }
 }
 
-/// Does what the parts of a case say, in their order.
+/// Performs the parts of a case, in their order.
 pub fn play<
     R: Wait + Threads + Clock + RandomSource + AllocGlobal + Copy + Send + Sync + Drop,
     X: Service<KeepNone, S> + Send + Sync,

@@ -4,7 +4,7 @@ use call_model::{Answer, Head, Ticket};
 use std::alloc::{AllocError, Global};
 use usage_ledger::Keep;
 
-/// Keeps everything, but refuses every other request for room, the first one among them.
+/// Keeps everything, but refuses every other request for room, starting with the first.
 #[derive(Drop)]
 pub(crate) struct KeepGrudging {
     receipts: Vec<(Ticket, Answer)>,

@@ -12,10 +12,10 @@ use case_tables::{CaseFault, Given, value_of};
 use std::alloc::{AllocError, Global};
 use usage_ledger::{Counts, JoinFault, Keep, Ledgers, Start, Tally, Totals};
 
-/// How many parts there are.
+/// The number of parts in all.
 const ALL_PARTS: u64 = 4_294_967_296;
 
-/// More room than there is.
+/// More room than memory can hold.
 const TOO_MUCH: usize = 18_446_744_073_709_551_615;
 
 /// The receipts of one invocation: a runtime's Next waits for it, and a response answers it.
@@ -34,14 +34,14 @@ const RECEIPTS: [(&str, (Ticket, Answer)); 3] = [
     ("accepted", (2, Answer::Accepted)),
 ];
 
-/// Its calls: each with its ticket, and the count that it names.
+/// The calls of that invocation: each with its ticket, and the count that it names.
 const CALLS: [(&str, (Ticket, Kind, Option<u64>)); 3] = [
     ("next", (0, Kind::RuntimeNext, None)),
     ("invoke", (1, Kind::Invoke, None)),
     ("response", (2, Kind::Response, Some(1))),
 ];
 
-/// What is done to a tally.
+/// A change to a tally.
 #[derive(Clone, Copy)]
 enum Change {
     Note,
@@ -52,7 +52,7 @@ enum Change {
     Audit,
 }
 
-/// The words of changes.
+/// The changes, by their words.
 const CHANGES: [(&str, Change); 6] = [
     ("note", Change::Note),
     ("make", Change::Make),
@@ -62,7 +62,7 @@ const CHANGES: [(&str, Change); 6] = [
     ("audit", Change::Audit),
 ];
 
-/// What is told of a tally.
+/// A question about a tally.
 #[derive(Clone, Copy)]
 enum Question {
     Look,
@@ -70,21 +70,21 @@ enum Question {
     Refuse,
 }
 
-/// The words of questions.
+/// The questions, by their words.
 const QUESTIONS: [(&str, Question); 3] = [
     ("look", Question::Look),
     ("room", Question::Room),
     ("refuse", Question::Refuse),
 ];
 
-/// The ledgers of an account: what all tallies count, and the tallies.
+/// The ledgers of an account: the totals that all tallies count in, and the tallies.
 #[derive(Drop)]
 pub struct Bench<K: Keep, L: Ledgers> {
     totals: Totals<L>,
     tallies: Vec<Tally<K, L>>,
 }
 
-/// The call of a word.
+/// Returns the call that a word names.
 fn call_of(word: &str) -> Result<(Ticket, Head), SeatFault> {
     let Some((ticket, kind, count)) = value_of(&CALLS, word) else {
         return Err(SeatFault::NoWord);
@@ -100,7 +100,7 @@ fn call_of(word: &str) -> Result<(Ticket, Head), SeatFault> {
     ))
 }
 
-/// Tells why two tallies were not joined.
+/// Adds why two tallies were not joined.
 fn push_fault<K: Keep, L: Ledgers>(fault: &JoinFault<Tally<K, L>>, given: &mut Given) {
     given.push(" ");
     given.print(fault);
@@ -109,7 +109,7 @@ fn push_fault<K: Keep, L: Ledgers>(fault: &JoinFault<Tally<K, L>>, given: &mut G
     given.push("\n");
 }
 
-/// Joins a tally with the one behind it where memory is refused; both are then put behind the others.
+/// Joins a tally with the next one while memory is refused; both are then moved to the end.
 fn push_refused<K: Keep, L: Ledgers>(
     tallies: &mut Vec<Tally<K, L>>,
     seat: usize,
@@ -126,7 +126,7 @@ fn push_refused<K: Keep, L: Ledgers>(
     Ok(())
 }
 
-/// Tells of a tally.
+/// Adds the look of a tally.
 fn push_look<K: Keep, L: Ledgers>(
     tallies: &[Tally<K, L>],
     seat: usize,
@@ -140,7 +140,7 @@ fn push_look<K: Keep, L: Ledgers>(
     Ok(())
 }
 
-/// The tally with a number.
+/// Returns the tally with this number.
 fn tally_at<K: Keep, L: Ledgers>(
     tallies: &mut Vec<Tally<K, L>>,
     seat: usize,
@@ -151,7 +151,7 @@ fn tally_at<K: Keep, L: Ledgers>(
     }
 }
 
-/// Notes the receipt of a word.
+/// Notes the receipt that a word names.
 fn note<K: Keep, L: Ledgers>(
     tallies: &mut Vec<Tally<K, L>>,
     seat: usize,
@@ -164,7 +164,7 @@ fn note<K: Keep, L: Ledgers>(
     }
 }
 
-/// Notes the call of a word.
+/// Notes the call that a word names.
 fn make<K: Keep, L: Ledgers>(
     tallies: &mut Vec<Tally<K, L>>,
     seat: usize,
@@ -175,7 +175,7 @@ fn make<K: Keep, L: Ledgers>(
     note_calls(tally, &[call])
 }
 
-/// Tells that a tally has not so much room.
+/// Adds that a tally does not have this much room.
 fn push_room<K: Keep, L: Ledgers>(
     tallies: &mut Vec<Tally<K, L>>,
     seat: usize,
@@ -189,7 +189,7 @@ fn push_room<K: Keep, L: Ledgers>(
 }
 
 impl<K: Keep, L: Ledgers> Bench<K, L> {
-    /// The ledgers with their first tally.
+    /// Opens the ledgers with their first tally.
     pub fn new(alloc: Global, start: Start<K, L>) -> Result<Bench<K, L>, AllocError> {
         let tallies = first_of(alloc, start.tally)?;
         Ok(Bench {
@@ -198,7 +198,7 @@ impl<K: Keep, L: Ledgers> Bench<K, L> {
         })
     }
 
-    /// Counts three calls, of which one was admitted.
+    /// Counts three calls, one of which was admitted.
     fn count(&mut self, seat: usize) -> Result<(), SeatFault> {
         let rises = Counts {
             calls: 3,
@@ -210,7 +210,7 @@ impl<K: Keep, L: Ledgers> Bench<K, L> {
         Ok(())
     }
 
-    /// Holds the counts of the tally that has all parts against the totals.
+    /// Compares the counts of the tally that has all parts with the totals.
     fn audit(&mut self, seat: usize) -> Result<(), SeatFault> {
         let tally = tally_at(&mut self.tallies, seat)?;
         if tally.parts() != ALL_PARTS {
@@ -220,7 +220,7 @@ impl<K: Keep, L: Ledgers> Bench<K, L> {
         Ok(())
     }
 
-    /// Changes a tally, with the word behind its number.
+    /// Changes a tally; `word` is the change's argument.
     fn change(&mut self, change: Change, seat: usize, word: &str) -> Result<(), SeatFault> {
         match change {
             Change::Note => note(&mut self.tallies, seat, word),
@@ -232,7 +232,7 @@ impl<K: Keep, L: Ledgers> Bench<K, L> {
         }
     }
 
-    /// Tells what is asked of a tally.
+    /// Adds the answer to a question about a tally.
     fn ask(&mut self, question: Question, seat: usize, given: &mut Given) -> Result<(), SeatFault> {
         match question {
             Question::Look => push_look(self.tallies.as_slice(), seat, given),
@@ -241,7 +241,8 @@ impl<K: Keep, L: Ledgers> Bench<K, L> {
         }
     }
 
-    /// Does what words say to the tally with a number; of a question its line is told.
+    /// Performs the step in these words on the tally with this number; adds a line if it is a
+    /// question.
     fn act(
         &mut self,
         line: &str,
@@ -260,7 +261,7 @@ impl<K: Keep, L: Ledgers> Bench<K, L> {
         self.ask(question, seat, given)
     }
 
-    /// Does what a line says.
+    /// Performs the step in a line.
     pub fn step(&mut self, number: u64, line: &str, given: &mut Given) -> Result<(), CaseFault> {
         let (word, rest) = split_word(line);
         let (seat, behind) = split_word(rest);

@@ -1,11 +1,11 @@
-//! Answers, as lines have them.
+//! Answers, as the lines of cases write them.
 
 use crate::parts::lines::LineFault;
 use crate::shown::tell;
 use call_model::{Answer, Reason, Rejection, Ticket};
 use case_tables::{Given, value_of};
 
-/// The answers that a table can name. An event has no number yet.
+/// The answers that a table can name. Events are not numbered yet.
 const ANSWERS: [(&str, Answer); 7] = [
     ("accepted", Answer::Accepted),
     ("state", Answer::Refused(Rejection::State)),
@@ -44,7 +44,7 @@ const ANSWERS: [(&str, Answer); 7] = [
     ),
 ];
 
-/// The answer that a word says; none for a dash.
+/// Returns the answer that a word names; a dash is `None`.
 pub fn answer_of(word: &str) -> Result<Option<Answer>, LineFault> {
     if word == "-" {
         return Ok(None);
@@ -55,7 +55,7 @@ pub fn answer_of(word: &str) -> Result<Option<Answer>, LineFault> {
     }
 }
 
-/// Adds a line for each answer, with the ticket that gets it.
+/// Adds a line for each answer, with the ticket it is for.
 pub fn say_answers(given: &mut Given, answers: &[(Ticket, Answer)]) {
     for (ticket, answer) in answers {
         given.push("  ");

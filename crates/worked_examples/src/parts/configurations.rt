@@ -14,7 +14,7 @@ struct Read {
     checked: Option<Checked>,
 }
 
-/// What a configuration says; none where it is malformed.
+/// Reads a configuration.
 pub fn setup_of(alloc: Global, line: &str) -> Result<Setup, LineFault> {
     match read_config(alloc, line.as_bytes()) {
         Ok(setup) => Ok(setup),
@@ -23,7 +23,7 @@ pub fn setup_of(alloc: Global, line: &str) -> Result<Setup, LineFault> {
     }
 }
 
-/// A configuration without a fault.
+/// Reads a configuration that has no fault.
 pub fn configuration_of(alloc: Global, line: &str) -> Result<Checked, LineFault> {
     let setup = setup_of(alloc, line)?;
     match setup.config.check() {
@@ -37,7 +37,7 @@ fn say_fault(fault: ConfigFault, given: &mut Given) {
     given.push("\n");
 }
 
-/// A text so many times, with commas between.
+/// Repeats a text `count` times, with commas between the copies.
 fn many_of(alloc: Global, count: u64, text: &str) -> Result<String, AllocError> {
     let mut many = String::from_str(alloc, text)?;
     for _ in 1..count {
@@ -47,7 +47,7 @@ fn many_of(alloc: Global, count: u64, text: &str) -> Result<String, AllocError> 
     Ok(many)
 }
 
-/// Asks a configuration for one of its numbers.
+/// Returns one of a configuration's numbers.
 fn number(checked: &Checked, word: &str) -> Option<u64> {
     match word {
         "account-limit" => Some(u64::from(checked.account_limit())),
@@ -59,7 +59,7 @@ fn number(checked: &Checked, word: &str) -> Option<u64> {
     }
 }
 
-/// The name of the function with a number.
+/// Adds the name of the function with this number.
 fn name_of(checked: &Checked, number: u32, given: &mut Given) -> Result<(), LineFault> {
     if number < 1 || checked.functions().len() < number as usize {
         return Err(LineFault::Malformed);
@@ -68,7 +68,7 @@ fn name_of(checked: &Checked, number: u32, given: &mut Given) -> Result<(), Line
     Ok(())
 }
 
-/// The function of an environment.
+/// Adds the function of an environment.
 fn owner(checked: &Checked, env: u32, given: &mut Given) -> Result<(), LineFault> {
     if env < 1 || checked.environments() < env {
         return Err(LineFault::Malformed);
@@ -77,7 +77,7 @@ fn owner(checked: &Checked, env: u32, given: &mut Given) -> Result<(), LineFault
     Ok(())
 }
 
-/// Asks a configuration for the function or the environment with a number.
+/// Asks a configuration about the function or the environment with this number.
 fn ask_number(
     checked: &Checked,
     word: &str,
@@ -91,7 +91,7 @@ fn ask_number(
     }
 }
 
-/// Asks a configuration for what a word and what stands behind it say.
+/// Asks a configuration what a word and its arguments ask.
 fn ask_words(checked: &Checked, line: &str, given: &mut Given) -> Result<(), LineFault> {
     let mut words = Words::of(line);
     match words.next() {
@@ -102,7 +102,7 @@ fn ask_words(checked: &Checked, line: &str, given: &mut Given) -> Result<(), Lin
     Ok(())
 }
 
-/// Asks a configuration for what it has.
+/// Asks a configuration for one of its values.
 fn ask(checked: &Checked, line: &str, given: &mut Given) -> Result<(), LineFault> {
     match number(checked, line) {
         Some(number) => {
@@ -114,7 +114,7 @@ fn ask(checked: &Checked, line: &str, given: &mut Given) -> Result<(), LineFault
 }
 
 impl Read {
-    /// Takes a configuration that was read, and says its fault.
+    /// Takes a configuration that was read, and adds its fault.
     fn take(&mut self, config: Config, given: &mut Given) {
         match config.check() {
             Ok(checked) => {
@@ -125,20 +125,20 @@ impl Read {
         }
     }
 
-    /// Reads a configuration that is said in full, and says its fault.
+    /// Reads a configuration that is given in full, and adds its fault.
     fn read_whole(&mut self, line: &str, given: &mut Given) -> Result<(), LineFault> {
         let setup = setup_of(given.alloc(), line)?;
         self.take(setup.config, given);
         Ok(())
     }
 
-    /// Reads a configuration, and says its fault.
+    /// Reads a configuration, and adds its fault.
     fn read(&mut self, line: &str, given: &mut Given) -> Result<(), LineFault> {
         let whole = line.replace(given.alloc(), "MANY", self.many.as_str())?;
         self.read_whole(whole.as_str(), given)
     }
 
-    /// Keeps what `MANY` stands for.
+    /// Stores what `MANY` stands for.
     fn keep(&mut self, alloc: Global, words: Words<'_>) -> Result<(), LineFault> {
         let mut words = words;
         let count = words.number()?;
@@ -146,7 +146,7 @@ impl Read {
         Ok(())
     }
 
-    /// Asks the configuration that was read last.
+    /// Asks the most recent configuration.
     fn ask(&self, line: &str, given: &mut Given) -> Result<(), LineFault> {
         match &self.checked {
             Some(checked) => ask(checked, line, given),
@@ -171,12 +171,12 @@ impl Calls for Read {
     }
 }
 
-/// What configurations say.
+/// Adds what the lines of a case about configurations give.
 ///
 /// | Line | What it gives |
 /// |---|---|
 /// | `{..}` | the first fault of this configuration, or that it has none |
-/// | `many N TEXT` | nothing; `MANY` stands for N times the text in the configurations behind it |
+/// | `many N TEXT` | nothing; in later configurations `MANY` stands for N copies of the text |
 /// | `region`, `functions` .. | what the configuration that was read last has |
 /// | `entries-fault` | the fault of the program's own |
 pub fn give(case: &Case, given: &mut Given) -> Result<(), CaseFault> {

@@ -1,4 +1,4 @@
-//! Deadlines of environments, and which of them is due first.
+//! The deadlines of environments, and which environment is due first.
 
 use crate::parts::lines::{Calls, LineFault, Words, make_calls, number_if_given, short_of};
 use crate::shown::tell;
@@ -59,14 +59,14 @@ impl Calls for Environments {
     }
 }
 
-/// Which environment is due.
+/// Adds what the lines of a case about deadlines give.
 ///
 /// | Line | What it gives |
 /// |---|---|
-/// | `open N` | nothing; the lines behind it call N environments without deadlines |
-/// | `set E MOMENT`, `set E -` | nothing; the environment's deadline |
-/// | `set-all N` | nothing; each environment's deadline is its number's remainder by N |
-/// | `first-due MOMENT` | the environment that is due then |
+/// | `open N` | nothing; the lines after it call N environments without deadlines |
+/// | `set E MOMENT`, `set E -` | nothing; sets or removes the environment's deadline |
+/// | `set-all N` | nothing; sets each environment's deadline to the environment's number modulo N |
+/// | `first-due MOMENT` | the environment that is due at this moment |
 /// | `environments` | how many there are |
 pub fn give(case: &Case, given: &mut Given) -> Result<(), CaseFault> {
     let mut environments = Environments {

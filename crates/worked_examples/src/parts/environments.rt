@@ -15,10 +15,10 @@ use extension_set::Moves;
 use std::alloc::Global;
 use std::marker::Model;
 
-/// How many calls an environment takes in a case.
+/// The most calls that an environment takes in a case.
 const MOST_CALLS: u64 = 1000;
 
-/// An environment, and how many calls it took.
+/// An environment, and the number of calls it has taken.
 #[derive(Drop)]
 struct Driven {
     environment: Environment,
@@ -37,7 +37,7 @@ impl Model for Driven {
         × (d.calls ≤ 1000) };
 }
 
-/// Whether a call brings no name, or one of at most 128 bytes.
+/// Whether a call has no name, or one of at most 128 bytes.
 fn is_short(call: &Call) -> bool
     ensures { result ≡ true → IsShort (registered_name call.now) }
 {
@@ -47,7 +47,7 @@ fn is_short(call: &Call) -> bool
     }
 }
 
-/// An environment of the first function.
+/// Opens an environment of the first function.
 fn open(alloc: Global, config: &Checked) -> Result<Driven, LineFault> {
     if config.functions().len() < 1 {
         return Err(LineFault::Malformed);
@@ -63,7 +63,7 @@ fn open(alloc: Global, config: &Checked) -> Result<Driven, LineFault> {
 }
 
 impl Driven {
-    /// Has the environment take a call, whose answers are put into the moves.
+    /// Gives the environment a call, and returns its answers.
     fn take(&mut self, step: Step, call: &Call) -> Result<Moves, LineFault>
         requires { step.now < 2 ^ 53 }
     {
@@ -82,7 +82,7 @@ fn say_phase(environment: &Environment, moves: &Moves, given: &mut Given) {
     say_answers(given, moves.as_slice());
 }
 
-/// Asks an environment for what it has.
+/// Asks an environment for one of its values.
 fn ask(environment: &Environment, line: &str, given: &mut Given) -> Result<(), LineFault> {
     match line {
         "members" => tell(given, &environment.members()),
@@ -104,7 +104,7 @@ struct Account {
 }
 
 impl Account {
-    /// The step of a call: an Invoke is counted.
+    /// Returns the step of a call; counts it if it is an Invoke.
     fn step(&mut self, ticket: u64, now: u64, call: &Call) -> Step {
         let mut count = 0;
         if let Call::Invoke { .. } = call {
@@ -114,7 +114,7 @@ impl Account {
         Step { ticket, now, count }
     }
 
-    /// Has the environment take a call, and says its phase and the answers.
+    /// Gives the environment a call, and adds its phase and the answers.
     fn take_call(&mut self, step: Step, call: &Call, given: &mut Given) -> Result<(), LineFault> {
         if step.now >= 1 << 53 {
             return Err(LineFault::Malformed);
@@ -153,13 +153,13 @@ impl Opens for Account {
     }
 }
 
-/// What an environment makes of calls.
+/// Adds what the lines of a case about environments give.
 ///
 /// | Line | What it gives |
 /// |---|---|
-/// | `{..}` | nothing; the lines behind it call a new environment of its first function |
-/// | `TICKET CALL` | the phase after this call of a script, and below it the call's answers |
-/// | `members`, `is-taken`, `is-off`, `bound`, `deadline` | what is asked of the environment |
+/// | `{..}` | nothing; the lines after it call a new environment of its first function |
+/// | `TICKET CALL` | the phase after this call of a script; below it, the call's answers |
+/// | `members`, `is-taken`, `is-off`, `bound`, `deadline` | this value of the environment |
 pub fn give(case: &Case, given: &mut Given) -> Result<(), CaseFault> {
     call_opened::<Account>(case, given)
 }

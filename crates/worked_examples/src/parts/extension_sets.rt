@@ -1,4 +1,4 @@
-//! Extensions of an environment, from their registering to their end.
+//! The extensions of an environment, from registration to their end.
 
 use crate::answers::REASONS;
 use crate::parts::answers::{answer_of, say_answers};
@@ -11,14 +11,14 @@ use case_tables::{Case, CaseFault, Given, value_of};
 use extension_set::{CLOSING_LIMIT, ExtensionSet, Moves, RegisterFault, Turn};
 use std::alloc::{AllocError, Global};
 
-/// The extensions of one environment, and the account whose calls are made.
+/// The extensions of one environment, and the account that their calls are made to.
 #[derive(Drop)]
 struct Environment {
     config: Checked,
     set: ExtensionSet,
 }
 
-/// The events that an extension can ask for: those of invocations, and of the end.
+/// The events that an extension can subscribe to: whether INVOKE, and whether SHUTDOWN.
 const EVENTS: [(&str, (bool, bool)); 4] = [
     ("i", (true, false)),
     ("s", (false, true)),
@@ -34,7 +34,7 @@ fn say_verdict(verdict: Result<(), RegisterFault>, given: &mut Given) {
     given.push("\n");
 }
 
-/// Registers an extension of this name for these events.
+/// Registers an extension with this name for these events.
 fn register_named(
     set: &mut ExtensionSet,
     name: &Text,
@@ -61,7 +61,7 @@ fn register(set: &mut ExtensionSet, words: Words<'_>, given: &mut Given) -> Resu
     register_named(set, &name, events, count, given)
 }
 
-/// The reason that a word says; none for a dash.
+/// Returns the reason that a word names; a dash is `None`.
 fn reason_of(word: &str) -> Result<Option<Reason>, LineFault> {
     match value_of(&REASONS, word) {
         Some(reason) => Ok(Some(reason)),
@@ -70,7 +70,7 @@ fn reason_of(word: &str) -> Result<Option<Reason>, LineFault> {
     }
 }
 
-/// Has the extensions take a call, and says what it answers.
+/// Gives the extensions a call, and adds its answers.
 fn take_call(
     set: &mut ExtensionSet,
     turn: Turn,
@@ -118,7 +118,7 @@ fn invoke(set: &mut ExtensionSet, words: Words<'_>, given: &mut Given) -> Result
     Ok(())
 }
 
-/// Adds a name, where it is one.
+/// Adds a name, unless it is empty.
 fn push_name(names: &mut Vec<Text>, alloc: Global, name: &str) -> Result<(), AllocError> {
     if name.is_empty() {
         return Ok(());
@@ -127,7 +127,7 @@ fn push_name(names: &mut Vec<Text>, alloc: Global, name: &str) -> Result<(), All
     Ok(names.push(name)?)
 }
 
-/// The names that these words say.
+/// Returns the names in these words.
 fn names_of(alloc: Global, words: &str) -> Result<Vec<Text>, AllocError> {
     let mut names = Vec::new(alloc);
     for name in words.split(' ') {
@@ -136,7 +136,7 @@ fn names_of(alloc: Global, words: &str) -> Result<Vec<Text>, AllocError> {
     Ok(names)
 }
 
-/// Says how many of the names that these words say are free.
+/// Adds how many of the names in these words are free.
 fn say_unregistered(set: &ExtensionSet, words: &str, given: &mut Given) {
     match names_of(given.alloc(), words) {
         Ok(names) => tell(given, &set.unregistered(names.as_slice())),
@@ -159,7 +159,7 @@ fn ask_name(
     Ok(())
 }
 
-/// Asks about the extension with a number.
+/// Asks about the extension with this number.
 fn ask_one(set: &ExtensionSet, word: &str, count: u64, given: &mut Given) -> Result<(), LineFault> {
     match word {
         "is-known" => tell(given, &set.is_known(count)),
@@ -187,7 +187,7 @@ fn ask(
     }
 }
 
-/// Asks for one of the set's numbers.
+/// Returns one of the set's numbers.
 fn number(set: &ExtensionSet, line: &str) -> Option<u64> {
     match line {
         "len" => Some(set.len() as u64),
@@ -231,19 +231,19 @@ impl Opens for Environment {
     }
 }
 
-/// What extensions are told.
+/// Adds what the lines of a case about extensions give.
 ///
 /// | Line | What it gives |
 /// |---|---|
 /// | `{..}` | nothing; the account whose calls are made, and no extensions |
 /// | `register NAME EVENTS COUNT` | `registered`, or why not; the events are `i`, `s`, `is` or `-` |
 /// | `take TICKET ANSWER REASON CALL` | the answers to parked Nexts at a call: ticket, answer, reason to close |
-/// | `invoke TICKET DEADLINE` | the answers where an invocation begins |
+/// | `invoke TICKET DEADLINE` | the answers when an invocation begins |
 /// | `admits NAME`, `lacks NAME` | whether the name may be registered, and is free |
 /// | `unregistered NAMES` | how many of the names are free |
 /// | `is-known COUNT`, `owes-end COUNT` | what is asked of one extension |
 /// | `len`, `waiting`, `silent`, `closing-limit` | numbers |
-/// | `clear` | nothing; all are forgotten |
+/// | `clear` | nothing; every extension is forgotten |
 pub fn give(case: &Case, given: &mut Given) -> Result<(), CaseFault> {
     call_opened::<Environment>(case, given)
 }

@@ -27,8 +27,8 @@ impl Opens for Account {
     }
 }
 
-/// What a receipt keeps of calls: each line but the account's is a call of a script, and gives its
-/// head.
+/// Adds what a receipt keeps of calls: each line after the account's is a call of a script, and
+/// gives its head.
 pub fn give(case: &Case, given: &mut Given) -> Result<(), CaseFault> {
     call_opened::<Account>(case, given)
 }

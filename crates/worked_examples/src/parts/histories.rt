@@ -1,4 +1,4 @@
-//! Histories, and what is written of their calls and answers.
+//! Histories, and the text of their calls and answers.
 
 mod past;
 
@@ -14,7 +14,7 @@ use script::{draft_entry, push_answers};
 use std::alloc::Global;
 use std::mem;
 
-/// An account, its entries, and the answers of the next one.
+/// An account, its entries, and the answers of the next entry.
 #[derive(Drop)]
 struct Account {
     config: Option<Checked>,
@@ -23,7 +23,7 @@ struct Account {
     answers: Vec<(Ticket, Answer)>,
 }
 
-/// Says the entry with a number as a history has it.
+/// Adds the entry with this number as the history's text has it.
 fn say_entry(
     config: &Checked,
     salt: u64,
@@ -48,7 +48,7 @@ fn say_entry(
     Ok(())
 }
 
-/// Says the answers of the entry with a number.
+/// Adds the answers of the entry with this number.
 fn say_answers(salt: u64, past: &Past, number: u64, given: &mut Given) -> Result<(), LineFault> {
     let entries = past.entries();
     if entries.len() as u64 <= number {
@@ -79,7 +79,7 @@ impl Account {
     }
 }
 
-/// Adds the entry of a call, which takes these answers.
+/// Adds the entry of a call, which takes the answers collected so far.
 fn add(
     alloc: Global,
     config: &Checked,
@@ -98,7 +98,7 @@ fn add(
     Ok(past.add(entry)?)
 }
 
-/// Says what a word asks of the entry with a number.
+/// Adds what a word asks about the entry with this number.
 fn say(
     config: &Checked,
     salt: u64,
@@ -152,14 +152,14 @@ impl Calls for Account {
     }
 }
 
-/// What is written of histories.
+/// Adds what the lines of a case about histories give.
 ///
 /// | Line | What it gives |
 /// |---|---|
 /// | `{..}` | nothing; the account whose calls are read and written, and its salt |
-/// | `answer TICKET ANSWER` | nothing; an answer of the entry that comes next |
-/// | `entry CALL` | nothing; an entry of this call of a script, behind those before it |
-/// | `text N` | the entry with this number as a history has it |
+/// | `answer TICKET ANSWER` | nothing; an answer of the next entry |
+/// | `entry CALL` | nothing; appends an entry with this call of a script |
+/// | `text N` | the entry with this number, as the history's text has it |
 /// | `answers N` | the answers of the entry with this number |
 pub fn give(case: &Case, given: &mut Given) -> Result<(), CaseFault> {
     let alloc = given.alloc();

@@ -5,11 +5,11 @@ use arn_ids::{IdParts, event_id, extension_id, id_parts, request_id, salt_word};
 use case_tables::{Case, CaseFault, Given};
 use uuid::Uuid;
 
-/// Each call stands for itself.
+/// The calls of a case, which are independent of each other.
 #[derive(Drop)]
 struct Alone;
 
-/// The identifier of a kind.
+/// Returns the identifier of this kind.
 fn identifier(kind: &str, salt: u64, number: u32, count: u64) -> Result<Uuid, LineFault> {
     if number >= 4096 || count >= 1 << 48 {
         return Err(LineFault::Malformed);
@@ -22,7 +22,7 @@ fn identifier(kind: &str, salt: u64, number: u32, count: u64) -> Result<Uuid, Li
     }
 }
 
-/// Adds the identifier of a kind, whose salt, number and count are said.
+/// Adds the identifier of this kind for a salt, a number and a count.
 fn make(kind: &str, numbers: Words<'_>, given: &mut Given) -> Result<(), LineFault> {
     let mut words = numbers;
     let salt = words.number()?;
@@ -32,7 +32,7 @@ fn make(kind: &str, numbers: Words<'_>, given: &mut Given) -> Result<(), LineFau
     Ok(())
 }
 
-/// Adds a line of sixteen hexadecimal digits.
+/// Adds a word as a line of sixteen hexadecimal digits.
 fn say_word(word: u64, given: &mut Given) {
     match format!(in given.alloc(); "{word:016x}") {
         Ok(text) => given.push(text.as_str()),
@@ -74,13 +74,13 @@ impl Calls for Alone {
     }
 }
 
-/// What identifiers say.
+/// Adds what the lines of a case about identifiers give.
 ///
 /// | Line | What it gives |
 /// |---|---|
 /// | `request SALT N COUNT`, `extension ..`, `event ..` | the identifier of this number and count |
-/// | `salt N` | the first sixteen hexadecimal digits of what is made with this salt |
-/// | `parts UUID` | what the identifier says, if it is one |
+/// | `salt N` | the first sixteen hexadecimal digits of every identifier made with this salt |
+/// | `parts UUID` | the parts of the identifier, if it is one |
 pub fn give(case: &Case, given: &mut Given) -> Result<(), CaseFault> {
     make_calls(case, &mut Alone, given)
 }

@@ -1,16 +1,16 @@
-//! The lines of a case: each is words, and says one call that is made.
+//! The lines of a case: each consists of words, and names one call to make.
 
 use crate::parts::configurations::configuration_of;
 use arn_ids::{Checked, Text};
 use case_tables::{Case, CaseFault, Given, Part};
 use std::alloc::{AllocError, AllocFailed, Global};
 
-/// Why a line was not taken.
+/// Why a line was not accepted.
 #[derive(Clone, Copy)]
 pub enum LineFault {
-    /// There was no memory.
+    /// Memory ran out.
     Memory,
-    /// It says no call that is known here, or one that cannot be made.
+    /// It names no call that is known here, or one that cannot be made.
     Malformed,
 }
 
@@ -26,19 +26,19 @@ impl<T: Drop> From<AllocFailed<T>> for LineFault {
     }
 }
 
-/// What a case's lines are told to, one after the other.
+/// Takes the lines of a case, one after the other.
 pub trait Calls {
     /// Makes the call of a line, and adds what it gives.
     fn call(&mut self, line: &str, given: &mut Given) -> Result<(), LineFault>;
 }
 
-/// What a configuration opens, and the lines behind it call.
+/// What a configuration opens, and the lines after it call.
 pub trait Opens: Calls + Drop {
-    /// Opens what a configuration says.
+    /// Opens a configuration.
     fn open(alloc: Global, config: Checked) -> Result<Self, LineFault>;
 }
 
-/// What the configuration opened that was read last.
+/// What the most recent configuration opened.
 #[derive(Drop)]
 struct Opened<T> {
     last: Option<T>,
@@ -65,50 +65,50 @@ pub struct Words<'a> {
 }
 
 impl<'a> Words<'a> {
-    /// All words of a line.
+    /// Returns all words of a line.
     pub fn of(line: &'a str) -> Words<'a> {
         Words { rest: line }
     }
 
-    /// The next word; an empty one behind the last.
+    /// Returns the next word, or an empty one after the last.
     pub fn next(&mut self) -> &'a str {
         let (word, rest) = self.rest.split_once(' ').unwrap_or((self.rest, ""));
         self.rest = rest;
         word
     }
 
-    /// The number that the next word says.
+    /// Reads the next word as a number.
     pub fn number(&mut self) -> Result<u64, LineFault> {
         number_of(self.next())
     }
 
-    /// The number of 32 bits that the next word says.
+    /// Reads the next word as a 32-bit number.
     pub fn short(&mut self) -> Result<u32, LineFault> {
         short_of(self.next())
     }
 
-    /// The number that all other words say.
+    /// Reads all other words as one number.
     pub fn last_number(self) -> Result<u64, LineFault> {
         number_of(self.rest)
     }
 
-    /// The number of 32 bits that all other words say.
+    /// Reads all other words as one 32-bit number.
     pub fn last_short(self) -> Result<u32, LineFault> {
         short_of(self.rest)
     }
 
-    /// The other words, as they stand.
+    /// Returns the other words, unchanged.
     pub fn rest(self) -> &'a str {
         self.rest
     }
 }
 
-/// A text, as arn_ids has it.
+/// Copies a text into the type of arn_ids.
 pub fn text_of(alloc: Global, text: &str) -> Result<Text, AllocError> {
     Ok(Text::new(String::from_str(alloc, text)?))
 }
 
-/// The number that a text says.
+/// Reads a text as a number.
 pub fn number_of(text: &str) -> Result<u64, LineFault> {
     match text.parse::<u64>() {
         Ok(number) => Ok(number),
@@ -116,7 +116,7 @@ pub fn number_of(text: &str) -> Result<u64, LineFault> {
     }
 }
 
-/// The number that a text says; none for a dash.
+/// Reads a text as a number; a dash is `None`.
 pub fn number_if_given(text: &str) -> Result<Option<u64>, LineFault> {
     match text {
         "-" => Ok(None),
@@ -124,7 +124,7 @@ pub fn number_if_given(text: &str) -> Result<Option<u64>, LineFault> {
     }
 }
 
-/// The number of 32 bits that a text says.
+/// Reads a text as a 32-bit number.
 pub fn short_of(text: &str) -> Result<u32, LineFault> {
     match text.parse::<u32>() {
         Ok(number) => Ok(number),
@@ -132,7 +132,7 @@ pub fn short_of(text: &str) -> Result<u32, LineFault> {
     }
 }
 
-/// The only part of a case, which is `calls`.
+/// Returns the only part of a case, which must be `calls`.
 fn calls_of(case: &Case) -> Result<&Part, CaseFault> {
     match case.part("calls") {
         Some(part) if case.parts().len() == 1 => Ok(part),
@@ -140,7 +140,7 @@ fn calls_of(case: &Case) -> Result<&Part, CaseFault> {
     }
 }
 
-/// Makes the calls of a case, which has one part `calls`.
+/// Makes the calls of a case, which has one part, `calls`.
 pub fn make_calls<C: Calls>(
     case: &Case,
     calls: &mut C,
@@ -157,7 +157,7 @@ pub fn make_calls<C: Calls>(
     Ok(())
 }
 
-/// Makes the calls of a case. A line that is a configuration opens what those behind it call.
+/// Makes the calls of a case. A line that is a configuration opens what the lines after it call.
 pub fn call_opened<T: Opens>(case: &Case, given: &mut Given) -> Result<(), CaseFault> {
     make_calls(case, &mut Opened::<T> { last: None }, given)
 }

@@ -46,12 +46,12 @@ impl Calls for Entry {
     }
 }
 
-/// What an entry answers.
+/// Adds what the lines of a case about an entry's answers give.
 ///
 /// | Line | What it gives |
 /// |---|---|
-/// | `give TICKET ANSWER` | nothing; a dash stands for no ticket or no answer |
-/// | `number N` | the number of the last event, when those before the entry were so many |
+/// | `give TICKET ANSWER` | nothing; a dash means no ticket or no answer |
+/// | `number N` | the number of the last event, if N events came before the entry |
 /// | `answers` | the answers |
 pub fn give(case: &Case, given: &mut Given) -> Result<(), CaseFault> {
     let mut entry = Entry {

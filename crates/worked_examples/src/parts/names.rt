@@ -1,4 +1,4 @@
-//! Names of functions, read and written at a home.
+//! Names of functions, read and written in a home.
 
 use crate::parts::lines::{Calls, LineFault, Words, make_calls, text_of};
 use crate::shown::tell;
@@ -6,7 +6,7 @@ use arn_ids::{FunctionName, Home, NameFault, Named, arn_text};
 use case_tables::{Case, CaseFault, Given};
 use std::alloc::{AllocError, Global};
 
-/// The home where names stand.
+/// The home of the names.
 #[derive(Drop)]
 struct Place {
     home: Home,
@@ -43,7 +43,7 @@ fn write(home: &Home, name: &str, qualified: bool, given: &mut Given) {
     }
 }
 
-/// What a line that is no home says at a home.
+/// Adds what a line other than `home` gives in this home.
 fn say_name(home: &Home, line: &str, given: &mut Given) -> Result<(), LineFault> {
     let mut words = Words::of(line);
     match words.next() {
@@ -66,11 +66,11 @@ impl Calls for Place {
     }
 }
 
-/// What names say.
+/// Adds what the lines of a case about names give.
 ///
 /// | Line | What it gives |
 /// |---|---|
-/// | `home ACCOUNT REGION` | nothing; the names behind it stand there |
+/// | `home ACCOUNT REGION` | nothing; the names after it are in this home |
 /// | `name TEXT` | the function that the text names, or why it names none |
 /// | `arn NAME`, `qualified-arn NAME` | the function's ARN, without and with `$LATEST` |
 pub fn give(case: &Case, given: &mut Given) -> Result<(), CaseFault> {

@@ -1,4 +1,4 @@
-//! Places: which environment takes the next invocation.
+//! Placement: the environment that takes the next invocation.
 
 use crate::parts::lines::{Calls, LineFault, Opens, Words, call_opened};
 use crate::shown::tell;
@@ -8,7 +8,7 @@ use case_tables::{Case, CaseFault, Given, value_of};
 use placement::{Class, Places};
 use std::alloc::Global;
 
-/// The phases that a table can name, with a deadline and an invocation of their own.
+/// The phases that a table can name, each with a fixed deadline and invocation.
 const PHASES: [(&str, Phase); 7] = [
     ("idle", Phase::Idle),
     ("off", Phase::Off),
@@ -94,7 +94,7 @@ fn note_all(places: &mut Places, class: Class) -> Result<(), LineFault> {
     Ok(())
 }
 
-/// Asks places for what a word and what stands behind it say.
+/// Asks places what a word and its arguments ask.
 fn ask(places: &Places, word: &str, words: Words<'_>, given: &mut Given) -> Result<(), LineFault> {
     match word {
         "choose" => tell(given, &places.choose(words.last_short()?)),
@@ -125,13 +125,13 @@ impl Opens for Places {
     }
 }
 
-/// Where invocations are placed.
+/// Adds what the lines of a case about placement give.
 ///
 /// | Line | What it gives |
 /// |---|---|
-/// | `{..}` | nothing; the account that the lines behind it call |
+/// | `{..}` | nothing; the account that the lines after it call |
 /// | `note E CLASS`, `note-all CLASS` | nothing; the class of an environment, or of all |
-/// | `choose F` | the environment that the function's next invocation goes to |
+/// | `choose F` | the environment that takes the function's next invocation |
 /// | `environments` | how many there are |
 /// | `class PHASE` | the class of an environment in this phase |
 pub fn give(case: &Case, given: &mut Given) -> Result<(), CaseFault> {

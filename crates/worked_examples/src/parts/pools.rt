@@ -1,4 +1,4 @@
-//! Concurrency: what the limits of an account admit and reserve.
+//! Concurrency: what an account's limits admit and reserve.
 
 ghost use Rattle.std.specs.Prelude.{◌≤◌, length};
 
@@ -33,7 +33,7 @@ fn release(pool: &mut Pool, function: FnNo) -> Result<(), LineFault>
     Ok(())
 }
 
-/// The reservation that a word says.
+/// Reads a reservation.
 fn count_of(words: Words<'_>) -> Result<Option<u32>, LineFault> {
     match words.rest() {
         "-" => Ok(None),
@@ -97,15 +97,15 @@ impl Opens for Pool {
     }
 }
 
-/// What a pool admits.
+/// Adds what the lines of a case about a pool give.
 ///
 /// | Line | What it gives |
 /// |---|---|
-/// | `{..}` | nothing; the account that the lines behind it call |
-/// | `invoke F` | `admitted`, and one more is in flight; or which limit throttles it |
-/// | `release F` | nothing; one less is in flight |
-/// | `reserve F N`, `reserve F -` | whether the reservation is taken |
-/// | `in-flight F`, `reservation F`, `functions`, `in-flight-in-all` | what the pool has |
+/// | `{..}` | nothing; the account that the lines after it call |
+/// | `invoke F` | `admitted`, and one more is in flight; or the limit that throttles it |
+/// | `release F` | nothing; one fewer is in flight |
+/// | `reserve F N`, `reserve F -` | whether the reservation is accepted |
+/// | `in-flight F`, `reservation F`, `functions`, `in-flight-in-all` | this value of the pool |
 pub fn give(case: &Case, given: &mut Given) -> Result<(), CaseFault> {
     call_opened::<Pool>(case, given)
 }

@@ -13,18 +13,18 @@ struct Account {
     config: Checked,
 }
 
-/// What stands between the bars.
+/// Returns the text between the bars.
 fn between_bars(words: &str) -> Option<&str> {
     words.strip_prefix('|')?.strip_suffix('|')
 }
 
-/// A text with the bytes that `<tab>` and `<return>` stand for.
+/// Replaces `<tab>` and `<return>` in a text by their bytes.
 fn with_bytes(alloc: Global, text: &str) -> Result<String, AllocError> {
     let line = text.replace(alloc, "<tab>", "\t")?;
     line.as_str().replace(alloc, "<return>", "\r")
 }
 
-/// The line between the bars.
+/// Returns the line between the bars.
 fn line_of(alloc: Global, words: &str) -> Result<String, LineFault> {
     match between_bars(words) {
         Some(text) => Ok(with_bytes(alloc, text)?),
@@ -40,7 +40,7 @@ fn say_whether(call: &Option<(u64, Call)>, given: &mut Given) {
     });
 }
 
-/// Says what a line is; where that is no call, what stands for that.
+/// Adds the call of a line, or `otherwise` if it has none.
 fn say_call(call: &Option<(u64, Call)>, otherwise: &str, given: &mut Given) {
     match call {
         Some(call) => tell(given, call),
@@ -48,13 +48,13 @@ fn say_call(call: &Option<(u64, Call)>, otherwise: &str, given: &mut Given) {
     }
 }
 
-/// A line with so many letters in place of `<letters>`.
+/// Puts `count` letters in place of `<letters>` in a line.
 fn put_letters(alloc: Global, line: &str, count: usize) -> Result<String, LineFault> {
     let letters = "x".repeat(alloc, count)?;
     Ok(line.replace(alloc, "<letters>", letters.as_str())?)
 }
 
-/// A line with so many letters.
+/// Reads a number of letters and a line, and puts the letters into it.
 fn with_letters(alloc: Global, words: Words<'_>) -> Result<String, LineFault> {
     let mut words = words;
     let count = words.short()?;
@@ -62,7 +62,7 @@ fn with_letters(alloc: Global, words: Words<'_>) -> Result<String, LineFault> {
     put_letters(alloc, line.as_str(), count as usize)
 }
 
-/// What a line says, in its bars.
+/// Returns the text of a line, given between bars.
 fn text_of(alloc: Global, word: &str, words: Words<'_>) -> Result<String, LineFault> {
     match word {
         "letters" => with_letters(alloc, words),
@@ -70,7 +70,7 @@ fn text_of(alloc: Global, word: &str, words: Words<'_>) -> Result<String, LineFa
     }
 }
 
-/// Says of a line what its word asks.
+/// Adds what a word asks about a line.
 fn say(word: &str, call: &Option<(u64, Call)>, given: &mut Given) -> Result<(), LineFault> {
     match word {
         "call" => say_call(call, "no call\n", given),
@@ -81,7 +81,8 @@ fn say(word: &str, call: &Option<(u64, Call)>, given: &mut Given) -> Result<(), 
     Ok(())
 }
 
-/// Reads a line of a script, in a form that has `reserve` or not, and says of it what a word asks.
+/// Reads a line of a script, in a form with or without `reserve`, and adds what a word asks about
+/// it.
 fn read(config: &Checked, word: &str, line: &str, given: &mut Given) -> Result<(), LineFault> {
     match script::read_call(given.alloc(), config, word != "form-1", line.as_bytes()) {
         Ok(call) => say(word, &call, given),
@@ -104,16 +105,16 @@ impl Opens for Account {
     }
 }
 
-/// What lines of scripts say. A line of a script stands between bars (here quotes), `<tab>` and `<return>` stand
-/// for these bytes.
+/// Adds what the cases about lines of scripts give. A line of a script is between bars (here
+/// quotes); `<tab>` and `<return>` stand for these bytes.
 ///
 /// | Line | What it gives |
 /// |---|---|
 /// | `{..}` | nothing; the account whose scripts are read |
 /// | `call 'LINE'` | the line's moment and call, or `no call` |
-/// | `no-call 'LINE'` | nothing where the line stands for no call |
-/// | `form-1 'LINE'` | whether it stands for a call in a script of the first form |
-/// | `letters N 'LINE'` | whether it does, with N letters in place of `<letters>` |
+/// | `no-call 'LINE'` | nothing if the line stands for no call |
+/// | `form-1 'LINE'` | whether it stands for a call in a script of form 1 |
+/// | `letters N 'LINE'` | whether it stands for a call, with N letters in place of `<letters>` |
 pub fn give(case: &Case, given: &mut Given) -> Result<(), CaseFault> {
     call_opened::<Account>(case, given)
 }

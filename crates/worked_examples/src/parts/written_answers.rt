@@ -1,11 +1,11 @@
-//! Answers by their words.
+//! Answers, by their words.
 
 use crate::answers::numbered_answer;
 use crate::parts::lines::{LineFault, Words};
 use call_model::{Answer, Reason, Rejection, Throttle};
 use case_tables::value_of;
 
-/// The answers that are one word.
+/// The answers that consist of one word.
 const PLAIN: [(&str, Answer); 21] = [
     ("accepted", Answer::Accepted),
     ("done", Answer::Done),
@@ -43,7 +43,7 @@ fn plain(word: &str) -> Result<Answer, LineFault> {
     }
 }
 
-/// An event of the end: the moment and the event's number follow.
+/// Reads a SHUTDOWN event: its moment and its number follow.
 fn ending(reason: Reason, words: Words<'_>) -> Result<Answer, LineFault> {
     let mut words = words;
     Ok(Answer::Ending {
@@ -53,7 +53,7 @@ fn ending(reason: Reason, words: Words<'_>) -> Result<Answer, LineFault> {
     })
 }
 
-/// A delivery: the ticket of the Invoke and its deadline follow.
+/// Reads a delivery: the ticket of the Invoke and its deadline follow.
 fn delivered(words: Words<'_>) -> Result<Answer, LineFault> {
     let mut words = words;
     Ok(Answer::Delivered {
@@ -62,7 +62,7 @@ fn delivered(words: Words<'_>) -> Result<Answer, LineFault> {
     })
 }
 
-/// An event of an invocation: the ticket of the Invoke, its deadline and the event's number follow.
+/// Reads an INVOKE event: the ticket of the Invoke, its deadline and the event's number follow.
 fn told(words: Words<'_>) -> Result<Answer, LineFault> {
     let mut words = words;
     Ok(Answer::Told {
@@ -72,7 +72,7 @@ fn told(words: Words<'_>) -> Result<Answer, LineFault> {
     })
 }
 
-/// The answer of a word and one number.
+/// Returns the answer for a word and one number.
 fn numbered(word: &str, number: u64) -> Result<Answer, LineFault> {
     match numbered_answer(word, number) {
         Some(answer) => Ok(answer),
@@ -80,14 +80,14 @@ fn numbered(word: &str, number: u64) -> Result<Answer, LineFault> {
     }
 }
 
-/// The ends, by their words.
+/// The reasons for an end, by their words.
 const ENDS: [(&str, Reason); 3] = [
     ("ending-timeout", Reason::Timeout),
     ("ending-failure", Reason::Failure),
     ("ending-spindown", Reason::Spindown),
 ];
 
-/// The answer of a word with numbers behind it.
+/// Reads the answer of a word that is followed by numbers.
 fn longer(word: &str, words: Words<'_>) -> Result<Answer, LineFault> {
     if let Some(reason) = value_of(&ENDS, word) {
         return ending(reason, words);
@@ -99,7 +99,7 @@ fn longer(word: &str, words: Words<'_>) -> Result<Answer, LineFault> {
     }
 }
 
-/// The answer that words say.
+/// Reads an answer.
 pub fn answer_of(words: Words<'_>) -> Result<Answer, LineFault> {
     let mut words = words;
     let word = words.next();

@@ -1,4 +1,4 @@
-//! What is done with a request, as a line.
+//! The decision about a request, as a line.
 
 ghost use Rattle.std.specs.Prelude.{◌≡◌, [], ◌∷◌, IfOk};
 ghost use Rattle.call_model.specs.CallCounts.{request_count};
@@ -15,10 +15,10 @@ use lambda_wire::{PayloadScratch, Reply};
 use script::draft_entry;
 use std::alloc::{AllocError, Global};
 
-/// How many bytes of a body a line shows.
+/// The most bytes of a body that a line shows.
 const LONGEST_SHOWN: usize = 1000;
 
-/// What a port does with a request.
+/// Decides a request at a port.
 pub fn decided(
     alloc: Global,
     door: &Door,
@@ -29,7 +29,7 @@ pub fn decided(
     door.side.decide(alloc, &mut scratch, head, body)
 }
 
-/// The count in the request identifier of the only call of a history.
+/// Returns the count in the request identifier of the only call of a history.
 fn count_of(entry: &Entry) -> u64
     ensures { result ≡ request_count (entry.now ∷ []) entry.now.call }
 {
@@ -39,7 +39,7 @@ fn count_of(entry: &Entry) -> u64
     }
 }
 
-/// A row of one item.
+/// Returns a row of one item.
 fn row_of<T: Drop>(alloc: Global, item: T) -> Result<Blocks<T>, AllocError>
     ensures { IfOk result (λ row. row.0 ≡ item ∷ []) }
 {
@@ -49,7 +49,7 @@ fn row_of<T: Drop>(alloc: Global, item: T) -> Result<Blocks<T>, AllocError>
     Ok(row)
 }
 
-/// The line of a script that a call is read from.
+/// Returns the line of a script that a call is read from.
 fn line_of(alloc: Global, config: &Checked, call: Call) -> Result<Vec<u8>, AllocError> {
     let entry = Entry {
         moment: 0,
@@ -63,8 +63,8 @@ fn line_of(alloc: Global, config: &Checked, call: Call) -> Result<Vec<u8>, Alloc
     draft_entry(alloc, config, 0, &entries, &counts, 0)?.finish()
 }
 
-/// Adds a script's line. Where it ends with the request's body, and that is long, it is told how
-/// many bytes those are.
+/// Adds a script's line. If it ends with the request's body and that is long, adds the body's
+/// length in bytes instead.
 fn push_line(line: &[u8], body: &[u8], given: &mut Given) {
     let line = line.strip_suffix(b"\n").unwrap_or(line);
     match line.strip_suffix(body) {
@@ -87,7 +87,7 @@ fn push_call(config: &Checked, call: Call, body: &[u8], given: &mut Given) {
     }
 }
 
-/// Adds a refusal: its status, the type that the Lambda API gives it, and its body.
+/// Adds a refusal: its status, its error type in the Lambda API, and its body.
 fn push_refusal(reply: &Reply, given: &mut Given) {
     given.push("refuse ");
     given.print(&reply.status);
@@ -101,7 +101,7 @@ fn push_refusal(reply: &Reply, given: &mut Given) {
     given.push_bytes(reply.body.as_slice());
 }
 
-/// Adds that the history is shown, and from which ticket on.
+/// Adds that the history is shown, and the ticket it starts at.
 fn push_history(from: Option<Ticket>, given: &mut Given) {
     given.push("show history");
     if let Some(ticket) = from {
@@ -122,7 +122,7 @@ fn push_shown(shown: Shown, given: &mut Given) {
     }
 }
 
-/// Adds what a decision says.
+/// Adds a decision.
 fn push_decision(config: &Checked, decision: Decision, body: &[u8], given: &mut Given) {
     match decision {
         Decision::Submit(call) => push_call(config, call, body, given),
@@ -131,7 +131,7 @@ fn push_decision(config: &Checked, decision: Decision, body: &[u8], given: &mut 
     }
 }
 
-/// Adds the line of what a port does with a request.
+/// Adds a port's decision about a request, as a line.
 pub fn push_decided(door: &Door, head: &Parts, body: &Bytes, given: &mut Given) {
     match decided(given.alloc(), door, head, body) {
         Ok(decision) => push_decision(&door.config, decision, body.as_slice(), given),

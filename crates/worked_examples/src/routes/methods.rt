@@ -1,4 +1,4 @@
-//! Targets with each method: whether a port has the path, and whether the path takes the method.
+//! Targets with each method: whether a port has the path, and whether the path accepts the method.
 
 use crate::routes::decided::decided;
 use crate::routes::port::Door;
@@ -8,8 +8,8 @@ use case_tables::{CaseFault, Given, Part};
 use http::request::Parts;
 use http_routes::Decision;
 
-/// The word for what is done with a request: 404 where there is no such path, 405 where it takes
-/// other methods, and `yes` where it takes this one.
+/// Returns the word for a decision: 404 if there is no such path, 405 if the path accepts only
+/// other methods, and `yes` if it accepts this one.
 fn word_of(decision: &Decision) -> &'static str {
     let Decision::Reply(reply) = decision else {
         return "yes";
@@ -24,7 +24,7 @@ fn word_of(decision: &Decision) -> &'static str {
     }
 }
 
-/// Adds the word for what is done with a request of this head and no body.
+/// Adds the word for the decision about a request with this head and no body.
 fn push_word(door: &Door, head: &Parts, given: &mut Given) {
     match decided(given.alloc(), door, head, &Bytes::new()) {
         Ok(decision) => given.push(word_of(&decision)),
@@ -32,7 +32,7 @@ fn push_word(door: &Door, head: &Parts, given: &mut Given) {
     }
 }
 
-/// Adds the word of a method.
+/// Adds the word for a method.
 fn push_method(
     door: &Door,
     part: &Part,
@@ -59,7 +59,7 @@ fn push_target(door: &Door, part: &Part, target: &str, given: &mut Given) -> Res
     Ok(())
 }
 
-/// Adds the lines of a part's targets.
+/// Adds a line for each target of a part.
 pub fn push_methods(door: &Door, part: &Part, given: &mut Given) -> Result<(), CaseFault> {
     for target in part.lines().split('\n') {
         push_target(door, part, target, given)?;

@@ -1,4 +1,4 @@
-//! The port that the requests of a case come in on.
+//! The port that the requests of a case arrive on.
 
 use crate::accounts::{Account, account_of};
 use arn_ids::Checked;
@@ -7,14 +7,14 @@ use http_routes::{Port, Side};
 use std::alloc::Global;
 use std::sync::Arc;
 
-/// A port, and the configuration that it is of.
+/// A port, and its configuration.
 #[derive(Drop)]
 pub struct Door {
     pub config: Arc<Checked>,
     pub side: Side,
 }
 
-/// The port that a part names: `account`, or `environment E`.
+/// Reads the port that a part names: `account`, or `environment E`.
 fn port_of(part: &Part) -> Result<Port, CaseFault> {
     let words = part.arguments();
     if words == "account" {
@@ -29,7 +29,7 @@ fn port_of(part: &Part) -> Result<Port, CaseFault> {
     }
 }
 
-/// Opens a port of a configuration, where it has the port.
+/// Opens a port of a configuration, if it has the port.
 fn open(
     alloc: Global,
     config: &Arc<Checked>,
@@ -45,7 +45,7 @@ fn open(
     Ok(Side::open(alloc, Arc::try_clone(config)?, salt, port)?)
 }
 
-/// Opens the port that a part names, of the configuration that another one says.
+/// Opens the port that one part names, of the configuration in another.
 pub fn door_of(alloc: Global, config_part: &Part, port_part: &Part) -> Result<Door, CaseFault> {
     let port = port_of(port_part)?;
     let Account { config, salt } = account_of(alloc, config_part)?;

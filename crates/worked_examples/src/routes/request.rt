@@ -1,5 +1,5 @@
-//! The text of a request, as a client sends it: a line of the method, the target and the version,
-//! lines of headers, and behind an empty line the body.
+//! The text of a request, as a client sends it: a line with the method, the target and the version,
+//! header lines, and after an empty line the body.
 
 use bytes::Bytes;
 use case_tables::{CaseFault, Part, push_bytes};
@@ -42,7 +42,7 @@ fn value_of(alloc: Global, part: &Part, text: &str) -> Result<HeaderValue, CaseF
     }
 }
 
-/// The head of a request without headers.
+/// Returns a head without headers.
 fn bare_head(alloc: Global, method: Method, target: Uri) -> Parts {
     let mut head = Parts::new(alloc);
     head.method = method;
@@ -50,7 +50,7 @@ fn bare_head(alloc: Global, method: Method, target: Uri) -> Parts {
     head
 }
 
-/// The head of a request of this method and this target, without headers.
+/// Returns the head of a request with this method and this target, without headers.
 pub fn head_of(alloc: Global, part: &Part, method: &str, target: &str) -> Result<Parts, CaseFault> {
     let method = method_of(alloc, part, method)?;
     match target_of(alloc, part, target) {
@@ -59,7 +59,7 @@ pub fn head_of(alloc: Global, part: &Part, method: &str, target: &str) -> Result
     }
 }
 
-/// The head that a request's first line says, without headers.
+/// Reads a request's first line into a head without headers.
 fn first_head(alloc: Global, part: &Part, line: &str) -> Result<Parts, CaseFault> {
     let Some((method, rest)) = line.split_once(' ') else {
         return Err(part.malformed("a request is wanted"));
@@ -70,7 +70,7 @@ fn first_head(alloc: Global, part: &Part, line: &str) -> Result<Parts, CaseFault
     head_of(alloc, part, method, target)
 }
 
-/// Adds the header of a line. Its value is all that stands behind the colon and one space.
+/// Adds the header of a line. Its value is everything after the colon and one space.
 fn add_header(
     alloc: Global,
     part: &Part,
@@ -88,7 +88,7 @@ fn add_header(
     }
 }
 
-/// Adds the headers of the lines behind the first.
+/// Adds the headers of the lines after the first.
 fn add_headers(
     alloc: Global,
     part: &Part,
@@ -101,7 +101,7 @@ fn add_headers(
     Ok(())
 }
 
-/// The head that the lines before the empty line say.
+/// Reads the head from the lines before the empty line.
 pub fn read_head(alloc: Global, part: &Part, lines: &str) -> Result<Parts, CaseFault> {
     let first = lines.split('\n').next().unwrap_or("");
     let mut head = first_head(alloc, part, first)?;
@@ -116,7 +116,7 @@ fn is_of_body(part: &Part) -> bool {
     part.word() != "request" && part.word() != "methods"
 }
 
-/// Adds the bytes of the parts up to the next request.
+/// Adds the bytes of the parts before the next request.
 fn add_bytes(body: &mut Vec<u8>, parts: &[Part]) -> Result<(), CaseFault> {
     for part in parts {
         if !is_of_body(part) {
@@ -127,7 +127,8 @@ fn add_bytes(body: &mut Vec<u8>, parts: &[Part]) -> Result<(), CaseFault> {
     Ok(())
 }
 
-/// The body of a request that begins so: further bytes are those of the parts up to the next request.
+/// Reads the body of a request: this beginning, then the bytes of the parts before the next
+/// request.
 pub fn read_body(alloc: Global, begun: &str, parts: &[Part]) -> Result<Bytes, CaseFault> {
     let mut body = Vec::from_slice(alloc, begun.as_bytes())?;
     add_bytes(&mut body, parts)?;

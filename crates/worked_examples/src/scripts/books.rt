@@ -1,4 +1,4 @@
-//! Books: each takes the lines of a script, and is asked between them.
+//! Books: each takes the lines of a script, with questions between them.
 
 use crate::scripts::questions::question_of;
 use crate::scripts::readings::push_reading;
@@ -14,7 +14,7 @@ struct Lines<'a> {
     first: u64,
 }
 
-/// The lines of a part.
+/// Returns the lines of a part.
 fn lines_of(part: &Part) -> Lines<'_> {
     Lines {
         text: part.text(),
@@ -22,7 +22,7 @@ fn lines_of(part: &Part) -> Lines<'_> {
     }
 }
 
-/// Adds what a book did with a call, where it did not take it. Says whether there was a call.
+/// Adds what a book did with a call that it did not take. Returns whether there was a call.
 fn push_taken(given: &mut Given, taken: Taken) -> bool {
     match taken {
         Taken::NoCall => return false,
@@ -33,8 +33,7 @@ fn push_taken(given: &mut Given, taken: Taken) -> bool {
     true
 }
 
-/// Hands a book the call of a line, and once more where memory was refused: the book is then as it
-/// was.
+/// Gives a book the call of a line, and again if memory was refused: the book is then unchanged.
 fn take_in_the_end(alloc: Global, book: &mut Book, line: &str) -> Result<Taken, AllocError> {
     match take(alloc, book, true, line.as_bytes()) {
         Ok(taken) => Ok(taken),
@@ -42,7 +41,7 @@ fn take_in_the_end(alloc: Global, book: &mut Book, line: &str) -> Result<Taken, 
     }
 }
 
-/// Adds what a book says to the question of a line. Says whether it is one.
+/// Adds a book's answer to the question in a line. Returns whether it is a question.
 fn ask(book: &Book, line: &str, given: &mut Given) -> bool {
     match question_of(line) {
         Some(question) => {
@@ -53,7 +52,7 @@ fn ask(book: &Book, line: &str, given: &mut Given) -> bool {
     }
 }
 
-/// Adds whether the call of a line would come too early. Says whether it is one.
+/// Adds whether the call of a line would come too early. Returns whether it is a call.
 fn hold(book: &Book, line: &str, given: &mut Given) -> bool {
     match is_early(given.alloc(), book, line.as_bytes()) {
         Ok(Some(true)) => given.push("early\n"),
@@ -64,7 +63,7 @@ fn hold(book: &Book, line: &str, given: &mut Given) -> bool {
     true
 }
 
-/// Hands a book a line of a part that is called so. Says whether it is one of such a part.
+/// Gives a book a line of a part with this name. Returns whether the line fits the part.
 fn follow_line(
     book: &mut Book,
     word: &str,
@@ -81,7 +80,7 @@ fn follow_line(
     }
 }
 
-/// Hands a book the lines of a part that is called so.
+/// Gives a book the lines of a part with this name.
 fn follow(
     book: &mut Book,
     word: &str,
@@ -101,7 +100,7 @@ fn follow(
     Ok(())
 }
 
-/// Hands a book first lines of a script, and then those of parts.
+/// Gives a book first the lines of a script, and then those of parts.
 fn follow_all(
     book: &mut Book,
     lines: Lines<'_>,
@@ -118,7 +117,7 @@ fn follow_all(
     Ok(())
 }
 
-/// Adds why no book was opened, behind whose configuration nothing may stand.
+/// Adds why no book was opened; nothing may follow such a configuration.
 fn push_unopened(
     given: &mut Given,
     why: Unopened,
@@ -140,7 +139,7 @@ fn push_unopened(
     Ok(())
 }
 
-/// The first part of a case, which is a script.
+/// Returns the first part of a case, which must be a script, and the parts after it.
 fn first_of(case: &Case) -> Result<(&Part, &[Part]), CaseFault> {
     match case.parts().split_first() {
         Some((part, parts)) if part.word() == "script" => Ok((part, parts)),
@@ -148,10 +147,11 @@ fn first_of(case: &Case) -> Result<(&Part, &[Part]), CaseFault> {
     }
 }
 
-/// What a book says that takes a script. The first line of a case is the configuration, in a part
-/// `script`; each further line of such a part is a call, in form 2, each line of a part `ask` a
-/// question, and each line of a part `would` a call of which is asked whether it would come too
-/// early. A case gives what the book says to its questions, and a line for each call that it refuses.
+/// Adds what a book that takes a script says. The first line of a case is the configuration, in a
+/// part `script`. Each further line of such a part is a call in form 2, each line of a part `ask`
+/// is a question, and each line of a part `would` is a call that is asked whether it would come too
+/// early. A case gives the book's answers to its questions, and a line for each call that it
+/// refuses.
 pub fn give(case: &Case, given: &mut Given) -> Result<(), CaseFault> {
     let (part, parts) = first_of(case)?;
     let text = part.text();

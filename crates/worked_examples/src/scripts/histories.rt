@@ -1,16 +1,16 @@
-//! The text of a history: what a book has that took a script.
+//! The text of a history, from a book that took a script.
 
 use crate::scripts::taking::{Unopened, open_book, take};
 use account_book::Book;
 use call_model::Ticket;
 use std::alloc::{AllocError, Global};
 
-/// A line without its carriage return.
+/// Returns a line without its carriage return.
 fn cut(line: &[u8]) -> &[u8] {
     line.strip_suffix(b"\r").unwrap_or(line)
 }
 
-/// Hands a book the lines of a script.
+/// Gives a book the lines of a script.
 fn take_lines(
     alloc: Global,
     book: &mut Book,
@@ -23,7 +23,7 @@ fn take_lines(
     Ok(())
 }
 
-/// Adds the text of the entry with a ticket.
+/// Adds the text of the entry with this ticket.
 fn push_entry(text: &mut Vec<u8>, book: &Book, ticket: Ticket) -> Result<(), AllocError> {
     match book.history(ticket) {
         Ok(Some(draft)) => text.extend_from_slice(draft.finish()?.as_slice()),
@@ -32,7 +32,7 @@ fn push_entry(text: &mut Vec<u8>, book: &Book, ticket: Ticket) -> Result<(), All
     }
 }
 
-/// The text of a book's history.
+/// Returns the text of a book's history.
 fn history_text(book: &Book) -> Result<Vec<u8>, AllocError> {
     let mut text = book.opening()?;
     for ticket in 0..book.len() {
@@ -41,7 +41,7 @@ fn history_text(book: &Book) -> Result<Vec<u8>, AllocError> {
     Ok(text)
 }
 
-/// The text of the history of a book that takes lines.
+/// Returns the text of the history of a book that takes these lines.
 fn history_of(
     alloc: Global,
     book: &mut Book,
@@ -52,8 +52,8 @@ fn history_of(
     Ok(Some(history_text(book)?))
 }
 
-/// The text of the history of the book that a line opens and that takes lines; none where it opens
-/// none.
+/// Returns the text of the history of the book that the first line opens and the others fill;
+/// `None` if it opens none.
 fn opened_history(
     alloc: Global,
     config: &[u8],
@@ -67,7 +67,7 @@ fn opened_history(
     }
 }
 
-/// A text up to its first line feed, and what stands behind that.
+/// Splits a text after its first line feed.
 fn cut_line(text: &[u8]) -> (&[u8], &[u8]) {
     for place in 0..text.len() {
         if text[place] == b'\n' {
@@ -77,7 +77,7 @@ fn cut_line(text: &[u8]) -> (&[u8], &[u8]) {
     (text, b"")
 }
 
-/// The text of the history behind a script; none where the script does not end well.
+/// Returns the text of the history that a script leads to; `None` if the script does not end well.
 pub fn history_behind(alloc: Global, script: &[u8]) -> Result<Option<Vec<u8>>, AllocError> {
     let (first, behind) = cut_line(script);
     if cut(first) == b"form 2".as_slice() {
@@ -87,7 +87,7 @@ pub fn history_behind(alloc: Global, script: &[u8]) -> Result<Option<Vec<u8>>, A
     opened_history(alloc, first, false, behind)
 }
 
-/// Whether these are the answers that a history's text shows: what its lines have behind `# `.
+/// Whether a history's text shows these answers: they are what follows `# ` in its lines.
 pub fn shows(text: &[u8], answers: &[u8]) -> bool {
     let mut rest = answers;
     for line in text.split_inclusive(|b| *b == b'\n') {
@@ -101,10 +101,10 @@ pub fn shows(text: &[u8], answers: &[u8]) -> bool {
     rest.is_empty()
 }
 
-/// The line that is written where the journal is full; no entry has it.
+/// The line that is written if the journal is full; it belongs to no entry.
 const FULL: &[u8] = b"refused JournalFull\n";
 
-/// Adds the lines of the answers that entries have.
+/// Adds the lines of the answers that belong to entries.
 pub fn push_entries_answers(kept: &mut Vec<u8>, answers: &[u8]) -> Result<(), AllocError> {
     for line in answers.split_inclusive(|b| *b == b'\n') {
         if line != FULL {

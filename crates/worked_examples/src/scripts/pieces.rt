@@ -1,12 +1,12 @@
-//! Readers that give a script by pieces, and writers that take a part of what is written; either
-//! may fail in mid-stream.
+//! Readers that return a script in pieces, and writers with room for only a part of what is
+//! written. Either can fail in mid-stream.
 
 ghost use Rattle.std.specs.Prelude.{◌≤◌, length};
 
 use std::alloc::{AllocError, Global};
 use std::io::{self, Read, Write};
 
-/// Gives a first line and then a script, at most so many bytes at once; then it ends, or fails.
+/// Returns a first line and then a script, up to a number of bytes at once; then ends, or fails.
 #[derive(Drop)]
 pub struct Pieces<'a> {
     pub first: &'a [u8],
@@ -15,7 +15,7 @@ pub struct Pieces<'a> {
     pub fails: bool,
 }
 
-/// Moves bytes from the front of one slice to the front of another.
+/// Copies bytes from the front of one slice to the front of another.
 fn give(from: &mut &[u8], at_once: usize, buf: &mut [u8]) -> usize
     ensures { result ≤ length buf.old }
 {
@@ -37,13 +37,13 @@ impl<'a> Read for Pieces<'a> {
     }
 }
 
-/// How many bytes a page has memory for from the start.
+/// The number of bytes that a page has memory for from the start.
 const PAGE: usize = 32768;
 
-/// How many bytes a page takes at once.
+/// The most bytes that a page takes at once.
 const AT_ONCE: usize = 3;
 
-/// Takes so many bytes, and then fails.
+/// Takes up to a number of bytes, and then fails.
 #[derive(Drop)]
 pub struct Page {
     bytes: Vec<u8>,
@@ -51,8 +51,8 @@ pub struct Page {
 }
 
 impl Page {
-    /// A page that takes so many bytes. It asks for its memory here, so that a replay that wants
-    /// memory itself can still write.
+    /// Creates a page that takes up to `room` bytes. It allocates its memory here, so that a replay
+    /// that runs out of memory can still write.
     pub fn new(alloc: Global, room: usize) -> Result<Page, AllocError> {
         Ok(Page {
             bytes: Vec::with_capacity(alloc, PAGE)?,
@@ -60,7 +60,7 @@ impl Page {
         })
     }
 
-    /// What was written.
+    /// Returns what was written.
     pub fn written(&self) -> &[u8] {
         self.bytes.as_slice()
     }

@@ -1,4 +1,4 @@
-//! What a book can be asked.
+//! The questions that a book can be asked.
 
 use arn_ids::FnNo;
 use call_model::Ticket;
@@ -18,7 +18,7 @@ use case_tables::value_of;
 /// | `reservation F` | the reservation in force of the function of this number |
 /// | `salt`, `config` | the salt; the environments, the functions and the account's limit |
 ///
-/// Where there is nothing, the answer has `-`.
+/// If there is no such thing, the answer has `-`.
 #[derive(Clone, Copy)]
 pub enum Question {
     Entries,
@@ -33,7 +33,7 @@ pub enum Question {
     Config,
 }
 
-/// The questions of a word alone.
+/// The questions that consist of one word.
 const PLAIN: [(&str, Question); 6] = [
     ("entries", Question::Entries),
     ("opening", Question::Opening),
@@ -43,7 +43,7 @@ const PLAIN: [(&str, Question); 6] = [
     ("config", Question::Config),
 ];
 
-/// The question of a word and a number.
+/// Returns the question for a word and a number.
 fn numbered_question(word: &str, number: u64) -> Option<Question> {
     match word {
         "history" => Some(Question::History(number)),
@@ -54,7 +54,7 @@ fn numbered_question(word: &str, number: u64) -> Option<Question> {
     }
 }
 
-/// The question of a line.
+/// Reads the question in a line.
 pub fn question_of(line: &str) -> Option<Question> {
     match line.split_once(' ') {
         Some((word, number)) => numbered_question(word, number.parse::<u64>().ok()?),

@@ -1,4 +1,4 @@
-//! What a book says to a question, as lines.
+//! A book's answers to questions, as lines.
 
 use crate::scripts::questions::Question;
 use crate::scripts::texts::push_bytes;
@@ -10,7 +10,7 @@ use case_tables::Given;
 use lambda_wire::Reply;
 use script::Draft;
 
-/// Adds a number and what stands behind it; where there is none, `-`.
+/// Adds a number and the text after it, or `-` if there is no number.
 fn push_number(given: &mut Given, number: Option<u64>, behind: &str) {
     match number {
         Some(number) => given.print(&number),
@@ -19,7 +19,7 @@ fn push_number(given: &mut Given, number: Option<u64>, behind: &str) {
     given.push(behind);
 }
 
-/// Adds the text of an entry as lines, if there was memory for it.
+/// Adds the text of an entry as lines, if memory sufficed for it.
 fn push_draft(given: &mut Given, draft: Draft) {
     match draft.finish() {
         Ok(text) => push_bytes(given, text.as_slice()),
@@ -27,7 +27,7 @@ fn push_draft(given: &mut Given, draft: Draft) {
     }
 }
 
-/// Adds the history text of the entry with a ticket; where there is none, `-`.
+/// Adds the history text of the entry with this ticket, or `-` if there is none.
 fn push_history(book: &Book, ticket: Ticket, given: &mut Given) {
     match book.history(ticket) {
         Ok(Some(draft)) => push_draft(given, draft),
@@ -44,7 +44,7 @@ fn push_opening(book: &Book, given: &mut Given) {
     }
 }
 
-/// Adds an answer as a line; where there is none, `-`.
+/// Adds an answer as a line, or `-` if there is none.
 fn push_answer(given: &mut Given, answer: Option<Answer>) {
     match answer {
         Some(answer) => tell(given, &answer),
@@ -52,7 +52,7 @@ fn push_answer(given: &mut Given, answer: Option<Answer>) {
     }
 }
 
-/// The place of an entry as a number.
+/// Returns the place of an entry as a number.
 fn number_of(place: Option<u32>) -> Option<u64> {
     match place {
         Some(place) => Some(u64::from(place)),
@@ -60,7 +60,7 @@ fn number_of(place: Option<u32>) -> Option<u64> {
     }
 }
 
-/// The moment and the place of the entry with a ticket.
+/// Returns the moment and the place of the entry with this ticket.
 fn moment_and_place(book: &Book, ticket: Ticket) -> (Option<u64>, Option<u64>) {
     match book.entry(ticket) {
         Some(entry) => (Some(entry.moment), number_of(entry.place)),
@@ -78,14 +78,14 @@ fn push_entry(book: &Book, ticket: Ticket, given: &mut Given) {
     push_answer(given, book.answer(ticket));
 }
 
-/// Adds the line of each ticket, and of the one past the end.
+/// Adds the line of each ticket, and of the ticket past the end.
 fn push_entries(book: &Book, given: &mut Given) {
     for ticket in 0..=book.len() {
         push_entry(book, ticket, given);
     }
 }
 
-/// Adds the reservation in force of a function; where there is no such function, that.
+/// Adds the reservation in force of a function, or that there is no such function.
 fn push_reservation(book: &Book, function: FnNo, given: &mut Given) {
     if function == 0 || book.config().functions().len() < function as usize {
         given.push("no such function\n");
@@ -94,7 +94,7 @@ fn push_reservation(book: &Book, function: FnNo, given: &mut Given) {
     push_number(given, number_of(book.reservation(function)), "\n");
 }
 
-/// Adds what the configuration says.
+/// Adds what the configuration contains.
 fn push_config(book: &Book, given: &mut Given) {
     let config = book.config();
     given.push("environments ");
@@ -114,7 +114,7 @@ fn push_reply(given: &mut Given, reply: &Reply) {
     push_line(given, reply.body.as_slice());
 }
 
-/// Adds the reply to a ticket; where there is none, `-`.
+/// Adds the reply to a ticket, or `-` if there is none.
 fn push_rendered(book: &Book, ticket: Ticket, given: &mut Given) {
     match book.render(ticket) {
         Ok(Some(reply)) => push_reply(given, &reply),
@@ -123,7 +123,7 @@ fn push_rendered(book: &Book, ticket: Ticket, given: &mut Given) {
     }
 }
 
-/// Adds what a book says to a question.
+/// Adds a book's answer to a question.
 pub fn push_reading(book: &Book, question: Question, given: &mut Given) {
     match question {
         Question::Entries => push_entries(book, given),

@@ -37,7 +37,7 @@ fn play(alloc: Global, way: &Way<'_>) -> Result<Played, AllocError> {
     Ok(Played { ended, page })
 }
 
-/// Whether what was written where memory ran out is lines from the front of what is wanted.
+/// Whether what was written before memory ran out is whole lines from the start of `wanted`.
 fn is_front(wanted: &str, written: &[u8]) -> bool {
     matches!(written.last(), None | Some(b'\n')) && wanted.as_bytes().starts_with(written)
 }
@@ -50,8 +50,8 @@ fn push_fault(text: &mut Given, fault: ReplayFault) {
     text.push("\n");
 }
 
-/// Adds what a replay wrote, and at a fault the line of the fault. Where memory ran out, what was
-/// written has to be lines from the front of what is wanted.
+/// Adds what a replay wrote, and the line of its fault if it has one. If memory ran out, what was
+/// written must be whole lines from the start of `wanted`.
 fn push_played(text: &mut Given, wanted: &str, played: &Played) -> Result<(), CaseFault> {
     let written = played.page.written();
     if played.ended == Err(ReplayFault::OutOfMemory) {
@@ -67,7 +67,7 @@ fn push_played(text: &mut Given, wanted: &str, played: &Played) -> Result<(), Ca
     text.end()
 }
 
-/// The text of a replay.
+/// Returns the text of a replay.
 fn text_of(alloc: Global, wanted: &str, way: &Way<'_>) -> Result<Given, CaseFault> {
     let played = play(alloc, way)?;
     let mut text = Given::new(alloc);
@@ -77,7 +77,7 @@ fn text_of(alloc: Global, wanted: &str, way: &Way<'_>) -> Result<Given, CaseFaul
     }
 }
 
-/// Adds what a way of a script gives, where it is something else than the whole replay gave.
+/// Adds the text of one way to replay a script, if it differs from that of the whole replay.
 fn push_way(title: &str, way: &Way<'_>, whole: &str, given: &mut Given) -> Result<(), CaseFault> {
     let text = text_of(given.alloc(), whole, way)?;
     if text.as_str() != whole {
@@ -88,7 +88,7 @@ fn push_way(title: &str, way: &Way<'_>, whole: &str, given: &mut Given) -> Resul
     Ok(())
 }
 
-/// Adds what a history shows, where that is not what the script's entries were answered.
+/// Adds the answers that a history shows, if they differ from those of the script's entries.
 fn push_shown(history: &[u8], kept: &[u8], given: &mut Given) {
     if !shows(history, kept) {
         given.push("the history shows other answers:\n");
@@ -96,7 +96,7 @@ fn push_shown(history: &[u8], kept: &[u8], given: &mut Given) {
     }
 }
 
-/// Adds what the replay of a history gives, where it is something else than its answers.
+/// Adds the answers that a history's replay gives, if they differ from its own.
 fn push_again(history: &[u8], kept: &[u8], given: &mut Given) -> Result<(), CaseFault> {
     let way = Way {
         first: b"",
@@ -111,8 +111,8 @@ fn push_again(history: &[u8], kept: &[u8], given: &mut Given) -> Result<(), Case
     push_way("from its history", &way, wanted.as_str(), given)
 }
 
-/// Adds what a script's history shows, where that is not what the script's entries were answered,
-/// and what the replay of its text gives, where that is something else.
+/// Adds the answers that a script's history shows, if they differ from those of the script's
+/// entries; and those that the replay of its text gives, if they differ.
 fn push_entries(history: &[u8], whole: &str, given: &mut Given) -> Result<(), CaseFault> {
     let mut kept = Vec::new(given.alloc());
     push_entries_answers(&mut kept, whole.as_bytes())?;
@@ -120,7 +120,7 @@ fn push_entries(history: &[u8], whole: &str, given: &mut Given) -> Result<(), Ca
     push_again(history, kept.as_slice(), given)
 }
 
-/// The same of a script, where it has a history.
+/// Adds the same for a script, if it has a history.
 fn push_history(script: &[u8], whole: &str, given: &mut Given) -> Result<(), CaseFault> {
     match history_behind(given.alloc(), script) {
         Ok(Some(history)) => push_entries(history.as_slice(), whole, given),
@@ -132,7 +132,7 @@ fn push_history(script: &[u8], whole: &str, given: &mut Given) -> Result<(), Cas
     }
 }
 
-/// How a case's script is replayed whole.
+/// Returns how a case's script is replayed as a whole.
 fn whole_way<'a>(case: &Case, script: &'a [u8]) -> Result<Way<'a>, CaseFault> {
     let room = match case.part("room") {
         Some(part) => number_of(part)?,
@@ -147,7 +147,7 @@ fn whole_way<'a>(case: &Case, script: &'a [u8]) -> Result<Way<'a>, CaseFault> {
     })
 }
 
-/// Adds what a script gives in form 2, where it is not in that form.
+/// Adds what a script gives in form 2, if it is not in that form.
 fn push_later(way: &Way<'_>, whole: &str, given: &mut Given) -> Result<(), CaseFault> {
     if way.script.starts_with(b"form 2") {
         return Ok(());
@@ -170,7 +170,7 @@ fn push_others(way: &Way<'_>, whole: &str, given: &mut Given) -> Result<(), Case
     push_history(way.script, whole, given)
 }
 
-/// Adds what a script gives that is replayed whole, and where it is to be, in every way.
+/// Adds what a script gives when it is replayed as a whole and, if asked to, in every other way.
 fn push_whole(
     way: &Way<'_>,
     wanted: &str,
@@ -185,10 +185,10 @@ fn push_whole(
     }
 }
 
-/// What a script is answered, replayed whole, and in every way byte by byte, in form 2 and from its
-/// history too. Its parts are those of a script; with `reader-fails` the reader fails behind it, with
-/// `room N` the writer takes N bytes. A case gives the answers, and at a fault the program's line on
-/// standard error and its status.
+/// Adds the answers to a script that is replayed as a whole, and, if `in_every_way`, also byte by
+/// byte, in form 2 and from its history. Its parts are those of a script; with `reader-fails` the
+/// reader fails after the script, and with `room N` the writer takes N bytes. A case gives the
+/// answers and, after a fault, the program's line on standard error and its status.
 pub fn give(case: &Case, in_every_way: bool, given: &mut Given) -> Result<(), CaseFault> {
     let script = script_of(given.alloc(), case, &["reader-fails", "room"])?;
     let way = whole_way(case, script.as_slice())?;

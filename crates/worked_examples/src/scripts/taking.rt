@@ -9,13 +9,13 @@ use std::sync::Arc;
 /// Why no book was opened.
 #[derive(Clone, Copy, Debug)]
 pub enum Unopened {
-    /// The configuration's line is not read.
+    /// The configuration's line cannot be read.
     Wire(WireFault),
-    /// The configuration says what no account can have.
+    /// The configuration has a fault.
     Config(ConfigFault),
-    /// The greatest number of entries is out of its range.
+    /// The greatest number of entries is out of range.
     Open(OpenFault),
-    /// There was no memory.
+    /// Memory ran out.
     Memory,
 }
 
@@ -35,7 +35,7 @@ fn open(alloc: Global, setup: Setup) -> Result<Book, Unopened> {
     }
 }
 
-/// Opens the book that a line says.
+/// Opens the book that a line configures.
 pub fn open_book(alloc: Global, line: &[u8]) -> Result<Book, Unopened> {
     match read_config(alloc, line) {
         Ok(setup) => open(alloc, setup),
@@ -51,13 +51,13 @@ pub enum Taken {
     NoCall,
     /// Its call was taken.
     Taken,
-    /// Its call was refused, since the journal is full.
+    /// Its call was refused, because the journal is full.
     Full,
-    /// The book said whether it is full, and did the other thing.
+    /// What the book did contradicts what it had said about being full.
     Otherwise,
 }
 
-/// Hands a book the call of a line.
+/// Gives a book the call of a line.
 pub fn take(
     alloc: Global,
     book: &mut Book,
@@ -76,7 +76,7 @@ pub fn take(
     }
 }
 
-/// Whether the call of a line comes too early for a book; none where it stands for no call.
+/// Returns whether the call of a line comes too early for a book; `None` if it stands for no call.
 pub fn is_early(alloc: Global, book: &Book, line: &[u8]) -> Result<Option<bool>, AllocError> {
     let Some((now, call)) = script::read_call(alloc, book.config(), true, line)? else {
         return Ok(None);

@@ -1,9 +1,9 @@
-//! The bytes that the parts of a case say, and bytes as text.
+//! The bytes of a case's parts, and bytes as text.
 
 use case_tables::{Case, CaseFault, Given, Part, push_bytes as push_bytes_of};
 use std::alloc::Global;
 
-/// The number that stands behind the word of a part.
+/// Reads the number after the word of a part.
 pub fn number_of(part: &Part) -> Result<usize, CaseFault> {
     match part.arguments().parse::<usize>() {
         Ok(number) => Ok(number),
@@ -11,7 +11,7 @@ pub fn number_of(part: &Part) -> Result<usize, CaseFault> {
     }
 }
 
-/// Adds the text of a part so many times.
+/// Adds the text of a part, repeated.
 fn push_repeated(bytes: &mut Vec<u8>, part: &Part) -> Result<(), CaseFault> {
     for _ in 0..number_of(part)? {
         bytes.extend_from_slice(part.text().as_bytes())?;
@@ -19,13 +19,13 @@ fn push_repeated(bytes: &mut Vec<u8>, part: &Part) -> Result<(), CaseFault> {
     Ok(())
 }
 
-/// Adds so many number signs.
+/// Adds number signs.
 fn push_signs(bytes: &mut Vec<u8>, part: &Part) -> Result<(), CaseFault> {
     let length = bytes.len().saturating_add(number_of(part)?);
     Ok(bytes.resize(length, b'#')?)
 }
 
-/// Adds what a part of a script says.
+/// Adds the bytes of a part of a script.
 ///
 /// | Part | What it says |
 /// |---|---|
@@ -44,8 +44,7 @@ fn push_part(script: &mut Vec<u8>, part: &Part) -> Result<(), CaseFault> {
     }
 }
 
-/// The script that the parts of a case say; of its other parts only those of these words may stand
-/// there.
+/// Returns the script in the parts of a case; its other parts must have one of these words.
 pub fn script_of(alloc: Global, case: &Case, others: &[&str]) -> Result<Vec<u8>, CaseFault> {
     let mut script = Vec::new(alloc);
     for part in case.parts() {
@@ -56,7 +55,7 @@ pub fn script_of(alloc: Global, case: &Case, others: &[&str]) -> Result<Vec<u8>,
     Ok(script)
 }
 
-/// Adds bytes as text; a last line that does not end is marked.
+/// Adds bytes as text; marks a last line without a line feed.
 pub fn push_bytes(given: &mut Given, bytes: &[u8]) {
     given.push_bytes(bytes);
     if !matches!(bytes.last(), None | Some(b'\n')) {

@@ -1,4 +1,4 @@
-//! Answers by their words.
+//! Answers, by their words.
 
 use crate::answers::{REASONS, numbered_answer};
 use call_model::{Answer, Rejection, Throttle};
@@ -39,7 +39,7 @@ fn number_in(text: &str) -> Option<u64> {
     text.parse::<u64>().ok()
 }
 
-/// A delivery: the Invoke's ticket and the deadline.
+/// Reads a delivery: the Invoke's ticket and the deadline.
 fn delivery(rest: &str) -> Option<Answer> {
     let (invoke, deadline) = rest.split_once(' ')?;
     Some(Answer::Delivered {
@@ -48,7 +48,7 @@ fn delivery(rest: &str) -> Option<Answer> {
     })
 }
 
-/// An INVOKE event: the Invoke's ticket, the event's number and the deadline.
+/// Reads an INVOKE event: the Invoke's ticket, the event's number and the deadline.
 fn told(rest: &str) -> Option<Answer> {
     let (invoke, rest) = rest.split_once(' ')?;
     let (event, deadline) = rest.split_once(' ')?;
@@ -59,7 +59,7 @@ fn told(rest: &str) -> Option<Answer> {
     })
 }
 
-/// A SHUTDOWN event: the event's number, the reason, and when the environment ends in any case.
+/// Reads a SHUTDOWN event: its number, the reason, and the moment by which the environment ends.
 fn ending(rest: &str) -> Option<Answer> {
     let (event, rest) = rest.split_once(' ')?;
     let (reason, until) = rest.split_once(' ')?;
@@ -70,7 +70,7 @@ fn ending(rest: &str) -> Option<Answer> {
     })
 }
 
-/// The answer of a word and what stands behind it.
+/// Reads the answer of a word and its arguments.
 fn longer_answer(word: &str, rest: &str) -> Option<Answer> {
     match word {
         "deliver" => delivery(rest),
@@ -90,16 +90,16 @@ fn answer_in(text: &str) -> Option<Answer> {
     }
 }
 
-/// The answer that a part says.
+/// Reads the answer in a part.
 ///
 /// | Words | Answer |
 /// |---|---|
 /// | `deliver T D` | the Invoke with ticket T is delivered, with deadline D |
-/// | `tell T N D` | event N tells of the Invoke with ticket T and of its deadline D |
-/// | `shutdown N R U` | event N tells of the end at U in any case, R `TIMEOUT`, `FAILURE` or `SPINDOWN` |
+/// | `tell T N D` | event N announces the Invoke with ticket T and its deadline D |
+/// | `shutdown N R U` | event N announces the end by U; R is `TIMEOUT`, `FAILURE` or `SPINDOWN` |
 /// | `registered N` | the extension is registered as number N |
-/// | `output T`, `error T` | the report with ticket T brought an output or an error |
-/// | `throttled K`, `refused K` | K the name of the reason |
+/// | `output T`, `error T` | the report with ticket T contained an output or an error |
+/// | `throttled K`, `refused K` | K is the name of the reason |
 /// | `reserved N`, `unreserved` | a reservation is set or removed |
 /// | `accepted`, `done`, `timeout`, `init-timeout`, `too-large-output`, `stopped`, `withdrawn` | |
 pub fn answer_of(part: &Part) -> Result<Answer, CaseFault> {

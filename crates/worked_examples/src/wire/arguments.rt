@@ -5,21 +5,21 @@ use lambda_wire::InvokeFault;
 use serde_json::Value;
 use std::alloc::Global;
 
-/// Whose fault it is, by its name.
+/// The kinds of an Invoke's fault, by their names.
 const FORMS: [(&str, InvokeFault); 3] = [
     ("User", InvokeFault::User),
     ("NotFound", InvokeFault::NotFound),
     ("Service", InvokeFault::Service),
 ];
 
-/// The arguments of a call, and the line that has them.
+/// The arguments of a call, and the number of their line.
 #[derive(Drop)]
 pub struct Arguments {
     fields: Value,
     line: u64,
 }
 
-/// Whether a value is one that an argument of this name can have: a text, but for a few.
+/// Whether a value fits the argument with this name: a text, with a few exceptions.
 fn fits(name: &str, value: &Value) -> bool {
     match name {
         "deadline" | "status" => value.as_u64().is_some(),
@@ -29,7 +29,7 @@ fn fits(name: &str, value: &Value) -> bool {
 }
 
 impl Arguments {
-    /// Reads the arguments that a line says.
+    /// Reads the arguments in a line.
     pub fn read(alloc: Global, text: &str, line: u64) -> Result<Arguments, CaseFault> {
         match Value::from_str(alloc, text) {
             Ok(fields) => Ok(Arguments { fields, line }),
@@ -41,7 +41,7 @@ impl Arguments {
         }
     }
 
-    /// Looks whether a call is one of these, and whether the arguments are there that it wants.
+    /// Checks that a call is one of these, and that the arguments it needs are there.
     pub fn check_call(&self, calls: &[(&str, &[&str])], word: &str) -> Result<(), CaseFault> {
         match value_of(calls, word) {
             Some(wanted) => self.check(wanted),
@@ -49,7 +49,7 @@ impl Arguments {
         }
     }
 
-    /// Looks whether the arguments are there that a call wants.
+    /// Checks that the arguments that a call needs are there.
     pub fn check(&self, wanted: &[&str]) -> Result<(), CaseFault> {
         for name in wanted {
             match self.fields.get(*name) {
@@ -60,27 +60,27 @@ impl Arguments {
         Ok(())
     }
 
-    /// The text of an argument, where it is given.
+    /// Returns the text of an argument, if it is given.
     pub fn text_if_given(&self, name: &str) -> Option<&str> {
         self.fields.get(name)?.as_str()
     }
 
-    /// The text of an argument that was looked for.
+    /// Returns the text of an argument that was checked.
     pub fn text(&self, name: &str) -> &str {
         self.text_if_given(name).unwrap_or("")
     }
 
-    /// The number of an argument, where it is given.
+    /// Returns the number of an argument, if it is given.
     pub fn number_if_given(&self, name: &str) -> Option<u64> {
         self.fields.get(name)?.as_u64()
     }
 
-    /// The number of an argument that was looked for.
+    /// Returns the number of an argument that was checked.
     pub fn number(&self, name: &str) -> u64 {
         self.number_if_given(name).unwrap_or(0)
     }
 
-    /// Whether an argument that was looked for says `true`.
+    /// Whether an argument that was checked is `true`.
     pub fn is_true(&self, name: &str) -> bool {
         match self.fields.get(name) {
             Some(value) => value.as_bool() == Some(true),
@@ -88,7 +88,7 @@ impl Arguments {
         }
     }
 
-    /// Whose fault it is.
+    /// Returns the kind of an Invoke's fault.
     pub fn form(&self) -> Result<InvokeFault, CaseFault> {
         match value_of(&FORMS, self.text("form")) {
             Some(form) => Ok(form),
@@ -96,7 +96,7 @@ impl Arguments {
         }
     }
 
-    /// That the line does not say what it is to say.
+    /// Returns the fault of a line that does not contain what it must.
     pub fn fault(&self, what: &'static str) -> CaseFault {
         CaseFault::Malformed {
             line: self.line,
@@ -104,7 +104,7 @@ impl Arguments {
         }
     }
 
-    /// That the part of the line names no call.
+    /// Returns the fault of a part that names no call.
     pub fn unknown(&self) -> CaseFault {
         CaseFault::Unknown { line: self.line }
     }

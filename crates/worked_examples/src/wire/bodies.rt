@@ -9,7 +9,7 @@ use lambda_wire::{
 };
 use std::alloc::{AllocError, Global};
 
-/// The calls, and the arguments that each wants.
+/// The calls, and the arguments that each needs.
 const CALLS: [(&str, &[&str]); 8] = [
     ("status", &[]),
     ("reservation", &[]),
@@ -21,7 +21,7 @@ const CALLS: [(&str, &[&str]); 8] = [
     ("invoke-fault", &["form", "message"]),
 ];
 
-/// The count of a reservation, where it is given.
+/// Returns the count of a reservation, if it is given.
 fn count_of(arguments: &Arguments) -> Result<Option<u32>, CaseFault> {
     let Some(count) = arguments.number_if_given("count") else {
         return Ok(None);
@@ -55,7 +55,7 @@ fn fault(alloc: Global, arguments: &Arguments) -> Result<Vec<u8>, AllocError> {
     write_fault(alloc, arguments.text("message"), arguments.text("type"))
 }
 
-/// The body that a call writes for arguments of which each is right that is there.
+/// Returns the body that a call writes; every argument that is given must be valid.
 fn plain_body(alloc: Global, word: &str, arguments: &Arguments) -> Result<Vec<u8>, AllocError> {
     match word {
         "status" => status_body().as_slice().to_vec(alloc),
@@ -67,7 +67,7 @@ fn plain_body(alloc: Global, word: &str, arguments: &Arguments) -> Result<Vec<u8
     }
 }
 
-/// Adds a body that was written, if there was memory for it, as a line.
+/// Adds a written body as a line, if memory sufficed for it.
 fn push_written(given: &mut Given, body: Result<Vec<u8>, AllocError>) {
     match body {
         Ok(body) => push_line(given, body.as_slice()),
@@ -80,11 +80,11 @@ fn push_written(given: &mut Given, body: Result<Vec<u8>, AllocError>) {
 /// | Call | Arguments |
 /// |---|---|
 /// | `status` | none |
-/// | `reservation` | `count`, or none where there is no reservation |
+/// | `reservation` | `count`, or none if there is no reservation |
 /// | `throttle` | `reason` |
 /// | `invoke-event` | `deadline`, `arn`, `request`, `trace` |
 /// | `shutdown-event` | `deadline`, `reason` |
-/// | `registered` | `account` where it was asked for, `function`, `handler` |
+/// | `registered` | `account` if it was asked for, `function`, `handler` |
 /// | `fault` | `type`, `message` |
 /// | `invoke-fault` | `form`, which is `User`, `NotFound` or `Service`, and `message` |
 pub fn push_body(word: &str, arguments: &Arguments, given: &mut Given) -> Result<(), CaseFault> {

@@ -13,7 +13,7 @@ use lambda_wire::{
 };
 use std::alloc::{AllocError, Global};
 
-/// The calls, and the arguments that each wants.
+/// The calls, and the arguments that each needs.
 const CALLS: [(&str, &[&str]); 7] = [
     ("json", &[]),
     ("next", &["request", "deadline", "arn", "trace"]),
@@ -24,7 +24,7 @@ const CALLS: [(&str, &[&str]); 7] = [
     ("request-error", &["type", "request"]),
 ];
 
-/// The argument that a header is to hold, as a text.
+/// Returns the text of an argument that becomes the value of a header.
 pub fn field<'a>(alloc: Global, arguments: &'a Arguments, name: &str) -> Result<&'a str, CaseFault>
     ensures { IfOk result (λ text. IsFieldValue text.now) }
 {
@@ -36,7 +36,7 @@ pub fn field<'a>(alloc: Global, arguments: &'a Arguments, name: &str) -> Result<
     }
 }
 
-/// Headers, if there was memory for them.
+/// Returns headers, if memory sufficed for them.
 fn made(headers: Result<Headers, AllocError>) -> Result<Headers, CaseFault> {
     match headers {
         Ok(headers) => Ok(headers),
@@ -76,7 +76,7 @@ fn request_error(alloc: Global, arguments: &Arguments) -> Result<Headers, CaseFa
     made(error_headers(alloc, Some(request), kind))
 }
 
-/// The headers that a call writes, whose arguments are there.
+/// Returns the headers that a call writes; its arguments are there.
 fn headers(alloc: Global, word: &str, arguments: &Arguments) -> Result<Headers, CaseFault> {
     match word {
         "json" => made(json_headers(alloc)),

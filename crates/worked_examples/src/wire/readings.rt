@@ -1,5 +1,5 @@
-//! What is read from bodies. Each line of a part `each` is a body; the parts of a case that has
-//! none say one body together. A body gives a line: what it says, or the fault.
+//! What is read from bodies. Each line of a part `each` is a body; without such a part, the parts
+//! of a case together are one body. A body gives a line: its content, or the fault.
 
 use crate::shown::push_line;
 use bytes::Bytes;
@@ -10,20 +10,20 @@ use lambda_wire::{
 };
 use std::alloc::Global;
 
-/// What a body is read as.
+/// The type that a body is read as.
 #[derive(Clone, Copy)]
 pub enum Reading {
-    /// The payload of an Invoke: it is taken as it stands, or as other bytes.
+    /// The payload of an Invoke: taken unchanged, or as other bytes.
     Payloads,
-    /// A registration: the events that it asks for.
+    /// A registration: the events that it subscribes to.
     Registrations,
     /// A reservation: its count.
     Reservations,
-    /// A configuration: the text of what it says, with every member.
+    /// A configuration: its text, with every member.
     Configurations,
 }
 
-/// Adds the fault of a body that is not read.
+/// Adds the fault of a body that cannot be read.
 fn push_fault(fault: WireFault, given: &mut Given) {
     if fault == WireFault::OutOfMemory {
         given.cut();
@@ -47,7 +47,7 @@ fn push_payload(scratch: &mut PayloadScratch, bytes: &[u8], given: &mut Given) {
     }
 }
 
-/// The words for the events that are asked for.
+/// Returns the words for the events that are subscribed to.
 fn events_text(events: Events) -> &'static str {
     match (events.invoke, events.shutdown) {
         (false, false) => "no event\n",
@@ -88,7 +88,7 @@ fn push_configuration(bytes: &[u8], given: &mut Given) {
     }
 }
 
-/// Adds what a body says.
+/// Adds the content of a body.
 fn push_reading(scratch: &mut PayloadScratch, reading: Reading, bytes: &[u8], given: &mut Given) {
     match reading {
         Reading::Payloads => push_payload(scratch, bytes, given),
@@ -98,14 +98,14 @@ fn push_reading(scratch: &mut PayloadScratch, reading: Reading, bytes: &[u8], gi
     }
 }
 
-/// Adds what each line of a part says. One scratch serves them all.
+/// Adds the content of each line of a part. One scratch serves them all.
 fn push_each(scratch: &mut PayloadScratch, reading: Reading, part: &Part, given: &mut Given) {
     for line in part.lines().split('\n') {
         push_reading(scratch, reading, line.as_bytes(), given);
     }
 }
 
-/// The bytes that parts say, one behind the other.
+/// Returns the bytes of parts, concatenated.
 fn bytes_of(alloc: Global, parts: &[Part]) -> Result<Vec<u8>, CaseFault> {
     let mut bytes = Vec::new(alloc);
     for part in parts {
@@ -114,7 +114,7 @@ fn bytes_of(alloc: Global, parts: &[Part]) -> Result<Vec<u8>, CaseFault> {
     Ok(bytes)
 }
 
-/// Adds what the body says that parts say.
+/// Adds the content of the body that the parts together are.
 fn push_whole(reading: Reading, parts: &[Part], given: &mut Given) -> Result<(), CaseFault> {
     let bytes = bytes_of(given.alloc(), parts)?;
     push_reading(&mut PayloadScratch::new(), reading, bytes.as_slice(), given);

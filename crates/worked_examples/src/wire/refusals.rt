@@ -1,4 +1,4 @@
-//! Whole replies that refuse.
+//! Whole replies that report a refusal.
 
 use crate::wire::arguments::Arguments;
 use crate::wire::headers::field;
@@ -14,7 +14,7 @@ fn status_of(arguments: &Arguments) -> Result<u16, CaseFault> {
     }
 }
 
-/// A reply, if there was memory for it.
+/// Returns a reply, if memory sufficed for it.
 fn made(reply: Result<Reply, AllocError>) -> Result<Reply, CaseFault> {
     match reply {
         Ok(reply) => Ok(reply),
@@ -33,7 +33,7 @@ fn invoke_fault(alloc: Global, status: u16, arguments: &Arguments) -> Result<Rep
     made(invoke_fault_reply(alloc, status, kind, form, arguments.text("message")))
 }
 
-/// The reply that a call makes.
+/// Returns the reply that a call makes.
 fn refusal(alloc: Global, word: &str, arguments: &Arguments) -> Result<Reply, CaseFault> {
     arguments.check(&["status", "type", "message"])?;
     let status = status_of(arguments)?;

@@ -1,4 +1,4 @@
-//! The replies that answers come to.
+//! The replies that answers become.
 
 ghost use Rattle.std.specs.Prelude.{IfOk};
 ghost use Rattle.replies.specs.Gists.{IsTraced};
@@ -16,7 +16,7 @@ use std::alloc::Global;
 /// The parts that a case may have.
 const PARTS: [&str; 5] = ["config", "lines-of", "call", "source", "answer"];
 
-/// The part of a case that is called so.
+/// Returns the part of a case with this name.
 fn part_of<'c>(case: &'c Case, part: &'static str) -> Result<&'c Part, CaseFault> {
     match case.part(part) {
         Some(part) => Ok(part),
@@ -24,7 +24,7 @@ fn part_of<'c>(case: &'c Case, part: &'static str) -> Result<&'c Part, CaseFault
     }
 }
 
-/// The count in the request identifier of a part's call, where it is an Invoke.
+/// Reads the count in the request identifier of a part's call; 0 if the part names none.
 fn count_of(part: &Part) -> Result<u64, CaseFault> {
     if part.arguments().is_empty() {
         return Ok(0);
@@ -35,7 +35,7 @@ fn count_of(part: &Part) -> Result<u64, CaseFault> {
     }
 }
 
-/// The call of a part's line.
+/// Reads the call in a part's line.
 #[tactic(auto, using(crate::proofs::Traced::timed_traced))]
 fn call_of(alloc: Global, config: &Checked, part: &Part) -> Result<Call, CaseFault>
     ensures { IfOk result IsTraced }
@@ -69,7 +69,7 @@ fn push_rendered(
     }
 }
 
-/// Adds the reply to a call whose answer names the call of a part.
+/// Adds the reply to a call whose answer names the call in a part.
 fn push_sourced(
     account: &Account,
     config: &Checked,
@@ -84,7 +84,7 @@ fn push_sourced(
     Ok(())
 }
 
-/// Adds the reply to the call of a case, whose lines are read by a configuration.
+/// Adds the reply to the call of a case, whose lines are read by this configuration.
 fn push_answered(
     case: &Case,
     account: &Account,
@@ -99,7 +99,7 @@ fn push_answered(
     push_sourced(account, config, answer, (&call, count), named, given)
 }
 
-/// Adds the reply to the call of a case, whose lines may be read by a configuration of their own.
+/// Adds the reply to the call of a case, whose lines may have a configuration of their own.
 fn push_read(
     case: &Case,
     account: &Account,
@@ -113,7 +113,7 @@ fn push_read(
     push_answered(case, account, &reader.config, answer, given)
 }
 
-/// Whether no part of a case before this one is called as it is.
+/// Whether no earlier part of a case has this part's name.
 fn is_first(case: &Case, part: &Part) -> bool {
     match case.part(part.word()) {
         Some(first) => first.line() == part.line(),
@@ -121,7 +121,7 @@ fn is_first(case: &Case, part: &Part) -> bool {
     }
 }
 
-/// Looks whether a case has a part that is not known, or one that stands twice.
+/// Checks that a case has no unknown part, and none twice.
 fn check_parts(case: &Case) -> Result<(), CaseFault> {
     for part in case.parts() {
         if !PARTS.contains(&part.word()) {
@@ -139,9 +139,9 @@ fn check_parts(case: &Case) -> Result<(), CaseFault> {
 /// | Part | What it says |
 /// |---|---|
 /// | `config` | the configuration |
-/// | `lines-of` | the configuration that the lines of calls are read by, where it is another |
-/// | `call N` | the line of a call, and the count in its request identifier, where it is an Invoke |
-/// | `source N` | the call that the answer names, where it is another |
+/// | `lines-of` | the configuration that the lines of calls are read by, if it is another |
+/// | `call N` | the line of a call, and the count in its request identifier if it is an Invoke |
+/// | `source N` | the call that the answer names, if it is another |
 /// | `answer WORDS` | the answer |
 pub fn give(case: &Case, given: &mut Given) -> Result<(), CaseFault> {
     check_parts(case)?;

@@ -4,7 +4,7 @@ use crate::shown::{push_headers, push_line};
 use case_tables::Given;
 use lambda_wire::Reply;
 
-/// Adds a reply: its status, its headers, and behind an empty line its body where it has one.
+/// Adds a reply: its status, its headers, and after an empty line its body, if it has one.
 pub fn push_reply(given: &mut Given, reply: &Reply) {
     given.print(&reply.status);
     given.push("\n");

@@ -1,5 +1,5 @@
-//! What is written for the arguments of calls. The word of a part names a call, each line of the
-//! part is the JSON object of its arguments, and each gives what is written.
+//! What is written for the arguments of calls. The word of a part names a call; each line of the
+//! part is the JSON object of its arguments, and gives what is written for them.
 
 use crate::wire::arguments::Arguments;
 use crate::wire::bodies::push_body;
@@ -12,9 +12,9 @@ use case_tables::{Case, CaseFault, Given, Part};
 pub enum Written {
     /// The body of a reply, on one line.
     Bodies,
-    /// The headers of a reply, a line each.
+    /// The headers of a reply, one per line.
     Headers,
-    /// A whole reply that refuses.
+    /// A whole reply that reports a refusal.
     Refusals,
 }
 

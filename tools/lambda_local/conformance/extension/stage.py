@@ -44,8 +44,7 @@ class PlayedRuntime(threading.Thread):
 
 
 class Companion:
-    """A second extension, of the kit: it fails when it is told to, so that the tested one receives SHUTDOWN for
-    FAILURE."""
+    """A second extension, of the kit: it fails on request, so that the tested one receives SHUTDOWN for FAILURE."""
 
     def __init__(self, port):
         self._port = port

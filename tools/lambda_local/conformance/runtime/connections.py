@@ -37,7 +37,7 @@ def judge_responses(stage, polls, sent):
         if poll.delivered:
             own = [one for one in sent if one.request_id == poll.delivered]
             counts.append(len(own))
-            # (the proxy notes an answer before it hands it on: what comes by it is later)
+            # (the proxy notes an answer before it forwards it: what comes by it is later)
             early += any(poll.answered <= other.begun and (not own or not own[0].asked or other.begun < own[0].asked)
                          for other in polls)
     stage.check("next_after_response", early == 0,

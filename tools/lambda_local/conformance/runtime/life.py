@@ -26,7 +26,7 @@ def first_next(stage):
 
 
 def ends(stage, name, since, seconds=ENDS):
-    """Judges whether its process ends within so many seconds."""
+    """Judges whether its process ends within this many seconds."""
     process = stage.environment.process
     seen = len(stage.environment.proxy.exchanges)
     ended = process.wait(seconds)

@@ -110,7 +110,7 @@ class Run:
         except Undecided:
             self.report.undecided += 1
             return
-        except (OSError, Unrecoverable):  # (what the service does not survive is reported as it was seen last)
+        except (OSError, Unrecoverable):  # (what the service does not survive is reported as it was last seen)
             self._tell(difference or self.course.found, plan, played)
             raise
         self._tell(difference, plan, played)

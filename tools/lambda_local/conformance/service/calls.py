@@ -41,7 +41,7 @@ class Call(NamedTuple):
         return decoded(word[len("trace"):]).decode() if word else None
 
     def script(self, environment, function, counts):
-        """Its line in a script behind the moment. `counts` has the count of each label."""
+        """Returns its line in a script, without the moment. `counts` has the count of each label."""
         texts = " ".join(field for field in self.fields if not field.startswith("trace="))
         if self.kind == "register" and len(self.fields) == 2:
             texts += " -"

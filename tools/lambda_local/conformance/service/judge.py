@@ -32,7 +32,7 @@ class Missing(str):
 
 
 def label_of(given, answered_before):
-    """The word for an answer: its kind, or why it is refused; told apart by what `docs/differences.md` tells apart."""
+    """Returns the word for an answer: its kind, or why it is refused, as `docs/differences.md` distinguishes them."""
     answer = given.answer
     if answer.kind == "refused":
         return answer.fields[0]

@@ -1,7 +1,7 @@
 """Differences that are accepted: those that docs/differences.md has, and those of a file.
 
 Each is named by three words, as a report gives them: the call, the definitions' answer to it, and the respect in which
-the other answer differs; `*` stands for any word. What is more than that is said where it is compared (judge.py)."""
+the other answer differs; `*` stands for any word. The details are where answers are compared (judge.py)."""
 from typing import NamedTuple
 
 from ...service import Fault

@@ -61,8 +61,8 @@ def minimised(course, oracle, difference):
 
 
 def smaller(course, oracle, difference, size, first, end):
-    """The same difference with so many neighbouring calls less, and the place where they stood, from a place on; or
-    none."""
+    """Returns the same difference without this many neighbouring calls, and the place of those, searching from a place
+    on; or nothing."""
     calls, sequence = calls_before(difference), difference.plan.sequence
     places = {calls[:place] + calls[place + size:]: place for place in range(first, len(calls), size)}
     candidates = [sequence._replace(name=str(places[one]), calls=one) for one in places if one]

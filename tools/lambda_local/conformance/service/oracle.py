@@ -1,7 +1,7 @@
 """What the definitions answer: sequences as one script, and `lambda_local replay` of it.
 
 Each sequence of a script has a function and an environment of its own, so that many are replayed at once. Before each
-call stands a `tick`, whose own answer tells which entry the call has, also if environments have expired before it."""
+call there is a `tick`, whose own answer shows the entry of the call, even if environments have expired before it."""
 import json
 import subprocess
 from typing import NamedTuple, Tuple
@@ -92,7 +92,7 @@ class Oracle:
         return [Plan(*parts) for parts in zip(sequences, steps, counts, map(tuple, times))]
 
     def opening(self, count):
-        """The first two lines of a script with so many functions."""
+        """Returns the first two lines of a script with this many functions."""
         functions = [{"name": f"f{number + 1}", "ports": [FIRST_PORT + number], "timeout": self.timeout}
                      for number in range(count)]
         return ["form 2", json.dumps({"account": "123456789012", "region": "us-east-1", "functions": functions},

@@ -19,7 +19,7 @@ class Generator:
         self.random, self.made = random, 0
 
     def sequences(self, start, count):
-        """So many that begin in this way."""
+        """Returns this many sequences that begin in this way."""
         return [self._one(start) for _ in range(count)]
 
     def _one(self, start):

@@ -216,7 +216,7 @@ def timed(start):
 
 
 def with_ending(plan):
-    """The sequence with calls behind it that end its generation, or answer what is open and wait again."""
+    """Returns the sequence, followed by calls that end its generation, or answer what is open and wait again."""
     sequence = plan.sequence
     waits = any(call.kind == "wait" for call in sequence.calls)
     if sequence.start == FRESH or waits:

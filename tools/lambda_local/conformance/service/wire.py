@@ -48,7 +48,7 @@ class Wire:
         return min(MOST_SETTLE, max(LEAST_SETTLE, 3 * usual))
 
     def send(self, address, method, path, headers=(), body=None):
-        """Sends a request. OSError if nobody listens there."""
+        """Sends a request. Raises OSError if no one listens there."""
         lines = [f"{method} {path} HTTP/1.1", f"Host: {address[0]}:{address[1]}",
                  *(f"{name}: {value}" for name, value in headers)]
         if body is not None:
@@ -117,7 +117,7 @@ class Wire:
             self.idle.setdefault(exchange.address, []).append(connection)
 
     def note_trip(self, exchange):
-        """A request that was answered at once tells how long that takes."""
+        """Notes how long an immediate answer takes."""
         self.trips.append(exchange.answered - exchange.sent)
 
     def leave(self, exchanges):

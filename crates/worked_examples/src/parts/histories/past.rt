@@ -1,4 +1,4 @@
-//! Entries with the counts in their request identifiers.
+//! Entries, with the counts in their request identifiers.
 
 ghost use Rattle.std.specs.Prelude.{◌≡◌, ◌+◌, ◌^◌, ◌<◌, ◌≤◌, ◌∷◌, length, reverse};
 ghost use Rattle.std.specs.List.{count_by};
@@ -11,8 +11,8 @@ use entry_blocks::Blocks;
 use std::alloc::{AllocError, Global};
 use std::marker::Model;
 
-/// Entries, the oldest first, with the count in the request identifier of each that is an Invoke,
-/// and 0 for each other one.
+/// Entries, the oldest first, each with the count in its request identifier, or 0 if it is not an
+/// Invoke.
 #[derive(Drop)]
 pub struct Past {
     entries: Blocks<Entry>,
@@ -43,7 +43,7 @@ fn invokes(call: &Call, function: FnNo) -> bool
     }
 }
 
-/// How many of these entries invoke a function.
+/// Counts the entries that invoke a function.
 fn count_of(entries: &Blocks<Entry>, function: FnNo) -> u64
     ensures value { result ≡ count_by (λ entry. is_invoke_of function entry.call) entries.now.0 }
     ensures few { result ≤ length entries.now.0 }
@@ -57,7 +57,7 @@ fn count_of(entries: &Blocks<Entry>, function: FnNo) -> u64
     count
 }
 
-/// The count of an entry that follows these.
+/// Returns the count of an entry that follows these.
 #[tactic(auto, using(crate::proofs::Counting::one_more, crate::proofs::Counting::count_reversed))]
 fn next_count(entries: &Blocks<Entry>, entry: &Entry) -> u64
     requires { length entries.now.0 + 1 < 2 ^ 64 }
@@ -70,7 +70,7 @@ fn next_count(entries: &Blocks<Entry>, entry: &Entry) -> u64
 }
 
 impl Past {
-    /// No entries.
+    /// Creates an empty past.
     pub fn new(alloc: Global) -> Past {
         Past {
             entries: Blocks::open(alloc),
@@ -78,7 +78,7 @@ impl Past {
         }
     }
 
-    /// Adds an entry behind the others.
+    /// Appends an entry.
     pub fn add(&mut self, entry: Entry) -> Result<(), AllocError> {
         self.entries.reserve(1)?;
         self.counts.reserve(1)?;
@@ -91,14 +91,14 @@ impl Past {
         Ok(())
     }
 
-    /// The entries.
+    /// Returns the entries.
     pub fn entries(&self) -> &Blocks<Entry>
         ensures { result.now.0 ≡ self.now }
     {
         &self.entries
     }
 
-    /// Their counts.
+    /// Returns the counts.
     pub fn counts(&self) -> &Blocks<u64>
         ensures { reverse result.now.0 ≡ call_counts (reverse self.now) }
     {
