@@ -1,4 +1,4 @@
--- The answers that a call gives: for each ticket, its own among them, the one that it gets, if any.
+-- The answers that a call gives: which tickets, its own among them, get an answer, and which answer.
 use Rattle.std.specs.Prelude.{ℕ, zero, suc, ◌+◌, ◌-◌, Bool, true, false, ◌||◌, if◌then◌else◌, ◌==◌, nat_lt, List, []}
 use Rattle.std.specs.Prelude.{◌∷◌, length, Option, Some, None}
 use Rattle.call_types.specs.declared.call.Call.{Call}
@@ -19,13 +19,15 @@ use Rattle.call_model.specs.Life.{names, phase, stand, events, events_in}
 use Rattle.call_model.specs.Limits.{Verdict, AfterStop, Refuses, Admits, verdict, place_for, reservation, or_zero}
 use Rattle.call_model.specs.Limits.{reserved_in_all}
 
--- what the verdict answers at once; an admitted Invoke waits
+-- The answer that the verdict on an Invoke gives at once: Stopped or Throttled. An admitted Invoke waits.
 abbrev pub verdict_answer : Verdict → Option Answer
 verdict_answer AfterStop = Some Stopped
 verdict_answer (Refuses reason) = Some (Throttled reason)
 verdict_answer (Admits e) = None
 
--- A reservation is at most the function's environments, and leaves the least remainder to the unreserved functions.
+-- The answer to a Reserve that sets or removes a reservation. A reservation is refused if it exceeds the number of the
+-- function's environments, or if all reservations together would leave less of the account's limit than the least
+-- remainder.
 -- (PutFunctionConcurrency: at least 100 stay unreserved)
 abbrev pub reserve_answer : Config → List Entry → ℕ → Option ℕ → Answer
 reserve_answer config h f None = Unreserved
@@ -35,12 +37,12 @@ reserve_answer config h f (Some count) =
     (((reserved_in_all config h - or_zero (reservation config h f)) + count) + config.least_remainder)
     then Refused BadReservation else Reserved count
 
--- by the table of phases, where the call names an environment
+-- The answer of the table of phases to a call that names an environment; `None` if the call names no environment.
 abbrev pub own_at : Config → List Entry → Call → Option ℕ → Option Answer
 own_at config h call None = None
 own_at config h call (Some e) = own_answer (stand config h e) call
 
--- The answer to the call itself, by the first answers.
+-- The first answer to the call itself; `None` if the call gets none and waits. (First answers are explained below.)
 unfoldable pub own_first : Config → List Entry → Call → Option Answer
 own_first config h (Invoke f qualified trace body) = verdict_answer (verdict config h f)
 own_first config h Tick = Some Done
@@ -49,50 +51,53 @@ own_first config h Stop = Some Accepted
 own_first config h (Reserve f count) = Some (if stopped h then Stopped else reserve_answer config h f count)
 own_first config h call = own_at config h call (env_of call)
 
--- The environment of a ticket: where its Invoke was placed, or the one that its call names.
+-- The environment of a ticket: the one where its Invoke was placed, or otherwise the one that its call names.
 abbrev pub home : List Entry → ℕ → Option ℕ
 home h t = or_else (place_of h t) (env_of (call_of h t))
 
--- what an older ticket at environment e gets of a call that concerns it
+-- The first answer that an older ticket t at environment e gets from a call, if the call concerns the environment (the
+-- last argument).
 abbrev pub answer_at : Config → List Entry → (now e : ℕ) → Call → (t : ℕ) → Bool → Option Answer
 answer_at config h now e call t false = None
 answer_at config h now e call t true = by_role (length h) now (stand config h e) call t (role (stand config h e) t)
 
--- what an older ticket gets, by its environment
+-- The first answer that an older ticket t gets from a call, given the environment of the ticket.
 abbrev pub other_answer : Config → List Entry → (now : ℕ) → Call → (t : ℕ) → Option ℕ → Option Answer
 other_answer config h now call t None = None
 other_answer config h now call t (Some e) = answer_at config h now e call t (names h e call)
 
--- An entry answers in two parts, with the phase between them. Each part reads what stands to its left:
+-- An entry answers in two parts, with the phase after it between them. Each part depends only on what is to its left:
 --
 --   stand before ───> first answers ───> phase after ───────────> second answers
---   (Life.stand)      (first_answer)     (Life.phase, of the      (second_answer: where a Busy begins
+--   (Life.stand)      (first_answer)     (Life.phase, of the      (second_answer: if a Busy begins
 --         │                 │             entry's first_part)      between the two phases)
 --         └─────────────────┴──────────────────┴───────────────────────────┘
 --
--- There is no circle: the phase after an entry reads of its answers the first ones alone. `first_part` knows them by
--- their kind: only a Busy that begins gives a Delivered or a Told (`is_second`). `answers` joins both parts.
+-- This is not circular: of an entry's answers, the phase after it depends only on the first ones. `first_part`
+-- recognizes them by their kind: only a Busy that begins gives a Delivered or a Told (`is_second`). `answers` joins
+-- both parts.
 
--- The first answers: what ticket t gets, by the table's cell for the call, with those of close.
+-- The first answer that ticket t gets from a call. The call's own ticket gets its own answer. An older one gets an
+-- answer if the table has one for the waiting call, if its environment closes, or if its Next is replaced or withdrawn.
 unfoldable pub first_answer : Config → List Entry → (now : ℕ) → Call → (t : ℕ) → Option Answer
 first_answer config h now call t =
     if t == length h then own_first config h call else other_answer config h now call t (home h t)
 
--- a ticket's answer, where it gets one, before the others
+-- A list of answers with the answer of ticket t in front, if t gets one.
 abbrev pub with_answer : ℕ → Option Answer → List (ℕ × Answer) → List (ℕ × Answer)
 with_answer t None rest = rest
 with_answer t (Some a) rest = (t, a) ∷ rest
 
--- the answers of n tickets from t on
+-- The answers of the n tickets from t on, in rising ticket order, without the tickets that get none.
 abbrev pub each_from : ℕ → ℕ → (ℕ → Option Answer) → List (ℕ × Answer)
 each_from t zero answer = []
 each_from t (suc n) answer = with_answer t (answer t) (each_from (suc t) n answer)
 
--- all first answers, in rising ticket order
+-- All first answers of a call, in rising ticket order.
 unfoldable pub first_answers : Config → List Entry → ℕ → Call → List (ℕ × Answer)
 first_answers config h now call = each_from 0 (suc (length h)) (first_answer config h now call)
 
--- the entry with its first answers
+-- The entry of a call with its first answers only.
 abbrev pub first_entry : Config → List Entry → ℕ → Call → Entry
 first_entry config h now call = record {
   moment = now;
@@ -101,38 +106,41 @@ first_entry config h now call = record {
   place = place_for config h call;
 }
 
--- what a ticket gets where a Busy begins at its environment in the entry
+-- The second answer that ticket t gets in an entry, given the environment of the ticket.
 abbrev pub second_at : Config → List Entry → Entry → ℕ → Option ℕ → Option Answer
 second_at config h entry t None = None
 second_at config h entry t (Some e) =
     delivered (begun (phase config h e) (phase config (entry ∷ h) e)) (role (stand config (entry ∷ h) e) t)
 
--- The second answers: those of a Busy that begins.
+-- The second answer that ticket t gets in an entry: if a Busy begins at its environment, a parked Next gets the
+-- invocation, or the notice of it.
 unfoldable pub second_answer : Config → List Entry → Entry → ℕ → Option Answer
 second_answer config h entry t = second_at config h entry t (home (entry ∷ h) t)
 
--- The answer that a ticket gets in the entry: a first one, else a second one.
+-- The answer that ticket t gets in an entry: its first answer if it has one, otherwise its second.
 unfoldable pub answer_to : Config → List Entry → Entry → ℕ → Option Answer
 answer_to config h entry t = or_else (answer_in entry.answers t) (second_answer config h entry t)
 
--- an event with its number
+-- An event with the number n; any other answer is unchanged.
 abbrev pub with_event : ℕ → Answer → Answer
 with_event n (Told p d event) = Told p d n
 with_event n (Ending reason until event) = Ending reason until n
 with_event n a = a
 
--- the next number of the environment's events: those before in the entry, and those of the history
+-- An answer with the next event number of its environment, if it is an event: one more than the number of events there
+-- in the history and in the entry's answers before it.
 abbrev pub event_at : List Entry → Entry → List (ℕ × Answer) → Option ℕ → Answer → Answer
 event_at h entry before None a = a
 event_at h entry before (Some e) a = with_event (suc (events_in (entry ∷ h) e before + events h e)) a
 
--- the events get their numbers, for each environment in the order of (entry, ticket)
+-- The answers of an entry with their event numbers. The events of an environment are numbered from 1, in the order of
+-- entries, and in the order of tickets within an entry.
 abbrev pub numbered : List Entry → Entry → List (ℕ × Answer) → List (ℕ × Answer) → List (ℕ × Answer)
 numbered h entry before [] = []
 numbered h entry before (a ∷ rest) =
     (a.0, event_at h entry before (env_of (call_of (entry ∷ h) a.0)) a.1) ∷ numbered h entry (a ∷ before) rest
 
--- The answers that a call at a moment gives.
+-- All answers that a call gives at a moment, in rising ticket order.
 unfoldable pub answers : Config → List Entry → ℕ → Call → List (ℕ × Answer)
 answers config h now call =
     numbered h (first_entry config h now call) []
