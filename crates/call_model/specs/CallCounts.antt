@@ -5,12 +5,12 @@ use Rattle.call_types.specs.declared.call.Call.TheVariants.{Invoke}
 use Rattle.call_types.specs.declared.call.Entry.{Entry}
 use Rattle.call_model.specs.History.{requests}
 
--- How many Invokes a history has of the function that a call invokes; 0 for a call that is no Invoke.
+-- The number of Invokes in a history of the function that a call invokes; 0 if the call is not an Invoke.
 abbrev pub request_count : List Entry → Call → ℕ
 request_count h (Invoke f qualified trace body) = requests h f
 request_count h _ = 0
 
--- That count for each entry, in the history up to it; the newest first, as the history is.
+-- The request count of each entry's call in the history up to and including that entry, the newest first.
 abbrev pub call_counts : List Entry → List ℕ
 call_counts [] = []
 call_counts (entry ∷ h) = request_count (entry ∷ h) entry.call ∷ call_counts h
