@@ -12,28 +12,29 @@ use Rattle.arn_ids.specs.Environments.{function_numbers, environments}
 use Rattle.call_model.specs.History.{is_expiry, is_stop}
 use Rattle.call_model.specs.Limits.{in_flight}
 
--- The calls: all entries but the expiries, which nobody called.
+-- The number of calls: all entries but the expiries, which no client made.
 abbrev pub calls : List Entry → ℕ
 calls h = count_by (λ entry. not (is_expiry entry.call)) h
 
--- The admitted invocations: the entries with a place.
+-- The number of admitted invocations: the entries with a place.
 abbrev pub admitted : List Entry → ℕ
 admitted h = count_by (λ entry. is_some entry.place) h
 
--- how many answers of the history pass a test
+-- The number of answers in a history that pass a test.
 abbrev pub answers_that : (Answer → Bool) → List Entry → ℕ
 answers_that passes h = sum_by (λ entry. count_by (λ a. passes a.1) entry.answers) h
 
--- the answer of a throttled Invoke
+-- Whether an answer throttles an Invoke.
 abbrev pub is_throttle : Answer → Bool
 is_throttle (Throttled reason) = true
 is_throttle _ = false
 
--- Throttled: answered with 429. (Invoke: TooManyRequestsException)
+-- The number of throttled Invokes: those that were answered with status 429. (Invoke: TooManyRequestsException)
 abbrev pub throttled : List Entry → ℕ
 throttled h = answers_that is_throttle h
 
--- the answers of a failed invocation
+-- Whether an answer says that an invocation failed: an error, a timeout of the invocation or of its Init, or an output
+-- that is too large.
 abbrev pub is_failure : Answer → Bool
 is_failure (Error source) = true
 is_failure TimedOut = true
@@ -41,11 +42,11 @@ is_failure InitTimedOut = true
 is_failure OutputTooLarge = true
 is_failure _ = false
 
--- Failed: answered with a function error. (Invoke: X-Amz-Function-Error)
+-- The number of failed invocations: those that were answered with a function error. (Invoke: X-Amz-Function-Error)
 abbrev pub failed : List Entry → ℕ
 failed h = answers_that is_failure h
 
--- what all functions have in flight
+-- The number of invocations that are in flight, over all functions.
 abbrev pub all_in_flight : Config → List Entry → ℕ
 all_in_flight config h = sum_by (λ f. in_flight config h f) (function_numbers config)
 
@@ -59,10 +60,12 @@ stats config h = record {
   in_flight = all_in_flight config h;
 }
 
--- the most entries that a call may add: every environment expires, and the call is taken
+-- The largest number of entries that a call may add: one for each environment, which expires, and one for the call
+-- itself.
 abbrev pub most_added : Config → ℕ
 most_added config = length (environments config) + 1
 
--- The journal is full for a call. A Stop finds room where no other call does: one step's room is kept for it.
+-- Whether a journal of at most max entries is full for a call. A Stop needs room for one step, any other call for two:
+-- so a Stop still finds room when no other call does.
 abbrev pub full : Config → ℕ → List Entry → Call → Bool
 full config max h call = nat_lt max (length h + (if is_stop call then most_added config else 2 * most_added config))
