@@ -8,7 +8,7 @@ use Rattle.call_types.specs.declared.call.Call.TheVariants.{Invoke, RuntimeNext,
 use Rattle.call_types.specs.declared.call.Entry.{Entry}
 use Rattle.call_types.specs.declared.answer.Answer.{Answer}
 
--- The answer for a ticket in a list of pairs of ticket and answer, if there is one.
+-- The answer that a list of pairs (ticket, answer) has for a ticket, if it has one.
 abbrev pub answer_in : List (ℕ × Answer) → ℕ → Option Answer
 answer_in [] t = None
 answer_in (a ∷ rest) t = if a.0 == t then Some a.1 else answer_in rest t
@@ -37,14 +37,14 @@ abbrev pub place_of : List Entry → ℕ → Option ℕ
 place_of [] t = None
 place_of (entry ∷ h) t = if t == length h then entry.place else place_of h t
 
--- Whether a call is an expiry: the deadline of an environment came. No client made it, and its own ticket gets no
--- answer.
+-- Whether a call is an expiry, which the service itself enters when the deadline of an environment comes. Its own
+-- ticket gets no answer.
 abbrev pub is_expiry : Call → Bool
 is_expiry (Expire e) = true
 is_expiry _ = false
 
--- Whether a ticket is pending: its call is not an expiry, and no entry answers it yet. The pending calls are the
--- invocations whose callers wait, and the Nexts that are parked, as the long polls of the Runtime API are.
+-- Whether a ticket is pending: its call is not an expiry, and no entry answers it yet. A pending call is an invocation
+-- whose caller waits, or a parked Next (a long poll of the Runtime API or the Extensions API).
 abbrev pub pending : List Entry → ℕ → Bool
 pending h t = not (is_expiry (call_of h t)) && not (answered h t)
 
