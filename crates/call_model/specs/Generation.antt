@@ -44,8 +44,8 @@ asks (TheExtension x) (ExtNext e y) = y == x
 asks _ _ = false
 
 -- The ticket of the actor's last Next in a generation.
--- For example, extension 1 sends an ExtNext at ticket 3, which a Spindown at ticket 7 answers with Ending, and another
--- ExtNext at ticket 8. Its last Next is then 8, and was 3 up to entry 7.
+-- For example, extension 1 sends an ExtNext at ticket 3, a Spindown at ticket 7 answers it with Ending, and extension 1
+-- sends another ExtNext at ticket 8. Its last Next is 3 up to entry 7, and 8 from entry 8 on.
 abbrev pub last_next : Generation → Actor → Option ℕ
 last_next [] actor = None
 last_next (taken ∷ g) actor = if asks actor taken.1.call then Some taken.0 else last_next g actor
@@ -55,8 +55,8 @@ abbrev pub if_pending : List Entry → Option ℕ → Option ℕ
 if_pending h None = None
 if_pending h (Some t) = if pending h t then Some t else None
 
--- The ticket of the actor's parked Next: its last one, if that is pending. (Runtime API: Next invocation; Extensions
--- API: Next)
+-- The ticket of the actor's parked Next: its last one, if that is pending.
+-- (Runtime API: Next invocation; Extensions API: Next)
 abbrev pub parked : List Entry → Generation → Actor → Option ℕ
 parked h g actor = if_pending h (last_next g actor)
 
@@ -71,14 +71,14 @@ answer_to_next entry None = None
 answer_to_next entry (Some t) = answer_in entry.answers t
 
 -- Whether extension x was notified of the end of its environment: some entry of the generation gave the answer Ending
--- to the last Next that x had sent by then.
--- In the example above, extension 1 is notified from entry 7 on. (Extensions API: Shutdown event)
+-- to the last Next that x had sent by then. In the example above, this is so from entry 7 on, which answers ticket 3.
+-- (Extensions API: Shutdown event)
 abbrev pub told : Generation → ℕ → Bool
 told [] x = false
 told (taken ∷ g) x = told g x || is_ending (answer_to_next taken.1 (last_next (taken ∷ g) (TheExtension x)))
 
--- Whether extension x asked again: it sent a Next in a later entry than the one that notified it of the end.
--- In the example, extension 1 has asked again from entry 8 on; its Next at ticket 3 came before it was notified.
+-- Whether extension x asked again: it sent a Next in a later entry than the one that notified it of the end. In the
+-- example, this is so from entry 8 on: the Next at ticket 3 came before extension 1 was notified.
 abbrev pub asked_again : Generation → ℕ → Bool
 asked_again [] x = false
 asked_again (taken ∷ g) x = asked_again g x || (told g x && asks (TheExtension x) taken.1.call)
@@ -139,7 +139,8 @@ abbrev pub hears_end : Member → Bool
 hears_end s = s.extension.shutdown && not s.exited
 
 -- The extensions that a Closing waits for: those that are to be notified of the end, unless they were notified and have
--- asked again. (life cycle: Shutdown phase)
+-- asked again.
+-- (life cycle: Shutdown phase)
 abbrev pub awaited : List Member → List Member
 awaited members = filter (λ s. hears_end s && not (s.told && s.again)) members
 
