@@ -25,9 +25,9 @@ verdict_answer AfterStop = Some Stopped
 verdict_answer (Refuses reason) = Some (Throttled reason)
 verdict_answer (Admits e) = None
 
--- The answer to a Reserve that sets or removes a reservation. A reservation is refused if it exceeds the number of the
--- function's environments, or if all reservations together would leave less of the account's limit than the least
--- remainder.
+-- The answer to a Reserve, if there was no Stop. Removing a reservation succeeds. Setting one is refused if it exceeds
+-- the number of the function's environments, or if all reservations together would leave less of the account's limit
+-- than the least remainder.
 -- (PutFunctionConcurrency: at least 100 stay unreserved)
 abbrev pub reserve_answer : Config → List Entry → ℕ → Option ℕ → Answer
 reserve_answer config h f None = Unreserved
@@ -42,7 +42,8 @@ abbrev pub own_at : Config → List Entry → Call → Option ℕ → Option Ans
 own_at config h call None = None
 own_at config h call (Some e) = own_answer (stand config h e) call
 
--- The first answer to the call itself; `None` if the call gets none and waits. (First answers are explained below.)
+-- The first answer to the call itself, if it gets one: for an Invoke, by its verdict; for a call that names an
+-- environment, by the table of phases. (What first answers are is explained below.)
 unfoldable pub own_first : Config → List Entry → Call → Option Answer
 own_first config h (Invoke f qualified trace body) = verdict_answer (verdict config h f)
 own_first config h Tick = Some Done
@@ -55,8 +56,8 @@ own_first config h call = own_at config h call (env_of call)
 abbrev pub home : List Entry → ℕ → Option ℕ
 home h t = or_else (place_of h t) (env_of (call_of h t))
 
--- The first answer that an older ticket t at environment e gets from a call, if the call concerns the environment (the
--- last argument).
+-- The first answer that an older ticket t at environment e gets from a call. The last argument says whether the call
+-- concerns the environment; if not, the ticket gets none.
 abbrev pub answer_at : Config → List Entry → (now e : ℕ) → Call → (t : ℕ) → Bool → Option Answer
 answer_at config h now e call t false = None
 answer_at config h now e call t true = by_role (length h) now (stand config h e) call t (role (stand config h e) t)
