@@ -12,7 +12,7 @@ use Rattle.arn_ids.specs.Environments.{function_numbers, environments}
 use Rattle.call_model.specs.History.{is_expiry, is_stop}
 use Rattle.call_model.specs.Limits.{in_flight}
 
--- The number of calls: all entries but the expiries, which no client made.
+-- The number of calls: all entries but the expiries, which are not calls.
 abbrev pub calls : List Entry → ℕ
 calls h = count_by (λ entry. not (is_expiry entry.call)) h
 
@@ -65,7 +65,7 @@ stats config h = record {
 abbrev pub most_added : Config → ℕ
 most_added config = length (environments config) + 1
 
--- Whether a journal of at most max entries is full for a call. A Stop needs room for one step, any other call for two:
--- so a Stop still finds room when no other call does.
+-- Whether a journal of at most max entries is full for a call. A Stop needs room for the entries of one step, any other
+-- call for those of two, so that a Stop finds room when no other call does.
 abbrev pub full : Config → ℕ → List Entry → Call → Bool
 full config max h call = nat_lt max (length h + (if is_stop call then most_added config else 2 * most_added config))
