@@ -1,4 +1,4 @@
--- The phase of an environment, and its present generation: a fold over the history.
+-- The phase of an environment and its present generation, as a fold over the history.
 use Rattle.std.specs.Prelude.{ℕ, ◌+◌, ◌*◌, Bool, true, false, not, ◌&&◌, ◌||◌, if◌then◌else◌, ◌==◌, List, [], ◌∷◌}
 use Rattle.std.specs.Prelude.{length, Option, Some, None, count_by, filter, is_some}
 use Rattle.call_types.specs.declared.call.Call.{Call}
@@ -17,50 +17,51 @@ use Rattle.call_model.specs.Generation.{Generation, Member, members, ready, awai
 use Rattle.call_model.specs.Stand.{Stand, at_hand, bound_of, is_number, is_closing}
 use Rattle.call_model.specs.Table.{is_registered, reborn, settled, after_cell}
 
--- an environment's phase, and the entries that concerned it in its present generation
+-- The life of an environment: its phase, and the entries of its present generation, which are those that concerned it.
 pub record Lifecycle : Type 0 where
   pub phase : Phase
   pub generation : Generation
 
--- whether a call concerns an environment: it names it, takes back a Next there, or stops the service
+-- Whether a call concerns environment e: it names e, withdraws a Next that was sent at e, or stops the service.
 abbrev pub names : List Entry → ℕ → Call → Bool
 names h e Stop = true
 names h e (Withdraw t) = is_number (poll_env (call_of h t)) e
 names h e call = is_number (env_of call) e
 
--- An entry concerns the environments that its call concerns, and the one where its Invoke is placed.
+-- Whether an entry concerns environment e: its call concerns e, or its Invoke is placed at e.
 abbrev pub concerns : List Entry → ℕ → Entry → Bool
 concerns h e entry = is_number entry.place e || names h e entry.call
 
--- the count in the request identifier of the invocation at hand, where that still waits for its answer
+-- The count in the request identifier of the invocation at hand, if that invocation still waits for its answer.
 abbrev pub request_at : Config → List Entry → ℕ → Option ℕ → Option ℕ
 request_at config h e None = None
 request_at config h e (Some p) = if pending h p then Some (requests (upto h p) (function_of config e)) else None
 
--- How many extensions were registered at an environment, over all its generations: the count in the newest one's
--- identifier. (Extensions API: Lambda-Extension-Identifier)
+-- The number of extensions that were registered at an environment, over all its generations. It is the count in the
+-- identifier of the newest one. (Extensions API: Lambda-Extension-Identifier)
 abbrev pub registrations : List Entry → ℕ → ℕ
 registrations h e =
     count_by (λ taken. is_number (env_of taken.1.call) e && is_registered (answer_in taken.1.answers taken.0))
     (with_tickets h)
 
--- the answers that are events (Extensions API: Invoke and Shutdown events)
+-- Whether an answer is an event. (Extensions API: Invoke and Shutdown events)
 abbrev pub is_event : Answer → Bool
 is_event (Told p d event) = true
 is_event (Ending reason until event) = true
 is_event _ = false
 
--- how many of an entry's answers are events at an environment
+-- The number of answers in a list that are events at environment e.
 abbrev pub events_in : List Entry → ℕ → List (ℕ × Answer) → ℕ
 events_in h e pairs = count_by (λ a. is_event a.1 && is_number (env_of (call_of h a.0)) e) pairs
 
--- How many events were told at an environment: the count in the newest event's identifier.
+-- The number of events that an environment had, over all its generations. It is the count in the identifier of the
+-- newest one.
 -- (Extensions API: Lambda-Extension-Event-Identifier)
 abbrev pub events : List Entry → ℕ → ℕ
 events [] e = 0
 events (entry ∷ h) e = events_in (entry ∷ h) e entry.answers + events h e
 
--- What the history says of an environment whose phase and generation are these.
+-- What a history says of an environment, given the phase and the generation that the environment has.
 unfoldable pub seen : Config → List Entry → ℕ → Lifecycle → Stand
 seen config h e life = record {
   phase = life.phase;
@@ -72,26 +73,28 @@ seen config h e life = record {
   events = events h e;
 }
 
--- the answers that only a Busy gives that begins in the entry
+-- Whether an answer is a second one: only a Busy that begins in the entry gives it.
 abbrev pub is_second : Answer → Bool
 is_second (Delivered p d) = true
 is_second (Told p d event) = true
 is_second _ = false
 
--- the entry with its first answers only: all but those of a Busy that begins in it
+-- An entry with its first answers only: all but those of a Busy that begins in it.
 abbrev pub first_part : Entry → Entry
 first_part entry = record entry { answers = filter (λ a. not (is_second a.1)) entry.answers }
 
--- A Closing ends where no extension is awaited any more, or its time is over. (life cycle: Shutdown phase)
+-- Whether a Closing ends in an entry: either no extension is awaited any more, or the environment was Closing before
+-- the entry and its deadline expires in it. (life cycle: Shutdown phase)
 abbrev pub ends : Phase → Call → Phase → List Member → Bool
 ends before call phase members =
     is_closing phase && ((length (awaited members) == 0) || (is_closing before && is_expiry call))
 
--- the deadline of a Busy that begins now: the function's timeout is in seconds
+-- The deadline, in milliseconds, of a Busy that begins now; the function's timeout is in seconds.
 abbrev pub limit_of : Config → ℕ → ℕ → ℕ
 limit_of config e now = now + 1000 * timeout_of config e
 
--- An entry's visit to an environment: the entry, the ones before it, and the life that it finds there.
+-- The visit of an entry to an environment: the entry, the history before it, and the life that it finds at the
+-- environment.
 pub record Visit : Type 0 where
   pub config : Config
   pub environment : ℕ
@@ -99,69 +102,70 @@ pub record Visit : Type 0 where
   pub found : Lifecycle
   pub entry : Entry
 
--- the history with the entry, of which the first answers count
+-- The history with the entry, reduced to its first answers.
 abbrev pub history_with : Visit → List Entry
 history_with v = first_part v.entry ∷ v.history
 
--- the generation with the entry
+-- The present generation with the entry.
 abbrev pub generation_with : Visit → Generation
 generation_with v = (length v.history, v.entry) ∷ v.found.generation
 
--- its extensions then
+-- The extensions of the present generation after the entry.
 abbrev pub members_with : Visit → List Member
 members_with v = members (history_with v) (generation_with v)
 
--- the deadline of a Busy that begins in the visit
+-- The deadline of a Busy that begins in the visit.
 abbrev pub limit : Visit → ℕ
 limit v = limit_of v.config v.environment v.entry.moment
 
--- the phase by the table's cell
+-- The phase that the table's cell for the entry's call gives.
 abbrev pub phase_by_table : Visit → Phase
 phase_by_table v =
     after_cell v.entry.moment (limit v) (length v.history) (seen v.config v.history v.environment v.found) v.entry.call
 
--- whether a Closing ends in the visit
+-- Whether a Closing ends in the visit.
 abbrev pub ends_here : Visit → Bool
 ends_here v = ends v.found.phase v.entry.call (phase_by_table v) (members_with v)
 
--- whether all actors have asked for Next
+-- Whether the runtime and all extensions have asked for their Next, up to and including the entry.
 abbrev pub is_ready : Visit → Bool
 is_ready v =
     ready (parked (history_with v) (generation_with v) TheRuntime) (members_with v) (expected_at v.config v.environment)
 
--- whether the call at hand still waits for its answer
+-- Whether the invocation at hand still waits for its answer after the first answers of the entry.
 abbrev pub waits : Visit → Bool
 waits v = is_some (request_at v.config (history_with v) v.environment (at_hand (phase_by_table v)))
 
--- the life of a new generation
+-- The life with which a new generation begins. After a Stop, its phase is Off.
 abbrev pub new_generation : Visit → Lifecycle
 new_generation v = record {
   phase = reborn (stopped (history_with v)) v.entry.moment (bound_of (phase_by_table v));
   generation = [];
 }
 
--- the life of the present one, its phase settled by who is ready
+-- The life in the present generation, with the phase settled by whether all are ready.
 abbrev pub settled_life : Visit → Lifecycle
 settled_life v = record {
   phase = settled (limit v) (is_ready v) (waits v) (phase_by_table v);
   generation = generation_with v;
 }
 
--- A new generation begins where a Closing ends in the visit; else the phase is settled by who is ready.
+-- The life after an entry that concerns the environment: that of a new generation if a Closing ends in the visit,
+-- otherwise the settled one of the present generation.
 unfoldable pub after : Visit → Lifecycle
 after v = if ends_here v then new_generation v else settled_life v
 
--- An entry that doesn't concern the environment leaves its life as it is.
+-- The life after any entry: if the entry does not concern the environment, its life stays as it is.
 unfoldable pub lived : Visit → Lifecycle
 lived v = if concerns v.history v.environment v.entry then after v else v.found
 
--- The life of an environment after a history: it begins in Starting, with no deadline, and each entry goes on from it.
+-- The life of an environment after a history. It begins in Starting, without a deadline, and each entry continues it.
 unfoldable pub life : Config → List Entry → ℕ → Lifecycle
 life config [] e = record { phase = Starting None None; generation = [] }
 life config (entry ∷ h) e =
     lived (record { config = config; environment = e; history = h; found = life config h e; entry = entry })
 
--- The phase of an environment.
+-- The phase of an environment after a history.
 abbrev pub phase : Config → List Entry → ℕ → Phase
 phase config h e = (life config h e).phase
 
