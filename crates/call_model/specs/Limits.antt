@@ -1,4 +1,4 @@
--- Which invocations are charged, the limits on them, the verdict on an Invoke, and its place.
+-- Which invocations are charged, the limits on them, the verdict on an Invoke, and where an Invoke is placed.
 -- (Lambda Developer Guide, "Understanding Lambda function scaling", "Configuring reserved concurrency")
 use Rattle.std.specs.Prelude.{ℕ, ◌-◌, Bool, true, false, ◌&&◌, ◌||◌, if◌then◌else◌, ◌==◌, nat_le, List, [], ◌∷◌, length}
 use Rattle.std.specs.Prelude.{Option, Some, None, count_by, is_some, is_none, sum_by}
@@ -19,43 +19,46 @@ use Rattle.call_model.specs.History.{place_of, answer_in, pending, stopped, with
 use Rattle.call_model.specs.Life.{phase}
 use Rattle.call_model.specs.Stand.{is_idle}
 
--- whether a phase serves an invocation
+-- Whether a phase is a Busy that serves the invocation with ticket t.
 abbrev pub is_busy_with : Phase → ℕ → Bool
 is_busy_with (Busy p d) t = p == t
 is_busy_with _ t = false
 
--- whether the environment of a place serves it
+-- Whether the environment at a place, if there is one, serves the invocation with ticket t.
 abbrev pub busy_at : Config → List Entry → Option ℕ → ℕ → Bool
 busy_at config h None t = false
 busy_at config h (Some e) t = is_busy_with (phase config h e) t
 
--- An invocation is charged from its admission until its Busy ends, also where it was answered while its extensions work
--- on, or until it is answered without having been delivered.
+-- Whether the invocation of an entry is charged. It is charged from its admission until its Busy ends, even if it was
+-- answered and only its extensions still work, or until it is answered without having been delivered.
 abbrev pub charged : Config → List Entry → ℕ → Entry → Bool
 charged config h t entry = is_some entry.place && (pending h t || busy_at config h entry.place t)
 
--- the same by its ticket
+-- Whether the invocation with ticket t is charged, by the same rule.
 abbrev pub is_charged : Config → List Entry → ℕ → Bool
 is_charged config h t = is_some (place_of h t) && (pending h t || busy_at config h (place_of h t) t)
 
--- In flight: how many charged Invokes a function has. (concurrency: the requests that it is serving)
+-- The number of invocations of a function that are in flight: its charged Invokes. (concurrency: the requests that it
+-- is serving)
 unfoldable pub in_flight : Config → List Entry → ℕ → ℕ
 in_flight config h f =
     count_by (λ taken. is_invoke_of f taken.1.call && charged config h taken.0 taken.1) (with_tickets h)
 
--- whether a call sets a function's reservation (Lambda API: PutFunctionConcurrency, DeleteFunctionConcurrency)
+-- Whether a call sets or removes the reservation of function f.
+-- (Lambda API: PutFunctionConcurrency, DeleteFunctionConcurrency)
 abbrev pub reserves : ℕ → Call → Bool
 reserves f (Reserve g count) = g == f
 reserves f _ = false
 
--- the reservation after such a call was answered; a refused one changes nothing
+-- The reservation after such a call, given the call's answer and the reservation before. A refused call changes
+-- nothing.
 abbrev pub reserved_by : Option Answer → Option ℕ → Option ℕ
 reserved_by (Some (Reserved count)) before = Some count
 reserved_by (Some Unreserved) before = None
 reserved_by _ before = before
 
--- A function's reservation in force: the last one that a Reserve set or removed, else the configuration's.
--- (reserved concurrency)
+-- The reservation of a function that is in force, if it has one: as the last Reserve that was not refused set or
+-- removed it, or otherwise as the configuration has it. (reserved concurrency)
 unfoldable pub reservation : Config → List Entry → ℕ → Option ℕ
 reservation config [] f = (function_at config f).reserved
 reservation config (entry ∷ h) f =
@@ -63,12 +66,12 @@ reservation config (entry ∷ h) f =
     then reserved_by (answer_in entry.answers (length h)) (reservation config h f)
     else reservation config h f
 
--- the number that there is, or 0
+-- The value of an optional number, or 0 if there is none.
 abbrev pub or_zero : Option ℕ → ℕ
 or_zero None = 0
 or_zero (Some n) = n
 
--- all reservations in force together
+-- The sum of all reservations in force.
 abbrev pub reserved_in_all : Config → List Entry → ℕ
 reserved_in_all config h = sum_by (λ f. or_zero (reservation config h f)) (function_numbers config)
 
@@ -76,45 +79,47 @@ reserved_in_all config h = sum_by (λ f. or_zero (reservation config h f)) (func
 abbrev pub remainder : Config → List Entry → ℕ
 remainder config h = config.account_limit - reserved_in_all config h
 
--- what the functions without a reservation have in flight together
+-- The number of invocations that are in flight of all functions without a reservation together.
 abbrev pub unreserved_in_flight : Config → List Entry → ℕ
 unreserved_in_flight config h =
     sum_by (λ f. if is_none (reservation config h f) then in_flight config h f else 0) (function_numbers config)
 
--- an environment that starts and has nothing bound
+-- Whether a phase is Starting without a bound invocation.
 abbrev pub is_free_starting : Phase → Bool
 is_free_starting (Starting d None) = true
 is_free_starting _ = false
 
--- an environment that closes and has nothing bound
+-- Whether a phase is Closing without a bound invocation.
 abbrev pub is_free_closing : Phase → Bool
 is_free_closing (Closing reason until None) = true
 is_free_closing _ = false
 
--- a function's lowest numbered environment whose phase passes
+-- The lowest-numbered environment of a function whose phase passes a test.
 abbrev pub lowest : Config → List Entry → ℕ → (Phase → Bool) → Option ℕ
 lowest config h f passes = find (λ e. (function_of config e == f) && passes (phase config h e)) (environments config)
 
--- Where a function's next invocation goes: its lowest numbered environment that is Idle, else one that is Starting,
--- else
--- one that is Closing, with nothing bound; none where all are taken.
+-- The environment for the next invocation of a function: the lowest-numbered one that is Idle; otherwise the
+-- lowest-numbered one that is Starting without a bound invocation; otherwise the lowest-numbered one that is Closing
+-- without one. `None` if all are taken.
 unfoldable pub place : Config → List Entry → ℕ → Option ℕ
 place config h f =
     or_else (lowest config h f is_idle)
     (or_else (lowest config h f is_free_starting) (lowest config h f is_free_closing))
 
--- what is said of an Invoke: the service is stopped; a limit refuses it; an environment takes it
+-- The verdict on an Invoke: the service is stopped, a limit refuses the Invoke, or an environment takes it.
 pub data Verdict : Type 0 where
   AfterStop : Verdict
   Refuses : Throttle → Verdict
   Admits : ℕ → Verdict
 
--- an Invoke within its limits goes to a free environment, if there is one
+-- The verdict on an Invoke that is within the limits: it goes to a free environment, or is refused if no environment is
+-- free.
 abbrev pub where_placed : Option ℕ → Verdict
 where_placed None = Refuses ByEnvironments
 where_placed (Some e) = Admits e
 
--- Its limits: a reserved function is held against its own reservation alone, the others together against the remainder.
+-- The verdict on an Invoke by its limits. A function with a reservation is limited by this reservation alone; all
+-- functions without one are limited together by the remainder.
 abbrev pub by_limits : Config → List Entry → ℕ → Option ℕ → Verdict
 by_limits config h f (Some limit) =
     if nat_le limit (in_flight config h f) then Refuses ByFunction else where_placed (place config h f)
@@ -123,16 +128,16 @@ by_limits config h f None =
     then Refuses ByAccount
     else where_placed (place config h f)
 
--- The verdict on an Invoke of a function: after a Stop, none is admitted. (Invoke: TooManyRequestsException)
+-- The verdict on an Invoke of a function. After a Stop, no Invoke is admitted. (Invoke: TooManyRequestsException)
 unfoldable pub verdict : Config → List Entry → ℕ → Verdict
 verdict config h f = if stopped h then AfterStop else by_limits config h f (reservation config h f)
 
--- the environment to which a verdict admits
+-- The environment that a verdict admits an Invoke to, if it admits it.
 abbrev pub admitted_to : Verdict → Option ℕ
 admitted_to (Admits e) = Some e
 admitted_to _ = None
 
--- The place of a call: the environment that an admitted Invoke goes to.
+-- The place of a call: the environment of an Invoke that is admitted; `None` for any other call.
 abbrev pub place_for : Config → List Entry → Call → Option ℕ
 place_for config h (Invoke f qualified trace body) = admitted_to (verdict config h f)
 place_for config h _ = None
