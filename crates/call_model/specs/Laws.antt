@@ -1,4 +1,4 @@
--- Words of the laws over legal histories.
+-- Definitions that the laws of legal histories speak of.
 use Rattle.std.specs.Prelude.{ℕ, Bool, true, false, ◌&&◌, ◌||◌, if◌then◌else◌, ◌+◌, ◌==◌, nat_le, nat_lt, nat_eq, List}
 use Rattle.std.specs.Prelude.{[], ◌∷◌, Option, Some, None, option_map, count_by, filter_map, is_some}
 use Rattle.std.specs.List.{list_any, list_all}
@@ -18,98 +18,101 @@ use Rattle.call_model.specs.Stand.{at_hand, is_number}
 use Rattle.call_model.specs.Limits.{charged}
 use Rattle.call_model.specs.Next.{deadline_of}
 
--- how many charged invocations are placed in an environment
+-- The number of charged invocations that are placed in environment e.
 abbrev pub charged_in : Config → List Entry → ℕ → ℕ
 charged_in config h e =
     count_by (λ taken. is_number taken.1.place e && charged config h taken.0 taken.1) (with_tickets h)
 
--- whether a phase is Busy or has an invocation bound
+-- Whether an environment in a phase is taken: it is Busy, or an invocation is bound to it.
 abbrev pub is_taken : Phase → Bool
 is_taken phase = is_some (at_hand phase)
 
--- what was at hand and isn't any more
+-- The invocation that was at hand before, if it is not at hand any more.
 abbrev pub no_longer : Option ℕ → Option ℕ → Option ℕ
 no_longer None after = None
 no_longer (Some p) after = if is_number after p then None else Some p
 
--- The invocation whose charge a call ends: it was at hand before, and isn't after.
+-- The invocation whose charge an entry ends, given the phases before and after it: it was at hand before, and is not
+-- after.
 abbrev pub ended_by : Phase → Phase → Option ℕ
 ended_by before after = no_longer (at_hand before) (at_hand after)
 
--- whether an entry admits an Invoke of a function
+-- Whether an entry admits an Invoke of function f.
 abbrev pub admits : ℕ → Entry → Bool
 admits f entry = is_invoke_of f entry.call && is_some entry.place
 
--- the call that sets or removes a reservation
+-- Whether a call is a Reserve, which sets or removes a reservation.
 abbrev pub is_reserve : Call → Bool
 is_reserve (Reserve f count) = true
 is_reserve _ = false
 
--- whether a Reserve stands in the history
+-- Whether a history has a Reserve.
 abbrev pub re_reserved : List Entry → Bool
 re_reserved h = list_any (λ entry. is_reserve entry.call) h
 
--- whether an answer delivers an invocation
+-- Whether an answer delivers the invocation with ticket p.
 abbrev pub delivers : ℕ → Answer → Bool
 delivers p (Delivered q deadline) = q == p
 delivers p _ = false
 
--- how many answers of the history deliver an invocation
+-- The number of answers in a history that deliver the invocation with ticket p.
 abbrev pub deliveries : List Entry → ℕ → ℕ
 deliveries [] p = 0
 deliveries (entry ∷ h) p = count_by (λ a. delivers p a.1) entry.answers + deliveries h p
 
--- what only a delivered invocation is answered
+-- Whether an answer is one that only a delivered invocation gets.
 abbrev pub is_outcome : Answer → Bool
 is_outcome (Output source) = true
 is_outcome OutputTooLarge = true
 is_outcome TimedOut = true
 is_outcome _ = false
 
--- the environment and the actor of a Next
+-- The environment and the actor of a Next; `None` for any other call.
 abbrev pub poll_of : Call → Option (ℕ × Actor)
 poll_of (RuntimeNext e) = Some (e, TheRuntime)
 poll_of (ExtNext e x) = Some (e, TheExtension x)
 poll_of _ = None
 
--- a phase in which a Next may stand
+-- Whether a phase is one in which a Next may be parked: Starting, Idle or Busy.
 abbrev pub is_open : Phase → Bool
 is_open (Starting deadline bound) = true
 is_open Idle = true
 is_open (Busy p deadline) = true
 is_open _ = false
 
--- A placed invocation lives where it is bound, or served, and waits for its answer.
+-- Whether the invocation with ticket p lives in environment e: it waits for its answer, and is bound to e or served
+-- there.
 abbrev pub lives : Config → List Entry → ℕ → ℕ → Bool
 lives config h p e = pending h p && is_number (at_hand (phase config h e)) p
 
--- how many answers of the history have this ticket
+-- The number of answers in a history for ticket t.
 abbrev pub times : List Entry → ℕ → ℕ
 times [] t = 0
 times (entry ∷ h) t = count_by (λ a. a.0 == t) entry.answers + times h t
 
--- whether a deadline has come
+-- Whether there is a deadline that has come at moment m.
 abbrev pub has_come : ℕ → Option ℕ → Bool
 has_come m None = false
 has_come m (Some d) = nat_le d m
 
--- whether a number is due: it is an environment's, whose phase has a deadline that has come
+-- Whether environment e is due at moment m: the configuration has it, and its phase has a deadline that has come.
 abbrev pub is_due : Config → List Entry → ℕ → ℕ → Bool
 is_due config h m e = list_any (λ d. e == d) (environments config) && has_come m (deadline_of (phase config h e))
 
--- a deadline, where there is one, with its environment's number
+-- A deadline with the number of its environment, if there is a deadline.
 abbrev pub with_number : ℕ → Option ℕ → Option (ℕ × ℕ)
 with_number e deadline = option_map (λ d. (d, e)) deadline
 
--- the deadlines of environments, each with its environment's number
+-- The deadlines of a list of environments, each with the number of its environment.
 abbrev pub deadlines_of : Config → List Entry → List ℕ → List (ℕ × ℕ)
 deadlines_of config h es = filter_map (λ e. with_number e (deadline_of (phase config h e))) es
 
--- whether one deadline with its environment comes before another: it is earlier, or the same and the number lower
+-- Whether one pair (deadline, environment) comes before another: its deadline is earlier, or the deadlines are equal
+-- and its environment has the lower number.
 abbrev pub comes_before : ℕ × ℕ → ℕ × ℕ → Bool
 comes_before a b = nat_lt a.0 b.0 || (nat_eq a.0 b.0 && nat_lt a.1 b.1)
 
--- whether each of a list comes before all that stand behind it
+-- Whether each pair of a list comes before all pairs behind it.
 abbrev pub are_in_order : List (ℕ × ℕ) → Bool
 are_in_order [] = true
 are_in_order (a ∷ rest) = list_all (comes_before a) rest && are_in_order rest
