@@ -1,4 +1,4 @@
--- What isolation by reservation says.
+-- Definitions that the laws of isolation by reservation speak of.
 use Rattle.std.specs.Prelude.{◌≡◌, ◌≤◌, ℕ, false, List, [], ◌∷◌, Option, Some, None}
 use Rattle.call_types.specs.declared.call.Call.{Call}
 use Rattle.call_types.specs.declared.call.Call.TheVariants.{Tick}
@@ -11,29 +11,31 @@ use Rattle.call_model.specs.Limits.{reserves, place_for}
 use Rattle.call_model.specs.Answers.{answers}
 use Rattle.call_model.specs.Next.{IsTimely, due, last_moment}
 
--- no Reserve of the history names the function
+-- No Reserve of the history names function f.
 abbrev pub IsUnnamed : ℕ → List Entry → Type 0
 IsUnnamed f [] = Unit {0}
 IsUnnamed f (entry ∷ h) = IsUnnamed f h × (reserves f entry.call ≡ false)
 
--- at a Tick something may be due
+-- A call is timely, as `IsTimely` defines it, or is a Tick: a Tick may be taken although an environment is due. (In the
+-- own history of a function, a Tick may be in the place of the expiry of another function's environment.)
 abbrev pub IsTimelySave : ℕ → Call → List ℕ → Type 0
 IsTimelySave m Tick due = Unit {0}
 IsTimelySave m call due = IsTimely m call due
 
--- an entry that the rules allow after a history, save that at a Tick something may be due
+-- An entry may follow a history by the rules, except that a Tick may be taken although an environment is due.
 pub record FollowsSave (config : Config) (h : List Entry) (entry : Entry) : Type 0 where
   pub later : last_moment h ≤ entry.moment
   pub timely : IsTimelySave entry.moment entry.call (due config h entry.moment)
   pub answers : entry.answers ≡ answers config h entry.moment entry.call
   pub place : entry.place ≡ place_for config h entry.call
 
--- a history that the rules allow, save that at a Tick something may be due
+-- A history is legal, except that a Tick may be taken although an environment is due.
 abbrev pub IsLegalSave : Config → List Entry → Type 0
 IsLegalSave config [] = Unit {0}
 IsLegalSave config (entry ∷ h) = IsLegalSave config h × FollowsSave config h entry
 
--- the ticket whose call an answer's text is made of
+-- The ticket of the call that an answer names, whose contents the text of the answer contains; `None` if it names no
+-- call.
 abbrev pub named : Answer → Option ℕ
 named (Delivered p d) = Some p
 named (Told p d event) = Some p
@@ -41,17 +43,18 @@ named (Output source) = Some source
 named (Error source) = Some source
 named _ = None
 
--- the ticket that an answer names, else the ticket itself
+-- The ticket that an answer names, or otherwise the ticket that got the answer.
 abbrev pub source_of : ℕ → Option ℕ → ℕ
 source_of t None = t
 source_of t (Some p) = p
 
--- the ticket that an answer names, where there is an answer
+-- The ticket that an answer names, if there is an answer and it names one.
 abbrev pub named_in : Option Answer → Option ℕ
 named_in None = None
 named_in (Some a) = named a
 
--- all that the text of a ticket is made of: its answer and call, the call that the answer names, the counts of both
+-- All that the text of a ticket's answer is made of: the answer, the call, the call that the answer names (otherwise
+-- the call itself), and the request counts of both calls.
 pub record Gist : Type 0 where
   pub answer : Option Answer
   pub call : Call
@@ -59,7 +62,7 @@ pub record Gist : Type 0 where
   pub source : Call
   pub source_count : ℕ
 
--- The gist of a ticket of a function.
+-- The gist of ticket t, with the counts of function f.
 abbrev pub gist : List Entry → ℕ → ℕ → Gist
 gist h f t = record {
   answer = answer_of h t;
