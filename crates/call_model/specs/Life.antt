@@ -17,7 +17,7 @@ use Rattle.call_model.specs.Generation.{Generation, Member, members, ready, awai
 use Rattle.call_model.specs.Stand.{Stand, at_hand, bound_of, is_number, is_closing}
 use Rattle.call_model.specs.Table.{is_registered, reborn, settled, after_cell}
 
--- The life of an environment: its phase, and the entries of its present generation, which are those that concerned it.
+-- The life of an environment: its phase, and the entries that concerned it in its present generation.
 pub record Lifecycle : Type 0 where
   pub phase : Phase
   pub generation : Generation
@@ -54,9 +54,8 @@ is_event _ = false
 abbrev pub events_in : List Entry → ℕ → List (ℕ × Answer) → ℕ
 events_in h e pairs = count_by (λ a. is_event a.1 && is_number (env_of (call_of h a.0)) e) pairs
 
--- The number of events that an environment had, over all its generations. It is the count in the identifier of the
--- newest one.
--- (Extensions API: Lambda-Extension-Event-Identifier)
+-- The number of events of which the extensions of an environment were notified, over all its generations. It is the
+-- count in the identifier of the newest event. (Extensions API: Lambda-Extension-Event-Identifier)
 abbrev pub events : List Entry → ℕ → ℕ
 events [] e = 0
 events (entry ∷ h) e = events_in (entry ∷ h) e entry.answers + events h e
@@ -84,7 +83,7 @@ abbrev pub first_part : Entry → Entry
 first_part entry = record entry { answers = filter (λ a. not (is_second a.1)) entry.answers }
 
 -- Whether a Closing ends in an entry: either no extension is awaited any more, or the environment was Closing before
--- the entry and its deadline expires in it. (life cycle: Shutdown phase)
+-- the entry and the entry is an expiry. (life cycle: Shutdown phase)
 abbrev pub ends : Phase → Call → Phase → List Member → Bool
 ends before call phase members =
     is_closing phase && ((length (awaited members) == 0) || (is_closing before && is_expiry call))
@@ -93,8 +92,7 @@ ends before call phase members =
 abbrev pub limit_of : Config → ℕ → ℕ → ℕ
 limit_of config e now = now + 1000 * timeout_of config e
 
--- The visit of an entry to an environment: the entry, the history before it, and the life that it finds at the
--- environment.
+-- The visit of an entry to an environment: the entry, the history before it, and the life that it finds there.
 pub record Visit : Type 0 where
   pub config : Config
   pub environment : ℕ
@@ -102,11 +100,11 @@ pub record Visit : Type 0 where
   pub found : Lifecycle
   pub entry : Entry
 
--- The history with the entry, reduced to its first answers.
+-- The history including the entry, of which only the first answers count.
 abbrev pub history_with : Visit → List Entry
 history_with v = first_part v.entry ∷ v.history
 
--- The present generation with the entry.
+-- The present generation including the entry.
 abbrev pub generation_with : Visit → Generation
 generation_with v = (length v.history, v.entry) ∷ v.found.generation
 
@@ -127,7 +125,7 @@ phase_by_table v =
 abbrev pub ends_here : Visit → Bool
 ends_here v = ends v.found.phase v.entry.call (phase_by_table v) (members_with v)
 
--- Whether the runtime and all extensions have asked for their Next, up to and including the entry.
+-- Whether the generation is ready after the entry: the runtime and all extensions have asked for their Next.
 abbrev pub is_ready : Visit → Bool
 is_ready v =
     ready (parked (history_with v) (generation_with v) TheRuntime) (members_with v) (expected_at v.config v.environment)
@@ -136,14 +134,15 @@ is_ready v =
 abbrev pub waits : Visit → Bool
 waits v = is_some (request_at v.config (history_with v) v.environment (at_hand (phase_by_table v)))
 
--- The life with which a new generation begins. After a Stop, its phase is Off.
+-- The life with which a new generation begins: it has no entries, and its phase is Starting, or Off after a Stop.
 abbrev pub new_generation : Visit → Lifecycle
 new_generation v = record {
   phase = reborn (stopped (history_with v)) v.entry.moment (bound_of (phase_by_table v));
   generation = [];
 }
 
--- The life in the present generation, with the phase settled by whether all are ready.
+-- The life that continues in the present generation. Its phase is settled by whether the generation is ready, and
+-- whether the invocation at hand still waits.
 abbrev pub settled_life : Visit → Lifecycle
 settled_life v = record {
   phase = settled (limit v) (is_ready v) (waits v) (phase_by_table v);
@@ -155,7 +154,7 @@ settled_life v = record {
 unfoldable pub after : Visit → Lifecycle
 after v = if ends_here v then new_generation v else settled_life v
 
--- The life after any entry: if the entry does not concern the environment, its life stays as it is.
+-- The life after any entry. If the entry does not concern the environment, its life stays as it is.
 unfoldable pub lived : Visit → Lifecycle
 lived v = if concerns v.history v.environment v.entry then after v else v.found
 
