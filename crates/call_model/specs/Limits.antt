@@ -19,18 +19,18 @@ use Rattle.call_model.specs.History.{place_of, answer_in, pending, stopped, with
 use Rattle.call_model.specs.Life.{phase}
 use Rattle.call_model.specs.Stand.{is_idle}
 
--- Whether a phase is a Busy that serves the invocation with ticket t.
+-- Whether an environment in this phase is Busy with the invocation that has ticket t.
 abbrev pub is_busy_with : Phase → ℕ → Bool
 is_busy_with (Busy p d) t = p == t
 is_busy_with _ t = false
 
--- Whether the environment at a place, if there is one, serves the invocation with ticket t.
+-- Whether the environment of a place is Busy with the invocation that has ticket t; false if there is no place.
 abbrev pub busy_at : Config → List Entry → Option ℕ → ℕ → Bool
 busy_at config h None t = false
 busy_at config h (Some e) t = is_busy_with (phase config h e) t
 
--- Whether the invocation of an entry is charged. It is charged from its admission until its Busy ends, even if it was
--- answered and only its extensions still work, or until it is answered without having been delivered.
+-- Whether the invocation of an entry is charged: from its admission until its Busy ends, even if it was answered and
+-- its extensions still work, or until it is answered without having been delivered.
 abbrev pub charged : Config → List Entry → ℕ → Entry → Bool
 charged config h t entry = is_some entry.place && (pending h t || busy_at config h entry.place t)
 
@@ -38,8 +38,8 @@ charged config h t entry = is_some entry.place && (pending h t || busy_at config
 abbrev pub is_charged : Config → List Entry → ℕ → Bool
 is_charged config h t = is_some (place_of h t) && (pending h t || busy_at config h (place_of h t) t)
 
--- The number of invocations of a function that are in flight: its charged Invokes. (concurrency: the requests that it
--- is serving)
+-- The number of invocations of a function that are in flight: its charged Invokes.
+-- (concurrency: the requests that it is serving)
 unfoldable pub in_flight : Config → List Entry → ℕ → ℕ
 in_flight config h f =
     count_by (λ taken. is_invoke_of f taken.1.call && charged config h taken.0 taken.1) (with_tickets h)
@@ -50,15 +50,15 @@ abbrev pub reserves : ℕ → Call → Bool
 reserves f (Reserve g count) = g == f
 reserves f _ = false
 
--- The reservation after such a call, given the call's answer and the reservation before. A refused call changes
--- nothing.
+-- The reservation after such a call, given the call's answer and the reservation before. A call that does not succeed
+-- changes nothing.
 abbrev pub reserved_by : Option Answer → Option ℕ → Option ℕ
 reserved_by (Some (Reserved count)) before = Some count
 reserved_by (Some Unreserved) before = None
 reserved_by _ before = before
 
--- The reservation of a function that is in force, if it has one: as the last Reserve that was not refused set or
--- removed it, or otherwise as the configuration has it. (reserved concurrency)
+-- The reservation of a function that is in force, if there is one: what the last successful Reserve set or removed, or
+-- the configuration's if there was no such Reserve. (reserved concurrency)
 unfoldable pub reservation : Config → List Entry → ℕ → Option ℕ
 reservation config [] f = (function_at config f).reserved
 reservation config (entry ∷ h) f =
@@ -79,28 +79,28 @@ reserved_in_all config h = sum_by (λ f. or_zero (reservation config h f)) (func
 abbrev pub remainder : Config → List Entry → ℕ
 remainder config h = config.account_limit - reserved_in_all config h
 
--- The number of invocations that are in flight of all functions without a reservation together.
+-- The number of invocations in flight of the functions without a reservation, all together.
 abbrev pub unreserved_in_flight : Config → List Entry → ℕ
 unreserved_in_flight config h =
     sum_by (λ f. if is_none (reservation config h f) then in_flight config h f else 0) (function_numbers config)
 
--- Whether a phase is Starting without a bound invocation.
+-- Whether an environment in this phase is Starting and has no invocation bound.
 abbrev pub is_free_starting : Phase → Bool
 is_free_starting (Starting d None) = true
 is_free_starting _ = false
 
--- Whether a phase is Closing without a bound invocation.
+-- Whether an environment in this phase is Closing and has no invocation bound.
 abbrev pub is_free_closing : Phase → Bool
 is_free_closing (Closing reason until None) = true
 is_free_closing _ = false
 
--- The lowest-numbered environment of a function whose phase passes a test.
+-- The lowest-numbered environment of a function whose phase passes a test, if there is one.
 abbrev pub lowest : Config → List Entry → ℕ → (Phase → Bool) → Option ℕ
 lowest config h f passes = find (λ e. (function_of config e == f) && passes (phase config h e)) (environments config)
 
--- The environment for the next invocation of a function: the lowest-numbered one that is Idle; otherwise the
--- lowest-numbered one that is Starting without a bound invocation; otherwise the lowest-numbered one that is Closing
--- without one. `None` if all are taken.
+-- The environment for the next invocation of a function: its lowest-numbered Idle one; if it has none, the
+-- lowest-numbered Starting one without a bound invocation; if it has none either, the lowest-numbered such Closing one.
+-- `None` if all are taken.
 unfoldable pub place : Config → List Entry → ℕ → Option ℕ
 place config h f =
     or_else (lowest config h f is_idle)
@@ -118,8 +118,8 @@ abbrev pub where_placed : Option ℕ → Verdict
 where_placed None = Refuses ByEnvironments
 where_placed (Some e) = Admits e
 
--- The verdict on an Invoke by its limits. A function with a reservation is limited by this reservation alone; all
--- functions without one are limited together by the remainder.
+-- The verdict on an Invoke by its limits, given the function's reservation. A function with a reservation is limited by
+-- this reservation alone; the functions without one are limited together, by the remainder.
 abbrev pub by_limits : Config → List Entry → ℕ → Option ℕ → Verdict
 by_limits config h f (Some limit) =
     if nat_le limit (in_flight config h f) then Refuses ByFunction else where_placed (place config h f)
@@ -132,12 +132,12 @@ by_limits config h f None =
 unfoldable pub verdict : Config → List Entry → ℕ → Verdict
 verdict config h f = if stopped h then AfterStop else by_limits config h f (reservation config h f)
 
--- The environment that a verdict admits an Invoke to, if it admits it.
+-- The environment to which a verdict admits an Invoke; `None` if it does not admit it.
 abbrev pub admitted_to : Verdict → Option ℕ
 admitted_to (Admits e) = Some e
 admitted_to _ = None
 
--- The place of a call: the environment of an Invoke that is admitted; `None` for any other call.
+-- The place of a call: the environment where an admitted Invoke goes; `None` for any other call.
 abbrev pub place_for : Config → List Entry → Call → Option ℕ
 place_for config h (Invoke f qualified trace body) = admitted_to (verdict config h f)
 place_for config h _ = None
