@@ -1,4 +1,4 @@
--- Definitions that the laws of legal histories speak of.
+-- Definitions used by the laws of legal histories.
 use Rattle.std.specs.Prelude.{ℕ, Bool, true, false, ◌&&◌, ◌||◌, if◌then◌else◌, ◌+◌, ◌==◌, nat_le, nat_lt, nat_eq, List}
 use Rattle.std.specs.Prelude.{[], ◌∷◌, Option, Some, None, option_map, count_by, filter_map, is_some}
 use Rattle.std.specs.List.{list_any, list_all}
@@ -23,7 +23,7 @@ abbrev pub charged_in : Config → List Entry → ℕ → ℕ
 charged_in config h e =
     count_by (λ taken. is_number taken.1.place e && charged config h taken.0 taken.1) (with_tickets h)
 
--- Whether an environment in a phase is taken: it is Busy, or an invocation is bound to it.
+-- Whether an environment in this phase is taken: it is Busy, or an invocation is bound to it.
 abbrev pub is_taken : Phase → Bool
 is_taken phase = is_some (at_hand phase)
 
@@ -32,8 +32,8 @@ abbrev pub no_longer : Option ℕ → Option ℕ → Option ℕ
 no_longer None after = None
 no_longer (Some p) after = if is_number after p then None else Some p
 
--- The invocation whose charge an entry ends, given the phases before and after it: it was at hand before, and is not
--- after.
+-- The invocation whose charge an entry ends, given the phases before and after the entry: it was at hand before, and is
+-- not at hand after.
 abbrev pub ended_by : Phase → Phase → Option ℕ
 ended_by before after = no_longer (at_hand before) (at_hand after)
 
@@ -60,7 +60,8 @@ abbrev pub deliveries : List Entry → ℕ → ℕ
 deliveries [] p = 0
 deliveries (entry ∷ h) p = count_by (λ a. delivers p a.1) entry.answers + deliveries h p
 
--- Whether an answer is one that only a delivered invocation gets.
+-- Whether an answer is one that only a delivered invocation gets: an output, the error that it was too large, or a
+-- timeout.
 abbrev pub is_outcome : Answer → Bool
 is_outcome (Output source) = true
 is_outcome OutputTooLarge = true
@@ -80,17 +81,17 @@ is_open Idle = true
 is_open (Busy p deadline) = true
 is_open _ = false
 
--- Whether the invocation with ticket p lives in environment e: it waits for its answer, and is bound to e or served
--- there.
+-- Whether the invocation with ticket p lives in environment e: it waits for its answer, and is bound to e or served by
+-- e.
 abbrev pub lives : Config → List Entry → ℕ → ℕ → Bool
 lives config h p e = pending h p && is_number (at_hand (phase config h e)) p
 
--- The number of answers in a history for ticket t.
+-- The number of answers that a history has for ticket t.
 abbrev pub times : List Entry → ℕ → ℕ
 times [] t = 0
 times (entry ∷ h) t = count_by (λ a. a.0 == t) entry.answers + times h t
 
--- Whether there is a deadline that has come at moment m.
+-- Whether a deadline has come at moment m; false if there is no deadline.
 abbrev pub has_come : ℕ → Option ℕ → Bool
 has_come m None = false
 has_come m (Some d) = nat_le d m
@@ -103,7 +104,7 @@ is_due config h m e = list_any (λ d. e == d) (environments config) && has_come 
 abbrev pub with_number : ℕ → Option ℕ → Option (ℕ × ℕ)
 with_number e deadline = option_map (λ d. (d, e)) deadline
 
--- The deadlines of a list of environments, each with the number of its environment.
+-- The deadlines of a list of environments, each with its environment's number. Those without a deadline are left out.
 abbrev pub deadlines_of : Config → List Entry → List ℕ → List (ℕ × ℕ)
 deadlines_of config h es = filter_map (λ e. with_number e (deadline_of (phase config h e))) es
 
@@ -112,7 +113,7 @@ deadlines_of config h es = filter_map (λ e. with_number e (deadline_of (phase c
 abbrev pub comes_before : ℕ × ℕ → ℕ × ℕ → Bool
 comes_before a b = nat_lt a.0 b.0 || (nat_eq a.0 b.0 && nat_lt a.1 b.1)
 
--- Whether each pair of a list comes before all pairs behind it.
+-- Whether the pairs of a list are in this order: each comes before all pairs after it.
 abbrev pub are_in_order : List (ℕ × ℕ) → Bool
 are_in_order [] = true
 are_in_order (a ∷ rest) = list_all (comes_before a) rest && are_in_order rest
