@@ -1,4 +1,4 @@
--- Definitions that the laws of isolation by reservation speak of.
+-- Definitions used by the laws of isolation by reservation.
 use Rattle.std.specs.Prelude.{◌≡◌, ◌≤◌, ℕ, false, List, [], ◌∷◌, Option, Some, None}
 use Rattle.call_types.specs.declared.call.Call.{Call}
 use Rattle.call_types.specs.declared.call.Call.TheVariants.{Tick}
@@ -16,26 +16,25 @@ abbrev pub IsUnnamed : ℕ → List Entry → Type 0
 IsUnnamed f [] = Unit {0}
 IsUnnamed f (entry ∷ h) = IsUnnamed f h × (reserves f entry.call ≡ false)
 
--- A call is timely, as `IsTimely` defines it, or is a Tick: a Tick may be taken although an environment is due. (In the
--- own history of a function, a Tick may be in the place of the expiry of another function's environment.)
+-- A call is timely, as `IsTimely` defines it, except that a Tick may be taken although environments are due. (In the
+-- own history of a function, Ticks replace all entries that are not its own, even expiries.)
 abbrev pub IsTimelySave : ℕ → Call → List ℕ → Type 0
 IsTimelySave m Tick due = Unit {0}
 IsTimelySave m call due = IsTimely m call due
 
--- An entry may follow a history by the rules, except that a Tick may be taken although an environment is due.
+-- An entry that the rules allow after a history, except that a Tick may be taken although environments are due.
 pub record FollowsSave (config : Config) (h : List Entry) (entry : Entry) : Type 0 where
   pub later : last_moment h ≤ entry.moment
   pub timely : IsTimelySave entry.moment entry.call (due config h entry.moment)
   pub answers : entry.answers ≡ answers config h entry.moment entry.call
   pub place : entry.place ≡ place_for config h entry.call
 
--- A history is legal, except that a Tick may be taken although an environment is due.
+-- A history that the rules allow, with the same exception for Ticks.
 abbrev pub IsLegalSave : Config → List Entry → Type 0
 IsLegalSave config [] = Unit {0}
 IsLegalSave config (entry ∷ h) = IsLegalSave config h × FollowsSave config h entry
 
--- The ticket of the call that an answer names, whose contents the text of the answer contains; `None` if it names no
--- call.
+-- The ticket of the call that an answer names, if it names one: the text of the answer is made of this call.
 abbrev pub named : Answer → Option ℕ
 named (Delivered p d) = Some p
 named (Told p d event) = Some p
@@ -53,8 +52,8 @@ abbrev pub named_in : Option Answer → Option ℕ
 named_in None = None
 named_in (Some a) = named a
 
--- All that the text of a ticket's answer is made of: the answer, the call, the call that the answer names (otherwise
--- the call itself), and the request counts of both calls.
+-- Everything that the text of a ticket's answer is made of: the answer, its call, the call that the answer names (if
+-- none, its own call again), and the request counts of both calls.
 pub record Gist : Type 0 where
   pub answer : Option Answer
   pub call : Call
@@ -62,7 +61,7 @@ pub record Gist : Type 0 where
   pub source : Call
   pub source_count : ℕ
 
--- The gist of ticket t, with the counts of function f.
+-- The gist of ticket t in a history, with the request counts of function f.
 abbrev pub gist : List Entry → ℕ → ℕ → Gist
 gist h f t = record {
   answer = answer_of h t;
