@@ -5,12 +5,12 @@ use Rattle.call_types.specs.declared.call.Call.TheVariants.{Invoke}
 use Rattle.call_types.specs.declared.call.Entry.{Entry}
 use Rattle.call_model.specs.History.{requests}
 
--- The number of Invokes in a history of the function that a call invokes; 0 if the call is not an Invoke.
+-- For an Invoke, the number of Invokes of its function in a history; 0 for any other call.
 abbrev pub request_count : List Entry → Call → ℕ
 request_count h (Invoke f qualified trace body) = requests h f
 request_count h _ = 0
 
--- The request count of each entry's call in the history up to and including that entry, the newest first.
+-- For each entry, the newest first, the request count of its call in the history up to and including the entry.
 abbrev pub call_counts : List Entry → List ℕ
 call_counts [] = []
 call_counts (entry ∷ h) = request_count (entry ∷ h) entry.call ∷ call_counts h
