@@ -11,7 +11,7 @@ use Rattle.call_types.specs.declared.answer.Answer.{Answer}
 use Rattle.call_types.specs.declared.answer.Answer.TheVariants.{Ending, Registered, Accepted}
 use Rattle.call_model.specs.History.{answer_in, pending}
 
--- An actor asks for the next event: the runtime, or the extension whose identifier has this count.
+-- An actor, which asks for the next event: the runtime, or the extension whose identifier has this count.
 pub data Actor : Type 0 where
   TheRuntime : Actor
   TheExtension : (count : ℕ) → Actor
@@ -70,8 +70,8 @@ abbrev pub answer_to_next : Entry → Option ℕ → Option Answer
 answer_to_next entry None = None
 answer_to_next entry (Some t) = answer_in entry.answers t
 
--- Whether extension x was notified of the end of its environment: some entry of the generation gave the answer Ending
--- to the last Next that x had sent by then. In the example above, this is so from entry 7 on, which answers ticket 3.
+-- Whether extension x was notified of the end of its environment: some entry of the generation answered the last Next
+-- that x had sent by then with Ending. In the example above, this is so from entry 7 on, which answers ticket 3.
 -- (Extensions API: Shutdown event)
 abbrev pub told : Generation → ℕ → Bool
 told [] x = false
@@ -107,7 +107,7 @@ pub record Member : Type 0 where
   pub again : Bool
   pub exited : Bool
 
--- The state of one extension of a generation after a history.
+-- The state of an extension of a generation after a history.
 abbrev pub member : List Entry → Generation → Extension → Member
 member h g x = record {
   extension = x;
