@@ -25,10 +25,9 @@ verdict_answer AfterStop = Some Stopped
 verdict_answer (Refuses reason) = Some (Throttled reason)
 verdict_answer (Admits e) = None
 
--- The answer to a Reserve, if there was no Stop. Removing a reservation succeeds. Setting one is refused if it exceeds
--- the number of the function's environments, or if all reservations together would leave less of the account's limit
--- than the least remainder.
--- (PutFunctionConcurrency: at least 100 stay unreserved)
+-- The answer to a Reserve before a Stop. Removing a reservation succeeds. Setting one is refused if it exceeds the
+-- number of the function's environments, or if all reservations together would leave less of the account's limit than
+-- the least remainder. (PutFunctionConcurrency: at least 100 stay unreserved)
 abbrev pub reserve_answer : Config → List Entry → ℕ → Option ℕ → Answer
 reserve_answer config h f None = Unreserved
 reserve_answer config h f (Some count) =
@@ -42,8 +41,8 @@ abbrev pub own_at : Config → List Entry → Call → Option ℕ → Option Ans
 own_at config h call None = None
 own_at config h call (Some e) = own_answer (stand config h e) call
 
--- The first answer to the call itself, if it gets one: for an Invoke, by its verdict; for a call that names an
--- environment, by the table of phases. (What first answers are is explained below.)
+-- The first answer to the call itself, if it gets one: to an Invoke by its verdict, to a call that names an environment
+-- by the table of phases. (What first answers are is explained below.)
 unfoldable pub own_first : Config → List Entry → Call → Option Answer
 own_first config h (Invoke f qualified trace body) = verdict_answer (verdict config h f)
 own_first config h Tick = Some Done
@@ -78,8 +77,9 @@ other_answer config h now call t (Some e) = answer_at config h now e call t (nam
 -- recognizes them by their kind: only a Busy that begins gives a Delivered or a Told (`is_second`). `answers` joins
 -- both parts.
 
--- The first answer that ticket t gets from a call. The call's own ticket gets its own answer. An older one gets an
--- answer if the table has one for the waiting call, if its environment closes, or if its Next is replaced or withdrawn.
+-- The first answer that ticket t gets from a call. If t is the call's own ticket, it is the answer to the call itself.
+-- If t is older, the table may have an answer for the waiting call; a parked Next is answered if its environment
+-- closes, or if it is replaced or withdrawn.
 unfoldable pub first_answer : Config → List Entry → (now : ℕ) → Call → (t : ℕ) → Option Answer
 first_answer config h now call t =
     if t == length h then own_first config h call else other_answer config h now call t (home h t)
@@ -89,7 +89,7 @@ abbrev pub with_answer : ℕ → Option Answer → List (ℕ × Answer) → List
 with_answer t None rest = rest
 with_answer t (Some a) rest = (t, a) ∷ rest
 
--- The answers of the n tickets from t on, in rising ticket order, without the tickets that get none.
+-- The answers of the n tickets from t on, in rising ticket order. Tickets that get no answer are left out.
 abbrev pub each_from : ℕ → ℕ → (ℕ → Option Answer) → List (ℕ × Answer)
 each_from t zero answer = []
 each_from t (suc n) answer = with_answer t (answer t) (each_from (suc t) n answer)
