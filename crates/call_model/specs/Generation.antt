@@ -70,8 +70,9 @@ abbrev pub answer_to_next : Entry → Option ℕ → Option Answer
 answer_to_next entry None = None
 answer_to_next entry (Some t) = answer_in entry.answers t
 
--- Whether extension x was notified of the end of its environment: some entry of the generation answered the last Next
--- that x had sent by then with Ending. In the example above, this is so from entry 7 on, which answers ticket 3.
+-- Whether extension x was notified of the end of its environment: some entry of the generation gave Ending as its
+-- answer to the last Next that x had sent by then. In the example above, this is so from entry 7 on, which answers
+-- ticket 3.
 -- (Extensions API: Shutdown event)
 abbrev pub told : Generation → ℕ → Bool
 told [] x = false
@@ -139,8 +140,7 @@ abbrev pub hears_end : Member → Bool
 hears_end s = s.extension.shutdown && not s.exited
 
 -- The extensions that a Closing waits for: those that are to be notified of the end, unless they were notified and have
--- asked again.
--- (life cycle: Shutdown phase)
+-- asked again. (life cycle: Shutdown phase)
 abbrev pub awaited : List Member → List Member
 awaited members = filter (λ s. hears_end s && not (s.told && s.again)) members
 
