@@ -41,8 +41,7 @@ abbrev pub own_at : Config → List Entry → Call → Option ℕ → Option Ans
 own_at config h call None = None
 own_at config h call (Some e) = own_answer (stand config h e) call
 
--- The first answer to the call itself, if it gets one: to an Invoke by its verdict, to a call that names an environment
--- by the table of phases. (What first answers are is explained below.)
+-- The first answer to the call itself, if it gets one. (What first answers are is explained below.)
 unfoldable pub own_first : Config → List Entry → Call → Option Answer
 own_first config h (Invoke f qualified trace body) = verdict_answer (verdict config h f)
 own_first config h Tick = Some Done
@@ -78,7 +77,7 @@ other_answer config h now call t (Some e) = answer_at config h now e call t (nam
 -- both parts.
 
 -- The first answer that ticket t gets from a call. If t is the call's own ticket, it is the answer to the call itself.
--- If t is older, the table may have an answer for the waiting call; a parked Next is answered if its environment
+-- If t is older, the waiting call gets what the table has for it, and a parked Next is answered if its environment
 -- closes, or if it is replaced or withdrawn.
 unfoldable pub first_answer : Config → List Entry → (now : ℕ) → Call → (t : ℕ) → Option Answer
 first_answer config h now call t =
