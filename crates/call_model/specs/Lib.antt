@@ -1,7 +1,7 @@
 -- The definitions that the headline (`headline/specs/Headline.antt`) rests on, in the order in which to read them: if
--- you accept these, you accept what the headline says. Of Next, only the definitions up to `IsLegal` are among them.
--- What a call is, and which environment it names, is defined in `call_types`; the environments of a configuration are
--- defined in `arn_ids`.
+-- you accept these, you accept what the headline says. Of Next, it needs only the definitions up to `IsLegal`, and of
+-- Counts, only `stats` with what `stats` uses. What a call is, and which environment it names, is defined in
+-- `call_types`; the environments of a configuration are defined in `arn_ids`.
 -- What has happened: entries, answers, pending calls.
 pub mod History
 -- An environment: its generation, its stand, the table of phases, what its parked Nexts get, its life.
