@@ -65,8 +65,8 @@ abbrev pub IsTimely : ℕ → Call → List ℕ → Type 0
 IsTimely m (Expire e) due = IsFirst e due
 IsTimely m _ due = due ≡ []
 
--- An entry is one that the rules allow after a history: time does not go back, what is due expires first, and the
--- answers and the place are the ones defined.
+-- An entry follows a history if the rules allow it: time does not go back, what is due expires first, and the answers
+-- and the place are the ones defined.
 pub record Follows (config : Config) (h : List Entry) (entry : Entry) : Type 0 where
   pub later : last_moment h ≤ entry.moment
   pub timely : IsTimely entry.moment entry.call (due config h entry.moment)
@@ -102,8 +102,8 @@ expiries config m (e ∷ rest) h =
 abbrev pub expiries_at : Config → List Entry → ℕ → List Entry
 expiries_at config h m = expiries config m (due config h m) h
 
--- The moment at which a call is taken that is made at `now`: time never goes back, so an earlier moment than the last
--- entry's counts as that one.
+-- The moment at which a call that is made at `now` is taken. Time never goes back: if `now` is earlier than the last
+-- moment, it is the last moment.
 abbrev pub moment_at : List Entry → ℕ → ℕ
 moment_at h now = max now (last_moment h)
 

@@ -1,5 +1,6 @@
--- The own history of a function: what the account would have recorded if only the calls that concern this function had
--- been made, with the clock ticking at the same moments.
+-- The own history of a function: the history of the account, in which each entry that does not concern the function is
+-- replaced by a Tick. For a reserved function it is what the account would have recorded if no one else had called
+-- (`laws::isolated`).
 use Rattle.std.specs.Prelude.{ℕ, ◌==◌, Bool, true, false, if◌then◌else◌, List, [], ◌∷◌, length, Option, Some, None}
 use Rattle.std.specs.Prelude.{filter}
 use Rattle.call_types.specs.declared.call.Call.{Call}

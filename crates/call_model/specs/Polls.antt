@@ -14,8 +14,8 @@ use Rattle.call_model.specs.Stand.{Stand, Role, NoRole, Waiting, RuntimePoll, Ex
 use Rattle.call_model.specs.Table.{refused, closes, to_waiting}
 
 -- The answer to a parked Next if the call closes the environment. An extension that is registered for SHUTDOWN, has not
--- exited and is not just reporting its own exit is notified of the shutdown, and has 2 s from now; every other parked
--- Next is refused.
+-- exited and is not just reporting its own exit is notified of the shutdown, which ends 2 s from now; every other
+-- parked Next is refused.
 -- (Extensions API: Shutdown event)
 abbrev pub at_close : ℕ → Option Reason → Call → Role → Option Answer
 at_close now (Some reason) call RuntimePoll = refused Container

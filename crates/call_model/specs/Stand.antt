@@ -22,8 +22,8 @@ pub record Stand : Type 0 where
   -- The number of events that extensions were notified of, over all generations.
   pub events : ℕ
 
--- Whether an extension identifier was given out in the present generation, by the count in it. (Extensions API:
--- Lambda-Extension-Identifier)
+-- Whether an extension identifier was given out in the present generation, by the count in it.
+-- (Extensions API: Lambda-Extension-Identifier)
 abbrev pub is_known : Stand → ℕ → Bool
 is_known s x = list_any (has_count x) s.members
 

@@ -57,7 +57,7 @@ only a = record { own = a; waiting = λ ticket. None; close = None }
 abbrev pub parks : Cell
 parks = only None
 
--- The call has no effect here.
+-- The call gives no answer here and closes nothing.
 abbrev pub nothing : Cell
 nothing = only None
 
@@ -117,12 +117,13 @@ spins_down = record { own = Some Accepted; waiting = λ ticket. None; close = So
 abbrev pub stops : Cell
 stops = record { own = None; waiting = λ ticket. Some Stopped; close = Some SpunDown }
 
--- The service stops while the environment is closing already: only the waiting call is answered.
+-- The service stops while the environment is closing or off: only the waiting call is answered.
 abbrev pub tells_stopped : Cell
 tells_stopped = record { own = None; waiting = λ ticket. Some Stopped; close = None }
 
 -- The given cell if a report names the open invocation, by the count in its request identifier; otherwise the report is
--- refused. (Runtime API: AwsRequestId)
+-- refused.
+-- (Runtime API: AwsRequestId)
 abbrev pub if_named : Stand → ℕ → Cell → Cell
 if_named s id cell = if is_number s.request id then cell else bad_id
 
@@ -139,7 +140,8 @@ abbrev pub registers : Stand → List ℕ → Cell
 registers s name = only (Some (register s name))
 
 -- The answer to an extension's Next in Closing: the extension is notified of the shutdown if it is to be and was not
--- yet; otherwise its Next is refused. (Extensions API: Shutdown event)
+-- yet; otherwise its Next is refused.
+-- (Extensions API: Shutdown event)
 abbrev pub next_in_closing : Option Member → Phase → Option Answer
 next_in_closing (Some x) (Closing reason until bound) =
     if hears_end x && not x.told
@@ -163,7 +165,8 @@ ext_row s x starting idle unanswered answered closing =
     then row s starting idle unanswered answered closing container
     else row s unknown unknown unknown unknown unknown container
 
--- The table: a row for each call. In every phase a second Stop and a call without a row have no effect here.
+-- The table: a row for each call. In every phase a second Stop and a call without a row give no answer here and close
+-- nothing.
 -- The columns: Starting, Idle, Busy with its invocation unanswered, Busy with it answered, Closing, Off.
 abbrev pub table : Stand → Call → Cell
 table s (RuntimeNext e) = row s parks parks state parks container container
@@ -192,8 +195,8 @@ closes s call = (table s call).close
 unfoldable pub to_waiting : ℕ → Stand → Call → Option Answer
 to_waiting ticket s call = (table s call).waiting ticket
 
--- The deadline of an Init: the one that is set already; otherwise 10 s from now, its first contact. (life cycle: Init
--- phase)
+-- The deadline of an Init: the one that is set already; otherwise 10 s from now, its first contact.
+-- (life cycle: Init phase)
 abbrev pub init_limit : ℕ → Option ℕ → Option ℕ
 init_limit now None = Some (now + 10000)
 init_limit now (Some d) = Some d
@@ -233,8 +236,8 @@ kept now limit t s (Register e name invoke shutdown account) =
 kept now limit t s Stop = if s.stopped then s.phase else unbound s.phase
 kept now limit t s _ = s.phase
 
--- The phase after a call that may close the environment. If it does, the extensions have 2 s to shut down. (life cycle:
--- Shutdown phase)
+-- The phase after a call that may close the environment. If it does, the extensions have 2 s to shut down.
+-- (life cycle: Shutdown phase)
 abbrev pub or_closing : ℕ → Option Reason → Phase → Phase
 or_closing now None phase = phase
 or_closing now (Some reason) phase = Closing reason (now + 2000) None
