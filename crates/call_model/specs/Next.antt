@@ -21,7 +21,7 @@ deadline_of (Busy p d) = Some d
 deadline_of (Closing reason until bound) = Some until
 deadline_of _ = None
 
--- The pair of a deadline and its environment e, if there is a deadline and it has come at moment m.
+-- The pair (deadline, e) of an environment e, if it has a deadline that has come at moment m.
 abbrev pub due_at : ℕ → ℕ → Option ℕ → Option (ℕ × ℕ)
 due_at m e None = None
 due_at m e (Some d) = if nat_le d m then Some (d, e) else None

@@ -1,6 +1,6 @@
 -- The own history of a function: the history of the account, in which each entry that does not concern the function is
--- replaced by a Tick. For a reserved function it is what the account would have recorded if no one else had called
--- (`laws::isolated`).
+-- replaced by a Tick. If the configuration reserves the function and no Reserve names it, this is what the account
+-- would have recorded if no one else had called, the clock aside (`laws::isolated`).
 use Rattle.std.specs.Prelude.{ℕ, ◌==◌, Bool, true, false, if◌then◌else◌, List, [], ◌∷◌, length, Option, Some, None}
 use Rattle.std.specs.Prelude.{filter}
 use Rattle.call_types.specs.declared.call.Call.{Call}
@@ -12,7 +12,7 @@ use Rattle.arn_ids.specs.Environments.{function_of}
 use Rattle.call_model.specs.History.{call_of, poll_env}
 use Rattle.call_types.specs.Calls.{env_of}
 
--- Whether an environment is there and belongs to function f.
+-- Whether there is an environment, and it belongs to function f.
 abbrev pub of_function : Config → ℕ → Option ℕ → Bool
 of_function config f None = false
 of_function config f (Some e) = function_of config e == f

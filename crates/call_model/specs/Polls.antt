@@ -14,8 +14,8 @@ use Rattle.call_model.specs.Stand.{Stand, Role, NoRole, Waiting, RuntimePoll, Ex
 use Rattle.call_model.specs.Table.{refused, closes, to_waiting}
 
 -- The answer to a parked Next if the call closes the environment. An extension that is registered for SHUTDOWN, has not
--- exited and is not just reporting its own exit is notified of the shutdown, which ends 2 s from now; every other
--- parked Next is refused.
+-- exited and is not just reporting its own exit is notified of the shutdown and of its deadline, 2 s from now; every
+-- other parked Next is refused.
 -- (Extensions API: Shutdown event)
 abbrev pub at_close : ℕ → Option Reason → Call → Role → Option Answer
 at_close now (Some reason) call RuntimePoll = refused Container
@@ -25,7 +25,7 @@ at_close now (Some reason) call (ExtensionPoll x) =
     else refused Container
 at_close now _ call _ = None
 
--- The answer to a parked Next with ticket t if the call ends its wait by itself: a newer Next of the same actor
+-- The answer to a parked Next with ticket t if the call replaces it or takes it back: a newer Next of the same actor
 -- replaces it, and a Withdraw takes back the Next that it names.
 abbrev pub replaced : (t : ℕ) → Call → Role → Option Answer
 replaced t (RuntimeNext e) RuntimePoll = refused Replaced
@@ -40,7 +40,7 @@ by_role ticket now s call t NoRole = None
 by_role ticket now s call t Waiting = to_waiting ticket s call
 by_role ticket now s call t role = or_else (at_close now (closes s call) call role) (replaced t call role)
 
--- The ticket and the deadline of the invocation of a Busy that begins between two phases.
+-- The ticket and the deadline of the invocation of a Busy that begins between two phases, if one does.
 abbrev pub begun : Phase → Phase → Option (ℕ × ℕ)
 begun (Busy q b) phase = None
 begun _ (Busy p d) = Some (p, d)

@@ -79,7 +79,7 @@ expected_extension : outcome expecting
 unfolding outcome
 expected_extension = refl
 
--- An expected extension is missing until one of its name registers, whichever others do.
+-- An expected extension is missing until it registers under its own name: another extension does not replace it.
 expected_extension_by_its_name : outcome expecting
     ((0, RuntimeNext 1) ∷ (1, registers 1 name_b true false) ∷ (2, ExtNext 1 1) ∷ (3, invoke 1) ∷
     (4, registers 1 name_a true false) ∷ (5, ExtNext 1 2) ∷ [])

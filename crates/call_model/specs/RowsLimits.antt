@@ -24,7 +24,8 @@ reserved_none = account 1000 100 (function 3 (Some 0) [] 1 ∷ [])
 abbrev pub narrow : Config
 narrow = account 1 0 (plain ∷ [])
 
--- At the deadline the environment is reset first: a response at that moment is refused, and a Next parks.
+-- The environment expires at its deadline, before the calls of that moment: the response is refused, and the Next
+-- parks.
 timeout_then_late_response : outcome one
     ((500, RuntimeNext 1) ∷ (1000, invoke 1) ∷ (4000, response 1 1) ∷ (4000, RuntimeNext 1) ∷ [])
     ≡ ((1, 0, Delivered 1 4000) ∷ (2, 1, TimedOut) ∷ (3, 3, Refused State) ∷ [])
@@ -100,14 +101,16 @@ reservation_answers : outcome three
 unfolding outcome
 reservation_answers = refl
 
--- The journal holds four entries: a second Tick has no room, two Stops have, and a third Stop has none.
+-- The journal holds four entries: there is room for one Tick and for two Stops after it, but not for a second Tick or a
+-- third Stop.
 full_journal : refusals one 4
     ((0, Tick) ∷ (0, Tick) ∷ (0, Stop) ∷ (0, Stop) ∷ (0, Stop) ∷ [])
     ≡ false ∷ true ∷ false ∷ false ∷ true ∷ []
 unfolding refusals
 full_journal = refl
 
--- The journal holds eight entries: the Tick has no room, but the Stop after it has, with the two expiries before it.
+-- The journal holds eight entries: there is no room for the Tick, but there is room for the first Stop after it, with
+-- the two expiries before that Stop.
 full_journal_then_stop : refusals two 8
     ((0, RuntimeNext 1) ∷ (0, invoke 1) ∷ (0, invoke 1) ∷ (3000, Tick) ∷ (20000, Stop) ∷ (20000, Stop) ∷ [])
     ≡ false ∷ false ∷ false ∷ true ∷ false ∷ true ∷ []

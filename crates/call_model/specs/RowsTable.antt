@@ -97,7 +97,7 @@ state = answer (Refused State)
 abbrev unknown : Effect
 unknown = answer (Refused Unknown)
 
--- The call is refused, because the environment is off.
+-- The call is refused, because the environment is closing or off.
 abbrev container : Effect
 container = answer (Refused Container)
 

@@ -102,7 +102,7 @@ unfolding run next added due answers first_answers first_answer second_answer an
     own_answer closes kept to_waiting members seen after lived life verdict in_flight reservation place
 phase_after config calls e = phase_of config (run config [] calls) e
 
--- The count in the request identifier of the Invoke of function f with ticket t, in a list of calls.
+-- The count in the request identifier of the Invoke of function f with ticket t, after a list of calls.
 unfoldable pub requests_after : Config → List (ℕ × Call) → ℕ → ℕ → ℕ
 unfolding run next added due answers first_answers first_answer second_answer answer_to own_first role
     own_answer closes kept to_waiting members seen after lived life verdict in_flight reservation place

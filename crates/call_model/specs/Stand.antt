@@ -1,4 +1,4 @@
--- The state of an environment that follows from a history, and the role of a ticket there.
+-- The state of an environment, and the role that a ticket has there.
 use Rattle.std.specs.Prelude.{ℕ, Bool, true, false, ◌&&◌, if◌then◌else◌, ◌==◌, List, Option, Some, None, is_some}
 use Rattle.std.specs.List.{list_any, find}
 use Rattle.call_types.specs.declared.answer.Phase.{Phase}
@@ -58,7 +58,7 @@ abbrev pub at_hand : Phase → Option ℕ
 at_hand (Busy p d) = Some p
 at_hand phase = bound_of phase
 
--- Whether an optional number is there and is n.
+-- Whether there is a number, and it is n.
 abbrev pub is_number : Option ℕ → ℕ → Bool
 is_number None n = false
 is_number (Some m) n = m == n

@@ -22,7 +22,7 @@ use Rattle.call_model.specs.Stand.{Stand, is_known, is_number}
 
 -- A cell of the table: what a call does in a phase.
 pub record Cell : Type 0 where
-  -- The answer to the call itself, if it gets one now. The number of an event in it is filled in later.
+  -- The answer to the call itself, if it gets one now. An event in it gets its number later.
   pub own : Option Answer
   -- The answer to the waiting call, if there is such a call. It is a function of the ticket of the call that is taken,
   -- because an output or an error names the ticket whose call has its bytes.
@@ -139,8 +139,8 @@ register s name =
 abbrev pub registers : Stand → List ℕ → Cell
 registers s name = only (Some (register s name))
 
--- The answer to an extension's Next in Closing: the extension is notified of the shutdown if it is to be and was not
--- yet; otherwise its Next is refused.
+-- The answer to an extension's Next in Closing. If the extension is registered for SHUTDOWN, has not exited and was not
+-- notified before, it is notified of the shutdown; otherwise its Next is refused.
 -- (Extensions API: Shutdown event)
 abbrev pub next_in_closing : Option Member → Phase → Option Answer
 next_in_closing (Some x) (Closing reason until bound) =
