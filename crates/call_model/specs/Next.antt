@@ -1,4 +1,4 @@
--- What is due, and which histories are legal; the next history, and a whole run.
+-- Which environments are due, which histories are legal, the next history, and a whole run.
 use Rattle.std.specs.Prelude.{◌≡◌, ℕ, ◌≤◌, max, if◌then◌else◌, nat_le, List, [], ◌∷◌, ◌++◌, length, map, Option, Some}
 use Rattle.std.specs.Prelude.{None, filter_map}
 use Rattle.call_types.specs.declared.call.Call.{Call}
@@ -13,66 +13,73 @@ use Rattle.call_model.specs.Life.{phase}
 use Rattle.call_model.specs.Limits.{place_for}
 use Rattle.call_model.specs.Answers.{answers}
 
--- when a phase ends by itself: Init after 10 s, an invocation at its function's timeout, a Closing after 2 s
+-- The moment at which a phase ends by itself, if it has one: an Init after 10 s, an invocation at its function's
+-- timeout, a Closing after 2 s.
 abbrev pub deadline_of : Phase → Option ℕ
 deadline_of (Starting d bound) = d
 deadline_of (Busy p d) = Some d
 deadline_of (Closing reason until bound) = Some until
 deadline_of _ = None
 
--- an environment with its deadline, where that has come
+-- The pair (deadline, e) of an environment e, if it has a deadline that has come at moment m.
 abbrev pub due_at : ℕ → ℕ → Option ℕ → Option (ℕ × ℕ)
 due_at m e None = None
 due_at m e (Some d) = if nat_le d m then Some (d, e) else None
 
--- an environment in its place by (deadline, number), in a list of those with greater numbers
+-- Inserts a pair (deadline, number) into a list that is ordered by deadline and has only greater numbers. Of equal
+-- deadlines, the lower number comes first.
 abbrev pub in_order : ℕ × ℕ → List (ℕ × ℕ) → List (ℕ × ℕ)
 in_order a [] = a ∷ []
 in_order a (b ∷ rest) = if nat_le a.0 b.0 then a ∷ b ∷ rest else b ∷ in_order a rest
 
--- all of them in that order
+-- Sorts pairs (deadline, number), which are given in rising order of their numbers, by deadline. Of equal deadlines,
+-- the lower number comes first.
 abbrev pub by_deadline : List (ℕ × ℕ) → List (ℕ × ℕ)
 by_deadline [] = []
 by_deadline (a ∷ rest) = in_order a (by_deadline rest)
 
--- Due: the environments whose deadline has come, the earliest first, of several with one deadline the lowest numbered.
+-- The environments that are due at a moment: those whose deadline has come, the earliest deadline first, and of equal
+-- deadlines the environment with the lowest number first.
 unfoldable pub due : Config → List Entry → ℕ → List ℕ
 due config h m =
     map (λ a. a.1) (by_deadline (filter_map (λ e. due_at m e (deadline_of (phase config h e))) (environments config)))
 
--- the moment of the newest entry; 0 before the first
+-- The moment of the newest entry; 0 before the first entry.
 abbrev pub last_moment : List Entry → ℕ
 last_moment [] = 0
 last_moment (entry ∷ h) = entry.moment
 
--- the first of a list, where there is one
+-- The first item of a list, if there is one.
 abbrev pub first : {A : Type 0} → List A → Option A
 first [] = None
 first (x ∷ xs) = Some x
 
--- a number is the first of a list
+-- A number is the first of a list.
 abbrev pub IsFirst : ℕ → List ℕ → Type 0
 IsFirst e [] = ⊥
 IsFirst e (d ∷ rest) = e ≡ d
 
--- what is due expires, in its order, before any other call is taken
+-- A call is taken in its turn: an environment expires only if it is the first of those that are due, and any other call
+-- is taken only if nothing is due.
 abbrev pub IsTimely : ℕ → Call → List ℕ → Type 0
 IsTimely m (Expire e) due = IsFirst e due
 IsTimely m _ due = due ≡ []
 
--- an entry that the rules allow after a history: time doesn't go back, and answers and place are the ones defined
+-- An entry follows a history if the rules allow it: time does not go back, what is due expires first, and the answers
+-- and the place are the ones defined.
 pub record Follows (config : Config) (h : List Entry) (entry : Entry) : Type 0 where
   pub later : last_moment h ≤ entry.moment
   pub timely : IsTimely entry.moment entry.call (due config h entry.moment)
   pub answers : entry.answers ≡ answers config h entry.moment entry.call
   pub place : entry.place ≡ place_for config h entry.call
 
--- Legal: a history each of whose entries follows the ones before it. This is the machine of one thread.
+-- A history is legal if each of its entries follows the ones before it. This is the sequential specification: the
+-- service as a machine with one thread.
 abbrev pub IsLegal : Config → List Entry → Type 0
 IsLegal config [] = Unit {0}
 IsLegal config (entry ∷ h) = IsLegal config h × Follows config h entry
 
--- the entry of a call that is taken at a moment
+-- The entry of a call that is taken at moment m.
 abbrev pub entry_of : Config → List Entry → ℕ → Call → Entry
 entry_of config h m call = record {
   moment = m;
@@ -81,42 +88,44 @@ entry_of config h m call = record {
   place = place_for config h call;
 }
 
--- the history with that entry
+-- The history with the entry of a call that is taken at moment m.
 abbrev pub entered : Config → List Entry → ℕ → Call → List Entry
 entered config h m call = entry_of config h m call ∷ h
 
--- the entries by which environments expire at a moment, one after the other, the newest first
+-- The entries by which the listed environments expire at moment m, one after the other; the newest first.
 abbrev pub expiries : Config → ℕ → List ℕ → List Entry → List Entry
 expiries config m [] h = []
 expiries config m (e ∷ rest) h =
     expiries config m rest (entered config h m (Expire e)) ++ (entry_of config h m (Expire e) ∷ [])
 
--- those of all that is due
+-- The entries by which everything that is due at moment m expires, the newest first.
 abbrev pub expiries_at : Config → List Entry → ℕ → List Entry
 expiries_at config h m = expiries config m (due config h m) h
 
--- the moment at which a call is taken: time never goes back
+-- The moment at which a call that is made at `now` is taken. Time never goes back: if `now` is earlier than the last
+-- moment, it is the last moment.
 abbrev pub moment_at : List Entry → ℕ → ℕ
 moment_at h now = max now (last_moment h)
 
--- what is due at a moment expires, and then the call is taken
+-- The entries that a call adds if it is taken at moment m, the newest first: what is due expires, and then the call is
+-- taken.
 abbrev pub added_at : Config → List Entry → ℕ → Call → List Entry
 added_at config h m call = entry_of config (expiries_at config h m ++ h) m call ∷ expiries_at config h m
 
--- The entries that a call adds, the newest first.
+-- The entries that a call adds if it is made at `now`, the newest first.
 unfoldable pub added : Config → List Entry → ℕ → Call → List Entry
 added config h now call = added_at config h (moment_at h now) call
 
--- The next history.
+-- The next history: the history after a call that is made at `now`.
 unfoldable pub next : Config → List Entry → ℕ → Call → List Entry
 next config h now call = added config h now call ++ h
 
--- A run: call after call, each with the moment at which it is handed in.
+-- A run: the history after a list of calls, which are made one after the other, each at its moment.
 unfoldable pub run : Config → List Entry → List (ℕ × Call) → List Entry
 run config h [] = h
 run config h (c ∷ calls) = run config (next config h c.0 c.1) calls
 
--- the answers of a history in the order in which they were given: the entry, the ticket, the answer
+-- The answers of a history in the order in which they were given, each as (entry, ticket, answer).
 abbrev pub lines : List Entry → List (ℕ × ℕ × Answer)
 lines [] = []
 lines (entry ∷ h) = lines h ++ map (λ a. (length h, a.0, a.1)) entry.answers

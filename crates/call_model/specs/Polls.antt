@@ -1,4 +1,4 @@
--- What an entry answers to the older tickets of an environment: the parked Nexts and the waiting call.
+-- The answers that an entry gives to the older tickets of an environment: to the parked Nexts and to the waiting call.
 use Rattle.std.specs.Prelude.{ℕ, ◌+◌, not, ◌&&◌, if◌then◌else◌, ◌==◌, Option, Some, None}
 use Rattle.call_types.specs.declared.call.Call.{Call}
 use Rattle.call_types.specs.declared.call.Call.TheVariants.{RuntimeNext, ExtNext, Withdraw}
@@ -13,8 +13,9 @@ use Rattle.call_model.specs.Generation.{hears_end, reports_exit}
 use Rattle.call_model.specs.Stand.{Stand, Role, NoRole, Waiting, RuntimePoll, ExtensionPoll}
 use Rattle.call_model.specs.Table.{refused, closes, to_waiting}
 
--- Where the environment closes, every parked Next is answered: an extension that is registered for SHUTDOWN, has not
--- exited and isn't just reporting its own exit hears the end; all others are refused.
+-- The answer to a parked Next if the call closes the environment. An extension that is registered for SHUTDOWN, has not
+-- exited and is not just reporting its own exit is notified of the shutdown and of its deadline, 2 s from now; every
+-- other parked Next is refused.
 -- (Extensions API: Shutdown event)
 abbrev pub at_close : ℕ → Option Reason → Call → Role → Option Answer
 at_close now (Some reason) call RuntimePoll = refused Container
@@ -24,7 +25,8 @@ at_close now (Some reason) call (ExtensionPoll x) =
     else refused Container
 at_close now _ call _ = None
 
--- A newer Next of the same actor replaces a parked one; a Withdraw takes the one back that it names.
+-- The answer to a parked Next with ticket t if the call replaces it or takes it back: a newer Next of the same actor
+-- replaces it, and a Withdraw takes back the Next that it names.
 abbrev pub replaced : (t : ℕ) → Call → Role → Option Answer
 replaced t (RuntimeNext e) RuntimePoll = refused Replaced
 replaced t (ExtNext e x) (ExtensionPoll y) = if y.extension.count == x then refused Replaced else None
@@ -32,19 +34,20 @@ replaced t (Withdraw u) RuntimePoll = if u == t then Some Withdrawn else None
 replaced t (Withdraw u) (ExtensionPoll y) = if u == t then Some Withdrawn else None
 replaced t call role = None
 
--- What an older ticket t gets by its role of the call, which has this ticket and moment.
+-- The answer that an older ticket t gets, by its role, from a call that is taken with the given ticket at `now`.
 abbrev pub by_role : (ticket now : ℕ) → Stand → Call → (t : ℕ) → Role → Option Answer
 by_role ticket now s call t NoRole = None
 by_role ticket now s call t Waiting = to_waiting ticket s call
 by_role ticket now s call t role = or_else (at_close now (closes s call) call role) (replaced t call role)
 
--- the invocation of a Busy that begins between two phases, with its deadline
+-- The ticket and the deadline of the invocation of a Busy that begins between two phases, if one does.
 abbrev pub begun : Phase → Phase → Option (ℕ × ℕ)
 begun (Busy q b) phase = None
 begun _ (Busy p d) = Some (p, d)
 begun _ _ = None
 
--- Where a Busy begins, the runtime's Next delivers the invocation, and each extension registered for INVOKE is told.
+-- The answer to a parked Next if a Busy begins: the runtime's Next delivers the invocation, and each extension that is
+-- registered for INVOKE is notified of it.
 -- (Runtime API: Next invocation; Extensions API: Invoke event)
 abbrev pub delivered : Option (ℕ × ℕ) → Role → Option Answer
 delivered (Some b) RuntimePoll = Some (Delivered b.0 b.1)

@@ -1,5 +1,5 @@
--- Histories that a plausible mistake in the definitions would answer otherwise, written from the table of phases.
--- Each is named for what the mistake would break. A line is (entry, ticket, answer).
+-- Histories that a plausible mistake in the definitions would answer otherwise, written from the table of phases. Each
+-- is named for what the mistake would break. Each line of an outcome is (entry, ticket, answer).
 use Rattle.std.specs.Prelude.{◌≡◌, true, false, [], ◌∷◌, Some, None, refl}
 use Rattle.call_types.specs.declared.call.Call.TheVariants.{RuntimeNext, ResponseTooLarge, Failure, InitFailure}
 use Rattle.call_types.specs.declared.call.Call.TheVariants.{ExtNext, ExtInitFailure, ExtExitFailure, Tick, Withdraw}
@@ -16,9 +16,9 @@ use Rattle.call_types.specs.declared.answer.Phase.TheVariants.{Closing}
 use Rattle.call_model.specs.Sample.{name_a, name_b, one, two, reserved_two, invoke, registers, response, outcome}
 use Rattle.call_model.specs.Sample.{phase_after, requests_after, reservation_after}
 
--- Extensions and the end of their environment
+-- Extensions and the shutdown of their environment
 
--- An INVOKE event doesn't tell the end: the extension hears it when it asks in Closing.
+-- An INVOKE event does not notify an extension of the shutdown: it is notified when it asks in Closing.
 event_is_no_shutdown_notice : outcome one
     ((0, registers 1 name_a true true) ∷ (0, ExtNext 1 1) ∷ (0, RuntimeNext 1) ∷ (10, invoke 1) ∷
     (3010, Tick) ∷ (3020, ExtNext 1 1) ∷ [])
@@ -27,7 +27,7 @@ event_is_no_shutdown_notice : outcome one
 unfolding outcome
 event_is_no_shutdown_notice = refl
 
--- An extension whose report was refused still hears the end.
+-- An extension whose report was refused is still notified of the shutdown.
 refused_report_is_no_exit : outcome one
     ((0, registers 1 name_a false true) ∷ (0, ExtNext 1 1) ∷ (0, RuntimeNext 1) ∷
     (10, ExtInitFailure 1 1 []) ∷ (20, Spindown 1) ∷ [])
@@ -36,8 +36,8 @@ refused_report_is_no_exit : outcome one
 unfolding outcome
 refused_report_is_no_exit = refl
 
--- Two extensions; the first exits in Closing and is told nothing, the second is told, asks again and so ends the
--- Closing.
+-- Of two extensions, the first exits in Closing and is not notified of the shutdown; the second is notified, asks again
+-- and so ends the Closing.
 exited_extension_hears_nothing : outcome one
     ((0, registers 1 name_a false true) ∷ (0, registers 1 name_b false true) ∷ (10, InitFailure 1 []) ∷
     (20, ExtExitFailure 1 1 []) ∷ (30, ExtNext 1 1) ∷ (40, ExtNext 1 2) ∷ (50, ExtNext 1 2) ∷
@@ -48,7 +48,8 @@ exited_extension_hears_nothing : outcome one
 unfolding outcome
 exited_extension_hears_nothing = refl
 
--- An extension registered for INVOKE alone isn't told the end, and the environment closes in no time.
+-- An extension that is registered for INVOKE alone is not notified of the shutdown, and the Closing ends in the same
+-- entry.
 invoke_extension_hears_no_end : outcome one
     ((0, registers 1 name_a true false) ∷ (0, ExtNext 1 1) ∷ (0, RuntimeNext 1) ∷ (10, Spindown 1) ∷
     (20, ExtNext 1 1) ∷ [])
@@ -57,7 +58,7 @@ invoke_extension_hears_no_end : outcome one
 unfolding outcome
 invoke_extension_hears_no_end = refl
 
--- Nor when it asks in Closing.
+-- Such an extension is not notified when it asks in Closing either.
 invoke_extension_hears_no_end_in_closing : outcome one
     ((0, registers 1 name_a true false) ∷ (0, registers 1 name_b false true) ∷ (10, InitFailure 1 []) ∷
     (20, ExtNext 1 1) ∷ (30, ExtNext 1 2) ∷ [])
@@ -66,7 +67,7 @@ invoke_extension_hears_no_end_in_closing : outcome one
 unfolding outcome
 invoke_extension_hears_no_end_in_closing = refl
 
--- An extension that reports its own exit isn't told the end, and isn't waited for.
+-- An extension that reports its own exit is not notified of the shutdown, and the Closing does not wait for it.
 reporter_hears_no_end : outcome one
     ((0, registers 1 name_a false true) ∷ (0, ExtNext 1 1) ∷ (0, RuntimeNext 1) ∷
     (10, ExtExitFailure 1 1 []) ∷ (20, ExtNext 1 1) ∷ [])
@@ -75,14 +76,14 @@ reporter_hears_no_end : outcome one
 unfolding outcome
 reporter_hears_no_end = refl
 
--- Nor where it reports it as an Init error.
+-- The same holds for an extension that reports an Init error.
 init_error_is_an_exit : outcome one
     ((0, registers 1 name_a false true) ∷ (0, ExtNext 1 1) ∷ (10, ExtInitFailure 1 1 []) ∷ (20, ExtNext 1 1) ∷ [])
     ≡ ((0, 0, Registered 1) ∷ (2, 1, Refused Container) ∷ (2, 2, Accepted) ∷ (3, 3, Refused Unknown) ∷ [])
 unfolding outcome
 init_error_is_an_exit = refl
 
--- The only extension that a Closing waits for exits, and so ends it.
+-- If the only extension that a Closing waits for exits, the Closing ends.
 exit_ends_a_closing : outcome one
     ((0, registers 1 name_a false true) ∷ (10, InitFailure 1 []) ∷ (20, ExtExitFailure 1 1 []) ∷
     (30, ExtNext 1 1) ∷ (40, RuntimeNext 1) ∷ (50, invoke 1) ∷ [])
@@ -107,7 +108,7 @@ replaced_extension_poll : outcome one
 unfolding outcome
 replaced_extension_poll = refl
 
--- The environment is ready only when the extension has asked again.
+-- After an extension's Next was taken back, the environment is ready only when the extension has asked again.
 withdrawn_extension_poll : outcome one
     ((0, registers 1 name_a true false) ∷ (0, ExtNext 1 1) ∷ (5, Withdraw 1) ∷ (10, RuntimeNext 1) ∷
     (20, invoke 1) ∷ (30, ExtNext 1 1) ∷ [])
@@ -116,7 +117,7 @@ withdrawn_extension_poll : outcome one
 unfolding outcome
 withdrawn_extension_poll = refl
 
--- The runtime's Next stays parked, and delivers once the extension has asked again.
+-- If an extension's Next is taken back, the runtime's stays parked, and delivers after the extension has asked again.
 withdraw_leaves_other_polls : outcome one
     ((0, registers 1 name_a true false) ∷ (0, ExtNext 1 1) ∷ (0, RuntimeNext 1) ∷ (10, Withdraw 1) ∷
     (20, ExtNext 1 1) ∷ (30, invoke 1) ∷ [])
@@ -135,7 +136,8 @@ next_while_invocation_is_open = refl
 
 -- The Init clock
 
--- The Withdraw leaves the environment in Starting with no deadline; the clock starts with the binding, at 30.
+-- The Withdraw leaves the environment in Starting without a deadline. The refused registration sets none; the binding
+-- at 30 starts the clock.
 refused_registration_starts_no_clock : outcome one
     ((0, registers 1 name_a true false) ∷ (0, ExtNext 1 1) ∷ (0, RuntimeNext 1) ∷ (10, Withdraw 2) ∷
     (20, registers 1 name_a true false) ∷ (30, invoke 1) ∷ (10020, Tick) ∷ (10030, Tick) ∷ [])
@@ -156,7 +158,7 @@ later_next_moves_no_deadline : outcome one
 unfolding outcome
 later_next_moves_no_deadline = refl
 
--- The Withdraw leaves the environment in Starting with no deadline; the clock starts with the extension's Next, at 20.
+-- The Withdraw leaves the environment in Starting without a deadline; the extension's Next at 20 starts the clock.
 extension_poll_starts_the_clock : outcome one
     ((0, registers 1 name_a true false) ∷ (0, ExtNext 1 1) ∷ (0, RuntimeNext 1) ∷ (10, Withdraw 2) ∷
     (20, ExtNext 1 1) ∷ (10020, Tick) ∷ [])
@@ -165,7 +167,7 @@ extension_poll_starts_the_clock : outcome one
 unfolding outcome
 extension_poll_starts_the_clock = refl
 
--- An expiry has the moment of the call that finds it due, and the 2 s of the Closing begin there.
+-- An expiry has the moment of the call that finds it due, and the 2 s of the Closing begin at that moment.
 expiry_has_the_moment_of_its_call : outcome one
     ((0, registers 1 name_a false true) ∷ (0, ExtNext 1 1) ∷ (0, RuntimeNext 1) ∷ (10, invoke 1) ∷ (5000, Tick) ∷ [])
     ≡ ((0, 0, Registered 1) ∷ (3, 2, Delivered 3 3010) ∷ (4, 1, Ending Timeout 7000 1) ∷ (4, 3, TimedOut) ∷
@@ -173,7 +175,7 @@ expiry_has_the_moment_of_its_call : outcome one
 unfolding outcome
 expiry_has_the_moment_of_its_call = refl
 
--- The Closing ends at 2,010 with an invocation bound, which then waits 10 s for its Init.
+-- The Closing ends at 2,010 with an invocation bound, which then waits up to 10 s for its Init.
 bound_generation_has_a_deadline : outcome one
     ((0, registers 1 name_a false true) ∷ (10, InitFailure 1 []) ∷ (20, invoke 1) ∷ (2010, Tick) ∷
     (12009, Tick) ∷ (12010, Tick) ∷ [])
@@ -182,7 +184,8 @@ bound_generation_has_a_deadline : outcome one
 unfolding outcome
 bound_generation_has_a_deadline = refl
 
--- An invocation that waited for its Init is served once it is delivered.
+-- An invocation that waited for the Init is served after its delivery, and the environment is then free for the next
+-- one.
 bound_invocation_is_served : outcome one
     ((0, registers 1 name_a true false) ∷ (0, RuntimeNext 1) ∷ (10, invoke 1) ∷ (20, ExtNext 1 1) ∷
     (30, response 1 1) ∷ (40, RuntimeNext 1) ∷ (50, ExtNext 1 1) ∷ (60, invoke 1) ∷ [])
@@ -193,7 +196,7 @@ bound_invocation_is_served = refl
 
 -- Stop
 
--- A Closing keeps its reason and its end, and has nothing bound any more.
+-- After a Stop, a Closing keeps its reason and its end, and has no invocation bound any more.
 stop_unbinds_a_closing : phase_after one
     ((0, registers 1 name_a false true) ∷ (10, InitFailure 1 []) ∷ (20, invoke 1) ∷ (30, Stop) ∷ [])
     1 ≡ Closing Failed 2010 None
@@ -216,14 +219,14 @@ second_stop_closes_nothing = refl
 
 -- Places and counts
 
--- The first environment closes, the second starts: it is the second that gets the invocation.
+-- The first environment is Closing and the second is Starting: the second gets the invocation.
 starting_before_closing : outcome two
     ((0, registers 1 name_a false true) ∷ (10, InitFailure 1 []) ∷ (20, invoke 1) ∷ (30, RuntimeNext 2) ∷ [])
     ≡ ((0, 0, Registered 1) ∷ (1, 1, Accepted) ∷ (3, 3, Delivered 2 3030) ∷ [])
 unfolding outcome
 starting_before_closing = refl
 
--- A Closing with an invocation bound takes no second one.
+-- A Closing environment with an invocation bound does not get a second one.
 closing_binds_once : outcome one
     ((0, registers 1 name_a false true) ∷ (10, InitFailure 1 []) ∷ (20, invoke 1) ∷ (30, invoke 1) ∷ [])
     ≡ ((0, 0, Registered 1) ∷ (1, 1, Accepted) ∷ (3, 3, Throttled ByEnvironments) ∷ [])
@@ -254,7 +257,8 @@ extensions_are_counted_over_generations : outcome one
 unfolding outcome
 extensions_are_counted_over_generations = refl
 
--- An Ending is an event: two in one entry are numbered by their tickets, and the next generation counts on.
+-- A notice of the shutdown is an event: two in one entry are numbered by their tickets, and the next generation counts
+-- on.
 endings_are_events : outcome one
     ((0, registers 1 name_a false true) ∷ (0, registers 1 name_b false true) ∷ (0, ExtNext 1 2) ∷
     (0, ExtNext 1 1) ∷ (0, RuntimeNext 1) ∷ (10, Spindown 1) ∷ (20, ExtNext 1 1) ∷ (20, ExtNext 1 2) ∷
@@ -266,7 +270,7 @@ endings_are_events : outcome one
 unfolding outcome
 endings_are_events = refl
 
--- The Invoke that is delivered second is the function's third.
+-- The Invoke that is delivered second is the third of the function, because the throttled one counts.
 throttled_invokes_are_counted : outcome one
     ((0, RuntimeNext 1) ∷ (0, invoke 1) ∷ (5, invoke 1) ∷ (10, response 1 1) ∷ (20, RuntimeNext 1) ∷
     (30, invoke 1) ∷ (40, response 1 2) ∷ (50, response 1 3) ∷ [])
@@ -275,15 +279,15 @@ throttled_invokes_are_counted : outcome one
 unfolding outcome
 throttled_invokes_are_counted = refl
 
--- The Invoke with ticket 3 is the third.
+-- The Invoke with ticket 3 is the third of the function, because those after a Stop count.
 stopped_invokes_are_counted : requests_after one
     ((0, invoke 1) ∷ (10, Stop) ∷ (20, invoke 1) ∷ (30, invoke 1) ∷ [])
     1 3 ≡ 3
 unfolding requests_after
 stopped_invokes_are_counted = refl
 
--- Two environments, both reserved. The third reservation is refused, the removed one sets the function among the
--- unreserved.
+-- The function has two environments, both reserved. A reservation of 3 is refused and changes nothing; after the
+-- removal of its reservation the function is unreserved.
 refused_reservation_changes_nothing : outcome reserved_two
     ((0, Reserve 1 (Some 3)) ∷ (0, RuntimeNext 1) ∷ (0, RuntimeNext 2) ∷ (0, invoke 1) ∷ (0, invoke 1) ∷
     (0, invoke 1) ∷ (10, Reserve 1 None) ∷ (20, invoke 1) ∷ [])
@@ -298,7 +302,7 @@ reservation_after_stop_changes_nothing : reservation_after reserved_two
 unfolding reservation_after
 reservation_after_stop_changes_nothing = refl
 
--- After a Stop nothing else is looked at.
+-- After a Stop nothing else is checked.
 reservation_is_stopped_first : outcome reserved_two
     ((0, Stop) ∷ (0, Reserve 1 (Some 3)) ∷ [])
     ≡ ((0, 0, Accepted) ∷ (1, 1, Stopped) ∷ [])
@@ -315,7 +319,7 @@ answered_invocation_takes_no_report : outcome one
 unfolding outcome
 answered_invocation_takes_no_report = refl
 
--- The extension never asks again, so the invocation's time runs out.
+-- The extension never asks again, so the invocation's time runs out although it was answered.
 answered_invocation_expires : outcome one
     ((0, registers 1 name_a true false) ∷ (0, ExtNext 1 1) ∷ (0, RuntimeNext 1) ∷ (10, invoke 1) ∷
     (20, response 1 1) ∷ (50, RuntimeNext 1) ∷ (3010, Tick) ∷ (3020, ExtNext 1 1) ∷ [])

@@ -1,4 +1,4 @@
--- Worked histories: extensions. A line is (entry, ticket, answer).
+-- Worked histories of extensions. Each line of an outcome is (entry, ticket, answer).
 use Rattle.std.specs.Prelude.{◌≡◌, ℕ, true, false, [], ◌∷◌, None, refl}
 use Rattle.call_types.specs.declared.call.Call.{Call}
 use Rattle.call_types.specs.declared.call.Call.TheVariants.{RuntimeNext, InitFailure, ExtNext, ExtExitFailure}
@@ -11,11 +11,11 @@ use Rattle.arn_ids.specs.declared.config.Config.{Config}
 use Rattle.call_model.specs.Sample.{name_a, name_b, function, account, one, reserved_one, invoke, registers, response}
 use Rattle.call_model.specs.Sample.{outcome}
 
--- a function that expects the extension a
+-- An account with one function, which expects the extension a.
 abbrev pub expecting : Config
 expecting = account 1000 100 (function 3 None (name_a ∷ []) 1 ∷ [])
 
--- a registration under a name of one letter
+-- A registration, at moment 0, under the name of the one byte n.
 abbrev pub joins : ℕ → ℕ × Call
 joins n = (0, registers 1 (n ∷ []) true false)
 
@@ -47,7 +47,7 @@ ten_extensions : outcome one
 unfolding outcome
 ten_extensions = refl
 
--- Ten in each generation: the next one may register in the next generation.
+-- Ten extensions may register in each generation: after a failed Init, another one may.
 ten_extensions_in_each_generation : outcome one
     (joins 1 ∷ joins 2 ∷ joins 3 ∷ joins 4 ∷ joins 5 ∷ joins 6 ∷ joins 7 ∷ joins 8 ∷ joins 9 ∷ joins 10
     ∷ (0, InitFailure 1 []) ∷ joins 11 ∷ [])
@@ -79,7 +79,7 @@ expected_extension : outcome expecting
 unfolding outcome
 expected_extension = refl
 
--- Another extension in its place leaves it missing.
+-- An expected extension is missing until it registers under its own name: another extension does not replace it.
 expected_extension_by_its_name : outcome expecting
     ((0, RuntimeNext 1) ∷ (1, registers 1 name_b true false) ∷ (2, ExtNext 1 1) ∷ (3, invoke 1) ∷
     (4, registers 1 name_a true false) ∷ (5, ExtNext 1 2) ∷ [])

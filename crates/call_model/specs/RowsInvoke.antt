@@ -1,4 +1,4 @@
--- Worked histories: runtimes, callers and their polls. A line is (entry, ticket, answer).
+-- Worked histories of runtimes, callers and their polls. Each line of an outcome is (entry, ticket, answer).
 use Rattle.std.specs.Prelude.{◌≡◌, true, false, [], ◌∷◌, refl}
 use Rattle.call_types.specs.declared.call.Call.TheVariants.{RuntimeNext, ResponseTooLarge, ExtNext, Tick, Withdraw}
 use Rattle.call_types.specs.declared.call.Call.TheVariants.{Spindown, Stop}
@@ -20,7 +20,7 @@ empty_payload : outcome one
 unfolding outcome
 empty_payload = refl
 
--- Reports on an earlier invocation, on none and on one that was never given.
+-- Reports that name an earlier invocation, no invocation, or one that was never made are refused.
 stale_identifiers : outcome one
     ((0, RuntimeNext 1) ∷ (0, invoke 1) ∷ (3000, RuntimeNext 1) ∷ (3100, invoke 1) ∷ (3200, response 1 1) ∷
     (3200, response 1 0) ∷ (3200, response 1 281474976710655) ∷ (3300, response 1 2) ∷ [])
@@ -35,7 +35,7 @@ replaced_poll : outcome one
 unfolding outcome
 replaced_poll = refl
 
--- Only a pending Next is taken back: the second Withdraw names an Invoke.
+-- A Withdraw takes back only a pending Next: the second one names an Invoke, and changes nothing.
 withdrawn_poll : outcome one
     ((0, RuntimeNext 1) ∷ (5, Withdraw 0) ∷ (10, invoke 1) ∷ (20, RuntimeNext 1) ∷ (30, Withdraw 2) ∷
     (40, response 1 1) ∷ [])

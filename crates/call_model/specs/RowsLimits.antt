@@ -1,4 +1,5 @@
--- Worked histories: deadlines, limits, reservations and the full journal. A line is (entry, ticket, answer).
+-- Worked histories of deadlines, limits, reservations and the full journal. Each line of an outcome is (entry, ticket,
+-- answer).
 use Rattle.std.specs.Prelude.{◌≡◌, true, false, [], ◌∷◌, Some, None, refl}
 use Rattle.call_types.specs.declared.call.Call.TheVariants.{ResponseTooLarge, Failure, RuntimeNext, Tick, Stop, Reserve}
 use Rattle.call_types.specs.declared.answer.Answer.TheVariants.{Delivered, Accepted, Done, Output, TimedOut}
@@ -11,27 +12,28 @@ use Rattle.arn_ids.specs.declared.config.Config.{Config}
 use Rattle.call_model.specs.Sample.{function, account, plain, one, two, reserved_two, three, invoke, response, outcome}
 use Rattle.call_model.specs.Sample.{refusals, stats_after, calls_after}
 
--- three functions with timeouts of 5, 2 and 2 s
+-- An account with three functions, whose timeouts are 5, 2 and 2 s.
 abbrev pub timeouts : Config
 timeouts = account 1000 100 (function 5 None [] 1 ∷ function 2 None [] 1 ∷ function 2 None [] 1 ∷ [])
 
--- an environment, and a reservation of none
+-- An account with one function, which has one environment and a reservation of 0.
 abbrev pub reserved_none : Config
 reserved_none = account 1000 100 (function 3 (Some 0) [] 1 ∷ [])
 
--- an account in which one invocation may run
+-- An account with a limit of 1: one invocation may be in flight.
 abbrev pub narrow : Config
 narrow = account 1 0 (plain ∷ [])
 
--- The Next at the deadline finds the environment reset.
+-- The environment expires at its deadline, before the calls of that moment: the response is refused, and the Next
+-- parks.
 timeout_then_late_response : outcome one
     ((500, RuntimeNext 1) ∷ (1000, invoke 1) ∷ (4000, response 1 1) ∷ (4000, RuntimeNext 1) ∷ [])
     ≡ ((1, 0, Delivered 1 4000) ∷ (2, 1, TimedOut) ∷ (3, 3, Refused State) ∷ [])
 unfolding outcome
 timeout_then_late_response = refl
 
--- Of two that are due at 2,000 the lower numbered environment expires first, then the one due at 5,000. A moment
--- that goes back counts as the last one.
+-- Two environments are due at 2,000, and the lower-numbered one expires first; the one that is due at 5,000 expires
+-- last. A moment that goes back counts as the last one.
 due_order : outcome timeouts
     ((0, RuntimeNext 1) ∷ (0, RuntimeNext 2) ∷ (0, RuntimeNext 3) ∷ (0, invoke 1) ∷ (0, invoke 3) ∷
     (0, invoke 2) ∷ (9000, Tick) ∷ (8000, RuntimeNext 2) ∷ (8000, invoke 2) ∷ [])
@@ -58,7 +60,7 @@ reserved_zero : outcome reserved_none
 unfolding outcome
 reserved_zero = refl
 
--- After a Stop no limit is looked at.
+-- After a Stop no limit is checked.
 stopped_before_throttled : outcome reserved_none
     ((0, Stop) ∷ (10, invoke 1) ∷ [])
     ≡ ((0, 0, Accepted) ∷ (1, 1, Stopped) ∷ [])
@@ -99,41 +101,43 @@ reservation_answers : outcome three
 unfolding outcome
 reservation_answers = refl
 
--- Four entries at most: a second Tick has no room, two Stops have, a third has none.
+-- The journal holds four entries: there is room for one Tick and for two Stops after it, but not for a second Tick or a
+-- third Stop.
 full_journal : refusals one 4
     ((0, Tick) ∷ (0, Tick) ∷ (0, Stop) ∷ (0, Stop) ∷ (0, Stop) ∷ [])
     ≡ false ∷ true ∷ false ∷ false ∷ true ∷ []
 unfolding refusals
 full_journal = refl
 
--- Eight entries at most: the Tick has no room, the Stop after it has, with two expiries before it.
+-- The journal holds eight entries: there is no room for the Tick, but there is room for the first Stop after it, with
+-- the two expiries before that Stop.
 full_journal_then_stop : refusals two 8
     ((0, RuntimeNext 1) ∷ (0, invoke 1) ∷ (0, invoke 1) ∷ (3000, Tick) ∷ (20000, Stop) ∷ (20000, Stop) ∷ [])
     ≡ false ∷ false ∷ false ∷ true ∷ false ∷ true ∷ []
 unfolding refusals
 full_journal_then_stop = refl
 
--- The same without what was refused.
+-- The same history, without the calls that were refused.
 stop_after_full_journal : outcome two
     ((0, RuntimeNext 1) ∷ (0, invoke 1) ∷ (0, invoke 1) ∷ (20000, Stop) ∷ [])
     ≡ ((1, 0, Delivered 1 3000) ∷ (3, 1, TimedOut) ∷ (4, 2, InitTimedOut) ∷ (5, 5, Accepted) ∷ [])
 unfolding outcome
 stop_after_full_journal = refl
 
--- After the first call: its runtime hasn't asked again, so the invocation is still charged.
+-- After the first call the runtime has not asked again, so the invocation is still in flight.
 counts_after_first_call : stats_after one ((500, RuntimeNext 1) ∷ (1000, invoke 1) ∷ (1200, response 1 1) ∷ [])
     ≡ record { entries = 3; admitted = 1; throttled = 0; failed = 0; in_flight = 1 }
 unfolding stats_after
 counts_after_first_call = refl
 
--- After a stop nothing is charged, and what it stopped has not failed.
+-- After a Stop nothing is in flight, and the invocations that it ended do not count as failed.
 counts_after_stop : stats_after two
     ((0, RuntimeNext 1) ∷ (0, invoke 1) ∷ (0, invoke 1) ∷ (0, invoke 1) ∷ (20, Stop) ∷ (30, invoke 1) ∷ [])
     ≡ record { entries = 6; admitted = 2; throttled = 1; failed = 0; in_flight = 0 }
 unfolding stats_after
 counts_after_stop = refl
 
--- A timeout, an Init timeout, too large an output and an error have failed.
+-- A timeout, an Init timeout, an output that is too large and an error count as failed.
 counts_of_failures : stats_after two
     ((0, RuntimeNext 1) ∷ (0, invoke 1) ∷ (0, invoke 1) ∷ (10000, RuntimeNext 1) ∷ (10000, invoke 1)
     ∷ (10010, ResponseTooLarge 1 3) ∷ (10020, RuntimeNext 1) ∷ (10030, invoke 1) ∷ (10040, Failure 1 4 []) ∷ [])
@@ -141,7 +145,7 @@ counts_of_failures : stats_after two
 unfolding stats_after
 counts_of_failures = refl
 
--- A call and the expiry before it are two entries, and one call.
+-- A call and the expiry before it are two entries, but one call.
 expiries_are_no_calls : calls_after one ((0, RuntimeNext 1) ∷ (0, invoke 1) ∷ (3000, Tick) ∷ []) ≡ 3
 unfolding calls_after
 expiries_are_no_calls = refl

@@ -1,5 +1,5 @@
--- The table of phases cell by cell, at one stand for each of its columns: what a call is answered, why it makes the
--- environment close, and what the waiting call gets.
+-- The table of phases cell by cell, at one state for each of its columns: the answer to the call, why it makes the
+-- environment close, and the answer to the waiting call.
 use Rattle.std.specs.Prelude.{◌≡◌, ℕ, Bool, true, false, if◌then◌else◌, List, [], ◌∷◌, map, Option, Some, None, is_some}
 use Rattle.std.specs.Prelude.{refl}
 use Rattle.call_types.specs.declared.call.Call.{Call}
@@ -20,7 +20,7 @@ use Rattle.call_model.specs.Stand.{Stand}
 use Rattle.call_model.specs.Table.{own_answer, closes, to_waiting}
 use Rattle.call_model.specs.Sample.{name_a, name_b}
 
--- the extension a, of number 1, registered for INVOKE and SHUTDOWN, its Next parked
+-- The extension a, whose identifier has the count 1: it is registered for INVOKE and SHUTDOWN, and its Next is parked.
 abbrev extension : Member
 extension = record {
   extension = record { count = 1; name = name_a; invoke = true; shutdown = true };
@@ -30,7 +30,8 @@ extension = record {
   exited = false;
 }
 
--- the waiting call's request has count 7; three extensions were registered so far
+-- The state of an environment with this phase, these extensions, the count of the waiting call's request, and whether
+-- the service was stopped. Three extensions were registered so far.
 abbrev stand : Phase → List Member → Option ℕ → Bool → Stand
 stand phase members request stopped = record {
   phase = phase;
@@ -42,61 +43,65 @@ stand phase members request stopped = record {
   events = 0;
 }
 
--- Starting, Idle, Busy unanswered, Busy answered, Closing, Off
+-- The states for the columns of the table: Starting, Idle, Busy unanswered, Busy answered, Closing and Off. The request
+-- of the waiting call has the count 7.
 abbrev columns : List Stand
 columns =
     stand (Starting (Some 10000) (Some 5)) (extension ∷ []) (Some 7) false ∷ stand Idle (extension ∷ []) None false
     ∷ stand (Busy 5 3000) (extension ∷ []) (Some 7) false ∷ stand (Busy 5 3000) (extension ∷ []) None false
     ∷ stand (Closing Failed 2000 (Some 5)) (extension ∷ []) (Some 7) false ∷ stand Off [] None true ∷ []
 
--- what a cell gives at a stand: the answer to the call, why the environment closes, the answer to the waiting call
+-- What a cell gives at a state: the answer to the call, why the environment closes, and the answer to the waiting call.
 abbrev Effect : Type 0
 Effect = Option Answer × Option Reason × Option Answer
 
--- what the cells of a call's row give; its ticket is 9
+-- What the cells of a call's row give at each of the columns. The ticket of the call is 9.
 unfoldable effects : Call → List Effect
 unfolding own_answer closes to_waiting
 effects call =
     map (λ s. (own_answer s call, closes s call, if is_some s.request then to_waiting 9 s call else None)) columns
 
--- the call parks, or gives nothing here
+-- The call parks, or gives nothing here.
 abbrev nothing : Effect
 nothing = (None, None, None)
 
--- the call is answered
+-- The call is answered.
 abbrev answer : Answer → Effect
 answer a = (Some a, None, None)
 
--- the call is answered, and so is the waiting one
+-- The call is answered, and so is the waiting call.
 abbrev both : Answer → Answer → Effect
 both a b = (Some a, None, Some b)
 
--- the call is accepted, and the environment closes; with its waiting call, or with none
+-- The call is accepted, the environment closes after a failure, and the waiting call gets an error.
 abbrev fails : Effect
 fails = (Some Accepted, Some Failed, Some (Error 9))
 
--- the call is accepted, and the environment closes
+-- The call is accepted, and the environment closes; no call waits.
 abbrev closing : Reason → Effect
 closing reason = (Some Accepted, Some reason, None)
 
--- the clock or a Stop closes; with its waiting call, or with none
+-- The clock or a Stop closes the environment, and the waiting call is answered.
 abbrev ending : Reason → Answer → Effect
 ending reason a = (None, Some reason, Some a)
 
--- the environment closes
+-- The clock or a Stop closes the environment; no call waits.
 abbrev ends : Reason → Effect
 ends reason = (None, Some reason, None)
 
--- The refusals.
+-- The call is refused, because the phase does not allow it.
 abbrev state : Effect
 state = answer (Refused State)
 
+-- The call is refused, because its extension is not registered.
 abbrev unknown : Effect
 unknown = answer (Refused Unknown)
 
+-- The call is refused, because the environment is closing or off.
 abbrev container : Effect
 container = answer (Refused Container)
 
+-- The spindown is refused, because the environment is not idle.
 abbrev not_idle : Effect
 not_idle = answer (Refused NotIdle)
 

@@ -1,4 +1,4 @@
-//! What a history of calls means: the definitions, and the laws that follow of every legal history.
+//! What a history of calls means: the definitions, and the laws that hold for every legal history.
 #![tactic(auto)]
 
 pub mod laws;

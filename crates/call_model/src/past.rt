@@ -8,21 +8,20 @@ ghost use Rattle.call_model.specs.CallCounts.{call_counts, request_count};
 use call_types::{Call, Entry, Ticket};
 use entry_blocks::Blocks;
 
-/// The entries of a history, the oldest first, with the count in the request identifier of each
-/// Invoke.
+/// The entries of a history, the oldest first, with the count in the request identifier of each Invoke.
 #[derive(Clone, Copy)]
 pub struct Past<'a> {
-    /// What every identifier is made with.
+    /// The salt of the configuration, which is in every identifier.
     pub salt: u64,
     /// The entries, the oldest first.
     pub entries: &'a Blocks<Entry>,
-    /// For each entry the count in its request identifier, 0 where its call is no Invoke.
+    /// For each entry, the count in its request identifier; 0 if its call is not an Invoke.
     pub counts: &'a Blocks<u64>,
     ghost counted: { reverse counts.now.0 ≡ call_counts (reverse entries.now.0) },
 }
 
 impl<'a> Past<'a> {
-    /// The call with a ticket, where there is one.
+    /// Returns the call with a ticket, or `None` if the history has no such ticket.
     #[tactic(auto, using(crate::proofs::PastLemmas::no_call_here))]
     pub fn call(&self, ticket: Ticket) -> Option<&'a Call>
         ensures { MatchOption result (call_of (reverse self.now.entries.now.0) ticket ≡ NoCall 0)
@@ -35,7 +34,7 @@ impl<'a> Past<'a> {
         Some(&self.entries.at(place).call)
     }
 
-    /// The count in the request identifier of the Invoke with a ticket; 0 where there is none.
+    /// Returns the count in the request identifier of the Invoke with a ticket, or 0 if there is no such Invoke.
     #[tactic(auto, using(crate::proofs::PastLemmas::no_count_here))]
     pub fn count(&self, ticket: Ticket) -> u64
         ensures { let h = reverse self.now.entries.now.0 in result ≡ request_count (upto h ticket) (call_of h ticket) }
