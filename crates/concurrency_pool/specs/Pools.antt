@@ -1,5 +1,5 @@
--- The limits on a function's invocations, from the numbers of a pool.
--- (Lambda Developer Guide, "Understanding Lambda function scaling", "Configuring reserved concurrency for a function")
+-- The limits on a function's invocations, from the numbers of a pool (Lambda Developer Guide, "Understanding Lambda
+-- function scaling", "Configuring reserved concurrency for a function").
 use Rattle.std.specs.Prelude.{ℕ, ◌+◌, ◌-◌, Bool, true, ◌&&◌, if◌then◌else◌, nat_le, map, slice_set, sum_by, Option}
 use Rattle.std.specs.Prelude.{Some, None}
 use Rattle.arn_ids.specs.declared.config.Config.{Config}
