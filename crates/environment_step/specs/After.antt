@@ -1,5 +1,8 @@
 -- The state of one environment (`Stand`) after a call, and the answers that the call gives there. Both are determined
--- by the state before the call, the call, its step and the configuration; the rest of the history does not matter.
+-- by the state before the call, the call, its step and the configuration; the rest of the history does not matter. A
+-- call takes effect in two stages. The first is the table of phases, with the answers to the call itself and to older
+-- tickets. The second follows every call: a Closing may end, or the environment may become Idle, Busy or Starting by
+-- whether the runtime and all extensions have asked for Next, and a Busy that begins answers their Nexts.
 use Rattle.std.specs.Prelude.{ℕ, suc, ◌+◌, ◌*◌, Bool, false, ◌&&◌, ◌||◌, if◌then◌else◌, ◌==◌, nat_lt, List, [], ◌∷◌}
 use Rattle.std.specs.Prelude.{◌++◌, length, map, Option, Some, None, is_some}
 use Rattle.call_types.specs.declared.call.Call.{Call}
@@ -44,26 +47,25 @@ abbrev pub left : Option Answer → Option ℕ → Option ℕ
 left None next = next
 left (Some a) next = None
 
--- The answer that the table gives to an actor's older pending Next, if there is one. The notice of a Busy that begins
--- is not among these answers.
+-- The answer of the first stage to an actor's older pending Next, if there is one.
 abbrev pub poll_gets : Step → Stand → Call → Role → Option ℕ → Option Answer
 poll_gets step s call role None = None
 poll_gets step s call role (Some u) = by_role step.ticket step.now s call u role
 
--- The answer that the table gives to an actor's last Next, which may be the call itself.
+-- The answer of the first stage to an actor's last Next, which may be the call itself.
 abbrev pub actor_gets : Actor → Step → Stand → Call → Role → Option ℕ → Option Answer
 actor_gets actor step s call role next = if asks actor call then own_answer s call else poll_gets step s call role next
 
--- The runtime's pending Next after the table's answers.
+-- The runtime's pending Next after the first stage.
 abbrev pub runtime_first : Step → Stand → Call → Option ℕ
 runtime_first step s call =
     left (actor_gets TheRuntime step s call RuntimePoll s.runtime) (asked_now TheRuntime call step.ticket s.runtime)
 
--- The answer that the table gives to an extension's last Next.
+-- The answer of the first stage to an extension's last Next, which may be the call itself.
 abbrev pub member_gets : Step → Stand → Call → Member → Option Answer
 member_gets step s call x = actor_gets (TheExtension x.extension.count) step s call (ExtensionPoll x) x.next
 
--- An extension after the table's answers.
+-- An extension after the first stage.
 abbrev pub member_first : Step → Stand → Call → Member → Member
 member_first step s call x = record {
   extension = x.extension;
@@ -78,7 +80,7 @@ abbrev pub fresh_members : Option Extension → List Member
 fresh_members None = []
 fresh_members (Some x) = record { extension = x; next = None; told = false; again = false; exited = false } ∷ []
 
--- The extensions after the table's answers, the newest first.
+-- The extensions after the first stage, the newest first.
 abbrev pub members_first : Step → Stand → Call → List Member
 members_first step s call =
     fresh_members (as_registered call (own_answer s call)) ++ map (member_first step s call) s.members
@@ -90,7 +92,7 @@ request_of step s call None = None
 request_of step s call (Some p) =
     if p == step.ticket then Some step.count else if is_some (to_waiting step.ticket s call) then None else s.request
 
--- The phase that the table's cell leads to.
+-- The phase after the table's cell.
 abbrev pub cell_at : Fixed → Step → Stand → Call → Phase
 cell_at fixed step s call = after_cell step.now (limit_at fixed step) step.ticket s call
 
@@ -98,7 +100,7 @@ cell_at fixed step s call = after_cell step.now (limit_at fixed step) step.ticke
 abbrev pub over_now : Stand → Call → Bool
 over_now s call = is_stop call || s.stopped
 
--- The state after the table's cell and its answers; the lines that follow every call are not applied yet.
+-- The state after the first stage.
 unfoldable pub first_stand : Fixed → Step → Stand → Call → Stand
 first_stand fixed step s call = record {
   phase = cell_at fixed step s call;
@@ -114,7 +116,8 @@ first_stand fixed step s call = record {
 abbrev pub if_held : Phase → Option ℕ → Option ℕ
 if_held phase request = if is_some (at_hand phase) then request else None
 
--- The state in which the next generation begins: no pending Nexts and no extensions.
+-- The state after a Closing has ended: the first of the next generation, or Off after a Stop, without pending Nexts and
+-- without extensions.
 abbrev pub restarted : ℕ → Stand → Stand
 restarted now s = record s {
   phase = reborn s.stopped now (bound_of s.phase);
@@ -137,12 +140,12 @@ served b phase s = record s {
   request = if_held phase s.request;
 }
 
--- The phase after every call, by whether the runtime and all extensions have asked for Next.
+-- The phase after the second stage if no Closing ends, by whether the runtime and all extensions have asked for Next.
 abbrev pub settled_phase : Fixed → ℕ → Stand → Phase
 settled_phase fixed now s =
     settled (now + fixed.timeout) (ready s.runtime s.members fixed.expected) (is_some s.request) s.phase
 
--- The state with the settled phase; `before` is the phase before the call.
+-- The state after the second stage if no Closing ends; `before` is the phase before the call.
 abbrev pub settled_stand : Fixed → ℕ → Phase → Stand → Stand
 settled_stand fixed now before s = served (begun before (settled_phase fixed now s)) (settled_phase fixed now s) s
 
@@ -150,8 +153,7 @@ settled_stand fixed now before s = served (begun before (settled_phase fixed now
 abbrev pub closing_ends : Bool → Stand → Bool
 closing_ends expires s = is_closing s.phase && ((length (awaited s.members) == 0) || expires)
 
--- The state after what follows every call: a new generation if a Closing ends, and otherwise the settled phase.
--- `before` is the phase before the call.
+-- The state after the second stage, without the events counted; `before` is the phase before the call.
 unfoldable pub turned : Fixed → ℕ → Bool → Phase → Stand → Stand
 turned fixed now expires before s = if closing_ends expires s then restarted now s else settled_stand fixed now before s
 
@@ -175,7 +177,7 @@ give_each f (x ∷ xs) moves = give x.next (f x) (give_each f xs moves)
 abbrev pub waiting_call : Stand → Option ℕ
 waiting_call s = if is_some s.request then at_hand s.phase else None
 
--- The table's answers to the call itself and to older tickets, without those that a Busy gives when it begins.
+-- The answers of the first stage: to the call itself and to older tickets.
 unfoldable pub first_moves : Step → Stand → Call → List (ℕ × Answer)
 first_moves step s call =
     give (Some step.ticket) (own_answer s call)
@@ -188,7 +190,8 @@ abbrev pub served_moves : Option (ℕ × ℕ) → Stand → List (ℕ × Answer)
 served_moves b s moves =
     give_each (λ x. delivered b (ExtensionPoll x)) s.members (give s.runtime (delivered b RuntimePoll) moves)
 
--- The answers after what follows every call: with those of a Busy that begins, unless a Closing ends.
+-- The answers after the second stage, with their events not numbered yet: with those of a Busy that begins, unless a
+-- Closing ends.
 unfoldable pub turned_moves : Fixed → ℕ → Bool → Phase → Stand → List (ℕ × Answer) → List (ℕ × Answer)
 turned_moves fixed now expires before s moves =
     if closing_ends expires s
@@ -213,11 +216,11 @@ expires_now s call = is_closing s.phase && is_expiry call
 abbrev pub with_events : ℕ → Stand → Stand
 with_events n s = record s { events = n }
 
--- The answers after what follows every call, with their events numbered.
+-- The answers after both stages, with their events numbered.
 unfoldable pub finished_moves : Fixed → ℕ → Bool → Phase → Stand → List (ℕ × Answer) → List (ℕ × Answer)
 finished_moves fixed now expires before s moves = numbered_from s.events (turned_moves fixed now expires before s moves)
 
--- The state after what follows every call, with the count of events.
+-- The state after both stages, with the events counted.
 unfoldable pub finished : Fixed → ℕ → Bool → Phase → Stand → List (ℕ × Answer) → Stand
 finished fixed now expires before s moves =
     with_events (events_of (turned_moves fixed now expires before s moves) + s.events)
