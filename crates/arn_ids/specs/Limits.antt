@@ -1,34 +1,34 @@
--- Limits of sizes and numbers, each said once.
+-- Limits of sizes and numbers.
 use Rattle.std.specs.Prelude.{ℕ}
 
--- how many bytes a payload, an output or a report may have (Lambda quotas: invocation payload)
+-- The greatest length of a payload, an output or a report, in bytes (Lambda quotas: invocation payload).
 abbrev pub longest_body : ℕ
 longest_body = 6291456
 
--- how many environments an account has at most, over all its functions
+-- The greatest number of environments of an account, over all its functions.
 abbrev pub most_environments : ℕ
 most_environments = 256
 
--- how many extensions a function expects at most, and how many register in one generation of an environment
+-- The greatest number of extensions that a function expects, and that register in one generation of an environment.
 abbrev pub most_extensions : ℕ
 most_extensions = 10
 
--- the length of the longest trace, in bytes
+-- The greatest length of a trace, in bytes.
 abbrev pub longest_trace : ℕ
 longest_trace = 256
 
--- the greatest moment: the most milliseconds that JSON carries exactly, 2^53 - 1 (RFC 8259, section 6)
+-- The greatest moment: 2^53 - 1 milliseconds, the greatest integer that JSON carries exactly (RFC 8259, section 6).
 abbrev pub greatest_moment : ℕ
 greatest_moment = 9007199254740991
 
--- the greatest count in an identifier, 2^48 - 1
+-- The greatest count in an identifier, 2^48 - 1.
 abbrev pub greatest_count : ℕ
 greatest_count = 281474976710655
 
--- the greatest ticket
+-- The greatest ticket, 2^64 - 1.
 abbrev pub greatest_ticket : ℕ
 greatest_ticket = 18446744073709551615
 
--- the greatest reservation that can be asked for
+-- The greatest reservation that a request can ask for, 2^32 - 1.
 abbrev pub greatest_reservation : ℕ
 greatest_reservation = 4294967295

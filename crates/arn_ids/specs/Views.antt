@@ -4,11 +4,11 @@ use Rattle.std.specs.Borrow.{Bor}
 use Rattle.arn_ids.specs.Grammar.{Written}
 use Rattle.arn_ids.specs.declared.names.Spelled.{Spelled}
 
--- what a reference to a text points to
+-- The text that a reference points to.
 abbrev pub text_of : Bor (List ℕ) → List ℕ
 text_of text = text.now
 
--- the parts that stand for something
+-- The parts of a name, as the grammar sees them.
 abbrev pub written : Spelled → Written
 written s = record {
   region = option_map text_of s.region;

@@ -1,21 +1,21 @@
--- What a call names, and its bytes.
+-- What a call names, and the bytes that it carries.
 use Rattle.std.specs.Prelude.{ℕ, Bool, true, false, List, [], Option, Some, None}
 use Rattle.call_types.specs.declared.call.Call.{Call}
 use Rattle.call_types.specs.declared.call.Call.TheVariants.{Invoke, RuntimeNext, Response, ResponseTooLarge, Failure}
 use Rattle.call_types.specs.declared.call.Call.TheVariants.{InitFailure, Register, ExtNext, ExtInitFailure}
 use Rattle.call_types.specs.declared.call.Call.TheVariants.{ExtExitFailure, Spindown, Expire}
 
--- a caller invokes a function
+-- Whether the call is an Invoke of a caller.
 abbrev pub is_invoke : Call → Bool
 is_invoke (Invoke f qualified trace body) = true
 is_invoke _ = false
 
--- the function that a call invokes
+-- The number of the function that an Invoke names; `None` for every other call.
 abbrev pub invoked : Call → Option ℕ
 invoked (Invoke f qualified trace body) = Some f
 invoked _ = None
 
--- the environment that a call names
+-- The number of the environment that a call names, or `None` if it names none.
 abbrev pub env_of : Call → Option ℕ
 env_of (RuntimeNext e) = Some e
 env_of (Response e id body) = Some e
@@ -30,7 +30,7 @@ env_of (Spindown e) = Some e
 env_of (Expire e) = Some e
 env_of _ = None
 
--- the bytes of a call: a payload, an output or a report; none for a call that has none
+-- The bytes that a call carries: a payload, an output or a report. Empty for a call that carries none.
 abbrev pub body_of : Call → List ℕ
 body_of (Invoke f qualified trace body) = body
 body_of (Response e id body) = body

@@ -1,4 +1,5 @@
--- The head of a call: its variant, its function or environment (else 0), and its count where it has one.
+-- The head of a call: its variant, the number of its function or environment (0 if it names neither), and its count
+-- (`None` if it has none).
 use Rattle.std.specs.Prelude.{ℕ, Option, Some, None}
 use Rattle.call_types.specs.declared.call.Call.{Call}
 use Rattle.call_types.specs.declared.call.Call.TheVariants.{Invoke, RuntimeNext, Response, ResponseTooLarge, Failure}
@@ -9,11 +10,11 @@ use Rattle.call_types.specs.declared.head.Head.{Head}
 use Rattle.call_types.specs.declared.head.Kind.{Kind}
 use Rattle.call_types.specs.declared.head.Kind.TheVariants as kind
 
--- a head
+-- The head with these three parts.
 abbrev pub head : Kind → ℕ → Option ℕ → Head
 head kind number count = record { kind = kind; number = number; count = count }
 
--- The head of a call.
+-- The head of a call. Its count is the one in a request or extension identifier, a ticket, or a reservation.
 abbrev pub head_of : Call → Head
 head_of (Invoke f qualified trace body) = head kind.Invoke f None
 head_of (RuntimeNext e) = head kind.RuntimeNext e None

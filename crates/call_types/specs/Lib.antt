@@ -1,7 +1,7 @@
--- What a call names and its bytes. The headline rests on `is_invoke` and `env_of` of it.
+-- What a call names and the bytes that it carries. The headline rests on `is_invoke` and `env_of`.
 pub mod Calls
--- The head of a call, which a receipt keeps, and the words of reasons.
+-- The head of a call, which a receipt keeps, and the words for reasons.
 pub mod Heads
 pub mod Words
--- Which calls are within the limits of the service.
+-- The calls that are within the limits of the service.
 pub mod Within

@@ -1,4 +1,4 @@
--- Which calls are within the limits of the service.
+-- The calls that are within the limits of the service.
 use Rattle.std.specs.Prelude.{◌≡◌, ◌≤◌, ℕ, Bool, true, nat_le, List, length, Option, Some, None}
 use Rattle.arn_ids.specs.Words.{is_word, is_printable, is_label}
 use Rattle.arn_ids.specs.Limits.{longest_body, longest_trace}
@@ -11,38 +11,38 @@ use Rattle.call_types.specs.declared.call.Call.TheVariants.{InitFailure, Registe
 use Rattle.call_types.specs.declared.call.Call.TheVariants.{ExtExitFailure, Tick, Withdraw, Spindown, Stop}
 use Rattle.call_types.specs.declared.call.Call.TheVariants.{Expire, Reserve}
 
--- a payload, an output or a report has at most 6,291,456 bytes (Lambda quotas: invocation payload)
+-- Whether a payload, an output or a report has at most 6,291,456 bytes (Lambda quotas: invocation payload).
 abbrev pub is_body : List ℕ → Bool
 is_body body = nat_le (length body) longest_body
 
--- a trace: 1 to 256 printing characters
+-- Whether a trace has 1 to 256 characters, all printable.
 abbrev pub is_trace : List ℕ → Bool
 is_trace = is_word is_printable longest_trace
 
--- an environment of the configuration
+-- The number of an environment of the configuration, from 1.
 abbrev pub IsEnv : Config → ℕ → Type 0
 IsEnv config e = (1 ≤ e) × (e ≤ length (owners config))
 
--- a function of the configuration
+-- The number of a function of the configuration, from 1.
 abbrev pub IsFunction : Config → ℕ → Type 0
 IsFunction config f = (1 ≤ f) × (f ≤ length config.functions)
 
--- a count that an identifier can have
+-- A count that fits into an identifier.
 abbrev pub IsCount : ℕ → Type 0
 IsCount n = n ≤ greatest_count
 
--- no trace, or one of 1 to 256 printing characters
+-- No trace, or one of 1 to 256 printable characters.
 abbrev pub IsTrace : Option (List ℕ) → Type 0
 IsTrace None = Unit {0}
 IsTrace (Some trace) = is_trace trace ≡ true
 
--- no reservation, or one below 2^32
+-- No reservation, or one below 2^32.
 abbrev pub IsReservation : Option ℕ → Type 0
 IsReservation None = Unit {0}
 IsReservation (Some count) = count ≤ greatest_reservation
 
 -- A call that a client, an operator or the clock can make: its numbers are those of the configuration, and its texts
--- have their lengths.
+-- have the permitted lengths. An expiry is not one, since the service itself makes it.
 abbrev pub IsWithin : Config → Call → Type 0
 IsWithin config (Invoke f qualified trace body) = IsFunction config f × IsTrace trace × (is_body body ≡ true)
 IsWithin config (RuntimeNext e) = IsEnv config e
@@ -61,6 +61,6 @@ IsWithin config Stop = Unit {0}
 IsWithin config (Expire e) = ⊥
 IsWithin config (Reserve f count) = IsFunction config f × IsReservation count
 
--- a call at a moment that it can have
+-- A call within the limits, at a moment that it can have.
 abbrev pub IsTimed : Config → ℕ × Call → Type 0
 IsTimed config timed = (timed.0 ≤ greatest_moment) × IsWithin config timed.1

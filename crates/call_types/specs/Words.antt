@@ -1,17 +1,17 @@
--- The words that the service's clients know reasons by.
+-- The words for reasons that clients of the service receive.
 use Rattle.std.specs.Prelude.{ℕ, List, codes}
 use Rattle.call_types.specs.declared.answer.Reason.{Reason}
 use Rattle.call_types.specs.declared.answer.Reason.TheVariants.{Timeout, Failure, Spindown}
 use Rattle.call_types.specs.declared.answer.Throttle.{Throttle}
 use Rattle.call_types.specs.declared.answer.Throttle.TheVariants.{Function, Account, Environments}
 
--- why an environment ends (Extensions API: shutdownReason)
+-- The word for the reason why an environment ends (Extensions API: `shutdownReason`).
 abbrev pub reason_word : Reason → List ℕ
 reason_word Timeout = codes "TIMEOUT"
 reason_word Failure = codes "FAILURE"
 reason_word Spindown = codes "SPINDOWN"
 
--- why an invocation isn't admitted (Invoke: the Reason of TooManyRequestsException)
+-- The word for the reason why an invocation is not admitted (Invoke: the `Reason` of `TooManyRequestsException`).
 abbrev pub throttle_word : Throttle → List ℕ
 throttle_word Function = codes "ReservedFunctionConcurrentInvocationLimitExceeded"
 throttle_word Account = codes "ConcurrentInvocationLimitExceeded"

@@ -17,7 +17,7 @@ pub enum Reason {
 }
 
 impl Reason {
-    /// Returns its word (Extensions API: `shutdownReason`).
+    /// Returns the reason's word (Extensions API: `shutdownReason`).
     pub fn as_str(self) -> &'static str
         ensures { result.now ≡ reason_word self }
     {
@@ -32,18 +32,18 @@ impl Reason {
 /// Why an invocation is not admitted (Invoke: `TooManyRequestsException` and its reasons).
 #[derive(Clone, Copy, Debug, PartialEq, Eq)]
 pub enum Throttle {
-    /// As many of the function's invocations are charged as its reservation allows
+    /// As many invocations of the function are in flight as its reservation allows
     /// (`ReservedFunctionConcurrentInvocationLimitExceeded`).
     Function,
-    /// As many of the unreserved functions' invocations are charged as the reservations leave of
+    /// As many invocations of the unreserved functions are in flight as the reservations leave of
     /// the account's limit (`ConcurrentInvocationLimitExceeded`).
     Account,
-    /// None of the function's environments is free (this service's own).
+    /// No environment of the function is free (this service's own reason).
     Environments,
 }
 
 impl Throttle {
-    /// Returns its word (Invoke: the `Reason` of `TooManyRequestsException`).
+    /// Returns the reason's word (Invoke: the `Reason` of `TooManyRequestsException`).
     pub fn as_str(self) -> &'static str
         ensures { result.now ≡ throttle_word self }
     {
@@ -82,8 +82,8 @@ pub enum Rejection {
 }
 
 /// The answer to a call. It holds no bytes: for a payload or an output it has the ticket of the
-/// call that brought them. Moments are milliseconds, at most 2^53 - 1, but a deadline
-/// may lie past that.
+/// call that carries them. Moments are in milliseconds and at most 2^53 - 1, but a deadline may lie
+/// after that.
 #[derive(Clone, Copy, Debug, PartialEq, Eq)]
 pub enum Answer {
     /// A runtime's Next brings an invocation (Runtime API, Next invocation).
@@ -140,7 +140,7 @@ pub enum Answer {
     Throttled(Throttle),
     /// The service is stopped.
     Stopped,
-    /// The Next was taken back: its connection ended.
+    /// The Next was withdrawn, because its connection ended.
     Withdrawn,
     /// The call is refused.
     Refused(Rejection),
@@ -154,27 +154,29 @@ pub enum Answer {
 }
 
 /// The phase of an environment (Lambda Developer Guide, "Understanding the Lambda execution
-/// environment lifecycle"). Moments are milliseconds.
+/// environment lifecycle"). Moments are in milliseconds.
 #[derive(Clone, Copy, Debug, PartialEq, Eq)]
 pub enum Phase {
-    /// Init: the runtime or some extension has not asked for its Next yet.
+    /// Init: the runtime or an extension has not asked for its Next yet.
     Starting {
-        /// When the Init times out: 10 seconds after the first contact, `None` before it.
+        /// When the Init times out: 10 seconds after the first contact, or after an invocation was
+        /// bound to this phase, whichever came first; `None` before that.
         deadline: Option<u64>,
         /// The ticket of the Invoke that waits for the Init to end.
         bound: Option<Ticket>,
     },
     /// Ready for an invocation.
     Idle,
-    /// Invoke: from the delivery until the invocation is answered and all have asked again.
+    /// Invoke: from the delivery until the invocation is answered and the runtime and all
+    /// extensions have asked for Next again.
     Busy {
         /// The ticket of the Invoke that it serves.
         invoke: Ticket,
         /// When the invocation times out.
         deadline: u64,
     },
-    /// Shutdown: extensions that registered for SHUTDOWN are notified, and the environment waits for
-    /// them.
+    /// Shutdown: extensions that registered for SHUTDOWN are notified, and the environment waits
+    /// for them.
     Closing {
         /// Why it closes.
         reason: Reason,
@@ -183,6 +185,6 @@ pub enum Phase {
         /// The ticket of the Invoke that the next generation is to serve.
         bound: Option<Ticket>,
     },
-    /// Shut down after a stop of the service, for good.
+    /// Shut down for good, after a stop of the service.
     Off,
 }

@@ -35,7 +35,7 @@ pub enum Call {
         id: u64,
         body: Bytes,
     },
-    /// The same with an output above 6,291,456 bytes, which is not kept.
+    /// A runtime reports an output above 6,291,456 bytes, which is not kept.
     ResponseTooLarge {
         env: EnvNo,
         /// The count in the request identifier that it names.

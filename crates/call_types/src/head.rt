@@ -26,7 +26,7 @@ pub enum Kind {
     Reserve,
 }
 
-/// What a receipt keeps of a call.
+/// The part of a call that a receipt keeps.
 #[derive(Clone, Copy, Debug, PartialEq, Eq)]
 pub struct Head {
     /// The call's variant.

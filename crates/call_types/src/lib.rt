@@ -1,5 +1,5 @@
-//! The calls, answers and entries of one account, as types. `call_model` defines what a history of
-//! them means.
+//! The types of the calls, answers and entries of one account. `call_model` defines what a history
+//! of them means.
 #![tactic(auto)]
 
 mod answer;

@@ -1,4 +1,4 @@
-//! What a call names, and its bytes.
+//! What a call names, and the bytes that it carries.
 
 ghost use Rattle.std.specs.Prelude.{◌≡◌};
 ghost use Rattle.call_types.specs.Calls.{env_of};
@@ -8,7 +8,7 @@ use crate::Call;
 use arn_ids::{EnvNo, FnNo};
 
 impl Call {
-    /// Whether a caller invokes a function.
+    /// Whether the call is an Invoke of a caller.
     pub fn is_invoke(&self) -> bool
         ensures { result ≡ spec.is_invoke self.now }
     {
@@ -18,7 +18,7 @@ impl Call {
         }
     }
 
-    /// Returns the function that the call invokes.
+    /// Returns the function that an Invoke names, or `None` for every other call.
     pub fn function(&self) -> Option<FnNo>
         ensures { result ≡ spec.invoked self.now }
     {
@@ -28,7 +28,7 @@ impl Call {
         }
     }
 
-    /// Returns the environment that the call names.
+    /// Returns the environment that the call names, or `None` if it names none.
     pub fn environment(&self) -> Option<EnvNo>
         ensures { result ≡ env_of self.now }
     {
@@ -48,7 +48,7 @@ impl Call {
         }
     }
 
-    /// Returns the call's payload, output or report, if it has one.
+    /// Returns the call's payload, output or report, or no bytes if it carries none.
     pub fn body(&self) -> &[u8]
         ensures { result.now ≡ spec.body_of self.now }
     {

@@ -11,7 +11,7 @@ pub struct Stats {
     pub throttled: u64,
     /// The Invokes that ended in an error, a timeout or too large an output.
     pub failed: u64,
-    /// The invocations that are charged now (Lambda Developer Guide, "Understanding Lambda
+    /// The invocations that are in flight now (Lambda Developer Guide, "Understanding Lambda
     /// function scaling": the requests that functions are serving).
     pub in_flight: u64,
 }

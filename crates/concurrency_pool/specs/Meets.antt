@@ -1,4 +1,4 @@
--- What the numbers are after a history.
+-- What the numbers of a pool are after a history.
 use Rattle.std.specs.Prelude.{ℕ, Bool, true, false, List, length, map, Option, Some, None}
 use Rattle.arn_ids.specs.declared.config.Config.{Config}
 use Rattle.arn_ids.specs.Environments.{function_at, function_numbers}
@@ -11,7 +11,7 @@ use Rattle.call_model.specs.Limits.{in_flight, reservation, Verdict, Refuses, wh
 use Rattle.concurrency_pool.specs.declared.pool.Usage.{Usage}
 use Rattle.concurrency_pool.specs.Numbers.{Numbers}
 
--- a function's limits, and what it has in flight
+-- The limits of a function after a history, and the number of its invocations in flight.
 abbrev pub usage : Config → List Entry → ℕ → Usage
 usage config h f = record {
   environments = length (function_at config f).slots;
@@ -19,7 +19,7 @@ usage config h f = record {
   in_flight = in_flight config h f;
 }
 
--- all of them, with the account's limits
+-- The limits of the account after a history, with the usage of each function.
 abbrev pub numbers : Config → List Entry → Numbers
 numbers config h = record {
   account_limit = config.account_limit;
@@ -27,12 +27,13 @@ numbers config h = record {
   functions = map (usage config h) (function_numbers config);
 }
 
--- the verdict if a limit refuses, and if none does
+-- The verdict on an Invoke: refused for the reason, if a limit refuses it; otherwise decided by the place that it
+-- found, if any.
 abbrev pub by_throttle : Option Throttle → Option ℕ → Verdict
 by_throttle (Some reason) place = Refuses reason
 by_throttle None place = where_placed place
 
--- the answer to a Reserve that is allowed, and to one that isn't
+-- The answer to a Reserve, by whether it is allowed: refused, or the reservation set or removed.
 abbrev pub by_reserve : Bool → Option ℕ → Answer
 by_reserve false count = Refused BadReservation
 by_reserve true None = Unreserved

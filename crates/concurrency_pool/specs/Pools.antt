@@ -1,5 +1,5 @@
--- The limits on a function's invocations, from the numbers of a pool.
--- (Lambda Developer Guide, "Understanding Lambda function scaling", "Configuring reserved concurrency for a function")
+-- The limits on a function's invocations, from the numbers of a pool (Lambda Developer Guide, "Understanding Lambda
+-- function scaling", "Configuring reserved concurrency for a function").
 use Rattle.std.specs.Prelude.{ℕ, ◌+◌, ◌-◌, Bool, true, ◌&&◌, if◌then◌else◌, nat_le, map, slice_set, sum_by, Option}
 use Rattle.std.specs.Prelude.{Some, None}
 use Rattle.arn_ids.specs.declared.config.Config.{Config}
@@ -10,7 +10,7 @@ use Rattle.concurrency_pool.specs.declared.pool.Usage.{Usage}
 use Rattle.concurrency_pool.specs.Numbers.{Numbers}
 use Rattle.concurrency_pool.specs.Usages.{no_usage, usage_of, reserved_by, unreserved_by, charged_by}
 
--- the pool of a configuration before any invocation
+-- The pool of a configuration before any invocation.
 abbrev pub opened : Config → Numbers
 opened config = record {
   account_limit = config.account_limit;
@@ -18,52 +18,54 @@ opened config = record {
   functions = map usage_of config.functions;
 }
 
--- the function with a number
+-- The usage of the function with a number.
 abbrev pub usage_at : Numbers → ℕ → Usage
 usage_at pool f = numbered no_usage pool.functions f
 
--- all reservations in force together
+-- The sum of all reservations in force.
 abbrev pub reserved_in_all : Numbers → ℕ
 reserved_in_all pool = sum_by reserved_by pool.functions
 
--- The remainder: what the reservations leave of the account's limit. (unreserved account concurrency)
+-- The remainder: the part of the account's limit that is not reserved (unreserved account concurrency).
 abbrev pub remainder : Numbers → ℕ
 remainder pool = pool.account_limit - reserved_in_all pool
 
--- what the functions without a reservation have in flight together
+-- The number of invocations in flight of the functions without a reservation.
 abbrev pub unreserved_in_flight : Numbers → ℕ
 unreserved_in_flight pool = sum_by unreserved_by pool.functions
 
--- what all functions have in flight together
+-- The number of invocations in flight of all functions.
 abbrev pub in_flight_in_all : Numbers → ℕ
 in_flight_in_all pool = sum_by charged_by pool.functions
 
--- a function with this reservation and this many in flight
+-- The limit that refuses an invocation of a function with this reservation and this many in flight, if one does.
 abbrev pub throttle_by : Numbers → Option ℕ → ℕ → Option Throttle
 throttle_by pool (Some limit) in_flight = if nat_le limit in_flight then Some ByFunction else None
 throttle_by pool None in_flight = if nat_le (remainder pool) (unreserved_in_flight pool) then Some ByAccount else None
 
--- The limit that refuses an invocation: for a reserved function its own reservation alone, for the others together
--- the remainder.
+-- The limit that refuses an invocation, if one does: for a reserved function its own reservation alone, for all the
+-- others together the remainder.
 unfoldable pub throttle : Numbers → ℕ → Option Throttle
 throttle pool f = throttle_by pool (usage_at pool f).reserved (usage_at pool f).in_flight
 
--- what all others have reserved, with this count and the least remainder
+-- What a reservation of this count for function `f` would take of the account's limit, together with all other
+-- reservations and the least remainder.
 abbrev pub taken_with : Numbers → ℕ → ℕ → ℕ
 taken_with pool f count = ((reserved_in_all pool - reserved_by (usage_at pool f)) + count) + pool.least_remainder
 
--- A reservation is at most the function's environments, and leaves the least remainder to the unreserved functions.
+-- Whether a reservation is permitted: it is at most the number of the function's environments, and leaves the least
+-- remainder to the unreserved functions. A removal always is.
 unfoldable pub may_reserve : Numbers → ℕ → Option ℕ → Bool
 may_reserve pool f None = true
 may_reserve pool f (Some count) =
     nat_le count (usage_at pool f).environments && nat_le (taken_with pool f count) pool.account_limit
 
--- the pool with this many in flight of a function
+-- The pool after this many of a function's invocations are in flight.
 abbrev pub with_in_flight : Numbers → ℕ → ℕ → Numbers
 with_in_flight pool f n =
     record pool { functions = slice_set pool.functions (f - 1) (record (usage_at pool f) { in_flight = n }) }
 
--- the pool with this reservation of a function
+-- The pool after this reservation of a function is set, or removed if it is `None`.
 abbrev pub with_reserved : Numbers → ℕ → Option ℕ → Numbers
 with_reserved pool f count =
     record pool { functions = slice_set pool.functions (f - 1) (record (usage_at pool f) { reserved = count }) }

@@ -8,16 +8,17 @@ use arn_ids::EnvNo;
 use std::alloc::{AllocError, Global};
 use std::marker::Model;
 
-/// The deadline of each environment, in milliseconds, or none where its phase has none.
-/// It is seen as the list of these, in the order of the environments' numbers.
+/// The deadline of each environment in milliseconds, or `None` if its phase has none. It is seen as
+/// the list of these, in the order of the environments' numbers.
 ///
-/// A tree stands over them, so that asking for the first reads its root alone. Node 1 is the root,
-/// nodes 2 i and 2 i + 1 are below node i, and behind the inner nodes come the environments, one
-/// node each: that is a tree for any number of them.
+/// Beside the list is a tree, so the search for the first deadline reads its root alone. Node 1 is
+/// the root, nodes 2i and 2i + 1 are the children of node i, and the leaves, one for each
+/// environment, are numbered after the inner nodes. Such a tree exists for any number of
+/// environments.
 #[derive(Drop)]
 pub struct Due {
     deadlines: Vec<Option<u64>>,
-    /// At each inner node's number, the first of the environments below it; nothing at 0.
+    /// For each inner node, the first environment below it; index 0 is unused.
     firsts: Vec<Option<(u64, EnvNo)>>,
 }
 
@@ -35,10 +36,10 @@ impl Model for Due {
 }
 
 impl Due {
-    /// Environments 1 to `environments`, none of which has a deadline.
+    /// Returns the deadlines of environments 1 to `environments`, none of which has one.
     ///
     /// # Errors
-    /// Only where memory is refused.
+    /// If memory is refused.
     pub fn open(alloc: Global, environments: u32) -> Result<Due, AllocError>
         ensures { IfOk result (λ due. due ≡ replicate environments None) }
     {
@@ -47,14 +48,14 @@ impl Due {
         Ok(Due { deadlines, firsts })
     }
 
-    /// How many environments there are.
+    /// Returns the number of environments.
     pub fn environments(&self) -> u32
         ensures { result ≡ length self.now }
     {
         self.deadlines.len() as u32
     }
 
-    /// Sets an environment's deadline, or takes it away.
+    /// Sets an environment's deadline, or removes it.
     pub fn set(&mut self, env: EnvNo, deadline: Option<u64>)
         requires from_one { 1 ≤ env }
         requires there { env ≤ length self.old }
@@ -68,8 +69,8 @@ impl Due {
         );
     }
 
-    /// The environment whose deadline came first, up to this moment, with the lowest number of
-    /// several with one deadline; none where no deadline has come.
+    /// Returns the environment whose deadline came first, up to this moment, and of equal deadlines
+    /// the one with the lowest number; `None` if no deadline has come.
     #[tactic(auto, using(crate::proofs::Order::due_is))]
     pub fn first_due(&self, now: u64) -> Option<EnvNo>
         ensures { result ≡ first_due now self.now }
@@ -80,7 +81,7 @@ impl Due {
         }
     }
 
-    /// The first of all the environments that have a deadline.
+    /// Returns the first of all the environments that have a deadline.
     #[tactic(auto, using(crate::proofs::Tree::root_is))]
     fn first(&self) -> Option<(u64, EnvNo)>
         ensures { result ≡ first_of 1 self.now }
@@ -92,7 +93,7 @@ impl Due {
     }
 }
 
-/// Mends the nodes above one that has changed.
+/// Restores the ancestors of a node that has changed.
 fn mend_above(deadlines: &[Option<u64>], firsts: &mut [Option<(u64, EnvNo)>], changed: usize)
     requires small { length deadlines.now < 2 ^ 32 }
     requires row { length firsts.old ≡ length deadlines.now }
@@ -112,7 +113,8 @@ fn mend_above(deadlines: &[Option<u64>], firsts: &mut [Option<(u64, EnvNo)>], ch
     }
 }
 
-/// The first of the environments below a node, or the environment that the node is.
+/// Returns the first of the environments below a node; for a leaf, its own environment, if it has a
+/// deadline.
 fn first_below(
     deadlines: &[Option<u64>],
     firsts: &[Option<(u64, EnvNo)>],
@@ -130,7 +132,8 @@ fn first_below(
     Some((deadlines[index]?, index as u32 + 1))
 }
 
-/// Whichever of two comes first: by deadline, and by number where that is the same.
+/// Returns the one of two that comes first: the one with the earlier deadline, and of equal
+/// deadlines the one with the lower number.
 fn sooner(one: Option<(u64, EnvNo)>, other: Option<(u64, EnvNo)>) -> Option<(u64, EnvNo)>
     ensures { result ≡ sooner one other }
 {

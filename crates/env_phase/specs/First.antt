@@ -1,4 +1,4 @@
--- The first stage of a call in steps: what it comes to, who is answered, and which extension it brings.
+-- The first stage of a call, in steps: what it results in, the answers that it gives, and the extension that it adds.
 use Rattle.std.specs.Prelude.{ℕ, ◌+◌, ◌++◌, Bool, if◌then◌else◌, ◌==◌, List, [], map, Option, Some, None, Ok, ◌≡◌}
 use Rattle.call_types.specs.declared.answer.Answer.{Answer}
 use Rattle.call_types.specs.declared.call.Call.{Call}
@@ -10,18 +10,18 @@ use Rattle.extension_set.specs.declared.turn.Turn.{Turn}
 use Rattle.extension_set.specs.Registering.{admits}
 use Rattle.extension_set.specs.Turns.{poll_gets, next_after, member_after}
 
--- what a call comes to
+-- What a call results in at an environment in this state.
 abbrev pub turn_of : Step → Stand → Call → Turn
 turn_of step s call = record { ticket = step.ticket; now = step.now; own = own_answer s call; closes = closes s call }
 
--- the parked Nexts after it
+-- The state after the parked Nexts are answered.
 abbrev pub polled : Turn → Call → Stand → Stand
 polled turn call s = record s {
   runtime = next_after TheRuntime turn call RuntimePoll s.runtime;
   members = map (member_after turn call) s.members;
 }
 
--- its answers, where the waiting call gets this
+-- The answers of the first stage; the waiting call gets `caller`.
 abbrev pub answers : Turn → Option Answer → Call → Stand → List (ℕ × Answer)
 answers turn caller call s =
     give (Some turn.ticket) turn.own
@@ -29,19 +29,19 @@ answers turn caller call s =
     (give s.runtime (poll_gets turn call RuntimePoll s.runtime)
     (give (waiting_call s) caller [])))
 
--- the request count of the invocation at hand after it: that of an Invoke which is placed now; none once the waiting
--- call was answered
+-- The request count of the invocation at hand after a call: that of the call itself if it is an Invoke that is placed
+-- now, `None` if the waiting call was answered, and otherwise the one before.
 abbrev pub request_kept : Step → Bool → Option ℕ → Option ℕ → Option ℕ
 request_kept step answered request None = None
 request_kept step answered request (Some p) =
     if p == step.ticket then Some step.count else if answered then None else request
 
--- the extension that a call brings, where it brings one, may be registered
+-- Either a call adds no extension, or the one that it adds may be registered.
 abbrev pub IsWelcome : List Member → Option Extension → Type 0
 IsWelcome xs None = Unit {0}
 IsWelcome xs (Some x) = admits xs x.name ≡ Ok tt
 
--- the stand with the extension that a call brings
+-- The state with the extension that a call adds, if it adds one.
 abbrev pub joined : Call → Option Answer → Stand → Stand
 joined call own s = record s {
   members = fresh_members (as_registered call own) ++ s.members;

@@ -1,20 +1,22 @@
--- The answers of the rows of the table that several calls share.
+-- The answers in rows of the table that several calls share.
 use Rattle.std.specs.Prelude.{ℕ, if◌then◌else◌, Option, Some}
 use Rattle.call_types.specs.declared.answer.Answer.{Answer}
 use Rattle.call_types.specs.declared.answer.Rejection.TheVariants.{State, Container, BadId, Unknown}
 use Rattle.call_model.specs.Stand.{Stand, is_known, is_number}
 use Rattle.call_model.specs.Table.{row, refused}
 
--- the answer to a report on the open invocation, by the request count that it names
+-- The answer to a report on the open invocation: `answer` if it names that invocation's request count, and otherwise
+-- `BadId`.
 abbrev pub named_answer : Stand → ℕ → Answer → Option Answer
 named_answer s id answer = if is_number s.request id then Some answer else refused BadId
 
--- the row of such a report
+-- The row of a report on the open invocation.
 abbrev pub report_answers : Stand → ℕ → Answer → Option Answer
 report_answers s id answer =
     row s (refused State) (refused State) (named_answer s id answer) (refused State) (refused State) (refused Container)
 
--- the row of a call by an extension, which is unknown where it isn't registered in the present generation
+-- The row of a call by an extension. In every phase but Off it is `Unknown` if the extension is not registered in the
+-- present generation.
 abbrev pub ext_answers : Stand → ℕ → Option Answer → Option Answer → Option Answer → Option Answer → Option Answer
     → Option Answer
 ext_answers s x starting idle unanswered answered closing =

@@ -10,7 +10,7 @@ use Rattle.call_model.specs.Stand.{Stand, is_busy}
 use Rattle.environment_step.specs.After.{Known, Step, stand_after, moves_of}
 use Rattle.env_phase.specs.declared.step.Step.{Step as TheStep}
 
--- the stand before any call
+-- The state before any call.
 abbrev pub unused : Stand
 unused = record {
   phase = Starting None None;
@@ -22,40 +22,41 @@ unused = record {
   events = 0;
 }
 
--- an environment of a function before any call
+-- An environment of a function before any call.
 abbrev pub opened : Function → Known
 opened function = record {
   fixed = record { timeout = 1000 * function.timeout_s; expected = function.extensions };
   stand = unused;
 }
 
--- what a call comes with
+-- What a call comes with, as the definitions see it.
 abbrev pub step_of : TheStep → Step
 step_of step = record { ticket = step.ticket; now = step.now; count = step.count }
 
--- the name that a Register brings
+-- The name in a Register; `None` for every other call.
 abbrev pub registered_name : Call → Option (List ℕ)
 registered_name (Register e name invoke shutdown account) = Some name
 registered_name _ = None
 
--- no name, or one of at most 128 bytes
+-- No name, or one of at most 128 bytes.
 abbrev pub IsShort : Option (List ℕ) → Type 0
 IsShort None = Unit {0}
 IsShort (Some name) = length name ≤ 128
 
--- an environment after a call
+-- An environment after a call.
 abbrev pub taken : Known → Step → Call → Known
 taken known step call = record { fixed = known.fixed; stand = stand_after known.fixed step known.stand call }
 
--- the answers that a call gives at an environment, in rising ticket order
+-- The answers that a call gives at an environment, in rising order of tickets.
 abbrev pub given : Known → Step → Call → List (ℕ × Answer)
 given known step call = moves_of known.fixed step known.stand call
 
--- whether a phase is the last one
+-- Whether a phase is Off, the last one.
 abbrev pub is_off : Phase → Bool
 is_off Off = true
 is_off _ = false
 
--- whether it is Busy with its invocation answered: it has answered, and is not ready again
+-- Whether a phase is Busy with its invocation answered: the runtime and the extensions have not all asked for Next
+-- again.
 abbrev pub has_answered : Stand → Bool
 has_answered s = is_busy s.phase && is_none s.request

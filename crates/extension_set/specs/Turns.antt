@@ -1,4 +1,4 @@
--- What a call makes of the parked Nexts of an environment, by what it comes to there.
+-- What a call does to the parked Nexts of an environment, from what the call results in there (`Turn`).
 use Rattle.std.specs.Prelude.{ℕ, ◌||◌, ◌&&◌, if◌then◌else◌, Option, Some, None}
 use Rattle.call_types.specs.declared.answer.Answer.{Answer}
 use Rattle.call_types.specs.declared.call.Call.{Call}
@@ -9,25 +9,25 @@ use Rattle.call_model.specs.Polls.{at_close, replaced}
 use Rattle.environment_step.specs.After.{left, asked_now}
 use Rattle.extension_set.specs.declared.turn.Turn.{Turn}
 
--- what an actor's parked Next gets, where there is one
+-- The answer to an actor's parked Next with ticket `u`, if there is one.
 abbrev pub poll_gets : Turn → Call → Role → Option ℕ → Option Answer
 poll_gets turn call role None = None
 poll_gets turn call role (Some u) = or_else (at_close turn.now turn.closes call role) (replaced u call role)
 
--- what an actor's last Next gets, that of the call included
+-- The answer to an actor's last Next, which may be the call itself.
 abbrev pub actor_gets : Actor → Turn → Call → Role → Option ℕ → Option Answer
 actor_gets actor turn call role next = if asks actor call then turn.own else poll_gets turn call role next
 
--- the actor's parked Next after the call
+-- The ticket of the actor's parked Next after the call.
 abbrev pub next_after : Actor → Turn → Call → Role → Option ℕ → Option ℕ
 next_after actor turn call role next =
     left (actor_gets actor turn call role next) (asked_now actor call turn.ticket next)
 
--- what an extension's last Next gets
+-- The answer to an extension's last Next, which may be the call itself.
 abbrev pub member_gets : Turn → Call → Member → Option Answer
 member_gets turn call x = actor_gets (TheExtension x.extension.count) turn call (ExtensionPoll x) x.next
 
--- an extension after the call
+-- An extension after the call.
 abbrev pub member_after : Turn → Call → Member → Member
 member_after turn call x = record {
   extension = x.extension;

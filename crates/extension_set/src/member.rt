@@ -15,7 +15,7 @@ use arn_ids::Text;
 use call_model::{Answer, Call, Reason, Rejection, Ticket};
 use std::marker::Model;
 
-/// An extension as it stands.
+/// The state of an extension.
 #[derive(Drop)]
 pub(crate) struct Member {
     /// The count in its identifier, from 1 over all generations of its environment.
@@ -28,11 +28,11 @@ pub(crate) struct Member {
     shutdown: bool,
     /// The ticket of its parked Next.
     next: Option<Ticket>,
-    /// Whether it was told the end of its environment.
+    /// Whether it was notified of the end of its environment.
     told: bool,
-    /// Whether it asked for Next again after it was told.
+    /// Whether it asked for Next again after that.
     again: bool,
-    /// Whether it reported that it exits.
+    /// Whether it reported that it failed, and the report was accepted.
     exited: bool,
 }
 
@@ -51,8 +51,8 @@ impl Model for Member {
 }
 
 impl Member {
-    /// An extension that registers now, with the count in its identifier and a name of at most 128
-    /// bytes. (Extensions API: Register)
+    /// Returns an extension that registers now, with the count in its identifier and a name of at
+    /// most 128 bytes (Extensions API: Register).
     pub(crate) fn registered(count: u64, name: &Text, invoke: bool, shutdown: bool) -> Member
         requires short { length name.now ≤ 128 }
         ensures { result
@@ -84,37 +84,38 @@ impl Member {
         self.name.is(name)
     }
 
-    /// Whether it has no Next parked.
+    /// Whether it has no parked Next.
     pub(crate) fn is_silent(&self) -> bool
         ensures { result ≡ is_none self.now.next }
     {
         self.next.is_none()
     }
 
-    /// Whether it is to hear the end of its environment.
+    /// Whether it is to be notified of the end of its environment: it registered for SHUTDOWN and
+    /// has not exited.
     fn hears_end(&self) -> bool
         ensures { result ≡ hears_end self.now }
     {
         self.shutdown && !self.exited
     }
 
-    /// Whether it is told the end of its environment when it asks: where it is to hear that, and was
-    /// not told yet. (Extensions API: Shutdown event)
+    /// Whether its Next in a Closing is answered with the end of its environment: it is to be
+    /// notified of that, and was not yet (Extensions API: Shutdown event).
     pub(crate) fn is_owed_end(&self) -> bool
         ensures { result ≡ owes_end (Some self.now) }
     {
         self.hears_end() && !self.told
     }
 
-    /// Whether a Closing waits for it. (Lambda execution environment lifecycle: Shutdown phase)
+    /// Whether a Closing waits for it (Lambda execution environment lifecycle: Shutdown phase).
     pub(crate) fn is_awaited(&self) -> bool
         ensures { result ≡ (hears_end self.now && not (self.now.told && self.now.again)) }
     {
         self.hears_end() && !(self.told && self.again)
     }
 
-    /// Answers its parked Next where a Busy begins and it registered for that.
-    /// (Extensions API: Invoke event)
+    /// Answers its parked Next when a Busy begins, if it registered for INVOKE (Extensions API:
+    /// Invoke event).
     pub(crate) fn offer(&mut self, invoke: Ticket, deadline: u64, moves: &mut Moves)
         requires room { length moves.old < 32 }
         ensures told { self.new ≡ member_second (Some (invoke, deadline)) self.old }
@@ -132,14 +133,14 @@ impl Member {
         }
     }
 
-    /// Whether the call is its Next. (Extensions API: Next)
+    /// Whether the call is its Next (Extensions API: Next).
     fn asks(&self, call: &Call) -> bool
         ensures { result ≡ asks (TheExtension self.now.extension.count) call.now }
     {
         matches!(call, Call::ExtNext { ext, .. } if *ext == self.count)
     }
 
-    /// Whether the call reports that it failed. (Extensions API: Init error, Exit error)
+    /// Whether the call reports that it failed (Extensions API: Init error, Exit error).
     fn reports_exit(&self, call: &Call) -> bool
         ensures { result ≡ reports_exit self.now.extension.count call.now }
     {
@@ -150,8 +151,9 @@ impl Member {
         }
     }
 
-    /// What its parked Next gets where its environment closes: the end, where it is to hear that
-    /// and is not just reporting its own exit, else a refusal. (Extensions API: Shutdown event)
+    /// Returns the answer to its parked Next when its environment closes: the end, if it is to be
+    /// notified of that and this call does not report its own exit; otherwise a refusal (Extensions
+    /// API: Shutdown event).
     fn at_close(&self, now: u64, reason: Reason, call: &Call) -> Answer
         requires { now < 2 ^ 53 }
         ensures { Some result ≡ at_close now (Some reason) call.now (ExtensionPoll self.now) }
@@ -167,8 +169,8 @@ impl Member {
         }
     }
 
-    /// What its parked Next with this ticket gets where it takes a newer Next of it, or a Withdraw
-    /// that names it.
+    /// Returns the answer to its parked Next with this ticket if the call is its newer Next, or a
+    /// Withdraw of that ticket; otherwise `None`.
     fn replaced(&self, ticket: Ticket, call: &Call) -> Option<Answer>
         ensures { result ≡ replaced ticket call.now (ExtensionPoll self.now) }
     {
@@ -191,7 +193,7 @@ impl Member {
         }
     }
 
-    /// What its parked Next gets at a call, where it has one.
+    /// Returns the answer that a call gives to its parked Next, if it has one.
     fn poll_gets(&self, turn: Turn, call: &Call) -> Option<Answer>
         requires { turn.now < 2 ^ 53 }
         ensures { result ≡ poll_gets turn call.now (ExtensionPoll self.now) self.now.next }
@@ -203,7 +205,7 @@ impl Member {
         }
     }
 
-    /// Takes a call: its parked Next is answered, and it notes what the call is to it.
+    /// Applies a call: answers its parked Next, and updates its state.
     pub(crate) fn take(&mut self, turn: Turn, call: &Call, moves: &mut Moves)
         requires moment { turn.now < 2 ^ 53 }
         requires room { length moves.old < 32 }
@@ -224,7 +226,7 @@ impl Member {
         }
     }
 
-    /// Notes what its last Next gets; it is parked where that is nothing.
+    /// Applies the answer to its last Next; if there is none, that Next is parked.
     fn hear(&mut self, gets: Option<Answer>, next: Option<Ticket>)
         ensures { self.new ≡ record self.old { next = left gets next; told = self.old.told || is_ending gets } }
     {

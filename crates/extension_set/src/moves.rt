@@ -8,9 +8,9 @@ ghost use Rattle.call_model.specs.Life.{is_event};
 use call_model::{Answer, Ticket};
 use std::marker::Model;
 
-/// Answers with the tickets that get them, in rising ticket order. There is room for 32, which is
-/// more than one call gives at an environment, at whatever stand: with ten extensions at most 24. So nothing here
-/// takes memory.
+/// Answers with the tickets that get them, in rising order of tickets. There is room for 32. A call
+/// gives fewer at an environment in any state: at most 24, with ten extensions. So no method
+/// allocates memory.
 #[derive(Drop)]
 pub struct Moves {
     pairs: [(Ticket, Answer); 32],
@@ -28,7 +28,7 @@ impl Model for Moves {
     ghost invariant = { λ m. m.count ≤ 32 };
 }
 
-/// The answer, where it is an event with this number.
+/// Returns the answer, with this number if it is an event.
 fn with_number(answer: Answer, number: u64) -> Answer
     ensures { result ≡ with_event number answer }
 {
@@ -55,7 +55,7 @@ fn with_number(answer: Answer, number: u64) -> Answer
     }
 }
 
-/// How many events an answer tells.
+/// Returns 1 if the answer is an event, and 0 otherwise.
 fn events_in_answer(answer: Answer) -> u64
     ensures { result ≡ if is_event answer then 1 else 0 }
 {
@@ -75,7 +75,7 @@ fn events_in_answer(answer: Answer) -> u64
 }
 
 impl Moves {
-    /// No answers.
+    /// Returns no answers.
     pub fn new() -> Moves
         ensures { result ≡ [] }
     {
@@ -85,14 +85,15 @@ impl Moves {
         }
     }
 
-    /// Removes all answers. A `Moves` that is used again costs less than a new one, whose slots are filled first.
+    /// Removes all answers. Reusing a `Moves` costs less than making a new one, which first fills
+    /// its slots.
     pub fn clear(&mut self)
         ensures { self.new ≡ [] }
     {
         self.count = 0;
     }
 
-    /// Puts an answer in its place, before those to greater tickets.
+    /// Inserts an answer before those to greater tickets.
     pub fn put(&mut self, ticket: Ticket, answer: Answer)
         requires { length self.old < 32 }
         ensures { self.new ≡ put (ticket, answer) self.old }
@@ -109,7 +110,7 @@ impl Moves {
         self.count += 1;
     }
 
-    /// Puts an answer in its place where there is one, and a ticket that gets it.
+    /// Inserts an answer, if there are both an answer and a ticket that gets it.
     #[tactic(auto, using(crate::proofs::Lengths::put_length))]
     pub fn give(&mut self, ticket: Option<Ticket>, answer: Option<Answer>)
         requires { length self.old < 32 }
@@ -121,8 +122,8 @@ impl Moves {
         }
     }
 
-    /// Numbers the events in ticket order, after the `events` that were told before, and gives the
-    /// number of the last one told. (Extensions API: `Lambda-Extension-Event-Identifier`)
+    /// Numbers the events in the order of their tickets, from `events` + 1, and returns the number
+    /// of the last event so far (Extensions API: `Lambda-Extension-Event-Identifier`).
     pub fn number(&mut self, events: u64) -> u64
         requires { events < 2 ^ 63 }
         ensures numbered { self.new ≡ numbered_from events self.old }
@@ -137,7 +138,7 @@ impl Moves {
         last
     }
 
-    /// The answers with their tickets.
+    /// Returns the answers with their tickets.
     pub fn as_slice(&self) -> &[(Ticket, Answer)]
         ensures { result.now ≡ self.now }
     {

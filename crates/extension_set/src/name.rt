@@ -1,15 +1,15 @@
-//! The name of an extension, in a place of its own.
+//! The name of an extension, in a fixed array.
 
 ghost use Rattle.std.specs.Prelude.{◌≡◌, ◌≤◌, length, bytes_eq};
 
 use arn_ids::Text;
 use std::marker::Model;
 
-/// How many bytes a name has at most. (Extensions API: `Lambda-Extension-Name`)
+/// The greatest length of a name, in bytes (Extensions API: `Lambda-Extension-Name`).
 const LONGEST: usize = 128;
 
-/// A name, seen as the list of its bytes. It stands in its own bytes, so an extension that registers
-/// takes no memory.
+/// A name, seen as the list of its bytes. It is stored in place, so registering an extension
+/// allocates no memory.
 #[derive(Drop)]
 pub(crate) struct Name {
     bytes: [u8; 128],
@@ -27,7 +27,7 @@ impl Model for Name {
 }
 
 impl Name {
-    /// A copy of a name of at most 128 bytes.
+    /// Returns a copy of a name of at most 128 bytes.
     pub(crate) fn of(text: &Text) -> Name
         requires { length text.now ≤ 128 }
         ensures { result ≡ text.now }

@@ -2,7 +2,7 @@
 
 use thiserror::Error;
 
-/// Why an extension is not registered: the first that holds. (Extensions API: Register)
+/// Why an extension is not registered: the first reason that applies (Extensions API: Register).
 #[derive(Clone, Copy, Debug, PartialEq, Eq, Error)]
 pub enum RegisterFault {
     /// An extension of this name is registered in the present generation.

@@ -17,13 +17,13 @@ use call_model::{Call, Ticket};
 use std::alloc::{AllocError, Global};
 use std::marker::Model;
 
-/// How many extensions an environment may have. (Lambda quotas)
+/// The greatest number of extensions that an environment may have (Lambda quotas).
 const MOST: usize = 10;
 
-/// The extensions of one generation, seen as the list of them, the newest first.
+/// The extensions of one generation, seen as a list with the newest first.
 #[derive(Drop)]
 pub struct ExtensionSet {
-    /// The newest last.
+    /// The members, the newest last.
     members: Vec<Member>,
 }
 
@@ -39,7 +39,8 @@ impl Model for ExtensionSet {
 }
 
 impl ExtensionSet {
-    /// No extensions, and room for ten, so that no other call takes memory.
+    /// Returns a set without extensions and with room for ten, so that no other call allocates
+    /// memory.
     pub fn open(alloc: Global) -> Result<ExtensionSet, AllocError>
         ensures { IfOk result (λ s. s ≡ []) }
     {
@@ -48,7 +49,7 @@ impl ExtensionSet {
         })
     }
 
-    /// How many extensions there are: at most ten.
+    /// Returns the number of extensions, at most ten.
     pub fn len(&self) -> usize
         ensures count { result ≡ length self.now }
         ensures few { length self.now ≤ 10 }
@@ -56,7 +57,7 @@ impl ExtensionSet {
         self.members.len()
     }
 
-    /// Whether an extension of this name may be registered. (Extensions API: Register)
+    /// Whether an extension with this name may be registered (Extensions API: Register).
     pub fn admits(&self, name: &Text) -> Result<(), RegisterFault>
         ensures { result ≡ admits self.now name.now }
     {
@@ -69,9 +70,9 @@ impl ExtensionSet {
         }
     }
 
-    /// Registers an extension with the count in its identifier, where its name is free and fewer
-    /// than ten are registered; else the set stays as it was. A name of at most 128 bytes stands in
-    /// the extension's own place. (Extensions API: Register)
+    /// Registers an extension with the count in its identifier, if its name is free and fewer than
+    /// ten are registered; otherwise the set is unchanged. The name, of at most 128 bytes, is
+    /// copied (Extensions API: Register).
     pub fn register(
         &mut self,
         name: &Text,
@@ -99,8 +100,8 @@ impl ExtensionSet {
         }
     }
 
-    /// Whether the extension with this count is told the end of its environment when it asks in a
-    /// Closing. (Extensions API: Shutdown event)
+    /// Whether the Next of the extension with this count in a Closing is answered with the end of
+    /// its environment (Extensions API: Shutdown event).
     pub fn owes_end(&self, count: u64) -> bool
         ensures { result ≡ owes_end (find (has_count count) self.now) }
     {
@@ -113,8 +114,8 @@ impl ExtensionSet {
         owes
     }
 
-    /// Whether an extension is registered whose identifier has this count.
-    /// (Extensions API: `Lambda-Extension-Identifier`)
+    /// Whether an extension whose identifier has this count is registered (Extensions API:
+    /// `Lambda-Extension-Identifier`).
     pub fn is_known(&self, count: u64) -> bool
         ensures { result ≡ list_any (has_count count) self.now }
     {
@@ -127,9 +128,9 @@ impl ExtensionSet {
         found
     }
 
-    /// For how many extensions a Closing waits: those registered for SHUTDOWN that have not exited,
-    /// and were not both told the end and seen again.
-    /// (Lambda execution environment lifecycle: Shutdown phase)
+    /// Returns the number of extensions that a Closing waits for: those that registered for
+    /// SHUTDOWN, have not exited, and have not both been notified of the end and asked again
+    /// (Lambda execution environment lifecycle: Shutdown phase).
     pub fn waiting(&self) -> u64
         ensures { result ≡ length (awaited self.now) }
     {
@@ -142,7 +143,7 @@ impl ExtensionSet {
         waiting
     }
 
-    /// How many extensions have no Next parked.
+    /// Returns the number of extensions without a parked Next.
     pub fn silent(&self) -> u64
         ensures { result ≡ missing self.now [] }
     {
@@ -168,7 +169,7 @@ impl ExtensionSet {
         missing
     }
 
-    /// How many of these names no extension has.
+    /// Returns how many of these names no extension has.
     pub fn unregistered(&self, names: &[Text]) -> u64
         ensures { result ≡ count_by (lacks self.now) names.now }
     {
@@ -181,8 +182,8 @@ impl ExtensionSet {
         count
     }
 
-    /// Takes a call: the parked Nexts are answered, and each extension notes what the call is to it.
-    /// (Extensions API: Next, Invoke event, Shutdown event)
+    /// Applies a call: answers the parked Nexts, and updates each extension (Extensions API: Next,
+    /// Invoke event, Shutdown event).
     pub fn take(&mut self, turn: Turn, call: &Call, moves: &mut Moves)
         requires moment { turn.now < 2 ^ 53 }
         requires room { length self.old + length moves.old < 32 }
@@ -196,15 +197,15 @@ impl ExtensionSet {
         }
     }
 
-    /// Forgets all extensions, as the next generation begins with none.
+    /// Removes all extensions, since the next generation begins without any.
     pub fn clear(&mut self)
         ensures { self.new ≡ [] }
     {
         self.members.clear();
     }
 
-    /// Answers the parked Nexts of the extensions registered for INVOKE where a Busy begins, with
-    /// its Invoke and its deadline in milliseconds. (Extensions API: Invoke event)
+    /// Answers the parked Nexts of the extensions that registered for INVOKE when a Busy begins,
+    /// with its Invoke and its deadline in milliseconds (Extensions API: Invoke event).
     pub fn take_invoke(&mut self, invoke: Ticket, deadline: u64, moves: &mut Moves)
         requires { length self.old + length moves.old < 32 }
         ensures told { self.new ≡ map (member_second (Some (invoke, deadline))) self.old }

@@ -4,50 +4,50 @@ use Rattle.json.specs.Print.{quoted}
 use Rattle.lambda_wire.specs.declared.body_writer.InvokeFault.{InvokeFault}
 use Rattle.lambda_wire.specs.declared.body_writer.InvokeFault.TheVariants.{User, NotFound, Service}
 
--- A refusal on an environment's port (Runtime API and Extensions API: ErrorResponse).
+-- The body of a refusal on an environment's port (Runtime API and Extensions API: ErrorResponse).
 unfoldable pub fault_text : List ℕ → List ℕ → List ℕ
 fault_text message kind =
     codes "{\"errorMessage\":" ++ quoted message ++ codes ",\"errorType\":" ++ quoted kind ++ codes "}"
 
--- A refused Invoke (Lambda API, Invoke: Errors).
+-- The body for a refused Invoke (Lambda API, Invoke: Errors).
 unfoldable pub invoke_fault_text : InvokeFault → List ℕ → List ℕ
 invoke_fault_text User message = codes "{\"Type\":\"User\",\"message\":" ++ quoted message ++ codes "}"
 invoke_fault_text NotFound message = codes "{\"Message\":" ++ quoted message ++ codes ",\"Type\":\"User\"}"
 invoke_fault_text Service message = codes "{\"Message\":" ++ quoted message ++ codes ",\"Type\":\"Service\"}"
 
--- A throttled Invoke (Lambda API, Invoke: TooManyRequestsException).
+-- The body for a throttled Invoke (Lambda API, Invoke: TooManyRequestsException).
 unfoldable pub throttle_text : List ℕ → List ℕ
 throttle_text reason =
     codes "{\"Reason\":" ++ quoted reason ++ codes ",\"Type\":\"User\",\"message\":\"Rate Exceeded.\"}"
 
--- A request was accepted.
+-- The body for an accepted request.
 unfoldable pub status_text : List ℕ
 status_text = codes "{\"status\":\"OK\"}"
 
--- the account's number, if an extension asked for it
+-- The member with the account's number, if an extension asked for it.
 abbrev pub account_member : Option (List ℕ) → List ℕ
 account_member None = []
 account_member (Some account) = codes "\"accountId\":" ++ quoted account ++ codes ","
 
--- An extension is registered (Extensions API, Register).
+-- The body for an extension that is registered (Extensions API, Register).
 unfoldable pub registered_text : Option (List ℕ) → List ℕ → List ℕ → List ℕ
 registered_text account function handler = codes "{" ++ account_member account ++ codes "\"functionName\":"
     ++ quoted function
     ++ codes ",\"functionVersion\":\"$LATEST\",\"handler\":" ++ quoted handler ++ codes "}"
 
--- An extension is notified of an invocation (Extensions API, INVOKE event).
+-- The body that notifies an extension of an invocation (Extensions API, INVOKE event).
 unfoldable pub invoke_event_text : ℕ → List ℕ → List ℕ → List ℕ → List ℕ
 invoke_event_text deadline arn request trace = codes "{\"deadlineMs\":" ++ decimal deadline
     ++ codes ",\"eventType\":\"INVOKE\",\"invokedFunctionArn\":" ++ quoted arn
     ++ codes ",\"requestId\":" ++ quoted request
     ++ codes ",\"tracing\":{\"type\":\"X-Amzn-Trace-Id\",\"value\":" ++ quoted trace ++ codes "}}"
 
--- An extension is notified of the end of its environment (Extensions API, SHUTDOWN event).
+-- The body that notifies an extension of the end of its environment (Extensions API, SHUTDOWN event).
 unfoldable pub shutdown_event_text : ℕ → List ℕ → List ℕ
 shutdown_event_text deadline reason = codes "{\"deadlineMs\":" ++ decimal deadline
     ++ codes ",\"eventType\":\"SHUTDOWN\",\"shutdownReason\":" ++ quoted reason ++ codes "}"
 
--- A function's reservation (Lambda API, GetFunctionConcurrency).
+-- The body with a function's reservation (Lambda API, GetFunctionConcurrency).
 unfoldable pub reservation_text : Option ℕ → List ℕ
 reservation_text None = codes "{}"
 reservation_text (Some count) = codes "{\"ReservedConcurrentExecutions\":" ++ decimal count ++ codes "}"

@@ -1,4 +1,4 @@
--- The text of a configuration: compact JSON with every member, the keys in the order of their bytes.
+-- The text of a configuration: compact JSON with every member that is set, the keys in the order of their bytes.
 use Rattle.std.specs.Prelude.{ℕ, List, map, codes, Option, Some, None}
 use Rattle.serde_json.specs.Data.{Data, number, unsigned, string, array, object, Members, no_members, member}
 use Rattle.serde_json.specs.View.{items_of}
@@ -7,24 +7,24 @@ use Rattle.arn_ids.specs.declared.config.Slot.{Slot}
 use Rattle.arn_ids.specs.declared.config.Function.{Function}
 use Rattle.arn_ids.specs.declared.config.Config.{Config}
 
--- a whole number
+-- The value of a whole number.
 abbrev pub number_data : ℕ → Data
 number_data n = number (unsigned n)
 
--- a list of values
+-- The value of a list of values.
 abbrev pub list_data : List Data → Data
 list_data ds = array (items_of ds)
 
--- an environment is written as its port
+-- The value of an environment: its port.
 abbrev pub slot_data : Slot → Data
 slot_data slot = number_data slot.port
 
--- a reservation, unless there is none
+-- The members with the reservation before them, if there is one.
 abbrev pub with_reserved : Option ℕ → Members → Members
 with_reserved None ms = ms
 with_reserved (Some n) ms = member (codes "reserved") (number_data n) ms
 
--- a function, with its defaults written out
+-- The value of a function, with its defaults written out.
 abbrev pub function_data : Function → Data
 function_data f = object
     (member (codes "extensions") (list_data (map string f.extensions))
@@ -34,7 +34,7 @@ function_data f = object
     (with_reserved f.reserved
     (member (codes "timeout") (number_data f.timeout_s) no_members))))))
 
--- a configuration, with its defaults written out
+-- The value of a setup, with its defaults written out.
 abbrev pub setup_data : Config → ℕ → ℕ → Data
 setup_data config salt max_entries = object
     (member (codes "account") (string config.home.account)
@@ -46,6 +46,6 @@ setup_data config salt max_entries = object
     (member (codes "region") (string config.home.region)
     (member (codes "salt") (number_data salt) no_members))))))))
 
--- what is written of a configuration, its texts quoted as JSON quotes them
+-- The text of a setup, with its strings quoted as JSON quotes them.
 unfoldable pub setup_text : Config → ℕ → ℕ → List ℕ
 setup_text config salt max_entries = compact_text (setup_data config salt max_entries)

@@ -5,11 +5,11 @@ use Rattle.lambda_wire.specs.Headers.{json_headers, error_headers}
 use Rattle.lambda_wire.specs.declared.body_writer.InvokeFault.{InvokeFault}
 use Rattle.lambda_wire.specs.declared.reply.Reply.{Reply}
 
--- A refusal on an environment's port: its status, its message and its type.
+-- A refusal on an environment's port, with its status, its message and its error type.
 abbrev pub fault_reply : ℕ → List ℕ → List ℕ → Reply
 fault_reply status message kind = record { status = status; headers = json_headers; body = fault_text message kind }
 
--- A refusal by the Lambda API, before a call: its status, its type, the form of its body and its message.
+-- A refusal by the Lambda API, before a call, with its status, its error type, the form of its body and its message.
 abbrev pub invoke_fault_reply : ℕ → List ℕ → InvokeFault → List ℕ → Reply
 invoke_fault_reply status kind form message = record {
   status = status;

@@ -1,4 +1,4 @@
--- What the bodies of requests contain: an Invoke's payload, an extension's registration, a reservation.
+-- What the bodies of requests contain: the payload of an Invoke, the registration of an extension, or a reservation.
 use Rattle.std.specs.Prelude.{ℕ, ◌^◌, Bool, ◌||◌, nat_lt, if◌then◌else◌, List, [], ◌∷◌, length, bytes_eq, codes}
 use Rattle.std.specs.Prelude.{Result, Ok, Err}
 use Rattle.std.specs.List.{list_all, list_any}
@@ -10,24 +10,24 @@ use Rattle.lambda_wire.specs.declared.fault.WireFault.{WireFault}
 use Rattle.lambda_wire.specs.declared.fault.WireFault.TheVariants.{TooLong, BadEvent}
 use Rattle.lambda_wire.specs.declared.request_reader.Events.{Events}
 
--- the body of a request has at most 6,291,456 bytes (Lambda quotas: invocation payload)
+-- The reading of a body that has at most 6,291,456 bytes; a longer one is too long (Lambda quotas: invocation payload).
 abbrev pub within_limit : {A : Type 0} → List ℕ → Result A WireFault → Result A WireFault
 within_limit bytes reading = if nat_lt longest_body (length bytes) then Err TooLong else reading
 
--- a payload is JSON and stays unchanged; an empty body means an empty object
+-- The payload, which must be JSON and stays unchanged; an empty body means an empty object.
 abbrev pub payload_of : List ℕ → Result (List ℕ) WireFault
 payload_of [] = Ok (codes "{}")
 payload_of (b ∷ bytes) = json_in (b ∷ bytes) >>= λ _. Ok (b ∷ bytes)
 
--- The payload that the body of an Invoke is.
+-- The payload in the body of an Invoke.
 unfoldable pub read_payload : List ℕ → Result (List ℕ) WireFault
 read_payload bytes = within_limit bytes (payload_of bytes)
 
--- the two events that an extension may register for (Extensions API, Register)
+-- Whether a text names one of the two events that an extension may register for (Extensions API, Register).
 abbrev pub is_event : List ℕ → Bool
 is_event text = bytes_eq text (codes "INVOKE") || bytes_eq text (codes "SHUTDOWN")
 
--- the events that a list of texts names, however often
+-- The events that a list of texts names, however often; a text that names no event is a fault.
 abbrev pub events_of : List (List ℕ) → Result Events WireFault
 events_of texts = if list_all is_event texts
     then Ok (record {
@@ -36,18 +36,18 @@ events_of texts = if list_all is_event texts
     })
     else Err BadEvent
 
--- the events that an object asks for; other members are ignored
+-- The events that an object asks for, by default none; other members are ignored.
 abbrev pub registration_of : Data → Result Events WireFault
 registration_of d = wanted (as_object d) >>= λ _. or_else [] (list_of text_of) (get (codes "events") d) >>= events_of
 
--- The events that the body of a registration asks for.
+-- The events in the body of a registration.
 unfoldable pub read_events : List ℕ → Result Events WireFault
 read_events bytes = within_limit bytes (json_in bytes >>= registration_of)
 
--- the reservation that an object asks for; other members are ignored
+-- The reservation that an object asks for; other members are ignored.
 abbrev pub reservation_of : Data → Result ℕ WireFault
 reservation_of d = required (number_below (2 ^ 32)) (get (codes "ReservedConcurrentExecutions") d)
 
--- The reservation that the body of a PutFunctionConcurrency asks for.
+-- The reservation in the body of a PutFunctionConcurrency request.
 unfoldable pub read_count : List ℕ → Result ℕ WireFault
 read_count bytes = within_limit bytes (json_in bytes >>= reservation_of)

@@ -1,4 +1,4 @@
--- What the environments are after a history.
+-- What the places are after a history.
 use Rattle.std.specs.Prelude.{ℕ, List, map}
 use Rattle.arn_ids.specs.declared.config.Config.{Config}
 use Rattle.arn_ids.specs.Environments.{environments, function_of}
@@ -7,10 +7,10 @@ use Rattle.call_model.specs.Life.{phase}
 use Rattle.placement.specs.declared.places.Place.{Place}
 use Rattle.placement.specs.Class.{class_of}
 
--- an environment's function, and the class of its phase
+-- An environment's function, and the class of its phase.
 abbrev pub place_of : Config → List Entry → ℕ → Place
 place_of config h e = record { function = function_of config e; class = class_of (phase config h e) }
 
--- all of them
+-- The places of all environments, in the order of their numbers.
 abbrev pub places : Config → List Entry → List Place
 places config h = map (place_of config h) (environments config)

@@ -1,4 +1,4 @@
--- The input of a reply, as the definitions see it.
+-- The input of a reply (`Gist`), as the definitions see it.
 use Rattle.std.specs.Prelude.{Some}
 use Rattle.call_types.specs.declared.call.Call.{Call}
 use Rattle.call_types.specs.declared.call.Call.TheVariants.{Invoke}
@@ -6,7 +6,7 @@ use Rattle.call_model.specs.Isolation.{Gist as GistOfTicket}
 use Rattle.call_types.specs.Within.{IsTrace}
 use Rattle.replies.specs.declared.gist.Gist.{Gist}
 
--- the gist of an answered ticket
+-- The gist of an answered ticket.
 abbrev pub gist_of : Gist → GistOfTicket
 gist_of g = record {
   answer = Some g.answer;
@@ -16,8 +16,8 @@ gist_of g = record {
   source_count = g.source_count;
 }
 
--- A call has no trace, or one of 1 to 256 printing characters. This holds for each call that a script can make, and for
--- each expiry.
+-- A call without a trace, or with one of 1 to 256 printable characters. This holds for each call that a script can
+-- make, and for each expiry.
 abbrev pub IsTraced : Call → Type 0
 IsTraced (Invoke f qualified trace body) = IsTrace trace
 IsTraced _ = Unit {0}

@@ -1,9 +1,9 @@
--- The invocation, the environment and the extension of a reply, in words.
+-- The invocation, the environment and the extension that a reply names, as text.
 pub mod Words
--- The replies, a family of answers each.
+-- The replies, by families of answers.
 pub mod Refusals
 pub mod Polls
 pub mod Outcomes
--- The reply for an answer.
+-- The reply to each answer.
 pub mod Replies
 pub mod Gists

@@ -11,7 +11,8 @@ use Rattle.call_types.specs.Calls.{body_of}
 use Rattle.call_types.specs.Words.{reason_word}
 use Rattle.replies.specs.Words.{request_text, env_text, env_function, arn_text, trace_text, account_text}
 
--- An invocation is delivered to a runtime: the payload of its Invoke, unchanged (Runtime API, Next invocation).
+-- The reply that delivers an invocation to a runtime: the payload of its Invoke, unchanged (Runtime API, Next
+-- invocation).
 unfoldable pub delivery : Config → ℕ → Gist → ℕ → Reply
 delivery config salt gist deadline = record {
   status = 200;
@@ -20,7 +21,7 @@ delivery config salt gist deadline = record {
   body = body_of gist.source;
 }
 
--- An extension is notified of an invocation (Extensions API, Next: INVOKE event).
+-- The reply that notifies an extension of an invocation (Extensions API, Next: INVOKE event).
 unfoldable pub invoke_event : Config → ℕ → Gist → ℕ → ℕ → Reply
 invoke_event config salt gist deadline event = record {
   status = 200;
@@ -29,7 +30,7 @@ invoke_event config salt gist deadline event = record {
       (request_text salt gist.source gist.source_count) (trace_text gist.source);
 }
 
--- An extension is notified of the end of its environment (Extensions API, Next: SHUTDOWN event).
+-- The reply that notifies an extension of the end of its environment (Extensions API, Next: SHUTDOWN event).
 unfoldable pub shutdown_event : ℕ → Gist → Reason → ℕ → ℕ → Reply
 shutdown_event salt gist reason until event = record {
   status = 200;
@@ -37,7 +38,7 @@ shutdown_event salt gist reason until event = record {
   body = shutdown_event_text until (reason_word reason);
 }
 
--- An extension is registered (Extensions API, Register).
+-- The reply to an extension that is registered (Extensions API, Register).
 unfoldable pub registration : Config → ℕ → Gist → ℕ → Reply
 registration config salt gist count = record {
   status = 200;

@@ -1,5 +1,5 @@
--- The replies to calls that are refused. Statuses, types and messages are this service's own if the public
--- documents leave them open.
+-- The replies to calls that are refused. If the public documents leave a status, a type or a message open, it is this
+-- service's own.
 use Rattle.std.specs.Prelude.{ℕ, List, codes}
 use Rattle.lambda_wire.specs.Replies.{fault_reply, invoke_fault_reply}
 use Rattle.lambda_wire.specs.declared.body_writer.InvokeFault.TheVariants.{User}
@@ -8,7 +8,7 @@ use Rattle.call_types.specs.declared.answer.Rejection.{Rejection}
 use Rattle.call_types.specs.declared.answer.Rejection.TheVariants.{State, Replaced, BadId, Unknown, TooLarge, Container}
 use Rattle.call_types.specs.declared.answer.Rejection.TheVariants.{NameInUse, TooMany, NotIdle, BadReservation}
 
--- The status, the type and the message of a refusal.
+-- The status, the error type and the message of a refusal.
 abbrev pub refusal_words : Rejection → ℕ × List ℕ × List ℕ
 refusal_words State = (403, codes "InvalidStateTransition", codes "Not allowed in the current phase")
 refusal_words Replaced = (403, codes "InvalidStateTransition", codes "A newer poll replaced this one")
@@ -21,11 +21,12 @@ refusal_words TooMany = (403, codes "Extension.TooManyExtensions", codes "Ten ex
 refusal_words NotIdle = (409, codes "NotIdle", codes "Environment is not idle")
 refusal_words BadReservation = (400, codes "InvalidParameterValueException", codes "Reservation is out of range")
 
--- A refusal on an environment's port, or by an operator's route (Runtime API and Extensions API: ErrorResponse).
+-- The reply that refuses on an environment's port, or by an operator's route (Runtime API and Extensions API:
+-- ErrorResponse).
 abbrev pub plain_refusal : ℕ × List ℕ × List ℕ → Reply
 plain_refusal words = fault_reply words.0 words.2 words.1
 
--- A refusal of a reservation (Lambda API, PutFunctionConcurrency: Errors).
+-- The reply that refuses a reservation (Lambda API, PutFunctionConcurrency: Errors).
 abbrev pub reservation_refusal : ℕ × List ℕ × List ℕ → Reply
 reservation_refusal words = invoke_fault_reply words.0 words.1 User words.2
 

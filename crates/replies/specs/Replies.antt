@@ -1,4 +1,4 @@
--- The reply for an answer: its status, its headers and its body.
+-- The reply to an answer: its status, its headers and its body.
 use Rattle.std.specs.Prelude.{ℕ, true, false, Option, option_map}
 use Rattle.lambda_wire.specs.declared.reply.Reply.{Reply}
 use Rattle.arn_ids.specs.declared.config.Config.{Config}
@@ -13,7 +13,7 @@ use Rattle.replies.specs.Polls.{delivery, invoke_event, shutdown_event, registra
 use Rattle.replies.specs.Outcomes.{outcome, timed_out, init_timed_out, output_too_large, throttled, request_named}
 use Rattle.replies.specs.Outcomes.{stopped, done_with, reserved, unreserved}
 
--- The reply for an answer, from the calls and the counts that it refers to.
+-- The reply to an answer, from the calls and the counts that it refers to.
 unfoldable pub reply_to : Config → ℕ → Gist → Answer → Reply
 reply_to config salt gist (Delivered invoke deadline) = delivery config salt gist deadline
 reply_to config salt gist (Told invoke deadline event) = invoke_event config salt gist deadline event
@@ -33,6 +33,6 @@ reply_to config salt gist (Refused refusal) = refused refusal
 reply_to config salt gist (Reserved count) = reserved count
 reply_to config salt gist Unreserved = unreserved
 
--- The reply that the client of a ticket gets; none before there is an answer.
+-- The reply that the client of a ticket gets; `None` before there is an answer.
 abbrev pub reply_of : Config → ℕ → Gist → Option Reply
 reply_of config salt gist = option_map (reply_to config salt gist) gist.answer

@@ -1,4 +1,4 @@
--- The lines of answers.
+-- The text lines of answers.
 use Rattle.std.specs.Prelude.{ℕ, List, [], ◌∷◌, ◌++◌, codes, unwrap_or, decimal}
 use Rattle.std.specs.List.{flat_map}
 use Rattle.arn_ids.specs.Identifiers.{id_word}
@@ -21,20 +21,20 @@ use Rattle.script.specs.CallText.{line_of, call_text}
 use Rattle.call_model.specs.CallCounts.{request_count}
 use Rattle.script.specs.TextFields.{text_field}
 
--- the request identifier of the Invoke with a ticket (Runtime API: Lambda-Runtime-Aws-Request-Id)
+-- The request identifier of the Invoke with a ticket (Runtime API: Lambda-Runtime-Aws-Request-Id).
 abbrev pub request_word : ℕ → List Entry → ℕ → List ℕ
 request_word salt h p =
     id_word salt Request (unwrap_or (invoked (call_of h p)) 0) (request_count (upto h p) (call_of h p))
 
--- the identifier of an event or an extension of the environment that the call with a ticket names
+-- The identifier of an event or an extension of the environment that the call with ticket `t` names.
 abbrev pub env_word : ℕ → IdKind → List Entry → ℕ → ℕ → List ℕ
 env_word salt kind h t count = id_word salt kind (unwrap_or (env_of (call_of h t)) 0) count
 
--- the field of the bytes of the call with a ticket
+-- The text field with the bytes of the call with a ticket.
 abbrev pub body_word : List Entry → ℕ → List ℕ
 body_word h t = text_field (body_of (call_of h t))
 
--- why a call is refused
+-- The word for the reason why a call is refused.
 abbrev pub refusal_word : Rejection → List ℕ
 refusal_word State = codes "State"
 refusal_word Replaced = codes "Replaced"
@@ -47,7 +47,7 @@ refusal_word TooMany = codes "TooMany"
 refusal_word NotIdle = codes "NotIdle"
 refusal_word BadReservation = codes "BadReservation"
 
--- The words of an answer to a ticket.
+-- The words of an answer to a ticket: its kind, then its arguments.
 unfoldable pub answer_words : ℕ → List Entry → ℕ → Answer → List (List ℕ)
 answer_words salt h t (Delivered p deadline) =
     codes "deliver" ∷ request_word salt h p ∷ decimal deadline ∷ body_word h p ∷ []
@@ -70,7 +70,8 @@ answer_words salt h t (Refused refusal) = codes "refused" ∷ refusal_word refus
 answer_words salt h t (Reserved count) = codes "reserved" ∷ decimal count ∷ []
 answer_words salt h t Unreserved = codes "unreserved" ∷ []
 
--- The line of an answer: the number of the entry that gave it, the ticket that got it, and its words.
+-- The line of an answer: the number of the entry that gave it, the ticket that got it, and its words. It ends with a
+-- line feed.
 unfoldable pub answer_line : ℕ → List Entry → ℕ → ℕ → Answer → List ℕ
 answer_line salt h number t answer = line_of (decimal number ∷ decimal t ∷ answer_words salt h t answer) ++ 10 ∷ []
 
@@ -78,11 +79,11 @@ answer_line salt h number t answer = line_of (decimal number ∷ decimal t ∷ a
 unfoldable pub answer_lines : ℕ → List Entry → ℕ → Entry → List ℕ
 answer_lines salt h number entry = flat_map (λ a. answer_line salt h number a.0 a.1) entry.answers
 
--- an answer's line in a history, as a comment
+-- The line of an answer in a history, written as a comment: `# ` and the line.
 abbrev pub comment_line : ℕ → List Entry → ℕ → ℕ × Answer → List ℕ
 comment_line salt h number a = codes "# " ++ answer_line salt h number a.0 a.1
 
--- The text of an entry in a history: the line of its call, and those of its answers.
+-- The text of an entry in a history: the line of its call, and the comment lines of its answers.
 unfoldable pub entry_text : Config → ℕ → List Entry → ℕ → Entry → List ℕ
 entry_text config salt h number entry =
     call_text config entry.moment entry.call ++ 10 ∷ flat_map (comment_line salt h number) entry.answers

@@ -1,4 +1,4 @@
--- The line of a call.
+-- The text line of a call.
 use Rattle.std.specs.Prelude.{ℕ, Bool, if◌then◌else◌, List, [], ◌∷◌, ◌++◌, codes, Option, Some, None, decimal}
 use Rattle.std.specs.List.{flat_map}
 use Rattle.arn_ids.specs.Environments.{function_at}
@@ -10,30 +10,31 @@ use Rattle.call_types.specs.declared.call.Call.TheVariants.{ExtExitFailure, Tick
 use Rattle.call_types.specs.declared.call.Call.TheVariants.{Expire, Reserve}
 use Rattle.script.specs.TextFields.{text_field}
 
--- words with one space between them
+-- The words with one space between each two.
 abbrev pub line_of : List (List ℕ) → List ℕ
 line_of [] = []
 line_of (word ∷ words) = word ++ flat_map (λ w. 32 ∷ w) words
 
--- a dash if there is nothing
+-- The word for a text, or a dash if there is no text.
 abbrev pub or_dash : (List ℕ → List ℕ) → Option (List ℕ) → List ℕ
 or_dash word None = codes "-"
 or_dash word (Some text) = word text
 
--- the word of a flag that is set
+-- The word for a flag: the given word if it is set, and a dash otherwise.
 abbrev pub flag : List ℕ → Bool → List ℕ
 flag word set = if set then word else codes "-"
 
--- the events that an extension registers for
+-- The word for the events that an extension registers for: `i` for INVOKE, `s` for SHUTDOWN, `is` for both, a dash for
+-- neither.
 abbrev pub events : Bool → Bool → List ℕ
 events invoke shutdown = if invoke then (if shutdown then codes "is" else codes "i") else flag (codes "s") shutdown
 
--- a reservation, or the dash of its removal
+-- The word for a reservation: its number, or a dash if it is removed.
 abbrev pub reservation : Option ℕ → List ℕ
 reservation None = codes "-"
 reservation (Some count) = decimal count
 
--- the words of a call after its moment
+-- The words of a call after its moment: its name and its arguments.
 unfoldable pub call_words : Config → Call → List (List ℕ)
 call_words config (Invoke f qualified trace body) =
     codes "invoke" ∷ (function_at config f).name ∷ flag (codes "q") qualified ∷ or_dash text_field trace
@@ -55,11 +56,11 @@ call_words config Stop = codes "stop" ∷ []
 call_words config (Expire e) = codes "expire" ∷ decimal e ∷ []
 call_words config (Reserve f count) = codes "reserve" ∷ (function_at config f).name ∷ reservation count ∷ []
 
--- the text before the moment: an expiry is a comment, since no script makes it
+-- The text before the moment: `## ` for an expiry, which is a comment since no script contains it; otherwise nothing.
 abbrev pub before_moment : Call → List ℕ
 before_moment (Expire e) = codes "## "
 before_moment _ = []
 
--- The line of a call at a moment, without its ending.
+-- The line of a call at a moment, without its line ending.
 unfoldable pub call_text : Config → ℕ → Call → List ℕ
 call_text config moment call = before_moment call ++ line_of (decimal moment ∷ call_words config call)

@@ -7,39 +7,41 @@ use Rattle.percent_encoding.specs.Percent.{percent_decode}
 use Rattle.arn_ids.specs.Words.{is_label}
 use Rattle.call_types.specs.Within.{is_body, is_trace}
 
--- a byte below 0x21, the percent sign, or a byte above 0x7E
+-- Whether a byte is escaped: one below 0x21, the percent sign, or one above 0x7E.
 abbrev pub is_escaped : ℕ → Bool
 is_escaped b = nat_lt b 33 || b == 37 || nat_lt 126 b
 
--- the byte itself, or a percent sign and its two digits in upper case (RFC 3986, section 2.1)
+-- The text of a byte: the byte itself, or a percent sign and its two hexadecimal digits in upper case (RFC 3986,
+-- section 2.1).
 abbrev pub text_byte : ℕ → List ℕ
 text_byte b = if is_escaped b then 37 ∷ digit_glyph true (b / 16 % 16) ∷ digit_glyph true (b % 16) ∷ [] else b ∷ []
 
--- the bytes with those that need it escaped
+-- The bytes, with those that need it percent-encoded.
 unfoldable pub escaped : List ℕ → List ℕ
 escaped bytes = flat_map text_byte bytes
 
--- the field of these bytes
+-- The text field with these bytes.
 abbrev pub text_field : List ℕ → List ℕ
 text_field bytes = 61 ∷ escaped bytes
 
--- the text of a field, after its equals sign; a percent sign without two digits is kept
+-- The bytes of a text field, decoded; `None` without the equals sign. A percent sign that is not followed by two digits
+-- is kept.
 abbrev pub text_in : List ℕ → Option (List ℕ)
 text_in [] = None
 text_in (b ∷ bs) = if b == 61 then Some (percent_decode bs) else None
 
--- a text that passes a test
+-- The bytes of a text field, if they pass a test.
 abbrev pub text_that : (List ℕ → Bool) → List ℕ → Option (List ℕ)
 text_that passes field = option_and_then (λ text. if passes text then Some text else None) (text_in field)
 
--- a body's field
+-- The body in a text field.
 abbrev pub body_in : List ℕ → Option (List ℕ)
 body_in = text_that is_body
 
--- the field of an extension's name
+-- The name of an extension in a text field.
 abbrev pub name_in : List ℕ → Option (List ℕ)
 name_in = text_that is_label
 
--- the field of a trace, or the dash of a call without one
+-- The trace in a text field; a dash means that the call has no trace.
 abbrev pub trace_in : List ℕ → Option (Option (List ℕ))
 trace_in field = if bytes_eq field (codes "-") then Some None else option_map Some (text_that is_trace field)

@@ -3,12 +3,12 @@ use Rattle.std.specs.Prelude.{ℕ, List, [], Option, Some, None}
 use Rattle.std.specs.Borrow.{Bor}
 use Rattle.script.specs.Lines.{fields}
 
--- the fields of what is left of a line; none if nothing is left
+-- The fields of the rest of a line; no fields if nothing is left.
 abbrev pub fields_left : Option (Bor (List ℕ)) → List (List ℕ)
 fields_left None = []
 fields_left (Some rest) = fields rest.now
 
--- what one reference points to; two; three; four
+-- The text that a reference points to. The next three definitions do the same for two, three and four references.
 abbrev pub text_of : Bor (List ℕ) → List ℕ
 text_of text = text.now
 

@@ -9,7 +9,7 @@ use Rattle.script.specs.AnswerText.{answer_line}
 use Rattle.call_types.specs.declared.call.Entry.{Entry}
 use Rattle.call_types.specs.declared.answer.Answer.{Answer}
 
--- the text of a word
+-- The text of a word.
 abbrev pub word_text : Word → List ℕ
 word_text (words.Plain text) = text.now
 word_text (words.Number n) = decimal n
@@ -17,15 +17,16 @@ word_text (words.Identifier id) = hyphenated_text lower id
 word_text (words.Text bytes) = text_field bytes.now
 word_text (words.Body body) = text_field body.now
 
--- words, each after a space
+-- The words, each with a space before it.
 abbrev pub spaced : List (List ℕ) → List ℕ
 spaced words = flat_map (λ word. 32 ∷ word) words
 
--- If it is Ok, the text was appended. If it is Err, a part of it may have been; the older text is still in front.
+-- If the result is Ok, `text` was appended. If it is Err, a part of it may have been; the older text is still the
+-- beginning.
 abbrev pub Adds : {T E : Type 0} → Result T E → List ℕ → List ℕ → List ℕ → Type 0
 Adds (Ok x) text old new = new ≡ old ++ text
 Adds (Err e) text old new = take (length old) new ≡ old
 
--- the lines of answers, each after a mark
+-- The lines of answers, each with a mark before it.
 abbrev pub marked_lines : ℕ → List Entry → List ℕ → ℕ → List (ℕ × Answer) → List ℕ
 marked_lines salt h mark number answers = flat_map (λ a. mark ++ answer_line salt h number a.0 a.1) answers
