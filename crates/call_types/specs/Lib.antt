@@ -3,5 +3,7 @@ pub mod Calls
 -- The head of a call, which a receipt keeps, and the words for reasons.
 pub mod Heads
 pub mod Words
+-- The answers of an entry, however they are held.
+mod Pairs
 -- The calls that are within the limits of the service.
 pub mod Within

@@ -1,11 +1,12 @@
 //! Calls, and the entries of a history.
 
-ghost use Rattle.std.specs.Prelude.{◌≡◌};
+ghost use Rattle.std.specs.Prelude.{◌≡◌, [], ◌∷◌};
 
 use crate::Answer;
 use arn_ids::{EnvNo, FnNo, Text};
 use bytes::Bytes;
 use std::marker::Model;
+use std::slice;
 
 /// The index of a call in the history, from 0.
 pub type Ticket = u64;
@@ -112,19 +113,27 @@ pub enum Call {
     },
 }
 
-/// The answers that an entry gave, each with the ticket that got it, in rising ticket order.
+/// The answers that an entry gave, each with the ticket that got it, in rising ticket order. A single one, as most
+/// entries give, is held without memory of its own.
 #[derive(Drop)]
 pub struct Answers {
-    answers: Vec<(Ticket, Answer)>,
+    held: Held,
+}
+
+#[derive(Drop)]
+enum Held {
+    One((Ticket, Answer)),
+    Listed(Vec<(Ticket, Answer)>),
 }
 
 impl Model for Answers {
     ghost use Rattle.std.specs.Prelude.{ℕ, List};
     ghost use Rattle.call_types.specs.declared.answer.Answer.{Answer};
+    ghost use Rattle.call_types.specs.Pairs.{pairs};
 
     ghost Value = { List (ℕ × Answer) };
 
-    ghost view = { λ a. a.answers.items };
+    ghost view = { λ a. pairs a.held };
 }
 
 impl Answers {
@@ -132,14 +141,28 @@ impl Answers {
     pub fn new(answers: Vec<(Ticket, Answer)>) -> Answers
         ensures { result ≡ answers.items }
     {
-        Answers { answers }
+        Answers {
+            held: Held::Listed(answers),
+        }
+    }
+
+    /// Holds one pair. It allocates nothing.
+    pub fn one(pair: (Ticket, Answer)) -> Answers
+        ensures { result ≡ pair ∷ [] }
+    {
+        Answers {
+            held: Held::One(pair),
+        }
     }
 
     /// Returns the pairs.
     pub fn as_slice(&self) -> &[(Ticket, Answer)]
         ensures { result.now ≡ self.now }
     {
-        &self.answers
+        match &self.held {
+            Held::One(pair) => slice::from_ref(pair),
+            Held::Listed(answers) => answers,
+        }
     }
 }
 
