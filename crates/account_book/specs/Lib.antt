@@ -1,5 +1,5 @@
--- The headline uses no definition of this crate. The crate's public contracts and laws use the modules up to
--- Answering.
+-- The specification of the headline uses no definition of this crate. The crate's public contracts and laws use the
+-- modules up to Answering.
 -- A book as its callers see it, which histories it can have, and how far the shutdown of its service has come.
 pub mod Book
 pub mod Reached
