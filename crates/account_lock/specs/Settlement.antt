@@ -32,12 +32,12 @@ Agree wanted pairs t = All (λ pair. pair.0 ≡ t → wanted t ≡ Some pair.1) 
 abbrev pub AllAgree : {X : Type 0} → (ℕ → Option X) → (Kept → List (ℕ × X)) → List Tallied → ℕ → Type 0
 AllAgree wanted part tallies t = All (λ tally. Agree wanted (part tally.held.kept) t) tallies
 
--- The ticket comes after no greater one.
+-- In the list, the ticket does not follow a greater one.
 abbrev pub Rises : {X : Type 0} → List (ℕ × X) → ℕ → Type 0
 Rises [] t = Unit {0}
 Rises (pair ∷ pairs) t = (t < pair.0 → times t pairs ≡ 0) × Rises pairs t
 
--- The ticket comes after no greater one in a tally that no join made.
+-- If no join made the tally, the ticket does not follow a greater one in what it keeps.
 abbrev pub RisesUnjoined : Tallied → ℕ → Type 0
 RisesUnjoined tally t = tally.held.joined ≡ false → Rises tally.held.kept.calls t
 
@@ -75,8 +75,8 @@ pub record IsSettled (all : Bool) (h : List Entry) (tallies : List Tallied) : Ty
   pub counts : counts_in tallies ≡ counts_of h
   pub kept : IsKept all h tallies
 
--- The cause of each fault. Faults are listed in their order: if a fault is found, no fault above it holds, lack of
--- memory aside, and its ticket is the least at which it does.
+-- The cause of each fault, in the order of the faults: no fault above it holds, lack of memory aside, and its ticket
+-- is the least at which it holds.
 abbrev pub IsFault : Bool → SettleFault → List Entry → List Tallied → Type 0
 IsFault all TallyMissing h tallies = parts_in tallies ≢ 2 ^ 32
 IsFault all OutOfMemory h tallies = parts_in tallies ≡ 2 ^ 32

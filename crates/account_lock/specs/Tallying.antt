@@ -7,7 +7,7 @@ use Rattle.call_types.specs.Heads.{head_of}
 use Rattle.usage_ledger.specs.Keeping.{Kept, Steps}
 use Rattle.usage_ledger.specs.Tallies.{Held}
 
--- The tally has the same parts as before, and is made by a join exactly if it was.
+-- The tally has the same parts as before, and is marked as made by a join exactly if it was before.
 abbrev pub HasPartsOf : Held → Held → Type 0
 HasPartsOf before after = (after.parts ≡ before.parts) × (after.joined ≡ before.joined)
 
