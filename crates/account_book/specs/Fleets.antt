@@ -81,7 +81,7 @@ flown sites pool = record pool { functions = flown_from sites 1 pool.functions }
 abbrev pub deadline_at : Site → Option ℕ
 deadline_at site = deadline_of site.environment.stand.phase
 
--- Whether the deadline of an environment has come.
+-- Whether the deadline of an environment has come at a moment.
 abbrev pub is_due : ℕ → Site → Bool
 is_due now site = has_come now (deadline_at site)
 
@@ -101,8 +101,9 @@ IsOwned n site = (1 ≤ site.function) × (site.function ≤ n)
 abbrev pub crew : Inside → Crew
 crew f = record { sites = f.sites.items; pool = f.pool; widest = f.widest }
 
--- What holds of every fleet: what is kept beside the environments agrees with them, and each environment belongs to a
--- function. No environment has more than `widest` extensions, which is at most 10.
+-- What holds of every fleet: what is kept beside the environments agrees with them, each environment belongs to a
+-- function, and none has more than `widest` extensions, which is at most 10. There are at most `most_environments` of
+-- them.
 pub record IsFleet (f : Inside) : Type 0 where
   pub due : f.due ≡ map deadline_at f.sites.items
   pub places : f.places ≡ map place_at f.sites.items

@@ -29,7 +29,7 @@ reaches Nowhere e = false
 reaches (At d) e = d == e
 reaches Everywhere e = true
 
--- An answer, if the call names no environment.
+-- The answer, unless an environment is named.
 abbrev pub unless_named : Option ℕ → Option Answer → Option Answer
 unless_named None a = a
 unless_named (Some e) a = None

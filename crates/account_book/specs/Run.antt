@@ -49,8 +49,8 @@ is_skipped (b ∷ bs) = b == 35
 abbrev pub new_book : Setup → Kept
 new_book setup = record { config = setup.config; salt = setup.salt; max_entries = setup.max_entries; history = [] }
 
--- The book of a setup, if its configuration has no fault (the first argument) and its maximum number of entries is
--- above the number of environments and at most 2^32.
+-- The book of a setup, given the fault of its configuration, if any: there must be none, and the maximum number of
+-- entries must be above the number of environments and at most 2^32.
 abbrev pub book_where : Option ConfigFault → Setup → Result Kept ScriptFault
 book_where (Some fault) setup = Err (InConfiguration fault)
 book_where None setup =

@@ -27,7 +27,7 @@ pub record IsReplyOf (config : Config) (most salt : ℕ) (call : Call) (reply : 
   pub reached : IsReached config most history
   pub is : IsReplyIn config salt history call reply
 
--- Two replies to calls are of one history that calls led to.
+-- Two replies, each to its call, are of one history that calls led to.
 pub record AreOfOne (config : Config) (most salt : ℕ) (call : Call) (reply : Reply) (call' : Call) (reply' : Reply)
     : Type 0 where
   pub history : List Entry
@@ -44,6 +44,6 @@ pub record IsRefusalOf (config : Config) (most : ℕ) (call : Call) (reply : Rep
   pub exactly : (refusal ≡ JournalFull) ↔ (full config most history call ≡ true)
   pub says : reply ≡ refusal_reply (is_invoke call) refusal
 
--- The reply to a call: it was taken or refused.
+-- The reply to a call, whether the call was taken or refused.
 abbrev pub IsReplyAt : Config → ℕ → ℕ → Call → Reply → Type 0
 IsReplyAt config most salt call reply = IsReplyOf config most salt call reply ⊎ IsRefusalOf config most call reply
