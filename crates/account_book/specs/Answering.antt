@@ -1,4 +1,4 @@
--- What answering a call takes, and what it leaves in force.
+-- The room that the answers to a call need, and the reservations that the call leaves in force.
 use Rattle.std.specs.Prelude.{◌≡◌, ℕ, ◌+◌, ◌*◌, ◌≤◌, true, if◌then◌else◌, List, [], ◌∷◌, length, Option, Some}
 use Rattle.arn_ids.specs.declared.config.Config.{Config}
 use Rattle.call_types.specs.declared.answer.Answer.{Answer}
@@ -12,41 +12,44 @@ use Rattle.concurrency_pool.specs.Numbers.{Numbers}
 use Rattle.concurrency_pool.specs.Pools.{may_reserve, with_reserved}
 use Rattle.call_types.specs.Within.{IsEnv}
 
--- For how many answers a call wants room: a Stop at every environment, any other call at one, where the call itself,
--- the
--- waiting call, the runtime's Next and that of each extension may get one; and for the book's own.
+-- The most answers that a call can give: the book's own answer, and the answers at each environment that the call
+-- reaches (every environment for a Stop, one for any other call), where the call itself, the waiting call, the
+-- runtime's Next and the Next of each extension may get one. `widest` is the greatest number of extensions of an
+-- environment.
 abbrev pub most_answers : ℕ → ℕ → Call → ℕ
 most_answers widest environments call = if is_stop call then 13 * environments + 1 else widest + 4
 
--- how many answers entries have
+-- The number of answers in all the entries together.
 abbrev pub answers_in : List Entry → ℕ
 answers_in [] = 0
 answers_in (entry ∷ entries) = length entry.answers + answers_in entries
 
--- the pool after a call and its own answer: a Reserve that is taken puts its reservation in force
+-- The pool after a call with this answer: a Reserve that is accepted puts its reservation in force, or removes it; any
+-- other call leaves the pool unchanged.
 abbrev pub in_force : Call → Option Answer → Numbers → Numbers
 in_force (Reserve f count) (Some (Reserved n)) pool = with_reserved pool f count
 in_force (Reserve f count) (Some Unreserved) pool = with_reserved pool f count
 in_force _ _ pool = pool
 
--- a reservation that may be taken of a function that there is
+-- A reservation that the pool allows, of a function that exists.
 abbrev pub IsAllowed : Numbers → ℕ → Option ℕ → Type 0
 IsAllowed pool f count = (1 ≤ f) × (f ≤ length pool.functions) × (may_reserve pool f count ≡ true)
 
--- a Reserve that is taken is one
+-- If the call is a Reserve and this answer accepts it, its reservation is allowed.
 abbrev pub IsInOrder : Numbers → Call → Option Answer → Type 0
 IsInOrder pool (Reserve f count) (Some (Reserved n)) = IsAllowed pool f count
 IsInOrder pool (Reserve f count) (Some Unreserved) = IsAllowed pool f count
 IsInOrder pool _ _ = Unit {0}
 
--- room for what an expiry is answered, with nothing in it yet
+-- An empty list with room for the answers that an expiry may give: the most extensions of an environment, and 4 more.
 abbrev pub IsRoom : ℕ → List (ℕ × Answer) × ℕ → Type 0
 IsRoom widest answers = (answers.0 ≡ []) × (widest + 4 ≤ answers.1)
 
--- no environment has more extensions than this
+-- No environment has more than `widest` extensions.
 abbrev pub IsNarrow : Config → List Entry → ℕ → Type 0
 IsNarrow config h widest = (e : ℕ) → IsEnv config e → length (stand config h e).members ≤ widest
 
+-- The first number of a list, or 0 if the list is empty.
 abbrev pub first_or_0 : List ℕ → ℕ
 first_or_0 [] = 0
 first_or_0 (x ∷ xs) = x

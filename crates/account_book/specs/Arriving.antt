@@ -1,4 +1,4 @@
--- A call that is about to be answered, by what is kept of the history before it.
+-- A call that is about to be answered, in terms of what is kept of the history before it.
 use Rattle.std.specs.Prelude.{◌≡◌, ℕ, ◌<◌, ◌≤◌, ◌^◌, List, [], length, reverse, Option, None}
 use Rattle.arn_ids.specs.declared.config.Config.{Config}
 use Rattle.arn_ids.specs.Environments.{owners}
@@ -16,8 +16,8 @@ use Rattle.account_book.specs.Answering.{most_answers}
 use Rattle.account_book.specs.Crew.{Crew}
 use Rattle.account_book.specs.Taking.{sites, request_counts, IsKnown, AllKnown}
 
--- A call at a moment after a history, with its place: the environments and the pool that are kept are what the history
--- says.
+-- A call at a moment after a history, with its place: the call may follow the history, and the environments and the
+-- pool that are kept are those of the history.
 pub record IsReady (config : Config) (h : List Entry) (now : ℕ) (call : Call) (place : Option ℕ) (all : List Site)
     (pool : Numbers) : Type 0 where
   pub legal : IsLegal config h
@@ -28,7 +28,9 @@ pub record IsReady (config : Config) (h : List Entry) (now : ℕ) (call : Call) 
   pub is : all ≡ sites config h
   pub pool_is : pool ≡ numbers config h
 
--- What a call needs that arrives at the environments: a ticket and counts of its own, and room for its answers.
+-- What holds when a call arrives at the environments: its ticket is the number of entries before it, which is below
+-- 2^32, and its moment is below 2^53; the counts of Invokes include it; and its list of answers is empty, with room
+-- for the most that it can give.
 pub record IsArriving (config : Config) (entries : List Entry) (arrival : Arrival) (place : Option ℕ) (crew : Crew)
     (answers : List (ℕ × Answer) × ℕ) : Type 0 where
   pub moment : arrival.moment < 2 ^ 53
@@ -40,7 +42,8 @@ pub record IsArriving (config : Config) (entries : List Entry) (arrival : Arriva
   pub room : most_answers crew.widest (length (owners config)) arrival.call.now ≤ answers.1
   pub empty : answers.0 ≡ []
 
--- What it leaves of them: they are what the history with the call says, and only a Register can make one the widest.
+-- What holds of the environments after the call: they are those of the history with the call, and only a Register can
+-- change the greatest number of extensions.
 pub record IsMoved (config : Config) (h : List Entry) (arrival : Arrival) (before after : Crew) : Type 0 where
   pub sites : after.sites ≡ sites config (entered config h arrival.moment arrival.call.now)
   pub widest : registered_name arrival.call.now ≡ None → after.widest ≡ before.widest

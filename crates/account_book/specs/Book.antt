@@ -3,8 +3,8 @@ use Rattle.std.specs.Prelude.{ℕ, List}
 use Rattle.arn_ids.specs.declared.config.Config.{Config}
 use Rattle.call_types.specs.declared.call.Entry.{Entry}
 
--- its configuration, the salt of its identifiers, how many entries it takes at most, and its history, the newest entry
--- first
+-- The contents of a book: its configuration, the salt of its identifiers, the most entries that it takes, and its
+-- history, the newest entry first.
 pub record Kept : Type 0 where
   pub config : Config
   pub salt : ℕ

@@ -1,4 +1,4 @@
--- What a journal keeps beside the entries, and what is true of it.
+-- What a journal keeps beside the entries, and what holds of every journal.
 use Rattle.std.specs.Prelude.{◌≡◌, ◌<◌, ◌^◌, None}
 use Rattle.std.specs.Arc.{arc_value}
 use Rattle.arn_ids.specs.Faults.{first_fault}
@@ -8,6 +8,7 @@ use Rattle.account_book.specs.declared.journal.Journal.TheInside.{Inside}
 use Rattle.account_book.specs.Pages.{Pages}
 use Rattle.account_book.specs.Taking.{AllKnown, sites, request_counts}
 
+-- A journal's contents as the book sees them.
 abbrev pub pages : Inside → Pages
 pages j = record {
   config = arc_value j.config;
@@ -16,7 +17,8 @@ pages j = record {
   widest = j.fleet.widest;
 }
 
--- the history is legal, and what is kept beside it is what it says
+-- What holds of every journal: its configuration has no fault, its history is legal, and what is kept beside the
+-- history agrees with it.
 pub record IsJournal (j : Inside) : Type 0 where
   pub sound : first_fault (arc_value j.config) ≡ None
   pub legal : IsLegal (arc_value j.config) j.ledger.history

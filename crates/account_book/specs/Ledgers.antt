@@ -1,4 +1,4 @@
--- The entries of an account with what is read off them.
+-- The entries of an account, with what is derived from them.
 use Rattle.std.specs.Prelude.{◌≡◌, ℕ, ◌+◌, ◌*◌, ◌≤◌, ◌^◌, List, length, reverse}
 use Rattle.call_types.specs.declared.call.Entry.{Entry}
 use Rattle.call_model.specs.Counts.{admitted, throttled, failed}
@@ -9,18 +9,20 @@ use Rattle.account_book.specs.declared.totals.Counters.{Counters}
 use Rattle.account_book.specs.Indexes.{answers_by_ticket}
 use Rattle.account_book.specs.Shelf.{Shelf}
 
+-- A ledger's contents as the journal sees them.
 abbrev pub shelf : Inside → Shelf
 shelf l = record { history = reverse l.entries.0; room = l.entries.1 }
 
--- what a history has admitted, throttled and failed
+-- The numbers of admitted, throttled and failed invocations of a history.
 abbrev pub totals : List Entry → Counters
 totals h = record { admitted = admitted h; throttled = throttled h; failed = failed h }
 
--- how many answers an entry has at most: 13 at each of 256 environments, and the call's own
+-- The most answers that an entry can have: 13 at each of 256 environments, and one of the account.
 abbrev pub answer_limit : ℕ
 answer_limit = 3329
 
--- what is kept beside the entries is what they say
+-- What holds of every ledger: what is kept beside the entries agrees with them, the counters are within their bounds,
+-- each list has the same room, and entries and room together are at most 2^32.
 pub record IsLedger (l : Inside) : Type 0 where
   pub counts_are : reverse l.counts.0 ≡ call_counts (reverse l.entries.0)
   pub given_is : l.given.0 ≡ answers_by_ticket (reverse l.entries.0)

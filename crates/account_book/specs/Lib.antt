@@ -1,18 +1,19 @@
--- The headline has no word of this crate. Its public contracts and laws have these.
--- A book as its callers see it, which histories it can have, and how far its service has come to its end.
+-- The specification of the headline uses no definition of this crate. The crate's public contracts and laws use the
+-- modules up to Answering.
+-- A book as its callers see it, which histories it can have, and how far the shutdown of its service has come.
 pub mod Book
 pub mod Reached
 pub mod Books
--- Texts: the history's, the reply to each call, and what a script comes to that is replayed.
+-- Texts: the history's, the reply to each call, and what the replay of a script writes.
 pub mod HistoryText
 pub mod ReplyText
 pub mod Run
--- Which Invokes are premature; for how many answers a call wants room.
+-- Which Invokes are premature, and how many answers a call needs room for.
 pub mod Premature
 pub mod Answering
--- What the code keeps beside the history, and how that meets it. Nobody need believe it: private contracts and the
--- invariants of types speak of it, and no public one does.
--- The environments, those that a call visits, and what it makes of them.
+-- What the code keeps beside the history, and how it agrees with it. These modules need not be trusted: private
+-- contracts and the invariants of types use them, and no public contract does.
+-- The environments, those that a call reaches, and what it changes there.
 pub mod Taking
 pub mod Arriving
 pub mod Crew
@@ -22,7 +23,7 @@ pub mod Reaches
 pub mod Pages
 pub mod Journals
 pub mod Room
--- The entries with what is read off them.
+-- The entries, with what is derived from them.
 pub mod Shelf
 pub mod Ledgers
 pub mod Indexes

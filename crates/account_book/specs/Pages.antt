@@ -3,8 +3,8 @@ use Rattle.std.specs.Prelude.{ℕ, List}
 use Rattle.arn_ids.specs.declared.config.Config.{Config}
 use Rattle.call_types.specs.declared.call.Entry.{Entry}
 
--- the configuration, the history, how many entries it takes without taking memory, and the most extensions that any
--- environment has had at once
+-- The configuration, the history, the number of entries that can be added without an allocation, and the most
+-- extensions that any environment has had at once.
 pub record Pages : Type 0 where
   pub config : Config
   pub history : List Entry

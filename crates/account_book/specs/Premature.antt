@@ -1,4 +1,4 @@
--- Which Invokes are premature: handed in a moment before an environment is ready again that could take them.
+-- Which Invokes are premature: handed in just before an environment that could take them is ready again.
 use Rattle.std.specs.Prelude.{ℕ, Bool, false, not, ◌&&◌, ◌==◌, List, Option, is_none}
 use Rattle.std.specs.List.{list_any}
 use Rattle.arn_ids.specs.declared.config.Config.{Config}
@@ -15,28 +15,31 @@ use Rattle.call_model.specs.Next.{due, moment_at, first}
 use Rattle.call_model.specs.Stand.{is_number}
 use Rattle.env_phase.specs.Taking.{has_answered}
 
--- Whether what the function own has in flight stands in the way of an Invoke of the function f that is refused for this
--- reason: at the account's limit each function without a reservation does, at its own reservation or where its
--- environments are taken it alone. A reservation of 0 admits nothing, whoever is ready.
+-- Whether what the function `own` has in flight is in the way of an Invoke of the function `f` that is refused for
+-- this reason; `reserved` is the reservation of `own`. At the account's limit, every function without a reservation is
+-- in the way; at the reservation of `f`, or if its environments are taken, `f` alone is. Nothing is in the way of an
+-- Invoke at a reservation of 0, which admits none.
 abbrev pub in_way : Throttle → ℕ → Option ℕ → ℕ → Bool
 in_way ByAccount f reserved own = is_none reserved
 in_way ByFunction f reserved own = (own == f) && not (is_number reserved 0)
 in_way ByEnvironments f reserved own = own == f
 
--- whether an environment that stands in the way has answered its invocation and is not ready again
+-- Whether an environment in the way of an Invoke that is refused for this reason has answered its invocation and is
+-- not ready again.
 abbrev pub is_awaited : Config → List Entry → ℕ → Throttle → Bool
 is_awaited config h f reason =
     list_any (λ e. has_answered (stand config h e)
     && in_way reason f (reservation config h (function_of config e)) (function_of config e))
     (environments config)
 
--- the same by the verdict on the Invoke
+-- The same, given the verdict on the Invoke: only a refused one has an environment in its way.
 abbrev pub awaits : Config → List Entry → ℕ → Verdict → Bool
 awaits config h f (Refuses reason) = is_awaited config h f reason
 awaits config h f _ = false
 
--- Premature: an Invoke that would be throttled at this moment, while an environment that stands in its way has answered
--- and is not ready again. Where an environment is due first, no call is: that may end what stands in the way.
+-- Whether a call is premature: it is an Invoke that would be throttled at this moment, while an environment in its way
+-- has answered its invocation and is not ready again. If an environment is due, no call is premature, since the expiry
+-- may clear the way.
 unfoldable pub premature : Config → List Entry → ℕ → Call → Bool
 premature config h now (Invoke f qualified trace body) =
     is_none (first (due config h (moment_at h now))) && awaits config h f (verdict config h f)

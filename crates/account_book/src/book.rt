@@ -91,8 +91,9 @@ pub enum Life {
     Off,
 }
 
-/// The journal of one account. Its history is legal: the answers, the place and the moment of each
-/// entry are those that the entries before it and its call determine.
+/// The journal of one account. Its history is legal: moments never go back, what is due expires before
+/// any other call is taken, and the answers and the place of each entry are those that the entries
+/// before it, its moment and its call determine.
 #[derive(Drop)]
 pub struct Book {
     journal: Journal,

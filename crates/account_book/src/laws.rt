@@ -43,8 +43,8 @@ pub fn replays()
         → run (history_text config salt max_entries h) ≡ record { text = answers_text salt h; fault = None } }
 {}
 
-/// The replay makes the same history again: a script that begins with the text goes on from a book with
-/// that history, and with the same configuration, salt and maximum number of entries.
+/// The replay makes the same history again: a script that begins with the text continues with a book that
+/// has this history, and the same configuration, salt and maximum number of entries.
 pub fn goes_on()
     ensures { (config : Config) (salt max_entries : ℕ) (h : List Entry) (more : List ℕ)
         → IsBooked config salt max_entries → IsReached config max_entries h

@@ -16,67 +16,67 @@ use Rattle.account_lock.specs.declared.fault.SettleFault.TheVariants.{TallyMissi
 use Rattle.account_lock.specs.declared.fault.SettleFault.TheVariants.{ReceiptDiffers, ReceiptMissing}
 use Rattle.account_lock.specs.declared.fault.SettleFault.TheVariants.{CallDiffers}
 
--- the head of a call that somebody made; none of an expiry
+-- The head of a call that a caller made; an expiry has none.
 abbrev pub made : Call → Option Head
 made call = if is_expiry call then None else Some (head_of call)
 
--- the head of the call with a ticket; none past the end, and none of an expiry
+-- The head of the call with a ticket; past the end there is none, and an expiry has none.
 abbrev pub head_at : List Entry → ℕ → Option Head
 head_at h t = made (call_of h t)
 
--- the pairs with a ticket have what is wanted there
+-- Each pair with this ticket has what is wanted there.
 abbrev pub Agree : {X : Type 0} → (ℕ → Option X) → List (ℕ × X) → ℕ → Type 0
 Agree wanted pairs t = All (λ pair. pair.0 ≡ t → wanted t ≡ Some pair.1) pairs
 
--- the same of this part of what each tally keeps
+-- The same of this part of what each tally keeps.
 abbrev pub AllAgree : {X : Type 0} → (ℕ → Option X) → (Kept → List (ℕ × X)) → List Tallied → ℕ → Type 0
 AllAgree wanted part tallies t = All (λ tally. Agree wanted (part tally.held.kept) t) tallies
 
--- a ticket stands behind no greater one
+-- In the list, the ticket does not follow a greater one.
 abbrev pub Rises : {X : Type 0} → List (ℕ × X) → ℕ → Type 0
 Rises [] t = Unit {0}
 Rises (pair ∷ pairs) t = (t < pair.0 → times t pairs ≡ 0) × Rises pairs t
 
--- in a tally that no join made, a ticket stands behind no greater one
+-- If no join made the tally, the ticket does not follow a greater one in what it keeps.
 abbrev pub RisesUnjoined : Tallied → ℕ → Type 0
 RisesUnjoined tally t = tally.held.joined ≡ false → Rises tally.held.kept.calls t
 
--- so it is in each of them
+-- The same of each tally.
 abbrev pub AllRise : List Tallied → ℕ → Type 0
 AllRise tallies t = All (λ tally. RisesUnjoined tally t) tallies
 
--- Each receipt of a ticket is the history's answer.
+-- Each receipt of the ticket is the history's answer.
 abbrev pub ReceiptsAgree : List Entry → List Tallied → ℕ → Type 0
 ReceiptsAgree h = AllAgree (answer_of h) (λ kept. kept.receipts)
 
--- An answered ticket has a receipt.
+-- If the ticket was answered, it has a receipt.
 abbrev pub HasReceipt : List Entry → List Tallied → ℕ → Type 0
 HasReceipt h tallies t = answered h t ≡ true → 1 ≤ receipts_of t tallies
 
--- What tallies keep of the call with a ticket is right: each kept head is its entry's; it stands once at
--- most; in a tally that no join made it stands behind no greater ticket; and where all are kept, a call that
--- somebody made is there.
+-- What tallies keep of the call with a ticket is right: each kept head is that of the entry; it is kept at most once;
+-- in a tally that no join made, it comes after no greater ticket; and if all calls should be kept, a call that is not
+-- an expiry is kept.
 pub record CallsAgree (all : Bool) (h : List Entry) (tallies : List Tallied) (t : ℕ) : Type 0 where
   pub heads : AllAgree (head_at h) (λ kept. kept.calls) tallies t
   pub once : calls_of t tallies ≤ 1
   pub rising : AllRise tallies t
   pub kept : all ≡ true → is_some (head_at h t) ≡ true → 1 ≤ calls_of t tallies
 
--- What tallies keep is right at each ticket.
+-- What tallies keep is right at each ticket; if all should be kept, each answer has a receipt.
 pub record IsKept (all : Bool) (h : List Entry) (tallies : List Tallied) : Type 0 where
   pub receipts : (t : ℕ) → ReceiptsAgree h tallies t
   pub answered : all ≡ true → (t : ℕ) → HasReceipt h tallies t
   pub calls : (t : ℕ) → CallsAgree all h tallies t
 
--- Settled: the tallies have all parts, so they have counted what the history counts; and what they keep is
--- right.
+-- Settled: the tallies have all 2^32 parts of each ledger, they have counted what the history counts, and what they
+-- keep is right.
 pub record IsSettled (all : Bool) (h : List Entry) (tallies : List Tallied) : Type 0 where
   pub parts : parts_in tallies ≡ 2 ^ 32
   pub counts : counts_in tallies ≡ counts_of h
   pub kept : IsKept all h tallies
 
--- The cause of each fault. None that stands before it in this list is there, want of memory aside, and its
--- ticket is the least.
+-- The cause of each fault, in the order of the faults: no fault above it holds, lack of memory aside, and its ticket
+-- is the least at which it holds.
 abbrev pub IsFault : Bool → SettleFault → List Entry → List Tallied → Type 0
 IsFault all TallyMissing h tallies = parts_in tallies ≢ 2 ^ 32
 IsFault all OutOfMemory h tallies = parts_in tallies ≡ 2 ^ 32

@@ -1,4 +1,4 @@
--- What an account shows to those who read it under its lock: what a history says that calls led to.
+-- What an account shows under its lock: what holds in a history that calls led to.
 use Rattle.std.specs.Prelude.{◌≡◌, ◌+◌, ◌<◌, ◌≤◌, ℕ, false, List, Option, Some, None, length, reverse}
 use Rattle.std.specs.Prelude.{slice_index_or}
 use Rattle.arn_ids.specs.declared.config.Config.{Config}
@@ -12,18 +12,18 @@ use Rattle.account_book.specs.Book.{Kept}
 use Rattle.account_book.specs.Reached.{IsReached}
 use Rattle.shared_history.specs.Sharing.{Extends}
 
--- a book with this configuration, salt, greatest number of entries and history
+-- A book with this configuration, salt, maximum number of entries and history.
 abbrev pub book_of : Config → ℕ → ℕ → List Entry → Kept
 book_of config salt most h = record { config = config; salt = salt; max_entries = most; history = h }
 
--- What a thread sees under the lock: a history that calls led to, each of which a book of at most so many entries
--- takes, and that goes on where the one ends that it saw before.
+-- What a thread sees under the lock: a history that calls led to, each of which a book of at most `most` entries
+-- takes, and that extends the history that the thread saw before.
 pub record Sees (config : Config) (most : ℕ) (before h : List Entry) : Type 0 where
   pub later : Extends before h
   pub reached : IsReached config most h
 
--- A call was taken at a moment, from who had seen this much of the history: it made the next history of one that goes
--- on there and has room for it, and is its newest call, at its ticket.
+-- A call of a caller that had seen the history `had` was taken at a moment. The call found a history that extends
+-- `had` and has room for the call, and made the next one, in which it is the newest entry, at its ticket.
 pub record IsTaken (config : Config) (most : ℕ) (had : List Entry) (now : ℕ) (call : Call) (ticket : ℕ)
     (h : List Entry) : Type 0 where
   pub before : List Entry
@@ -33,7 +33,7 @@ pub record IsTaken (config : Config) (most : ℕ) (had : List Entry) (now : ℕ)
   pub newest : ticket + 1 ≡ length h
   pub stands : call_of h ticket ≡ call
 
--- a text is that of a history's entry with a ticket; none where the history ends before it
+-- The text is that of the history's entry with a ticket; there is none if the history ends before the ticket.
 abbrev pub IsTextOf : Config → ℕ → ℕ → Option (List ℕ) → List Entry → Type 0
 IsTextOf config salt ticket None h = length h ≤ ticket
 IsTextOf config salt ticket (Some text) h =

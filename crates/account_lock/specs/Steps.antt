@@ -1,4 +1,4 @@
--- What a desk makes of a call, and what comes back of one that it does not take.
+-- What a call changes in a desk, and what is returned of a call that the desk does not take.
 use Rattle.std.specs.Prelude.{◌≡◌, ◌+◌, ◌↔◌, ℕ, true, false, Option, length}
 use Rattle.account_book.specs.declared.book.Refusal.TheVariants.{JournalFull}
 use Rattle.call_types.specs.declared.answer.Answer.{Answer}
@@ -14,10 +14,10 @@ use Rattle.account_lock.specs.declared.desk.Step.{Step}
 use Rattle.account_lock.specs.declared.offering.Declined.{Declined}
 use Rattle.account_lock.specs.declared.offering.Declined.TheVariants.{Premature, Refused}
 
--- A desk took a call at a moment, with this bell, from a caller whose tally held this: its book had room for the call,
--- and has taken it. The newest entry is the call's, at its ticket. The bells of the tickets that were answered are
--- handed out, in the order of the answers, and the others stay. The tally has counted what the new entries count, and
--- has noted their answers in order, and then the head of the call.
+-- A desk took a call at a moment, with this bell, from a caller whose tally held `had`. The book had room for the
+-- call, and has taken it; the newest entry is the call's, at its ticket. The bells of the tickets that were answered
+-- are handed out, in the order of the answers, and the others stay. The tally has counted what the new entries count,
+-- and has noted their answers in order, and then the head of the call.
 pub record IsStep {B : Type 0} (notes : Kept → ℕ → Answer → Kept → Type 0) (makes : Kept → ℕ → Head → Kept → Type 0)
     (desk : Opened B) (had : Held) (now : ℕ) (call : Call) (bell : Option B) (step : Step B) (after : Opened B)
     (held : Held) : Type 0 where
@@ -29,14 +29,14 @@ pub record IsStep {B : Type 0} (notes : Kept → ℕ → Answer → Kept → Typ
   pub keeps : (between : Kept) × Steps notes had.kept (given (added_to desk.book now call)) between
       × makes between step.ticket (head_of call) held.kept
 
--- A desk refused a call: its bell comes back, and the journal is said to be full exactly if it has no room for the
+-- A desk refused a call: its bell is returned, and the refusal is JournalFull exactly if the book has no room for the
 -- call.
 abbrev pub IsRefusal : {B : Type 0} → Opened B → Call → Option B → TheRefused B → Type 0
 IsRefusal desk call bell back =
     (back.bell ≡ bell) × ((back.refusal ≡ JournalFull) ↔ (is_full desk.book call ≡ true))
 
--- A desk did not take a call that was offered: it is premature, and comes back with its bell; or it is not, and was
--- refused.
+-- A desk did not take a call that was offered: the call is premature, and is returned with its bell; or it is not
+-- premature, and was refused.
 abbrev pub IsHandedBack : {B : Type 0} → Opened B → ℕ → Call → Option B → Declined B → Type 0
 IsHandedBack desk now call bell (Premature other back) =
     (other ≡ call) × (back ≡ bell) × (comes_early desk.book now call ≡ true)

@@ -1,4 +1,4 @@
--- What comes of a call that is submitted to an account, or offered.
+-- The result of a call that is submitted to an account, or offered.
 use Rattle.std.specs.Prelude.{◌≡◌, ◌+◌, ◌↔◌, ℕ, true, false, List, Option}
 use Rattle.account_book.specs.Premature.{premature}
 use Rattle.account_book.specs.declared.book.Refusal.{Refusal}
@@ -16,8 +16,9 @@ use Rattle.account_lock.specs.Tallying.{HasPartsOf, KeepsCall}
 use Rattle.account_lock.specs.declared.offering.Declined.{Declined}
 use Rattle.account_lock.specs.declared.offering.Declined.TheVariants.{Premature, Refused}
 
--- A call was taken, by who had seen this much and held this: it stands in the history at its ticket. The tally counts
--- one call more, has its parts as before, and has noted some answers and then the head of this call at its ticket.
+-- A call was taken from a caller that had seen the history `had`, and whose tally held `before`: the call is in the
+-- history at its ticket. The tally counts one call more, has the same parts, and has noted some answers and then the
+-- head of this call at its ticket.
 pub record Took (config : Config) (most : ℕ) (notes : Kept → ℕ → Answer → Kept → Type 0)
     (makes : Kept → ℕ → Head → Kept → Type 0) (had : List Entry) (before : Held) (now : ℕ) (call : Call) (ticket : ℕ)
     (h : List Entry) (after : Held) : Type 0 where
@@ -26,14 +27,15 @@ pub record Took (config : Config) (most : ℕ) (notes : Kept → ℕ → Answer 
   pub parts : HasPartsOf before after
   pub keeps : KeepsCall notes makes before call ticket after
 
--- A call was refused, from who has then seen this history: as the journal is full exactly if that has no room for it.
+-- A call was refused to a caller that has then seen this history: the refusal is JournalFull exactly if the history
+-- has no room for the call.
 pub record IsTurnedAway (config : Config) (most : ℕ) (had : List Entry) (call : Call) (refusal : Refusal)
     (h : List Entry) : Type 0 where
   pub sees : Sees config most had h
   pub exactly : (refusal ≡ JournalFull) ↔ (full config most h call ≡ true)
 
--- A call that was offered was not taken, from who has then seen this history: it is premature there, and comes back
--- with its bell; or it is not, and was refused, and its bell comes back.
+-- A call that was offered was not taken, and its caller has then seen this history: the call is premature there, and
+-- is returned with its bell; or it is not premature, and was refused, and its bell is returned.
 abbrev pub IsDeclined : {B : Type 0} → Config → ℕ → List Entry → ℕ → Call → Option B → Declined B → List Entry
     → Type 0
 IsDeclined config most had now call bell (Premature other back) h =

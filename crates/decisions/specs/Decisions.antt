@@ -8,18 +8,19 @@ use Rattle.decisions.specs.declared.decide.Shown.TheVariants.{Stats, History, Re
 use Rattle.decisions.specs.declared.decide.Decision.{Decision}
 use Rattle.decisions.specs.declared.decide.Decision.TheVariants.{Submit, Reply, Show}
 
--- what is shown is there
+-- What is shown exists: a reservation is that of a function of the configuration.
 abbrev pub IsThere : Config → Shown → Type 0
 IsThere config Stats = Unit {0}
 IsThere config (History from) = Unit {0}
 IsThere config (Reservation f) = IsFunction config f
 
--- A call is within the limits of the configuration, as a book requires it of each call; what is shown is there.
+-- A decision that an account can carry out: its call is within the limits of the configuration, as a book requires of
+-- each call, and what it shows exists.
 abbrev pub IsAllowed : Config → Decision → Type 0
 IsAllowed config (Submit call) = IsWithin config call
 IsAllowed config (Reply reply) = Unit {0}
 IsAllowed config (Show shown) = IsThere config shown
 
--- It is what is decided by each body that is longer than a body may be.
+-- The decision is that on every body that is longer than a body may be.
 abbrev pub IsForTooLong : (List ℕ → Decision → Type 0) → Decision → Type 0
 IsForTooLong decides decision = (body : List ℕ) → longest_body < length body → decides body decision

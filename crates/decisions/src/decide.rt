@@ -18,9 +18,9 @@ use std::alloc::{AllocError, Global};
 pub enum Shown {
     /// The counts of the account.
     Stats,
-    /// The text of its history.
+    /// The text of the account's history.
     History {
-        /// The ticket of the entry that it begins with; none: it is whole.
+        /// The ticket of the entry that the text begins with; none for the whole history.
         from: Option<Ticket>,
     },
     /// A function's reservation in force (Lambda API, GetFunctionConcurrency).
@@ -35,22 +35,22 @@ pub enum Shown {
 pub enum Decision {
     /// The call is submitted, and its answer is the reply.
     Submit(Call),
-    /// The request is refused before there is a call.
+    /// The request is refused with this reply, before there is a call.
     Reply(Reply),
-    /// Nothing is called.
+    /// Something of the account is shown, without a call.
     Show(Shown),
 }
 
-/// Who decides requests: for one configuration, by a relation of its own.
+/// Decides requests for one configuration, by a relation that the implementation names.
 pub trait Decide {
-    /// The decider, the head of a request, its body, and what is done with it.
+    /// Relates the decider, the head of a request, its body, and what is done with the request.
     ghost decides: { Self → Head → List ℕ → Decided → Type 0 };
 
     /// The configuration that it decides for.
     ghost decides_for: { Self → Config };
 
-    /// What is done with a request of this head and body, whose bytes a call shares. A payload is read
-    /// in the scratch's room. The only error is want of memory.
+    /// Returns what is done with a request with this head and body. A call shares the bytes of the body.
+    /// A payload is read in the scratch space. The only error is lack of memory.
     fn decide(
         &self,
         alloc: Global,
@@ -59,11 +59,11 @@ pub trait Decide {
         body: &Bytes,
     ) -> Result<Decision, AllocError>
         ensures decision { IfOk result (λ decision. decides self.now parts.now body.now decision) }
-        // A call is one that the account's book takes, and a function that is shown is there.
+        // A call is within the limits of the configuration, and a function that is shown exists.
         ensures allowed { IfOk result (IsAllowed (decides_for self.now)) };
 
-    /// What is done with a request of this head whose body is longer than 6,291,456 bytes, whatever they
-    /// are. The only error is want of memory.
+    /// Returns what is done with a request with this head, whose body is longer than 6,291,456 bytes,
+    /// whatever these are. The only error is lack of memory.
     fn decide_too_long(&self, alloc: Global, parts: &Parts) -> Result<Decision, AllocError>
         ensures decision_too_long { IfOk result (IsForTooLong (decides self.now parts.now)) }
         ensures allowed_too_long { IfOk result (IsAllowed (decides_for self.now)) };

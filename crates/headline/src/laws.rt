@@ -53,16 +53,17 @@ pub fn never_local()
 /// Reserve names, gets what it would get in an account where no other function is called and the clock ticks
 /// at the same moments. (Lambda Developer Guide: reserved concurrency)
 pub fn isolated()
-    // Its own history is legal, except that something may be due at a Tick. That history has the answers of the
-    // whole one, so this clause says that they are the right ones in an account without other callers.
+    // The function's own history is legal, except that something may be due at a Tick. It has the answers of
+    // the whole history, so this clause says that they are right in an account without other callers.
     ensures legal { (config : Config) (h : List Entry) (f limit : ℕ) → IsLegal config h
         → (function_at config f).reserved ≡ Some limit → IsUnnamed f h → IsLegalSave config (own config h f) }
-    // There each ticket of the function has the same reply: status, headers and body, with all identifiers.
+    // In it each ticket of the function has the same reply: status, headers and body, with all identifiers.
     ensures replies { (config : Config) (salt : ℕ) (h : List Entry) (f t : ℕ) → IsLegal config h
         → own_ticket config h f t ≡ true → reply_text config salt (own config h f) t ≡ reply_text config salt h t }
 {}
 
-/// A Tick leaves every environment as it is: what time changes is entered as an expiry of its own.
+/// A Tick leaves every environment as it is: each change that time brings is an expiry, with an entry of its
+/// own.
 pub fn ticks_change_nothing()
     ensures { (config : Config) (h : List Entry) (entry : Entry) (e : ℕ) → IsLegal config (entry ∷ h)
         → entry.call ≡ Tick

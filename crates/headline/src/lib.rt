@@ -1,5 +1,5 @@
 //! The headline as one statement (`specs/Headline.antt`): what holds of an account's history whenever no
-//! step is in progress; and the calls that state it of their own history.
+//! step is in progress; and the calls that state it of the history of a book, a desk or an account.
 #![tactic(auto)]
 
 pub mod laws;

@@ -1,4 +1,4 @@
-//! The calls that state the headline of their own history.
+//! The calls that state the headline of the history of what they read.
 
 ghost use Rattle.std.specs.Prelude.{◌≡◌, ◌≢◌, ◌^◌, [], true, false, IfOk, IfErr};
 ghost use Rattle.std.specs.List.{list_all};
@@ -36,7 +36,7 @@ pub fn of_desk<B: Bell, L: Ledgers>(desk: &Desk<B, L>) -> Stats
 }
 
 /// Returns the counts of a running account, in its history as it is, which the token has then seen. This
-/// history continues the one that the token had seen before, and the headline holds of it with the counts.
+/// history extends the one that the token had seen before, and the headline holds of it with the counts.
 pub fn of_account<S: Identity, B: Bell>(
     account: &Account<S, B>,
     rt: &impl Wait,
@@ -49,7 +49,7 @@ pub fn of_account<S: Identity, B: Bell>(
     account.stats(rt, token)
 }
 
-/// Settles an account, which no thread shares any more: the headline holds of its history, and all tallies
+/// Settles an account that threads no longer share: the headline holds of its history, and all tallies
 /// together have counted what that history counts.
 ///
 /// # Errors

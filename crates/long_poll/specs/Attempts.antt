@@ -13,12 +13,12 @@ use Rattle.long_poll.specs.declared.connection.Connection.{Connection}
 use Rattle.long_poll.specs.declared.service.Service as Service
 use Rattle.usage_ledger.specs.declared.keep.Keep as Keep
 
--- It comes back only if it may still be held back.
+-- An attempt returns a call to be held back only if there is time left for it.
 abbrev pub IsPatient : {L : Type 0} → ℕ → Attempt L → Type 0
 IsPatient left (Made back) = Unit {0}
 IsPatient left (HeldBack call bell) = 0 < left
 
--- If it is held back again, then for a shorter time than before.
+-- If a call is held back again, less time is left for it than before.
 abbrev pub IsNearer : {L : Type 0} → ℕ → Begun L → Type 0
 IsNearer left (Replied reply) = Unit {0}
 IsNearer left (Dozes held) = held.left < left
@@ -28,7 +28,7 @@ IsNearer left (Parked ticket heard token) = Unit {0}
 module _ {R S D N K L : Type 0} {service : Service.Ghosts S K L} {decider : Decide.Ghosts D}
     {keep : Keep.Ghosts K} (connection : Connection R S D N K L service decider keep)
     (clock : Clock.Ghosts N) where
-  -- It was submitted with this bell, or it comes back with it.
+  -- The call was submitted with this bell, or is returned with it.
   abbrev pub IsAttempt : OneShotBell → Call → Attempt L → Type 0
   IsAttempt bell call (Made back) = SubmittedWith connection clock bell call back
   IsAttempt bell call (HeldBack other its) = (other ≡ call) × (its ≡ bell)

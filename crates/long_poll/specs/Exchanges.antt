@@ -1,4 +1,4 @@
--- What an exchange may give.
+-- What an exchange may return.
 use Rattle.std.specs.Prelude.{◌≡◌, ◌≤◌, ◌<◌, ◌⊎◌, ℕ, true, List, length, Option, Some, None, Result, Ok, Err}
 use Rattle.std.specs.Arc.{arc_value}
 use Rattle.arn_ids.specs.Limits.{longest_body}
@@ -39,14 +39,14 @@ use Rattle.long_poll.specs.declared.outcome.Outcome.TheVariants as outcome
 use Rattle.long_poll.specs.declared.service.Service as Service
 use Rattle.usage_ledger.specs.declared.keep.Keep as Keep
 
--- What is rendered at a ticket; if nothing is, the fault of a lost bell.
+-- What is rendered at a ticket; if nothing is, the fault is that of a lost bell.
 abbrev pub Renders : (ℕ → Option Reply → Type 0) → ℕ → Result Reply ExchangeFault → Type 0
 Renders renders ticket (Ok reply) = renders ticket (Some reply)
 Renders renders ticket (Err BellLost) = renders ticket None
 Renders renders ticket (Err OutOfMemory) = Unit {0}
 Renders renders ticket (Err BodyFailed) = ⊥
 
--- Something was heard, as what hears it may give it, and this is rendered at the ticket.
+-- Something was heard, which `hears` allows, and this is rendered at the ticket.
 abbrev pub RendersOnce : {O : Type 0} → (O → Type 0) → (ℕ → Option Reply → Type 0) → ℕ
     → Result Reply ExchangeFault → Type 0
 RendersOnce {O} hears renders ticket result = ((said : O) × hears said) × Renders renders ticket result
@@ -58,8 +58,8 @@ Awaits renders ticket (Ok (outcome.Reply reply)) = Renders renders ticket (Ok re
 Awaits renders ticket (Ok (outcome.History body)) = ⊥
 Awaits renders ticket (Err fault) = Renders renders ticket (Err fault)
 
--- It holds of what was read of a body of which this is held already; or, if the head declares a body that is too
--- long, of each such body, and nothing is read of it.
+-- The property holds of what was read of a body, of which the bytes `held` are held already; or the head declares a
+-- body that is too long, none of it is read, and the property holds of each body that is too long.
 abbrev pub IsOfBody : {P E : Type 0} → (P → List ℕ → Type 0) → Runs (Result (Frame P) E) → Parts → List ℕ
     → (List ℕ → Type 0) → Type 0
 IsOfBody reads source head held is =
@@ -69,40 +69,41 @@ IsOfBody reads source head held is =
 -- Of a connection: its account, its clock and who decides its requests, each by the relations of its trait.
 module _ {R S D N K L : Type 0} {service : Service.Ghosts S K L} {decider : Decide.Ghosts D}
     {keep : Keep.Ghosts K} (connection : Connection R S D N K L service decider keep) where
-  -- What its account renders at a ticket, to who had seen so much of the history.
+  -- What the connection's account renders at a ticket, to a token that has seen this beginning of the history.
   abbrev pub shown : List Entry → ℕ → Option Reply → Type 0
   shown seen ticket reply =
       (then : List Entry) × service.renders (arc_value connection.service) seen ticket reply then
 
-  -- A call that is held back is one for its account, and its bell can be heard. Each pause takes some time.
+  -- What holds of a call that is held back: it is within the limits of the account's configuration, its bell can be
+  -- heard, and each pause takes some time.
   abbrev pub IsHeld : Dozing → Type 0
   IsHeld held =
       IsWithin (service.serves (arc_value connection.service)) held.call
       × (rings_at held.bell ≡ hears_at held.heard) × (1 ≤ held.pause)
 
-  -- What is decided of a request with this head and this body.
+  -- What is decided about a request with this head and this body.
   abbrev pub Decides : Parts → List ℕ → Decision → Type 0
   Decides head body made = decider.decides (arc_value connection.decider) head body made
 
-  -- The counts that its account shows, to who had seen some of the history.
+  -- The account shows these counts to some token.
   abbrev pub Counts : Counted → Type 0
   Counts stats =
       (seen : List Entry) × (then : List Entry) × service.counts (arc_value connection.service) seen stats then
 
-  -- A function's reservation that it shows so.
+  -- The account shows this reservation of a function to some token.
   abbrev pub Reserves : ℕ → Option ℕ → Type 0
   Reserves f count =
       (seen : List Entry) × (then : List Entry) × service.reserves (arc_value connection.service) seen f count then
 
-  -- The reply shows what is asked for, as the account gives it. A history is shown by a body, and by no
-  -- reply.
+  -- The reply shows what is asked for, as the account gives it. A history is shown by a body that is streamed, never
+  -- by a reply.
   abbrev pub IsView : Shown → Reply → Type 0
   IsView Stats reply = (stats : _) × Counts stats × (reply ≡ stats_reply stats)
   IsView (History from) reply = ⊥
   IsView (Reservation f) reply = (count : Option ℕ) × Reserves f count × (reply ≡ reservation_reply count)
 
   module _ (clock : Clock.Ghosts N) where
-    -- A call was submitted at a reading of the clock, with a bell, and this came back.
+    -- A call was submitted at a reading of the clock, with a bell, and this was the result.
     pub record Submitted (call : Call) (back : CameBack) : Type 0 where
       pub reading : ℕ
       pub read : clock.reads (arc_value connection.clock) reading
@@ -118,8 +119,8 @@ module _ {R S D N K L : Type 0} {service : Service.Ghosts S K L} {decider : Deci
     abbrev pub SubmittedWith : OneShotBell → Call → CameBack → Type 0
     SubmittedWith bell call back = (submitted : Submitted call back) × (submitted.bell ≡ bell)
 
-    -- A call was submitted, and this is rendered at the ticket that it got, to who had seen the history that
-    -- it made.
+    -- A call was submitted, and this is rendered at the ticket that it got, to a token that has seen the history that
+    -- the call made.
     abbrev pub IsRendered : Call → Option Reply → Type 0
     IsRendered call rendered =
         (ticket : ℕ) × (seen : List Entry) × Submitted call (Ok (ticket, seen)) × shown seen ticket rendered
@@ -130,7 +131,7 @@ module _ {R S D N K L : Type 0} {service : Service.Ghosts S K L} {decider : Deci
         (refused : Refused OneShotBell) × Submitted call (Err refused)
         × (reply ≡ refusal_reply (is_invoke call) refused.refusal)
 
-    -- A call was submitted, has this ticket and made this history, and this hears the bell that went with
+    -- A call was submitted, got this ticket and made this history, and `heard` hears the bell that was submitted with
     -- it.
     abbrev pub IsParked : Call → ℕ → Heard → List Entry → Type 0
     IsParked call ticket heard seen =
@@ -142,21 +143,21 @@ module _ {R S D N K L : Type 0} {service : Service.Ghosts S K L} {decider : Deci
         (ticket : ℕ) × (heard : Heard) × (seen : List Entry) × IsParked call ticket heard seen
         × shown seen ticket None
 
-    -- A call was submitted: it was refused and has its reply, or it has its ticket. Or it is this very call that is
-    -- held back.
+    -- How far a call has come: it was submitted, and was refused and has its reply, or has its ticket; or this very
+    -- call is held back.
     abbrev pub IsBegun : Call → Begun L → Type 0
     IsBegun call (Replied reply) = IsRefusal call reply
     IsBegun call (Dozes held) = (held.call ≡ call) × IsHeld held
     IsBegun call (AsksForHistory from) = ⊥
     IsBegun call (Parked ticket heard token) = IsParked call ticket heard token
 
-    -- The reply to a request, by what is done with it.
+    -- The reply to a request, given what is decided about it.
     abbrev pub IsReply : Decision → Reply → Type 0
     IsReply (decision.Submit call) reply = IsRendered call (Some reply) ⊎ IsRefusal call reply
     IsReply (decision.Reply own) reply = reply ≡ own
     IsReply (decision.Show shown) reply = IsView shown reply
 
-    -- What a request with this head and this body has come to.
+    -- How far a request with this head and this body has come.
     abbrev pub HasBegun : Parts → List ℕ → Begun L → Type 0
     HasBegun head body (Replied reply) = (made : Decision) × Decides head body made × IsReply made reply
     HasBegun head body (Dozes held) = Decides head body (decision.Submit held.call) × IsHeld held
@@ -164,7 +165,7 @@ module _ {R S D N K L : Type 0} {service : Service.Ghosts S K L} {decider : Deci
     HasBegun head body (Parked ticket heard token) =
         (call : Call) × Decides head body (decision.Submit call) × IsParked call ticket heard token
 
-    -- What comes of a call once it was held back: it is submitted.
+    -- The result of a call that was held back: it was submitted in the end, or an allocation failed.
     abbrev pub ComesOfCall : {H : Type 0} → Call → Result (Outcome H) ExchangeFault → Type 0
     ComesOfCall call (Ok (outcome.Reply reply)) = IsRendered call (Some reply) ⊎ IsRefusal call reply
     ComesOfCall call (Ok (outcome.History shown)) = ⊥
@@ -173,9 +174,9 @@ module _ {R S D N K L : Type 0} {service : Service.Ghosts S K L} {decider : Deci
     ComesOfCall call (Err BodyFailed) = ⊥
 
     module _ {H : Type 0} (shows : Option ℕ → H → Type 0) where
-      -- What comes of a request with this head and this body: a reply, or, if the history is asked for, a body
-      -- that shows it from there on. The fault of a lost bell comes only if its call was submitted and nothing
-      -- is rendered at the ticket; that the bell was heard before is not said.
+      -- The result of a request with this head and this body: a reply, or, if the history is asked for, a body that
+      -- shows it from there on. The fault of a lost bell is returned only if the call was submitted and nothing is
+      -- rendered at its ticket; that the bell was heard before is not stated.
       abbrev pub ComesOf : Parts → List ℕ → Result (Outcome H) ExchangeFault → Type 0
       ComesOf head body (Ok (outcome.Reply reply)) =
           (made : Decision) × Decides head body made × IsReply made reply
@@ -186,8 +187,8 @@ module _ {R S D N K L : Type 0} {service : Service.Ghosts S K L} {decider : Deci
       ComesOf head body (Err OutOfMemory) = Unit {0}
       ComesOf head body (Err BodyFailed) = ⊥
 
-      -- What comes of a request with this head, and with a body of which this is held already: the body
-      -- failed, or it is what comes of the head and of the body.
+      -- The result of a request with this head, and with a body of which the bytes `held` are held already: the body
+      -- failed, an allocation failed, or it is a result of the head and the body.
       abbrev pub Exchanges : {P E : Type 0} → (P → List ℕ → Type 0) → Runs (Result (Frame P) E) → Parts
           → List ℕ → Result (Outcome H) ExchangeFault → Type 0
       Exchanges reads source head held (Err BodyFailed) = Fails source

@@ -1,5 +1,5 @@
--- What an exchange makes of a request, from the outside in. `Replies` is the law to read first: what an exchange over
--- an account gives to a call. Public contracts have the words of these.
+-- What an exchange does with a request, from the outside in: public contracts use these modules. Read `Replies` first;
+-- it defines the replies that an exchange over an account gives to a call.
 pub mod Exchanges
 pub mod Replies
 pub mod Outcomes
@@ -8,16 +8,15 @@ pub mod Answers
 pub mod Submits
 pub mod Offers
 pub mod Reads
--- The texts that are this service's own: of what is shown, of a refused call, and of a history in pieces.
+-- The texts that are this project's own: of what is shown, of a refused call, and of a history in pieces.
 pub mod Views
 pub mod Refusals
 pub mod HistoryFrames
--- A request's length and its first bytes, and the moment at which its call counts.
+-- The length of a request's body and its first bytes, and the moment at which its call is submitted.
 pub mod Lengths
 pub mod Bodies
 pub mod Moments
--- How the code gets there: private contracts alone have the words of these. An exchange's stages, an attempt to submit,
--- a poll that waits, and its bell.
+-- What only private contracts use: the stages of an exchange, an attempt to submit, a poll that waits, and its bell.
 pub mod Stages
 pub mod Standing
 pub mod Attempts

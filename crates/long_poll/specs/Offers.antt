@@ -1,4 +1,4 @@
--- What comes of a call that is submitted or offered to an account.
+-- The result of a call that is submitted or offered to an account.
 use Rattle.std.specs.Prelude.{◌≡◌, ℕ, List, Option, Result, Ok, Err}
 use Rattle.account_lock.specs.declared.desk.Refused.{Refused}
 use Rattle.account_lock.specs.declared.offering.Declined.{Declined}
@@ -8,13 +8,14 @@ use Rattle.call_types.specs.declared.call.Entry.{Entry}
 use Rattle.usage_ledger.specs.Tallies.{Held}
 use Rattle.long_poll.specs.declared.bell.OneShotBell.{OneShotBell}
 
--- What comes back of a submit: the ticket, with the history that its token has seen; or why it was refused.
+-- The result of a submit: the ticket, with the history that its token has seen; or why the call was refused, with its
+-- bell.
 abbrev pub CameBack : Type 0
 CameBack = Result (ℕ × List Entry) (Refused OneShotBell)
 
--- It is submitted: by what was seen of the history, what the tally held, the moment, the call and its bell, this came
--- back, and this is what is seen and what the tally holds then. Or it is premature, comes back with its bell, and the
--- tally is as before.
+-- The result of an offer. Either the call was submitted: `submits` relates what was seen of the history, what the
+-- tally held, the moment, the call, its bell, the result, and what is seen and held afterwards. Or it is premature: it
+-- is returned with its bell, and the tally is unchanged.
 abbrev pub Offers : {A B : Type 0}
     → (List Entry → Held → ℕ → Call → Option B → Result A (Refused B) → List Entry → Held → Type 0)
     → List Entry → Held → ℕ → Call → Option B → Result A (Declined B) → List Entry → Held → Type 0

@@ -6,11 +6,11 @@ use Rattle.long_poll.specs.declared.history_body.HistoryBody.{HistoryBody}
 use Rattle.long_poll.specs.declared.outcome.Outcome.{Outcome}
 use Rattle.long_poll.specs.declared.outcome.Outcome.TheVariants.{Reply, History}
 
--- it shows a service's history, from the entry of a ticket on, or from its beginning where none is named
+-- The body shows a service's history, whole or from the entry of a ticket on.
 abbrev pub ShowsFrom : {R S K L : Type 0} → S → Option ℕ → HistoryBody R S K L → Type 0
 ShowsFrom s from body = (arc_value body.service ≡ s) × (body.stage ≡ first_stage from)
 
--- the outcome is such a body
+-- The outcome is such a body.
 abbrev pub IsHistoryOf : {R S K L : Type 0} → S → Option ℕ → Outcome (HistoryBody R S K L) → Type 0
 IsHistoryOf s from (Reply reply) = ⊥
 IsHistoryOf s from (History body) = ShowsFrom s from body

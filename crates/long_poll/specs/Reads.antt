@@ -1,4 +1,4 @@
--- What an account shows to who reads it.
+-- What an account shows to a token, which has then seen the history that it is read from.
 use Rattle.std.specs.Prelude.{◌≡◌, ℕ, List, Option}
 use Rattle.arn_ids.specs.declared.config.Config.{Config}
 use Rattle.call_types.specs.declared.call.Entry.{Entry}
@@ -14,25 +14,25 @@ use Rattle.account_lock.specs.Shown.{IsTextOf, Sees}
 use Rattle.account_lock.specs.declared.desk.Look.{Look}
 
 module _ (config : Config) (most : ℕ) where
-  -- What a ticket was answered in a history that goes on where the one ends that was seen before.
+  -- The answer to a ticket, if any, in a history that extends the one that was seen before.
   abbrev pub Looks : List Entry → ℕ → Look → List Entry → Type 0
   Looks before ticket look seen = Sees config most before seen × (look ≡ look_of (answer_of seen ticket))
 
-  -- The counts of a history that goes on so.
+  -- The counts of such a history.
   abbrev pub Counts : List Entry → Stats → List Entry → Type 0
   Counts before counted seen = Sees config most before seen × (counted ≡ stats config seen)
 
-  -- A function's reservation there.
+  -- A function's reservation in such a history.
   abbrev pub Reserves : List Entry → ℕ → Option ℕ → List Entry → Type 0
   Reserves before function count seen = Sees config most before seen × (count ≡ reservation config seen function)
 
   module _ (salt : ℕ) where
-    -- What the client of the call with a ticket gets there.
+    -- The reply to the client of the call with a ticket in such a history, if the ticket was answered.
     abbrev pub Renders : List Entry → ℕ → Option Reply → List Entry → Type 0
     Renders before ticket reply seen =
         Sees config most before seen × (reply ≡ reply_text config salt seen ticket)
 
-    -- The text of its entry there.
+    -- The text of the entry with a ticket in such a history, if the history has the entry.
     abbrev pub Tells : List Entry → ℕ → Option (List ℕ) → List Entry → Type 0
     Tells before ticket text seen = Sees config most before seen × IsTextOf config salt ticket text seen
 

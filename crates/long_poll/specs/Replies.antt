@@ -1,4 +1,4 @@
--- What an exchange over an account gives to a call.
+-- The replies that an exchange over an account gives to a call.
 use Rattle.std.specs.Prelude.{◌≡◌, ◌<◌, ◌⊎◌, ◌↔◌, ℕ, true, List, length, Some}
 use Rattle.account_book.specs.Reached.{IsReached}
 use Rattle.account_book.specs.ReplyText.{reply_text}
@@ -13,20 +13,21 @@ use Rattle.call_types.specs.declared.call.Entry.{Entry}
 use Rattle.lambda_wire.specs.declared.reply.Reply.{Reply}
 use Rattle.long_poll.specs.Refusals.{refusal_reply}
 
--- The reply to a call in a history: this very call stands there at a ticket, and this is what the definitions give it.
+-- The reply to a call in a history: this very call has a ticket there, and this is the reply that the definitions give
+-- to that ticket.
 pub record IsReplyIn (config : Config) (salt : ℕ) (h : List Entry) (call : Call) (reply : Reply) : Type 0 where
   pub ticket : ℕ
   pub there : ticket < length h
   pub stands : call_of h ticket ≡ call
   pub gives : reply_text config salt h ticket ≡ Some reply
 
--- The reply to a call that was taken: the one in a history that calls led to.
+-- The reply to a call that was taken: its reply in a history that calls led to.
 pub record IsReplyOf (config : Config) (most salt : ℕ) (call : Call) (reply : Reply) : Type 0 where
   pub history : List Entry
   pub reached : IsReached config most history
   pub is : IsReplyIn config salt history call reply
 
--- Two replies are of one history.
+-- Two replies, each to its call, are of one history that calls led to.
 pub record AreOfOne (config : Config) (most salt : ℕ) (call : Call) (reply : Reply) (call' : Call) (reply' : Reply)
     : Type 0 where
   pub history : List Entry
@@ -34,8 +35,8 @@ pub record AreOfOne (config : Config) (most salt : ℕ) (call : Call) (reply : R
   pub one : IsReplyIn config salt history call reply
   pub other : IsReplyIn config salt history call' reply'
 
--- The reply to a call that was not taken says why: as the journal is full exactly if a history that calls led to, which
--- was then seen, has no room for it.
+-- The reply to a call that was refused says why: the refusal is JournalFull exactly if a history that calls led to,
+-- which was then seen, has no room for the call.
 pub record IsRefusalOf (config : Config) (most : ℕ) (call : Call) (reply : Reply) : Type 0 where
   pub history : List Entry
   pub reached : IsReached config most history
@@ -43,6 +44,6 @@ pub record IsRefusalOf (config : Config) (most : ℕ) (call : Call) (reply : Rep
   pub exactly : (refusal ≡ JournalFull) ↔ (full config most history call ≡ true)
   pub says : reply ≡ refusal_reply (is_invoke call) refusal
 
--- One or the other.
+-- The reply to a call, whether the call was taken or refused.
 abbrev pub IsReplyAt : Config → ℕ → ℕ → Call → Reply → Type 0
 IsReplyAt config most salt call reply = IsReplyOf config most salt call reply ⊎ IsRefusalOf config most call reply

@@ -4,10 +4,10 @@ use Rattle.futures.specs.Channel.{completed_source, canceled_source}
 use Rattle.long_poll.specs.declared.bell.OneShotBell.{OneShotBell}
 use Rattle.long_poll.specs.declared.bell.Heard.{Heard}
 
--- the source of wakes that fires once the bell rings or is dropped
+-- The source of wakes that fires once the bell rings or is dropped.
 abbrev pub rings_at : OneShotBell → ℕ
 rings_at bell = canceled_source bell.sender
 
--- the source that is waited at
+-- The source of wakes that the future which hears the bell waits for.
 abbrev pub hears_at : Heard → ℕ
 hears_at heard = completed_source heard.receiver

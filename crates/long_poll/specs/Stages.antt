@@ -1,4 +1,4 @@
--- The stage of an exchange, and what it may give from there.
+-- The stages of an exchange, and what it may return from each.
 use Rattle.std.specs.Prelude.{◌≡◌, ℕ, List, Option, Result, Ok, Err}
 use Rattle.futures.specs.Runs.{Runs}
 use Rattle.http_body.specs.declared.frame.Frame.{Frame}
@@ -18,36 +18,36 @@ use Rattle.long_poll.specs.declared.outcome.Outcome.{Outcome}
 use Rattle.long_poll.specs.declared.service.Service as Service
 use Rattle.usage_ledger.specs.declared.keep.Keep as Keep
 
--- its body is being collected, or its call is held back, and it can be polled
+-- The body is being collected and can be polled, or the call is held back.
 abbrev pub IsStarting : {B L : Type 0} → (Dozing → Type 0) → (B → Type 0) → Stage B L → Type 0
 IsStarting is_held can_poll (Collecting parts collecting) = can_poll collecting.body
 IsStarting is_held can_poll (Holding held) = is_held held
 IsStarting is_held can_poll Submitting = ⊥
 IsStarting is_held can_poll (Waiting ticket heard token) = ⊥
 
--- its call is held back
+-- The call is held back.
 abbrev pub IsHolding : {B L : Type 0} → (Dozing → Type 0) → Stage B L → Type 0
 IsHolding is_held (Collecting parts collecting) = ⊥
 IsHolding is_held (Holding held) = is_held held
 IsHolding is_held Submitting = ⊥
 IsHolding is_held (Waiting ticket heard token) = ⊥
 
--- its answer is awaited
+-- The answer is awaited.
 abbrev pub IsWaiting : {B L : Type 0} → Stage B L → Type 0
 IsWaiting (Collecting parts collecting) = ⊥
 IsWaiting (Holding held) = ⊥
 IsWaiting Submitting = ⊥
 IsWaiting (Waiting ticket heard token) = Unit {0}
 
--- it can be polled
+-- The exchange can be polled.
 abbrev pub CanGoOn : {B L : Type 0} → (Dozing → Type 0) → (B → Type 0) → Stage B L → Type 0
 CanGoOn is_held can_poll (Collecting parts collecting) = can_poll collecting.body
 CanGoOn is_held can_poll (Holding held) = is_held held
 CanGoOn is_held can_poll Submitting = ⊥
 CanGoOn is_held can_poll (Waiting ticket heard token) = Unit {0}
 
--- The sources that it waits for: those of its body, or that of its bell. While its call is held back it waits for none,
--- and asks to be polled again.
+-- The sources that the exchange waits for: those of its body, or that of its bell. While its call is held back, it
+-- waits for none and asks to be polled again.
 abbrev pub WaitsFor : {B L : Type 0} → (B → ℕ → Type 0) → Stage B L → ℕ → Type 0
 WaitsFor needs (Collecting parts collecting) source = needs collecting.body source
 WaitsFor needs (Holding held) source = ⊥
@@ -58,7 +58,7 @@ module _ {R S D N K L : Type 0} {service : Service.Ghosts S K L} {decider : Deci
     {keep : Keep.Ghosts K} (connection : Connection R S D N K L service decider keep)
     (clock : Clock.Ghosts N) {B P E : Type 0}
     (yields : B → Runs (Result (Frame P) E)) (reads : P → List ℕ → Type 0) where
-  -- What it may give, if these bodies show the history, each from where it is asked for.
+  -- What the exchange may return; `shows` says which bodies show the history, whole or from a ticket on.
   abbrev pub GivesFrom : {H : Type 0} → (Option ℕ → H → Type 0) → Stage B L → Result (Outcome H) ExchangeFault → Type 0
   GivesFrom shows (Collecting parts collecting) =
       Exchanges connection clock shows reads (yields collecting.body) parts collecting.held
@@ -66,7 +66,7 @@ module _ {R S D N K L : Type 0} {service : Service.Ghosts S K L} {decider : Deci
   GivesFrom shows Submitting = λ r. ⊥
   GivesFrom shows (Waiting ticket heard token) = Awaits (shown connection token) ticket
 
-  -- What it has come to once its body was collected, or its call was held back for another pause.
+  -- How far the request has come once its body was collected, or once its call was tried again.
   abbrev pub StartsFrom : Stage B L → Result (Begun L) ExchangeFault → Type 0
   StartsFrom (Collecting parts collecting) (Ok begun) =
       IsOfBody reads (yields collecting.body) parts collecting.held (λ body. HasBegun connection clock parts body begun)

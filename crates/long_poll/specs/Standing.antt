@@ -1,4 +1,4 @@
--- What an exchange may give, as it stands.
+-- What an exchange may return, in its present stage.
 use Rattle.std.specs.Prelude.{ℕ, List, Result}
 use Rattle.std.specs.Arc.{arc_value}
 use Rattle.decisions.specs.declared.decide.Decide as Decide
@@ -17,7 +17,8 @@ use Rattle.long_poll.specs.declared.outcome.Outcome.{Outcome}
 use Rattle.long_poll.specs.declared.service.Service as Service
 use Rattle.usage_ledger.specs.declared.keep.Keep as Keep
 
--- A call that an exchange holds back is one that its account takes, and its bell can be heard.
+-- What holds of a call that an exchange holds back: it is within the limits of the account's configuration, its bell
+-- can be heard, and each pause takes some time.
 abbrev pub Holds : {R S D N B K L : Type 0} {service : Service.Ghosts S K L} {decider : Decide.Ghosts D}
     {keep : Keep.Ghosts K} → Exchange R S D N B K L service decider keep → Dozing → Type 0
 Holds exchange held = IsHeld (arc_value exchange.connection) held
@@ -25,11 +26,12 @@ Holds exchange held = IsHeld (arc_value exchange.connection) held
 module _ {R S D N B K L P E : Type 0} {service : Service.Ghosts S K L} {decider : Decide.Ghosts D}
     {keep : Keep.Ghosts K} (clock : Clock.Ghosts N) (yields : B → Runs (Result (Frame P) E))
     (reads : P → List ℕ → Type 0) (exchange : Exchange R S D N B K L service decider keep) where
-  -- What it may give: a reply, a body that shows its account's history from where it is asked for, or a fault.
+  -- What the exchange may return: a reply, a body that shows its account's history, whole or from a ticket on, or a
+  -- fault.
   abbrev pub Gives : Result (Outcome (HistoryBody R S K L)) ExchangeFault → Type 0
   Gives = GivesFrom (arc_value exchange.connection) clock yields reads
       (ShowsFrom (arc_value (arc_value exchange.connection).service)) exchange.stage
 
-  -- What it has come to once its body was collected, or its call was held back for another pause.
+  -- How far the request has come once its body was collected, or once its call was tried again.
   abbrev pub Starts : Result (Begun L) ExchangeFault → Type 0
   Starts = StartsFrom (arc_value exchange.connection) clock yields reads exchange.stage

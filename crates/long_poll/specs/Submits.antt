@@ -1,4 +1,4 @@
--- What a submit to an account says.
+-- The result of a submit to an account.
 use Rattle.std.specs.Prelude.{ℕ, ◌≡◌, List, Option, Result, Ok, Err}
 use Rattle.call_types.specs.declared.answer.Answer.{Answer}
 use Rattle.arn_ids.specs.declared.config.Config.{Config}
@@ -10,8 +10,8 @@ use Rattle.usage_ledger.specs.Tallies.{Held}
 use Rattle.account_lock.specs.Submits.{IsTurnedAway, Took}
 use Rattle.account_lock.specs.declared.desk.Refused.{Refused}
 
--- What the account says of a call that was taken, and of one that was refused, by what its caller had seen of the
--- history, and has seen then. A token comes with the ticket, and has seen as much.
+-- The result of a call that was taken, and of one that was refused, by what the caller had seen of the history (`had`)
+-- and has seen afterwards (`then`). The token that is returned with the ticket has seen as much.
 abbrev pub Submits : {B : Type 0} → Config → ℕ → (Kept → ℕ → Answer → Kept → Type 0)
     → (Kept → ℕ → Head → Kept → Type 0)
     → List Entry → Held → ℕ → Call → Option B → Result (ℕ × List Entry) (Refused B) → List Entry → Held → Type 0

@@ -1,4 +1,4 @@
--- What is shown of an account.
+-- The replies that show something of an account.
 use Rattle.std.specs.Prelude.{ℕ, List, [], ◌∷◌, ◌++◌, codes, decimal, Option}
 use Rattle.call_types.specs.declared.stats.Stats.{Stats}
 use Rattle.serde_json.specs.Data.{Data, number, unsigned, object, member, no_members}
@@ -7,7 +7,7 @@ use Rattle.lambda_wire.specs.Bodies.{reservation_text}
 use Rattle.lambda_wire.specs.Headers.{header, json_headers}
 use Rattle.lambda_wire.specs.declared.reply.Reply.{Reply}
 
--- the counts of an account as a JSON value
+-- The counts of an account as a JSON value.
 abbrev pub stats_data : Stats → Data
 stats_data stats = object
     (member (codes "admitted") (number (unsigned stats.admitted))
@@ -16,14 +16,14 @@ stats_data stats = object
     (member (codes "inFlight") (number (unsigned stats.in_flight))
     (member (codes "throttled") (number (unsigned stats.throttled)) no_members)))))
 
--- The counts of an account as JSON, the keys in the order of their bytes.
+-- The counts of an account as JSON, with the keys in the order of their bytes.
 unfoldable pub stats_text : Stats → List ℕ
 stats_text stats =
     codes "{\"admitted\":" ++ decimal stats.admitted ++ codes ",\"entries\":" ++ decimal stats.entries
     ++ codes ",\"failed\":" ++ decimal stats.failed ++ codes ",\"inFlight\":" ++ decimal stats.in_flight
     ++ codes ",\"throttled\":" ++ decimal stats.throttled ++ codes "}"
 
--- The counts of an account.
+-- The reply that shows the counts of an account.
 abbrev pub stats_reply : Stats → Reply
 stats_reply stats = record { status = 200; headers = json_headers; body = stats_text stats }
 
@@ -31,6 +31,6 @@ stats_reply stats = record { status = 200; headers = json_headers; body = stats_
 abbrev pub history_headers : List (List ℕ × FieldValue)
 history_headers = header (codes "content-type") (codes "text/plain") ∷ []
 
--- A function's reservation (Lambda API, GetFunctionConcurrency).
+-- The reply that shows a function's reservation (Lambda API, GetFunctionConcurrency).
 abbrev pub reservation_reply : Option ℕ → Reply
 reservation_reply count = record { status = 200; headers = json_headers; body = reservation_text count }

@@ -9,24 +9,24 @@ use futures::future::Future;
 use futures::task::{Context, Poll};
 use std::alloc::{AllocError, Global};
 
-/// A bell for one call. If it is dropped before it rings, that is heard too.
+/// A bell for one call, which rings at most once. If it is dropped before it rings, that is heard too.
 #[derive(Drop)]
 pub struct OneShotBell {
     sender: Sender<()>,
 }
 
-/// Is ready once its bell has rung or was dropped. (No contract says so: the channel's own does not say
-/// when its receiver is ready.)
+/// A future that is ready once its bell has rung or was dropped. (No contract says so: that of the
+/// channel does not say when its receiver is ready.)
 #[derive(Drop)]
 pub struct Heard {
     receiver: Receiver<()>,
 }
 
 impl OneShotBell {
-    /// Makes a bell, and what hears it.
+    /// Makes a bell, and the future that hears it.
     ///
     /// # Errors
-    /// `AllocError` if memory is refused.
+    /// `AllocError` if an allocation fails.
     pub fn pair(alloc: Global) -> Result<(OneShotBell, Heard), AllocError>
         ensures { IfOk result (λ pair. rings_at pair.0 ≡ hears_at pair.1) }
     {

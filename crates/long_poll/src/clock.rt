@@ -1,4 +1,4 @@
-//! The clock that tells the moments of calls.
+//! The clock that gives the moments of calls.
 
 ghost use Rattle.std.specs.Prelude.{◌≡◌, ℕ};
 ghost use Rattle.long_poll.specs.Moments.{moment_of};
@@ -8,7 +8,7 @@ use arn_ids::GREATEST_MOMENT;
 /// A clock: Unix milliseconds in the server. Its readings never go back. It may fall behind the time of
 /// day, for instance while the machine sleeps, and is then set forward.
 pub trait Clock {
-    /// What it may read; anything, unless an implementation says more.
+    /// The readings that it may give: any, unless an implementation says more.
     ghost reads: { Self → ℕ → Type 0 } = { λ _ _. Unit {0} };
 
     /// Returns its reading, in milliseconds.
@@ -21,7 +21,7 @@ pub trait Clock {
         0
     }
 
-    /// Sets it forward by this many milliseconds.
+    /// Sets the clock forward by this many milliseconds.
     fn set_forward(&self, by: u64) {
         let _ = by;
     }

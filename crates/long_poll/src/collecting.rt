@@ -12,7 +12,7 @@ use futures::task::{Context, Poll};
 use http_body::{Body, Frame};
 use std::alloc::{AllocError, Global};
 
-/// The most frames that one poll takes, so that others run beside a long body.
+/// The most frames that one poll takes, so that a long body does not keep other futures waiting.
 const FRAMES_PER_POLL: u32 = 128;
 
 /// Collects the first bytes of a body.
@@ -50,7 +50,7 @@ impl<B: Body> Collecting<B>
 where
     B::Data: Into<Bytes>,
 {
-    /// Takes the data of a frame, and returns whether no more is read.
+    /// Takes the data of a frame. Returns whether no more is read.
     fn take_frame(&mut self, frame: Frame<B::Data>) -> Result<bool, AllocError>
         ensures taken { OnOk result (Takes B.Data.converts frame self.old.held self.new.held) }
         ensures full { IfOk result (λ full. full ≡ (length self.new.held == most_bytes)) }
@@ -61,7 +61,7 @@ where
         Ok(self.held.is_full())
     }
 
-    /// Gives up what was collected.
+    /// Takes out what was collected.
     fn collected(&mut self) -> Result<Bytes, ExchangeFault>
         ensures held { MatchResult result (λ bytes. bytes ≡ self.old.held)
             (λ fault. fault ≡ ExchangeFault.OutOfMemory) }

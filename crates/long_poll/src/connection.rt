@@ -37,9 +37,9 @@ const FIRST_PAUSE: u64 = 50;
 /// The longest pause, in microseconds.
 const LONGEST_PAUSE: u64 = 8_000;
 
-/// What the exchanges of one connection share: the account and who decides its requests, both of
-/// one configuration, a clock, the connection's tally, its token, the note of its open Next, and its
-/// patience: for how many milliseconds a premature call is held back at most.
+/// What the exchanges of one connection share: the account and the decider of its requests, both of one
+/// configuration; a clock; the connection's tally and token; the note of its open Next; and its
+/// patience, which is how many milliseconds a premature call is held back at most.
 #[derive(Drop)]
 pub struct Connection<R, S: Service<K, L>, D: Decide, N, K: Keep, L: Ledgers> {
     rt: R,
@@ -50,17 +50,17 @@ pub struct Connection<R, S: Service<K, L>, D: Decide, N, K: Keep, L: Ledgers> {
     tally: Arc<Mutex<Tally<K, L>>>,
     open: Arc<OpenPoll>,
     patience: u32,
-    // The token, which has seen the history as far as the requests before; none while one of them has it.
+    // The token, which has seen the history up to the earlier requests; none while a request has it.
     seen: Cell<Option<Token<L>>>,
-    // The room in which payloads are read, by one decision at a time.
+    // The scratch space in which payloads are read, one decision at a time.
     scratch: Cell<PayloadScratch>,
     ghost agree: { S.serves (arc_value service) ≡ D.decides_for (arc_value decider) },
 }
 
-/// A premature call that is held back, with its bell and what hears it. Between two attempts the thread
-/// *sleeps* for a pause of at most 8 ms, and then lets its connection go on once: only then are a signal to
-/// stop and the connection's own state noticed. (The timers of the kit's reactor round up to a millisecond;
-/// the first pauses are far shorter.)
+/// A premature call that is held back, with its bell and the future that hears it. Between two attempts
+/// the thread *sleeps* for a pause of at most 8 ms, and then lets its connection run once: only then are a
+/// signal to stop and the connection's own state noticed. (The timers of the kit's reactor round up to a
+/// millisecond; the first pauses are far shorter.)
 #[derive(Drop)]
 pub(crate) struct Dozing {
     call: Call,
@@ -96,11 +96,11 @@ pub(crate) enum Begun<L: Ledgers> {
 enum Attempt<L: Ledgers> {
     /// It was submitted, with this result.
     Made(Result<(Ticket, Token<L>), Refused<OneShotBell>>),
-    /// It was premature, and comes back with its bell.
+    /// It was premature, and is returned with its bell.
     HeldBack(Call, OneShotBell),
 }
 
-/// Returns the pause after another one, in microseconds: twice as long, up to the longest.
+/// Returns the pause after this one, in microseconds: twice as long, up to the longest.
 fn next_pause(pause: u64) -> u64
     requires { 1 ≤ pause }
     ensures { 1 ≤ result }
@@ -122,11 +122,11 @@ impl<
     ghost use Rattle.long_poll.specs.Outcomes.{ShowsFrom};
     ghost use Rattle.long_poll.specs.Pending.{KeepsTo};
 
-    /// A connection to this account, whose requests are decided for the same configuration. For one
-    /// submit at a time its tally is locked, and then the account. Its token is shown the history at each
-    /// submit and each reading, so that what its requests are answered never goes back. A call that is
-    /// premature is held back for `patience` milliseconds at most, in which the connection's thread
-    /// sleeps, pause by pause.
+    /// Returns a connection to this account, whose requests are decided for the same configuration. Each
+    /// submit locks the connection's tally, and then the account. The token is shown the history at each
+    /// submit and each reading, so that the replies to the connection's requests never go back in the
+    /// history. A premature call is held back for `patience` milliseconds at most, during which the
+    /// connection's thread sleeps, pause by pause.
     pub fn new(
         rt: R,
         alloc: Global,
@@ -160,7 +160,8 @@ impl<
         self.alloc
     }
 
-    /// Takes the connection's token, to be put back. If a request has it, makes another that has seen the history.
+    /// Takes the connection's token, which has to be put back. If a request has it, makes another token, which
+    /// has seen the history as it is.
     fn token(&self) -> Token<L> {
         match self.seen.take() {
             Some(token) => token,
@@ -295,7 +296,7 @@ impl<
         self.carry_out(decided?)
     }
 
-    /// Decides a request whose body is too long, which isn't read, and does what is decided.
+    /// Decides a request whose body is too long, which is not read, and does what is decided.
     pub(crate) fn begin_too_long(&self, parts: &Parts) -> Result<Begun<L>, ExchangeFault>
         ensures ok { IfOk result
             (λ begun. (body : List ℕ) → longest_body < length body → HasBegun self.now N.Clock parts.now body begun) }
@@ -360,7 +361,7 @@ impl<
         Ok(HistoryBody::new(self.rt, service, from))
     }
 
-    /// Renders the answer to a ticket. The note of a Next is taken back.
+    /// Renders the answer to a ticket, and takes back the note of a Next.
     fn render(&self, token: &mut Token<L>, ticket: Ticket) -> Result<Reply, ExchangeFault>
         ensures { Renders (shown self.now token.old) ticket result }
     {
@@ -374,8 +375,8 @@ impl<
         }
     }
 
-    /// Waits until the bell is heard, and then renders the answer to a ticket. It takes what hears as any
-    /// future, so that it cannot render earlier.
+    /// Waits until the bell is heard, and then renders the answer to a ticket. The bell is heard by a
+    /// future of any type, so that nothing can be rendered before this future is ready.
     pub(crate) fn poll_render<H: Future>(
         &self,
         heard: &mut H,

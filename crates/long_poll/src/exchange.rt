@@ -99,8 +99,8 @@ where
     }
 
     /// Collects the body, then decides the request and submits its call; or tries once more the call that is
-    /// held back. A body that is declared to be too long isn't asked for, so that a client which waits for
-    /// `100 Continue` doesn't send it (RFC 9110, section 10.1.1).
+    /// held back. A body that is declared to be too long is not asked for, so that a client that waits for
+    /// `100 Continue` does not send it (RFC 9110, section 10.1.1).
     fn poll_start(&mut self, cx: &mut Context<'_>) -> Poll<Result<Begun<L>, ExchangeFault>>
         requires { IsStarting (Holds self.old) B.can_poll self.old.stage }
         ensures value { IfReady result (Starts N.Clock B.yields B.Data.converts self.old) }

@@ -9,7 +9,7 @@ pub enum ExchangeFault {
     /// The request's body failed before its end. Nothing was submitted.
     #[error("the body failed")]
     BodyFailed,
-    /// Memory was refused. The call may have been submitted.
+    /// An allocation failed. The call may have been submitted.
     #[error("out of memory")]
     OutOfMemory,
     /// The call's bell rang or was lost, and its ticket still had no reply.

@@ -12,7 +12,7 @@ use std::mem;
 /// payload), so that a body that is too long is known by its length.
 const MOST_BYTES: usize = 6_291_457;
 
-/// The first bytes of a body, 6,291,457 at most, seen as the list of them.
+/// The first bytes of a body, 6,291,457 at most. Contracts see the list of them.
 #[derive(Drop)]
 pub(crate) struct FirstBytes {
     bytes: Vec<u8>,
@@ -30,7 +30,7 @@ impl Model for FirstBytes {
 }
 
 impl FirstBytes {
-    /// An empty list. It takes no memory.
+    /// Returns an empty list. It takes no memory.
     pub(crate) fn none(alloc: Global) -> FirstBytes
         ensures { result ≡ [] }
     {
@@ -39,7 +39,7 @@ impl FirstBytes {
         }
     }
 
-    /// Gives up the bytes, in memory of their own that is no larger than they need.
+    /// Takes out the bytes, in memory of their own that is no larger than they need.
     pub(crate) fn taken(&mut self, alloc: Global) -> Result<Bytes, AllocError>
         ensures bytes { IfOk result (λ bytes. bytes ≡ self.old) }
         ensures few { length self.old ≤ most_bytes }

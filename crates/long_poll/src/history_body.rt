@@ -17,15 +17,15 @@ use usage_ledger::{Keep, Ledgers, Tally, Token};
 /// The text that comes next.
 #[derive(Clone, Copy)]
 enum Stage {
-    /// The one before the first entry.
+    /// The text before the first entry.
     Opening,
-    /// The one of the entry with a ticket.
+    /// The text of the entry with a ticket.
     Entry(Ticket),
-    /// None: the history has ended, or memory was refused.
+    /// No text: the history has ended, or an allocation failed.
     Ended,
 }
 
-/// Returns the text that a history begins with, from a ticket on or whole.
+/// Returns the stage at which a body begins that shows the history, whole or from a ticket on.
 fn stage_from(from: Option<Ticket>) -> Stage
     ensures { result ≡ first_stage from }
 {
@@ -35,7 +35,7 @@ fn stage_from(from: Option<Ticket>) -> Stage
     }
 }
 
-/// Makes bytes a piece of a body, without a copy.
+/// Makes a piece of a body from bytes, without a copy.
 fn piece(bytes: Vec<u8>) -> Result<Bytes, AllocError>
     ensures { IfOk result (λ piece. piece ≡ bytes.items) }
 {
@@ -44,7 +44,7 @@ fn piece(bytes: Vec<u8>) -> Result<Bytes, AllocError>
 
 /// The text of a history, streamed: its opening, then the text of each entry, from ticket 0 to the last;
 /// or, from a ticket on, the texts of those entries alone. All are of one history. Each is a frame of its
-/// own, and no more than one is in memory. If memory is refused, the body ends with an error.
+/// own, and no more than one is in memory. If an allocation fails, the body ends with an error.
 #[derive(Drop)]
 pub struct HistoryBody<R, S, K: Keep, L: Ledgers> {
     rt: R,
@@ -55,8 +55,8 @@ pub struct HistoryBody<R, S, K: Keep, L: Ledgers> {
 }
 
 impl<R: Wait + Drop, S: Service<K, L>, K: Keep, L: Ledgers> HistoryBody<R, S, K, L> {
-    /// Streams the history of a service: from the entry of a ticket on, or whole if none is named. From a
-    /// ticket past the last entry it is empty. It takes no memory.
+    /// Streams the history of a service, from the entry of a ticket on, or whole if `from` is `None`. From a
+    /// ticket past the last entry the body is empty. It takes no memory.
     pub fn new(rt: R, service: Arc<S>, from: Option<Ticket>) -> HistoryBody<R, S, K, L>
         ensures stands { (result.service ≡ service) × (result.stage ≡ first_stage from) }
         ensures seen { S.shows (arc_value service) result.token }

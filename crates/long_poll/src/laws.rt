@@ -32,7 +32,7 @@ pub fn replies<R, S: Identity + Drop, D: Decide, N: Clock, K: Keep>(
 /// Two exchanges over an account have one history. Of what two tokens have seen of it, one is a beginning of the
 /// other (`Account::agree`).
 pub fn one_history()
-    // What a history gives a call, each history that goes on there gives it too,
+    // The reply to a call in a history is also the reply to it in each history that extends that one,
     ensures stays { (config : Config) (most salt : ℕ) (h later : List Entry) (call : Call) (reply : Reply)
         → Sees config most h later → IsReplyIn config salt h call reply → IsReplyIn config salt later call reply }
     // so two replies, each of a history that a token has seen, are both of one.

@@ -14,8 +14,8 @@ use std::alloc::AllocError;
 use std::sync::Wait;
 use usage_ledger::{Keep, Tally, Token};
 
-// A submit gives a token that has seen the history which the call made. What is read with it is of a
-// history that goes on where that one ends.
+// A submit returns a token that has seen the history that the call made. What is read with this token is
+// of a history that extends that one.
 impl<S: Identity + Drop, K: Keep> Service<K, S> for Account<S, OneShotBell> {
     ghost serves = { λ _. S.config };
 

@@ -13,11 +13,11 @@ use std::marker::PhantomData;
 use std::sync::{Arc, Wait};
 use usage_ledger::{Keep, Ledgers, Tally, Token};
 
-/// The bell rang or was lost, and the ticket still waited.
+/// The bell rang or was lost, and the ticket still waits.
 #[derive(Clone, Copy, Debug, PartialEq, Eq)]
 pub struct BellLost;
 
-/// Waits until something is heard, and then looks once at what a ticket was answered.
+/// Waits until something is heard, and then looks once for the answer to a ticket.
 #[derive(Drop)]
 pub struct Poll<R, S, H, K: Keep, L: Ledgers> {
     rt: R,
@@ -29,8 +29,9 @@ pub struct Poll<R, S, H, K: Keep, L: Ledgers> {
 }
 
 impl<R: Wait + Drop, S: Service<K, L>, H: Future, K: Keep, L: Ledgers> Poll<R, S, H, K, L> {
-    /// Waits for the answer of a ticket by what is heard once there is one, as the `Heard` of the
-    /// bell that went with its call. The token is the one that came with the ticket. It takes no memory.
+    /// Waits for the answer to a ticket by a future that is ready once there is one, such as the `Heard` of
+    /// the bell that was submitted with its call. The token is the one that came with the ticket. It takes
+    /// no memory.
     pub fn new(
         rt: R,
         service: Arc<S>,

@@ -21,45 +21,48 @@ use std::alloc::AllocError;
 use std::sync::Wait;
 use usage_ledger::{Keep, Ledgers, Tally, Token};
 
-/// An account that connections share. Each method has a relation of its arguments and its answer,
-/// which the implementer names. The type parameters are a tally's: what it keeps, and its ledgers. A
-/// token is a token that has seen a beginning of the account's history. Each submit and each reading takes
-/// one, and shows it the history as it is then, which goes on where the one ends that the token had seen; a
-/// submit gives another one that has seen it up to the call.
+/// An account that connections share. For each method there is a relation of its arguments and its
+/// result, which the implementation names. The type parameters are those of a tally: what it keeps, and
+/// its ledgers. A token has seen a beginning of the account's history. Each submit and each reading
+/// takes a token and shows it the history as it is then, which extends the one that the token had seen;
+/// a submit returns another token, which has seen the history up to the call.
 pub trait Service<K: Keep, L: Ledgers>: Drop {
-    /// The configuration that it serves.
+    /// The configuration that the account has.
     ghost serves: { Self → Config };
 
-    /// What was seen of the history, what the tally held, the moment, the call, its bell, what came back, and
-    /// what is seen and what the tally holds then. A ticket comes with the history that its token has seen.
+    /// Relates what was seen of the history, what the tally held, the moment, the call, its bell, the
+    /// result, and what is seen and what the tally holds afterwards. A ticket comes with the history
+    /// that its token has seen.
     ghost submits: { Self → List Entry → Held → ℕ → Called → Option Rings → CameBack → List Entry → Held → Type 0 };
 
     /// What is seen of the history.
     ghost shows: { Self → List Entry → Type 0 };
 
-    /// What was seen of the history, the ticket, what it was answered, and what is seen then.
+    /// Relates what was seen of the history, the ticket, what is known of it, and what is seen
+    /// afterwards.
     ghost looks: { Self → List Entry → ℕ → Seen → List Entry → Type 0 };
 
-    /// What was seen of the history, the ticket, what its client gets, and what is seen then.
+    /// Relates what was seen of the history, the ticket, its reply, and what is seen afterwards.
     ghost renders: { Self → List Entry → ℕ → Option Replied → List Entry → Type 0 };
 
     /// The text of the history before its first entry.
     ghost opens: { Self → List ℕ → Type 0 };
 
-    /// What was seen of the history, the ticket, the text of its entry, and what is seen then.
+    /// Relates what was seen of the history, the ticket, the text of its entry, and what is seen
+    /// afterwards.
     ghost tells: { Self → List Entry → ℕ → Option (List ℕ) → List Entry → Type 0 };
 
-    /// What was seen of the history, the counts, and what is seen then.
+    /// Relates what was seen of the history, the counts, and what is seen afterwards.
     ghost counts: { Self → List Entry → Counted → List Entry → Type 0 };
 
-    /// What was seen of the history, the function, its reservation, and what is seen then.
+    /// Relates what was seen of the history, the function, its reservation, and what is seen afterwards.
     ghost reserves: { Self → List Entry → ℕ → Option ℕ → List Entry → Type 0 };
 
-    /// Submits a call at a moment in milliseconds, below 2^53, with the bell of the caller that waits for its
-    /// answer. What the step counts moves the tally.
+    /// Submits a call at a moment in milliseconds, below 2^53, with the bell of the caller that waits
+    /// for its answer. The tally counts what the step counts.
     ///
     /// # Errors
-    /// `Refused` if the call is not taken; its bell comes back.
+    /// `Refused` if the call is not taken; its bell is returned.
     fn submit<R: Wait>(
         &self,
         rt: &R,
@@ -73,11 +76,11 @@ pub trait Service<K: Keep, L: Ledgers>: Drop {
         requires within { IsWithin (serves self.now) call }
         ensures { submits self.now token.old tally.old.held now call bell result token.new tally.new.held };
 
-    /// Submits a call unless it is premature: an Invoke that would be throttled while an environment that is
-    /// in its way is about to be ready again.
+    /// Submits a call unless it is premature: an Invoke that would be throttled, while an environment in
+    /// its way has answered its invocation and is not ready again.
     ///
     /// # Errors
-    /// `Premature` if it is: the call comes back with its bell. Otherwise as `submit`.
+    /// `Premature` if it is: the call is returned with its bell. Otherwise as `submit`.
     fn offer<R: Wait>(
         &self,
         rt: &R,
@@ -99,7 +102,7 @@ pub trait Service<K: Keep, L: Ledgers>: Drop {
     fn look<R: Wait>(&self, rt: &R, token: &mut Token<L>, ticket: Ticket) -> Look
         ensures { looks self.now token.old ticket result token.new };
 
-    /// Returns what the client of the call with a ticket gets, `None` while the ticket has no answer.
+    /// Returns the reply to the client of the call with a ticket, `None` while the ticket has no answer.
     ///
     /// The only error is `AllocError`.
     fn render<R: Wait>(

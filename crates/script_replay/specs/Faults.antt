@@ -1,10 +1,11 @@
--- The faults of a script as the replay names them.
+-- The faults of a script, as the replay reports them.
 use Rattle.std.specs.Prelude.{◌≡◌, Result, Err}
 use Rattle.account_book.specs.Run.{ScriptFault, InConfiguration, InText, InLine}
 use Rattle.script_replay.specs.declared.fault.ReplayFault.{ReplayFault}
 use Rattle.script_replay.specs.declared.fault.ReplayFault.TheVariants as faults
 
--- the fault that the lines have; lack of memory isn't a fault of a script, nor is one of the reader or the writer
+-- The lines have this fault. Lack of memory is not a fault of a script, so it is possible for any lines; a failure of
+-- the reader or the writer is not the fault of lines, so it is possible for none.
 abbrev pub HasFault : {A : Type 0} → Result A ScriptFault → ReplayFault → Type 0
 HasFault taken (faults.Config fault) = taken ≡ Err (InConfiguration fault)
 HasFault taken (faults.Wire fault) = taken ≡ Err (InText fault)

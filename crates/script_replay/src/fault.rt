@@ -19,23 +19,23 @@ pub enum ReplayFault {
     /// The configuration's line cannot be read.
     #[error("configuration: {0:?}")]
     Wire(WireFault),
-    /// This line isn't a call, or is too long. The first line is 1.
+    /// This line is not a call, or is too long. The first line is 1.
     #[error("script: line {line}")]
     Script { line: u64 },
-    /// The reader failed, or took more than 2^32 calls.
+    /// The reader failed, or was called 2^32 times without reaching the end of its input.
     #[error("input: failed")]
     Read,
     /// The writer failed, or accepted nothing.
     #[error("output: failed")]
     Write,
-    /// There was no memory.
+    /// An allocation failed.
     #[error("out of memory")]
     OutOfMemory,
 }
 
 impl ReplayFault {
-    /// Returns the exit status of a program that ends with it: 2 if the script is at fault, 4 if the
-    /// machine is.
+    /// Returns the exit status of a program that ends with this fault: 2 if the script is at fault, 4 if
+    /// the machine is.
     pub fn status(self) -> u8
         ensures { result ≡ status_of self }
     {

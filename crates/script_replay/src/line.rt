@@ -20,15 +20,15 @@ pub const LINE_LIMIT: usize = 20_000_000;
 /// The state of a replay between two lines.
 #[derive(Drop)]
 pub enum Progress {
-    /// No line was read.
+    /// No line was taken yet.
     AtStart,
-    /// The first line was that of form 2; the configuration comes next.
+    /// The first line was `form 2`; the configuration comes next.
     AfterForm,
-    /// The configuration opened the book. Only form 2 has `reserve` lines.
+    /// The configuration opened the book. Only a script of form 2 may have `reserve` lines.
     Taking { reserves: bool, book: Book },
 }
 
-/// Whether a first line is that of form 2.
+/// Whether a first line is `form 2`.
 fn is_form_2(line: &[u8]) -> bool
     ensures { result ≡ says_form_2 line.now }
 {
@@ -45,7 +45,7 @@ fn is_skipped(line: &[u8]) -> bool
     }
 }
 
-/// Removes a carriage return from the end of a line that a line feed ended.
+/// Removes the carriage return before the line feed that ended a line, if there is one.
 pub fn drop_return(line: &mut Vec<u8>)
     ensures { line.new.items ≡ strip_carriage_return line.old.items }
 {
@@ -54,7 +54,7 @@ pub fn drop_return(line: &mut Vec<u8>)
     }
 }
 
-/// Applies the call of a line to the book, and adds the text of its answers.
+/// Applies the call of a line to the book, and adds the lines of its answers.
 #[tactic(auto, unfolding(account_book::specs::Run::line_answered))]
 fn answer_line(
     alloc: Global,
@@ -83,9 +83,9 @@ fn answer_line(
     }
 }
 
-/// Plays the line with a number. The first line may be that of form 2; then the second line is the
-/// configuration, otherwise the first one. It opens the book. Each other line is a call. What the line
-/// writes is added to the text.
+/// Takes the line with a number, and adds what it writes to the text. The first line may be `form 2`;
+/// the line after it, or else the first, is the configuration, which opens the book. Every other line is
+/// a call, empty or a comment.
 pub fn take_line(
     alloc: Global,
     number: u64,

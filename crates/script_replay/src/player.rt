@@ -18,17 +18,17 @@ use std::io::{self, Read, Write};
 /// The state of a replay.
 #[derive(Drop)]
 struct Player {
-    /// Its state between two lines.
+    /// The state between two lines.
     progress: Progress,
-    /// How many lines were played.
+    /// How many lines were taken.
     line: u64,
     /// The part of the next line that was read.
     pending: Vec<u8>,
-    /// The text that a line writes; its memory is used again for the next line.
+    /// The text that a line writes. Its memory is used again for the next line.
     answers: Vec<u8>,
 }
 
-/// Plays what was read so far as the next line, and writes its answers.
+/// Takes what was read so far as the next line, and writes its answers.
 fn play_line<W: Write>(
     alloc: Global,
     player: &mut Player,
@@ -57,7 +57,7 @@ fn play_line<W: Write>(
     Ok(())
 }
 
-/// Keeps bytes of the next line, which don't contain a line feed.
+/// Keeps bytes of the next line, which contain no line feed.
 fn keep(player: &mut Player, bytes: &[u8]) -> Result<(), ReplayFault>
     requires free { IsOpen bytes.now }
     requires pending { IsOpen player.old.pending.items }
@@ -68,7 +68,7 @@ fn keep(player: &mut Player, bytes: &[u8]) -> Result<(), ReplayFault>
         → StoppedAt (player.old.line + 1) (seen player.old.progress)
         (lines (player.old.pending.items ++ (bytes.now ++ rest))) old old e) }
 {
-    // A carriage return that ends the line isn't counted.
+    // A carriage return that ends the line is not counted.
     if player.pending.len() + bytes.len() > LINE_LIMIT + 1 {
         return Err(overlong(player.line + 1, &player.progress));
     }
@@ -115,7 +115,7 @@ fn feed<W: Write>(
     keep(player, rest)
 }
 
-/// Plays what was read after the last line feed, if anything was.
+/// Takes what was read after the last line feed as a line, if anything was.
 fn play_last<W: Write>(
     alloc: Global,
     player: &mut Player,
@@ -135,7 +135,7 @@ fn play_last<W: Write>(
     play_line(alloc, player, writer)
 }
 
-/// Plays the end of the input. Without a configuration its text is empty, which isn't JSON.
+/// Plays the end of the input. An input that ends before its configuration is not JSON.
 fn finish<W: Write>(alloc: Global, player: &mut Player, writer: &mut W) -> Result<(), ReplayFault>
     requires line { player.old.line + 1 < 2 ^ 64 }
     ensures ok { OnOk result
@@ -163,7 +163,7 @@ fn buffer(alloc: Global, size: usize) -> Result<Vec<u8>, AllocError>
 /// How many bytes are read at once.
 const PIECE: usize = 65536;
 
-/// Replays in pieces of the size of this buffer.
+/// Replays the script in pieces of the size of this buffer.
 fn replay_by<R: Read, W: Write>(
     alloc: Global,
     reader: &mut R,
@@ -198,28 +198,29 @@ fn replay_by<R: Read, W: Write>(
     Err(ReplayFault::Read)
 }
 
-/// Replays the script that the reader gives, and writes the answers and nothing else. If the first
-/// line is `form 2`, the script is of form 2: it may have `reserve` lines, and its second line is the
-/// configuration. Otherwise the first line is the configuration. Each other line that is neither empty
-/// nor a comment is a call. The answers of a line are written before the next line is played.
+/// Replays the script that the reader gives, and writes its answers and nothing else. If the first line
+/// is `form 2`, the script is of form 2: it may have `reserve` lines, and its second line is the
+/// configuration. Otherwise the first line is the configuration. Every other line that is neither empty
+/// nor a comment is a call. The answers of a line are written before the next line is taken.
 ///
 /// # Errors
-/// `Config` and `Wire` if the configuration has the fault; `Script` if a line isn't a call or has more
-/// than 20,000,000 bytes; `Read` if the reader failed or was called 2^32 times; `Write` if the writer
-/// failed or accepted nothing; and `OutOfMemory`. The answers of all lines before the fault are then
-/// written; at `Write`, a prefix of them. At `Read` these are all whole lines that the reader gave.
+/// `Config` and `Wire` if the configuration has the fault; `Script` if a line is not a call or has more
+/// than 20,000,000 bytes; `Read` if the reader failed, or was called 2^32 times without reaching the end
+/// of its input; `Write` if the writer failed or accepted nothing; and `OutOfMemory`. The answers of the
+/// lines before the fault are then written: for `Read`, those of all whole lines that the reader gave;
+/// for `Write`, a prefix of them.
 pub fn replay<R: Read, W: Write>(
     alloc: Global,
     reader: &mut R,
     writer: &mut W,
 ) -> Result<(), ReplayFault>
-    // What was written is the run of what was read,
+    // What is written is what the replay of the input writes,
     ensures ok { OnOk result (IfSome (R.remaining reader.old) (λ input. Replays input
         (W.contents writer.old) (W.contents writer.new))) }
-    // all of it.
+    // and the whole input was read.
     ensures end { OnOk result (IsAtEnd (R.remaining reader.new)) }
-    // At a fault, the run comes to it, and what was written is the run's up to there. Where the
-    // reader failed, that is the run of all whole lines that it gave.
+    // A fault of the script is the one that the replay of the input has. What is written is then all that
+    // precedes it; if the reader failed, all that its whole lines write; if the writer failed, a prefix.
     ensures stopped { IfErr result (λ e. IfSome (R.remaining reader.old) (λ input. Stops input (R.remaining reader.new)
         (W.contents writer.old) (W.contents writer.new) e)) }
 {

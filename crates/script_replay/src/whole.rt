@@ -1,3 +1,5 @@
+//! Writing a text as a whole.
+
 ghost use Rattle.std.specs.Prelude.{◌≡◌, ◌++◌, List, ℕ, OnOk, IfErr};
 ghost use Rattle.std.specs.Io.KnownBytes.{Appends};
 ghost use Rattle.script_replay.specs.declared.fault.ReplayFault.TheVariants as faults;

@@ -1,4 +1,4 @@
--- A history that tokens share: its lists have the newest first.
+-- A history that tokens share. All lists have the newest entry first.
 use Rattle.std.specs.Prelude.{◌≡◌, ◌⊎◌, ℕ, true, false, List, [], ◌++◌}
 use mathlib.Core.Option.{some}
 use lib.ListN.{get_elem?}
@@ -6,52 +6,54 @@ use Rattle.atomic_table.specs.Seated.{TableId}
 use Rattle.atomic_table.specs.Table.{Me}
 use Rattle.shared_history.specs.declared.view.View.{View}
 
--- the name of no spine
+-- The name of no spine.
 abbrev pub no_spine : TableId
 no_spine = record { words = 0; slots = 0; views_name = 0; atom = 0; block = 0; offset = 0; slot_names = [] }
 
 module _ {A : Type 0} where
-  -- A history extends another one, which is a beginning of it.
+  -- The first list is a beginning of the second, which may have newer entries.
   abbrev pub Extends : List A → List A → Type 0
   Extends beginning history = (newer : List A) × (history ≡ newer ++ beginning)
 
-  -- the pen, which knows the whole history
+  -- What the pen knows: the whole history.
   abbrev pub pen_view : List A → View A
   pen_view all = record { keeps = true; all = all; seen = [] }
 
-  -- a token that has seen a beginning
+  -- What a token knows: the beginning of the history that it has seen.
   abbrev pub token_view : List A → View A
   token_view seen = record { keeps = false; all = []; seen = seen }
 
-  -- the pen with what another token has seen
+  -- What the pen knows (`v`) once it has learned what another token (`w`) has seen.
   abbrev pub heard : View A → View A → View A
   heard v w = record { keeps = v.keeps; all = v.all; seen = w.seen }
 
-  -- a token with what another one has seen beside its own
+  -- What a token knows once it has learned what another token (`w`) has seen: that, and what it has seen itself (in
+  -- `v`).
   abbrev pub told : View A → View A → View A
   told v w = record { keeps = false; all = w.seen; seen = v.seen }
 
-  -- what the rule says of the token with a number: the pen has its place, and knows the history; all others know
-  -- beginnings of it
+  -- The rule for the token with a number: if it is the pen, its number is `place` and it knows the whole history; in
+  -- any case, what it knows and what it has seen are beginnings of the history.
   pub record Fits (place : ℕ) (history : List A) (number : ℕ) (v : View A) : Type 0 where
     pub knows : v.keeps ≡ true → (number ≡ place) × (v.all ≡ history)
     pub begins : Extends v.all history
     pub saw : Extends v.seen history
 
-  -- There is one history, of which one token at most is the pen, and each other has seen a beginning.
+  -- The rule of all tokens: there is one history, at most one token is the pen, and each has seen a beginning of the
+  -- history.
   abbrev pub Shared : List (View A) → Type 0
   Shared views = (place : ℕ) × (history : List A)
       × ((number : ℕ) (v : View A) → get_elem? views number ≡ some v → Fits place history number v)
 
-  -- the pen extended the history to this one
+  -- The pen has extended the history to this one.
   abbrev pub Wrote : List A → Me (Unit {0}) (View A) → Me (Unit {0}) (View A) → Type 0
   Wrote history before after = after ≡ (pen_view history, before.1)
 
-  -- the pen found that what it learned is a beginning
+  -- The pen found that what it learned of another token is a beginning of the history.
   abbrev pub Compared : Me (Unit {0}) (View A) → Me (Unit {0}) (View A) → Type 0
   Compared before after = (after ≡ (pen_view before.0.all, before.1)) × Extends before.0.seen before.0.all
 
-  -- a token found that what it learned and what it has seen agree
+  -- A token found that of what it has seen and what it learned, one is a beginning of the other.
   abbrev pub Agreed : Me (Unit {0}) (View A) → Me (Unit {0}) (View A) → Type 0
   Agreed before after = (after ≡ (token_view before.0.seen, before.1))
       × (Extends before.0.seen before.0.all ⊎ Extends before.0.all before.0.seen)

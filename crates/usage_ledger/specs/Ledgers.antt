@@ -2,7 +2,7 @@
 use Rattle.std.specs.Prelude.{ℕ}
 use Rattle.atomic_table.specs.Seated.{TableId}
 
--- The name of each of the four, and of the spine of the history.
+-- The name of each of the four ledgers, and of the spine of the history.
 pub record Names : Type 0 where
   pub calls : ℕ
   pub admitted : ℕ
@@ -10,7 +10,7 @@ pub record Names : Type 0 where
   pub failed : ℕ
   pub spine : TableId
 
--- the ledgers and the history with these names
+-- These names as one value.
 abbrev pub names : ℕ → ℕ → ℕ → ℕ → TableId → Names
 names calls admitted throttled failed spine =
     record { calls = calls; admitted = admitted; throttled = throttled; failed = failed; spine = spine }

@@ -4,23 +4,24 @@ use Rattle.usage_ledger.specs.declared.counts.Counts.{Counts}
 use Rattle.usage_ledger.specs.Counts.{no_counts}
 use Rattle.usage_ledger.specs.Keeping.{Kept, nothing}
 
--- A share of each of the four ledgers: how many parts it has of each, and what it counted.
+-- A share of each of the four ledgers: the number of its parts of each, and what it counted.
 pub record Shared : Type 0 where
   pub parts : ℕ
   pub counts : Counts
 
--- What a tally holds: its parts of each ledger, whether a join made it, what it counted, and what it keeps.
+-- What a tally holds: the number of its parts of each ledger, whether a join made it, what it counted, and what it
+-- keeps.
 pub record Held : Type 0 where
   pub parts : ℕ
   pub joined : Bool
   pub counts : Counts
   pub kept : Kept
 
--- what is held, of these shares
+-- What a tally with these shares holds, if it keeps this.
 abbrev pub held : Shared → Bool → Kept → Held
 held shared joined kept = record { parts = shared.parts; joined = joined; counts = shared.counts; kept = kept }
 
--- a tally that no join made, and that has counted and kept nothing
+-- A tally with this many parts that no join made, and that has counted and kept nothing.
 abbrev pub fresh : ℕ → Held
 fresh parts = record { parts = parts; joined = false; counts = no_counts; kept = nothing }
 
@@ -30,6 +31,6 @@ pub record Tallied : Type 0 where
   pub spare_notes : ℕ
   pub spare_calls : ℕ
 
--- the same room for other holdings
+-- A tally with the same room that holds this.
 abbrev pub with_held : Tallied → Held → Tallied
 with_held tally held = record { held = held; spare_notes = tally.spare_notes; spare_calls = tally.spare_calls }
