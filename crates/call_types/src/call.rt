@@ -141,18 +141,16 @@ impl Answers {
     pub fn new(answers: Vec<(Ticket, Answer)>) -> Answers
         ensures { result ≡ answers.items }
     {
-        Answers {
-            held: Held::Listed(answers),
-        }
+        let held = Held::Listed(answers);
+        Answers { held }
     }
 
     /// Holds one pair. It allocates nothing.
     pub fn one(pair: (Ticket, Answer)) -> Answers
         ensures { result ≡ pair ∷ [] }
     {
-        Answers {
-            held: Held::One(pair),
-        }
+        let held = Held::One(pair);
+        Answers { held }
     }
 
     /// Returns the pairs.
