@@ -111,33 +111,33 @@ impl Ledger {
         &mut self,
         moment: u64,
         call: Call,
-        answers: Vec<(Ticket, Answer)>,
+        answers: Answers,
         place: Option<EnvNo>,
         count: u64,
     )
         requires room { 0 < self.old.room }
         requires count { count
-            ≡ request_count (record { moment = moment; call = call; answers = answers.items; place = place }
+            ≡ request_count (record { moment = moment; call = call; answers = answers; place = place }
             ∷ self.old.history) call }
-        requires tickets { All (λ a. a.0 ≤ length self.old.history) answers.items }
-        requires few { length answers.items ≤ answer_limit }
+        requires tickets { All (λ a. a.0 ≤ length self.old.history) answers }
+        requires few { length answers ≤ answer_limit }
         requires fresh { answer_of self.old.history (length self.old.history) ≡ None }
         ensures { self.new
             ≡ record {
-              history = record { moment = moment; call = call; answers = answers.items; place = place }
+              history = record { moment = moment; call = call; answers = answers; place = place }
                   ∷ self.old.history;
               room = self.old.room - 1;
             } }
     {
         self.given.push(None);
-        note(&mut self.given, &answers);
-        self.totals.count(place, &answers);
+        note(&mut self.given, answers.as_slice());
+        self.totals.count(place, answers.as_slice());
         self.stopped = stops(self.stopped, &call);
         self.counts.push(count);
         self.entries.push(Entry {
             moment,
             call,
-            answers: Answers::new(answers),
+            answers,
             place,
         });
     }

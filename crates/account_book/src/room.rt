@@ -3,7 +3,7 @@
 ghost use Rattle.std.specs.Prelude.{◌≡◌, ◌+◌, ◌-◌, ◌<◌, ◌≤◌, ◌++◌, ◌∷◌, [], List, ℕ, IfOk, OnOk};
 ghost use Rattle.environment_step.specs.After.{put};
 
-use call_model::{Answer, Ticket};
+use call_model::{Answer, Answers, Ticket};
 use std::alloc::{AllocError, Global};
 use std::marker::Model;
 use std::mem;
@@ -74,16 +74,19 @@ impl<T: Drop> Roomy<T> {
 }
 
 impl Roomy<(Ticket, Answer)> {
-    /// Returns the answers in a list with no room for more. This list keeps its memory for the next call;
-    /// if the allocation of a copy fails, it gives its memory away instead.
-    pub fn copy_out(&mut self) -> Vec<(Ticket, Answer)>
-        ensures { result.items ≡ self.old.0 }
+    /// Returns the answers, in no more memory than they need: a single one needs none. This list keeps its
+    /// memory for the next call; if the allocation of a copy fails, it gives its memory away instead.
+    pub fn copy_out(&mut self) -> Answers
+        ensures { result ≡ self.old.0 }
     {
         self.room = 0;
+        if self.items.len() == 1 {
+            return Answers::one(self.items[0]);
+        }
         let alloc = *self.items.allocator();
         match copied(alloc, &self.items) {
-            Ok(copy) => copy,
-            Err(_refused) => mem::replace(&mut self.items, Vec::new(alloc)),
+            Ok(copy) => Answers::new(copy),
+            Err(_refused) => Answers::new(mem::replace(&mut self.items, Vec::new(alloc))),
         }
     }
 

@@ -40,10 +40,10 @@ add-requires-clause-fresh c = fresh (arc_value c.self.inside.config) c.self.insi
 
 pub add-requires-clause-tickets : goal.add-requires-clause-tickets
 add-requires-clause-tickets c =
-    let given : c.copy_out.result.items ≡ answers (arc_value c.self.inside.config) c.self.inside.ledger.history c.args.moment c.args.call = c.copy_out.ensures ∙ (rw c.deref-3.ensures at c.answer_call.ensures.answers) ∙ ap (λ (h : List Entry). answers (arc_value c.self.inside.config) h c.args.moment c.args.call) (ap reverse c.entries-entries.ensures.value ∙ reverse-reverse c.self.inside.ledger.history) in
+    let given : c.copy_out.result ≡ answers (arc_value c.self.inside.config) c.self.inside.ledger.history c.args.moment c.args.call = c.copy_out.ensures ∙ (rw c.deref-3.ensures at c.answer_call.ensures.answers) ∙ ap (λ (h : List Entry). answers (arc_value c.self.inside.config) h c.args.moment c.args.call) (ap reverse c.entries-entries.ensures.value ∙ reverse-reverse c.self.inside.ledger.history) in
     rw given (tickets_within (arc_value c.self.inside.config) c.self.inside.ledger.history (entry_of (arc_value c.self.inside.config) c.self.inside.ledger.history c.args.moment c.args.call) (rw (sym c.self.view_is) at c.requires.follows))
 
 pub add-requires-clause-few : goal.add-requires-clause-few
 add-requires-clause-few c =
-    let given : c.copy_out.result.items ≡ answers (arc_value c.self.inside.config) c.self.inside.ledger.history c.args.moment c.args.call = c.copy_out.ensures ∙ (rw c.deref-3.ensures at c.answer_call.ensures.answers) ∙ ap (λ (h : List Entry). answers (arc_value c.self.inside.config) h c.args.moment c.args.call) (ap reverse c.entries-entries.ensures.value ∙ reverse-reverse c.self.inside.ledger.history) in
+    let given : c.copy_out.result ≡ answers (arc_value c.self.inside.config) c.self.inside.ledger.history c.args.moment c.args.call = c.copy_out.ensures ∙ (rw c.deref-3.ensures at c.answer_call.ensures.answers) ∙ ap (λ (h : List Entry). answers (arc_value c.self.inside.config) h c.args.moment c.args.call) (ap reverse c.entries-entries.ensures.value ∙ reverse-reverse c.self.inside.ledger.history) in
     rw given (few_answers (arc_value c.self.inside.config) c.self.inside.ledger.history (entry_of (arc_value c.self.inside.config) c.self.inside.ledger.history c.args.moment c.args.call) c.self.invariant.sound c.self.invariant.legal (rw (sym c.self.view_is) at c.requires.follows) c.self.invariant.all_known (rw (sym c.self.view_is) at c.requires.known))
