@@ -1,5 +1,6 @@
 -- The room that the answers to a call need, and the reservations that the call leaves in force.
 use Rattle.std.specs.Prelude.{◌≡◌, ℕ, ◌+◌, ◌*◌, ◌≤◌, true, if◌then◌else◌, List, [], ◌∷◌, length, Option, Some}
+use Rattle.arn_ids.specs.Limits.{most_extensions}
 use Rattle.arn_ids.specs.declared.config.Config.{Config}
 use Rattle.call_types.specs.declared.answer.Answer.{Answer}
 use Rattle.call_types.specs.declared.answer.Answer.TheVariants.{Reserved, Unreserved}
@@ -12,12 +13,16 @@ use Rattle.concurrency_pool.specs.Numbers.{Numbers}
 use Rattle.concurrency_pool.specs.Pools.{may_reserve, with_reserved}
 use Rattle.call_types.specs.Within.{IsEnv}
 
--- The most answers that a call can give: the book's own answer, and the answers at each environment that the call
--- reaches (every environment for a Stop, one for any other call), where the call itself, the waiting call, the
--- runtime's Next and the Next of each extension may get one. `widest` is the greatest number of extensions of an
--- environment.
+-- The most answers that an environment with this many extensions gives to a call: one to the call itself, one to the
+-- invocation that waits there, one to the runtime's Next, and one to the Next of each extension.
+abbrev pub most_of_one : ℕ → ℕ
+most_of_one extensions = extensions + 3
+
+-- For how many answers a call needs room, in an account whose environments have up to `widest` extensions each. A
+-- Stop reaches every environment, any other call up to one; one more is the account's own.
 abbrev pub most_answers : ℕ → ℕ → Call → ℕ
-most_answers widest environments call = if is_stop call then 13 * environments + 1 else widest + 4
+most_answers widest environments call =
+    if is_stop call then most_of_one most_extensions * environments + 1 else most_of_one widest + 1
 
 -- The number of answers in all the entries together.
 abbrev pub answers_in : List Entry → ℕ
@@ -43,7 +48,7 @@ IsInOrder pool _ _ = Unit {0}
 
 -- An empty list with room for the answers that an expiry may give: the most extensions of an environment, and 4 more.
 abbrev pub IsRoom : ℕ → List (ℕ × Answer) × ℕ → Type 0
-IsRoom widest answers = (answers.0 ≡ []) × (widest + 4 ≤ answers.1)
+IsRoom widest answers = (answers.0 ≡ []) × (most_of_one widest + 1 ≤ answers.1)
 
 -- No environment has more than `widest` extensions.
 abbrev pub IsNarrow : Config → List Entry → ℕ → Type 0

@@ -2,7 +2,7 @@
 use Rattle.std.specs.Prelude.{◌≡◌, ℕ, suc, ◌<◌, ◌≤◌, ◌^◌, Bool, ◌==◌, ◌&&◌, List, [], ◌∷◌, length, map, count_by}
 use Rattle.std.specs.Prelude.{Option, All}
 use Rattle.arn_ids.specs.Environments.{numbered}
-use Rattle.arn_ids.specs.Limits.{most_environments}
+use Rattle.arn_ids.specs.Limits.{most_environments, most_extensions}
 use Rattle.call_types.specs.declared.answer.Answer.{Answer}
 use Rattle.call_types.specs.declared.call.Call.{Call}
 use Rattle.environment_step.specs.After.{Step, put}
@@ -110,5 +110,5 @@ pub record IsFleet (f : Inside) : Type 0 where
   pub pool : f.pool ≡ flown f.sites.items f.pool
   pub owned : All (IsOwned (length f.pool.functions)) f.sites.items
   pub narrow : All (λ site. length site.environment.stand.members ≤ f.widest) f.sites.items
-  pub ten : f.widest ≤ 10
+  pub ten : f.widest ≤ most_extensions
   pub few : length f.sites.items ≤ most_environments

@@ -6,6 +6,8 @@ use Rattle.call_model.specs.History.{stopped}
 use Rattle.call_model.specs.CallCounts.{call_counts}
 use Rattle.account_book.specs.declared.ledger.Ledger.TheInside.{Inside}
 use Rattle.account_book.specs.declared.totals.Counters.{Counters}
+use Rattle.arn_ids.specs.Limits.{most_environments, most_extensions}
+use Rattle.account_book.specs.Answering.{most_of_one}
 use Rattle.account_book.specs.Indexes.{answers_by_ticket}
 use Rattle.account_book.specs.Shelf.{Shelf}
 
@@ -17,9 +19,9 @@ shelf l = record { history = reverse l.entries.0; room = l.entries.1 }
 abbrev pub totals : List Entry → Counters
 totals h = record { admitted = admitted h; throttled = throttled h; failed = failed h }
 
--- The most answers that an entry can have: 13 at each of 256 environments, and one of the account.
+-- The most answers that an entry has: those of every environment, with the most extensions each, and the account's own.
 abbrev pub answer_limit : ℕ
-answer_limit = 3329
+answer_limit = most_of_one most_extensions * most_environments + 1
 
 -- What holds of every ledger: what is kept beside the entries agrees with them, the counters are within their bounds,
 -- each list has the same room, and entries and room together are at most 2^32.

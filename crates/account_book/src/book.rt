@@ -17,7 +17,7 @@ ghost use Rattle.call_types.specs.Calls.{body_of};
 ghost use Rattle.script.specs.AnswerText.{entry_text};
 ghost use Rattle.call_model.specs.CallCounts.{call_counts};
 ghost use Rattle.call_types.specs.Within.{IsWithin};
-ghost use Rattle.account_book.specs.Answering.{most_answers, answers_in};
+ghost use Rattle.account_book.specs.Answering.{answers_in, most_answers, most_of_one};
 ghost use Rattle.account_book.specs.Books.{life};
 ghost use Rattle.account_book.specs.HistoryText.{opening_text};
 ghost use Rattle.account_book.specs.Premature.{premature};
@@ -32,7 +32,7 @@ use crate::journal::Journal;
 use crate::ranges::config_fits;
 use crate::rendering::render;
 use crate::room::Roomy;
-use arn_ids::{Checked, FnNo};
+use arn_ids::{Checked, FnNo, MOST_EXTENSIONS};
 use call_model::{Answer, Call, Entry, Past, Stats, Ticket};
 use entry_blocks::Blocks;
 use lambda_wire::Reply;
@@ -131,16 +131,24 @@ fn make_rooms(
     Ok(rooms)
 }
 
+/// The most answers that an environment with this many extensions gives to a call.
+fn most_of_one(extensions: usize) -> usize
+    requires { extensions ≤ most_extensions }
+    ensures { result ≡ most_of_one extensions }
+{
+    extensions + 3
+}
+
 /// How many answers a call needs room for.
 fn answers_wanted(widest: usize, environments: u64, call: &Call) -> usize
     requires few { environments ≤ most_environments }
-    requires ten { widest ≤ 10 }
+    requires ten { widest ≤ most_extensions }
     ensures { result ≡ most_answers widest environments call.now }
 {
     if matches!(call, Call::Stop) {
-        13 * environments as usize + 1
+        most_of_one(MOST_EXTENSIONS) * environments as usize + 1
     } else {
-        widest + 4
+        most_of_one(widest) + 1
     }
 }
 
@@ -159,14 +167,14 @@ fn room_for(
         × (journal.new.widest ≡ journal.old.widest) }
     ensures made { IfOk result (λ rooms. journal.new.room ≡ expiries + 1) }
     ensures as_many { IfOk result (λ rooms. length rooms.items ≡ expiries) }
-    ensures enough { IfOk result (λ rooms. All (λ room. room ≡ ([], journal.old.widest + 4)) rooms.items) }
+    ensures enough { IfOk result (λ rooms. All (λ room. room ≡ ([], most_of_one journal.old.widest + 1)) rooms.items) }
     ensures own { IfOk result
         (λ rooms. answers.new ≡ ([], most_answers journal.old.widest (length (owners journal.old.config)) call.now)) }
 {
     journal.make_room(expiries + 1)?;
     let widest = journal.widest();
     answers.empty(answers_wanted(widest, journal.environments(), call))?;
-    make_rooms(alloc, expiries, widest + 4)
+    make_rooms(alloc, expiries, most_of_one(widest) + 1)
 }
 
 /// Bytes are numbers below 256.
@@ -193,7 +201,7 @@ fn body_fits(call: &Call)
 fn room_wanted(environments: u64, call: &Call) -> u64
     requires { environments ≤ most_environments }
     ensures value { result ≡ wanted environments call.now }
-    ensures few { result ≤ 514 }
+    ensures few { result ≤ 2 * (most_environments + 1) }
 {
     if matches!(call, Call::Stop) {
         environments + 1
@@ -297,12 +305,14 @@ impl Book {
         ensures enough { (now : ℕ)
             → expiries ≡ length (due self.now.config self.now.history (moment_at self.now.history now))
             → answers_in (added self.now.config self.now.history now call.now) ≤ result }
-        ensures few { result ≤ 14 * expiries + most_answers most_extensions (length (owners self.now.config)) call.now }
+        ensures few { result
+            ≤ (most_of_one most_extensions + 1) * expiries
+            + most_answers most_extensions (length (owners self.now.config)) call.now }
     {
         self.journal.facts();
         let widest = self.journal.widest();
         let own = answers_wanted(widest, self.journal.environments(), call);
-        expiries * (widest + 4) + own
+        expiries * (most_of_one(widest) + 1) + own
     }
 
     /// Whether the journal is full for a call. There must be room for the call and an expiry of every

@@ -4,7 +4,7 @@
 ghost use Rattle.std.specs.Prelude.{◌≡◌, ◌+◌, ◌-◌, ◌*◌, ◌<◌, ◌≤◌, ◌^◌, length, map, slice_set, All, true, false, None};
 ghost use Rattle.std.specs.Prelude.{cond, [], count_by, IfOk, MatchResult, ◌&&◌};
 ghost use Rattle.std.specs.List.{list_all, list_any};
-ghost use Rattle.arn_ids.specs.Limits.{most_environments};
+ghost use Rattle.arn_ids.specs.Limits.{most_environments, most_extensions};
 ghost use Rattle.arn_ids.specs.Faults.{first_fault};
 ghost use Rattle.call_types.specs.Calls.{is_invoke};
 ghost use Rattle.call_model.specs.Limits.{Admits, Refuses};
@@ -13,6 +13,7 @@ ghost use Rattle.concurrency_pool.specs.Pools.{usage_at, throttle, with_in_fligh
 ghost use Rattle.concurrency_pool.specs.Pools.{with_reserved};
 ghost use Rattle.deadlines.specs.Due.{first_due};
 ghost use Rattle.placement.specs.Places.{place_among};
+ghost use Rattle.account_book.specs.Answering.{most_of_one};
 ghost use Rattle.account_book.specs.Taking.{sites as sites_in};
 ghost use Rattle.env_phase.specs.Taking.{registered_name, IsShort, is_off, has_answered};
 ghost use Rattle.account_book.specs.Fleets.{site_at, moved_by, moves_by, put_all, merged, flown, deadline_at, place_at};
@@ -108,7 +109,7 @@ impl Fleet {
         })
     }
 
-    /// How many environments there are, at most 256.
+    /// How many environments there are, at most `MOST_ENVIRONMENTS`.
     pub fn environments(&self) -> u32
         ensures value { result ≡ length self.now.sites }
         ensures few { result ≤ most_environments }
@@ -116,10 +117,10 @@ impl Fleet {
         self.sites.len() as u32
     }
 
-    /// The most extensions that any environment has had at once, at most ten.
+    /// The most extensions that any environment has had at once, at most `MOST_EXTENSIONS`.
     pub fn widest(&self) -> usize
         ensures value { result ≡ self.now.widest }
-        ensures ten { result ≤ 10 }
+        ensures ten { result ≤ most_extensions }
     {
         self.widest
     }
@@ -127,7 +128,7 @@ impl Fleet {
     /// What holds of the environments: none has more extensions than the widest.
     pub fn facts(&self)
         ensures narrow { All (λ site. length site.environment.stand.members ≤ self.now.widest) self.now.sites }
-        ensures ten { self.now.widest ≤ 10 }
+        ensures ten { self.now.widest ≤ most_extensions }
     {
         let _widest = self.widest;
     }
@@ -225,14 +226,14 @@ impl Fleet {
         requires counted { length arrival.now.requests.now ≡ length self.old.pool.functions }
         requires few { All IsFew self.old.sites }
         requires unnamed { registered_name arrival.now.call.now ≡ None }
-        requires gives_few { All (λ site. length (moves_by arrival.now site) ≤ 13) self.old.sites }
-        requires room { 13 * length self.old.sites ≤ answers.old.1 }
+        requires gives_few { All (λ site. length (moves_by arrival.now site) ≤ most_of_one most_extensions) self.old.sites }
+        requires room { most_of_one most_extensions * length self.old.sites ≤ answers.old.1 }
         requires brings_none { is_invoke arrival.now.call.now ≡ false }
         ensures sites { self.new.sites ≡ map (moved_by arrival.now) self.old.sites }
         ensures pool { self.new.pool ≡ flown self.new.sites self.old.pool }
         ensures widest { self.new.widest ≡ self.old.widest }
         ensures answers { answers.new.0 ≡ merged (moves_by arrival.now) self.old.sites answers.old.0 }
-        ensures room { answers.old.1 ≤ answers.new.1 + 13 * length self.old.sites }
+        ensures room { answers.old.1 ≤ answers.new.1 + most_of_one most_extensions * length self.old.sites }
     {
         for index in 0..self.sites.as_slice().len() {
             self.take_at(index as u32 + 1, arrival, answers);

@@ -6,7 +6,7 @@ ghost use Rattle.std.specs.Arc.{arc_value};
 ghost use Rattle.std.specs.List.{list_all};
 ghost use Rattle.arn_ids.specs.Environments.{owners, environments};
 ghost use Rattle.arn_ids.specs.Faults.{first_fault};
-ghost use Rattle.arn_ids.specs.Limits.{most_environments};
+ghost use Rattle.arn_ids.specs.Limits.{most_environments, most_extensions};
 ghost use Rattle.call_types.specs.declared.answer.Answer.TheVariants.{Stopped};
 ghost use Rattle.call_types.specs.declared.call.Call.TheVariants.{Expire};
 ghost use Rattle.call_model.specs.Answers.{reserve_answer, verdict_answer};
@@ -182,7 +182,7 @@ impl Journal {
     /// The most extensions that any environment has had at once.
     pub fn widest(&self) -> usize
         ensures value { result ≡ self.now.widest }
-        ensures ten { result ≤ 10 }
+        ensures ten { result ≤ most_extensions }
     {
         self.fleet.widest()
     }
