@@ -1,22 +1,23 @@
 use Rattle.std.proofs.Common.{ℕ, ◌+◌, ◌*◌, ◌≤◌, Bool, true, false, if◌then◌else◌, sym, ap, arith}
 use Rattle.std.proofs.Math.Nat.{mul-le-mul_left}
+use Rattle.arn_ids.specs.Limits.{most_extensions}
 use Rattle.call_types.specs.declared.call.Call.{Call}
 use Rattle.call_model.specs.History.{is_stop}
-use Rattle.account_book.specs.Answering.{most_answers}
+use Rattle.account_book.specs.Answering.{most_answers, most_of_one}
 use Rattle.account_book.specs.Book.{Kept}
 use Rattle.account_book.proofs.GivenAnswers.{few_given}
 use Rattle.account_book.proofs.book.Book.most_given.Goals as goal
 
--- with ten extensions an entry has the most
-with_ten : (expiries environments widest : ℕ) (call : Call) → widest ≤ 10 → expiries * (widest + 4) + most_answers widest environments call ≤ 14 * expiries + most_answers 10 environments call
-with_ten expiries environments widest call ten = omega (arith, own (is_stop call), each)
+-- with the most extensions an entry has the most
+with_most : (expiries environments widest : ℕ) (call : Call) → widest ≤ most_extensions → expiries * (most_of_one widest + 1) + most_answers widest environments call ≤ (most_of_one most_extensions + 1) * expiries + most_answers most_extensions environments call
+with_most expiries environments widest call ten = own (is_stop call)
   where
     each : expiries * (widest + 4) ≤ expiries * 14
     each = mul-le-mul_left expiries (omega (arith, ten))
 
-    own : (b : Bool) → (if b then 13 * environments + 1 else widest + 4) ≤ (if b then 13 * environments + 1 else 14)
-    own true = omega arith
-    own false = omega (arith, ten)
+    own : (b : Bool) → expiries * (widest + 4) + (if b then 13 * environments + 1 else widest + 4) ≤ 14 * expiries + (if b then 13 * environments + 1 else 14)
+    own true = omega (arith, each)
+    own false = omega (arith, each, ten)
 
 pub returns-clause-enough : goal.returns-clause-enough
 returns-clause-enough c = λ now is.
@@ -27,4 +28,4 @@ returns-clause-enough c = λ now is.
 pub returns-clause-few : goal.returns-clause-few
 returns-clause-few c =
     rw (sym c.self.view_is, c.answers_wanted-own.ensures, c.environments.ensures.value)
-    (with_ten c.args.expiries _ c.widest-widest.result c.args.call.now c.widest-widest.ensures.ten)
+    (with_most c.args.expiries _ c.widest-widest.result c.args.call.now c.widest-widest.ensures.ten)
