@@ -1,14 +1,15 @@
--- What passes through a socket that is read ahead, with the proofs of the laws.
+-- What passes through a socket whose stream is read ahead, with the proofs of the laws.
 use Rattle.std.proofs.Common.{◌≡◌, ℕ, List, [], ◌++◌, refl, sym, ap, ◌∙◌, append_assoc, append-nil}
 use Rattle.tokio.specs.Io.Moved.{Passes, PassesNothing, PassesInOrder}
 use Rattle.http_connection.specs.declared.socket.Socket.{Socket}
 
--- The output is what was read ahead and then what the stream gave, less what is read ahead now.
+-- The reads of such a socket: the bytes that had been read ahead, followed by those that its stream gave, are the
+-- bytes that the reads gave, followed by those that are now read ahead.
 abbrev pub ReadsBehind : {T : Type 0} → Passes T → Passes (Socket T)
 ReadsBehind reads a xs b =
     (more : List ℕ) × reads a.stream more b.stream × (a.ahead.items ++ more ≡ xs ++ b.ahead.items)
 
--- The end is reported only once nothing is left of what was read ahead.
+-- The end is reported only if nothing is left of what was read ahead.
 abbrev pub IsAtEndBehind : {T : Type 0} → (T → Type 0) → Socket T → Type 0
 IsAtEndBehind is_at_end s = (s.ahead.items ≡ []) × is_at_end s.stream
 
