@@ -3,8 +3,8 @@ use Rattle.std.proofs.Common.{◌≡◌, ℕ, List, [], ◌++◌, refl, sym, ap,
 use Rattle.tokio.specs.Io.Moved.{Passes, PassesNothing, PassesInOrder}
 use Rattle.http_connection.specs.declared.socket.Socket.{Socket}
 
--- The reads of such a socket: the bytes that had been read ahead, followed by those that its stream gave, are the
--- bytes that the reads gave, followed by those that are now read ahead.
+-- The reads of such a socket: the bytes that had been read ahead, followed by those that its stream gave, are the bytes
+-- that the reads gave, followed by those that are now read ahead.
 abbrev pub ReadsBehind : {T : Type 0} → Passes T → Passes (Socket T)
 ReadsBehind reads a xs b =
     (more : List ℕ) × reads a.stream more b.stream × (a.ahead.items ++ more ≡ xs ++ b.ahead.items)

@@ -62,10 +62,9 @@ module _ {B D X : Type 0} (yields : B → Runs (Result (Frame D) X)) (has : D �
 
   module _ (answers : Asked → Response B → Type 0) where
     -- What was written to a connection that ended by itself with this outcome: whole responses, one for each of its
-    -- first
-    -- requests, in their order; after them, at most the beginning of one more response, to the next request. `last` is
-    -- the
-    -- connection at its end, with all that it took and gave. If the outcome is `Ok`, nothing of that is left to send.
+    -- first requests, in their order; after them, at most the beginning of one more response, to the next request.
+    -- `last` is the connection at its end, with all that it took and gave. If the outcome is `Ok`, nothing of that is
+    -- left to send.
     pub record Written {A : Type 0} (outcome : Result A Error) : Type 0 where
       pub last : ServerConn
       pub answered : List Asked
