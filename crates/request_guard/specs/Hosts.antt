@@ -58,8 +58,8 @@ is_served listed (Some text) = is_literal text || is_local listed (relative (nam
 abbrev pub has_served_host : List ℕ → Parts → Bool
 has_served_host listed p = is_served listed (host_text p)
 
--- Whether this service answers for a host of this name. Without a name, the host is an address in brackets, or there
--- is none.
+-- Whether this service answers for a host of this name. Without a name, the host is an address in brackets, or there is
+-- none.
 abbrev pub serves : List ℕ → Option (List ℕ) → Bool
 serves listed None = true
 serves listed (Some name) = is_local listed (relative name)
