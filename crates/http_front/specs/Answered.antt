@@ -58,8 +58,7 @@ module _ {H : Type 0} (shows : Option ℕ → H → Type 0) (door : Served) wher
         × IsResponseTo (declares_too_long head) given response
 
     -- The response to a request with this head at the door. If the head is refused, it is that of the refusal.
-    -- Otherwise
-    -- it is that of a body that failed, of an allocation that failed, or of the decision.
+    -- Otherwise it is that of a body that failed, of an allocation that failed, or of the decision.
     abbrev pub IsAnswerAt : Response (Either (Full (List ℕ)) H) → Type 0
     IsAnswerAt response = MatchOption (refusal_of hosts head)
         (IsRefusal (api_of door.port) (declares_too_long head) BrokenBody response

@@ -33,8 +33,7 @@ module _ {R S D N K L B P E : Type 0} {service : Service.Ghosts S K L} {decider 
       (ShowsFrom (arc_value (arc_value port.connection).service)) has (yields came) head [] made
 
   -- The response to a request with this head. If the head is refused, it is that of the refusal. Otherwise it is that
-  -- of
-  -- its exchange, or of an allocation that failed.
+  -- of its exchange, or of an allocation that failed.
   abbrev pub IsAnswer : Response (Either (Full (List ℕ)) (HistoryBody R S K L)) → Type 0
   IsAnswer response = MatchOption (refusal_of (arc_value port.hosts) head)
       (IsRefusal port.api (declares_too_long head) OutOfMemory response

@@ -44,9 +44,9 @@ abbrev pub IsWhole : {H : Type 0} → List ℕ → Either (Full (List ℕ)) H �
 IsWhole bytes (Left full) = full.buf ≡ whole bytes
 IsWhole bytes (Right body) = ⊥
 
--- A response is that of an outcome, and the connection's last or not. That of a reply has its status, its header
--- fields and no other, and its bytes. That of a history has status 200 and the headers of a text, and shows the
--- history as its body.
+-- A response is that of an outcome, and the connection's last or not. That of a reply has its status, its header fields
+-- and no other, and its bytes. That of a history has status 200 and the headers of a text, and shows the history as its
+-- body.
 abbrev pub IsResponseTo : {H : Type 0} → Bool → Outcome H → Response (Either (Full (List ℕ)) H) → Type 0
 IsResponseTo is_last (Reply reply) response =
     HasHead is_last reply.status reply.headers response × IsWhole reply.body (body_of response)
