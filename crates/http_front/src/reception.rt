@@ -117,8 +117,8 @@ impl<R: Machine, S: Identity + Drop, N: Drop, K: Keep> Reception<R, S, N, K> {
         })
     }
 
-    /// Closes the next newcomer, for which no descriptor is left: the spare one is given up for as
-    /// long.
+    /// Closes the next newcomer, for which no descriptor is left: the spare one is given up
+    /// meanwhile.
     fn turn_away(&mut self, gate: &Gate<S>) {
         self.spare = None;
         let _ = gate.listener.accept();

@@ -29,7 +29,7 @@ pub struct Responding<R, S: Service<K, L>, D: Decide, N, B, K: Keep, L: Ledgers>
     is_unread: bool,
     // `None` if the request is refused.
     exchange: Option<Box<Exchange<R, S, D, N, B, K, L>>>,
-    // Why it never becomes a call.
+    // Why the request never becomes a call.
     refusal: Option<Refusal>,
 }
 
@@ -129,8 +129,8 @@ fn refused<H: Drop>(
     )
 }
 
-/// Makes the response to an exchange's result. If its body or an allocation failed, there may still
-/// be memory to say so; a bell is never lost.
+/// Makes the response to an exchange's result. If its body or an allocation failed, the allocations
+/// for this response may still succeed; a bell is never lost.
 fn answer_to<H: Drop>(
     alloc: Global,
     api: Api,
