@@ -33,6 +33,7 @@ stage_limit Taking moved = Some 300
 stage_limit Next moved = None
 stage_limit End moved = Some 30
 
+-- How many seconds the stage of a published state may take in all; `None` if there is no limit.
 abbrev pub whole_limit : Told → Option ℕ
 whole_limit told = stage_limit told.awaited told.moved
 
