@@ -22,6 +22,7 @@ is_for_environment None = false
 is_for_environment (Some running) = is_of_environment running.seen.kind
 
 module _ {Y V : Type 0} where
+  -- The search after one more place.
   abbrev pub searched : Search → Slot Y V → Search
   searched search slot = record { at = search.at + 1; best = better search.best search.at (spare_of slot.running) }
 

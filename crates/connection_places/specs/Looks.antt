@@ -34,6 +34,7 @@ seen_later seen told looks = record {
 abbrev pub is_over : Observation → Bool
 is_over seen = has_outstayed seen.kind seen.told seen.still seen.whole
 
+-- Whether a port is an environment's.
 abbrev pub is_of_environment : PortKind → Bool
 is_of_environment Account = false
 is_of_environment Environment = true
