@@ -25,6 +25,7 @@ is_list text = length text == 0 || list_all is_listed (slice_split (λ b. b == 4
 abbrev pub listed_in : List ℕ → Option (List ℕ)
 listed_in text = if is_list text then Some text else None
 
+-- The first text, or the other one if there is no first.
 abbrev pub or_else : Option (List ℕ) → Option (List ℕ) → Option (List ℕ)
 or_else (Some text) other = Some text
 or_else None other = other
