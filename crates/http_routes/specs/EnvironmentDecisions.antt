@@ -52,6 +52,7 @@ registered e name account (Err BadShape) = refused cause.UnreadableRegistration
 registered e name account (Err BadEvent) = refused cause.WrongEvent
 registered e name account (Err OutOfMemory) = refused cause.UnreadableRegistration
 
+-- Register, given the name of the extension, which is in a header that must be present.
 abbrev pub register : ℕ → Bool → List ℕ → Option (List ℕ) → Decision
 register e account body None = refused cause.MissingHeader
 register e account body (Some name) = registered e name account (read_events body)

@@ -20,6 +20,7 @@ of_request Request count = count
 of_request Extension count = None
 of_request Event count = None
 
+-- The count, if the identifier is that of an extension.
 abbrev pub of_extension : IdKind → Option ℕ → Option ℕ
 of_extension Request count = None
 of_extension Extension count = count

@@ -19,6 +19,7 @@ use Rattle.http_routes.specs.declared.routes.AccountRoute.TheVariants.{Spindown,
 abbrev pub RowsFor : Type 0 → Type 0
 RowsFor R = RowsOf (RouteOf R)
 
+-- These rows and a route whose text was parsed; the same rows if its text is faulty.
 abbrev pub with_read : {R : Type 0} → Result Scan InsertError → R → RowsFor R → RowsFor R
 with_read (Ok s) route rows = placed (s.pattern, route_from s route) rows
 with_read (Err e) route rows = rows
@@ -71,6 +72,7 @@ account_rows = with_local_rows (with_lambda_rows [])
 abbrev pub route_in : {R : Type 0} → RowsFor R → List ℕ → Option R
 route_in rows path = option_map (λ r. r.value) (first rows path)
 
+-- Whether a method is GET, POST, PUT or DELETE.
 abbrev pub is_get : List ℕ → Bool
 is_get method = bytes_eq method (codes "GET")
 
