@@ -21,11 +21,11 @@ WritesPast writes a xs b = writes a.stream xs b.stream × (b.ahead.items ≡ a.a
 abbrev pub ThrowsAway : {T : Type 0} → Passes T → Socket T → Socket T → Type 0
 ThrowsAway reads a b = (gone : List ℕ) × reads a.stream gone b.stream × (b.ahead.items ≡ a.ahead.items)
 
--- No read gives nothing.
+-- A socket may stay as it is: no byte is then read.
 pub ReadsBehind_nothing : {T : Type 0} (reads : Passes T) → PassesNothing reads → PassesNothing (ReadsBehind reads)
 ReadsBehind_nothing reads nothing a = ([], nothing a.stream, append-nil a.ahead.items)
 
--- One read after another gives their bytes in order.
+-- Two reads, one after the other, are one read of their bytes in order.
 pub ReadsBehind_in_order : {T : Type 0} (reads : Passes T) → PassesInOrder reads → PassesInOrder (ReadsBehind reads)
 ReadsBehind_in_order reads in_order a xs b ys c p q = (
   p.0 ++ q.0,
@@ -34,11 +34,11 @@ ReadsBehind_in_order reads in_order a xs b ys c p q = (
       ∙ ap (λ ws. xs ++ ws) q.2 ∙ sym (append_assoc xs ys c.ahead.items),
 )
 
--- No write writes nothing.
+-- A socket may stay as it is: no byte is then written.
 pub WritesPast_nothing : {T : Type 0} (writes : Passes T) → PassesNothing writes → PassesNothing (WritesPast writes)
 WritesPast_nothing writes nothing a = (nothing a.stream, refl)
 
--- One write after another writes their bytes in order.
+-- Two writes, one after the other, are one write of their bytes in order.
 pub WritesPast_in_order : {T : Type 0} (writes : Passes T) → PassesInOrder writes → PassesInOrder (WritesPast writes)
 WritesPast_in_order writes in_order a xs b ys c p q =
     (in_order a.stream xs b.stream ys c.stream p.0 q.0, q.1 ∙ p.1)
