@@ -57,7 +57,7 @@ fn play_by_brand<K: Keep>(part: &Part, given: &mut Given) -> Result<(), CaseFaul
 /// | `make N CALL` | tally N notes that the call `next`, `invoke` or `response` was made |
 /// | `split N` | a tally with one part of tally N is appended |
 /// | `join N` | tally N and the next one are joined, and moved to the end |
-/// | `refuse N` | the same while memory is refused: adds the fault, and moves both to the end |
+/// | `refuse N` | the same while allocations fail: adds the fault, and moves both to the end |
 /// | `room N` | asks tally N for more room than there is, and adds that it is refused |
 /// | `count N` | tally N counts three calls, one of which was admitted |
 /// | `audit N` | compares the counts of tally N, which must have all parts, with the totals |

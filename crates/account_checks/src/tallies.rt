@@ -20,7 +20,7 @@ pub enum SeatFault {
     NoWord,
     /// Two tallies were joined that must not be.
     NoFault,
-    /// Memory ran out.
+    /// An allocation failed.
     Memory,
 }
 

@@ -51,11 +51,11 @@ pub trait Identity: Ledgers {
     /// The salt of its identifiers.
     ghost salt: { ℕ };
 
-    /// How many entries its history may have.
+    /// The greatest number of entries of its history.
     ghost most: { ℕ };
 }
 
-/// A caller that names `Brand` chooses configuration, salt and limit in its proof; these are the defaults.
+/// If a caller names `Brand`, it chooses configuration, salt and limit in its proof; these are the defaults.
 impl Identity for Brand {
     ghost use Rattle.call_model.specs.Sample.{one};
 
@@ -96,12 +96,13 @@ fn finish(draft: Option<Draft>) -> Result<Option<Vec<u8>>, AllocError>
 }
 
 impl<S: Identity, B: Bell> Account<S, B> {
-    /// Opens an account of at most `max_entries` entries: at least one more than it has environments, at
-    /// most 2^32. Its history is empty, and the tally has all parts of its four ledgers. The blanks become
-    /// the ledgers and the history that `S` names. The configuration is shared with its other readers.
+    /// Opens an account of up to `max_entries` entries: at least one more than the number of its
+    /// environments, and at most 2^32. Its history is empty, and the tally has all parts of its four ledgers.
+    /// The blanks become the ledgers and the history that `S` names. The configuration is shared with its
+    /// other readers.
     ///
     /// # Errors
-    /// As `Book::open`: `EntriesOutOfRange`, else `OutOfMemory`.
+    /// As `Book::open`: `EntriesOutOfRange`, otherwise `OutOfMemory`.
     pub fn open<K: Keep>(
         alloc: Global,
         config: Arc<Checked>,
@@ -213,8 +214,8 @@ impl<S: Identity, B: Bell> Account<S, B> {
     }
 
     /// Submits a Tick at a moment in milliseconds, below 2^53, if no deadline is running, so that nothing
-    /// expires, however far ahead the moment is. The test and the step happen under one lock. Returns none
-    /// if a deadline is running; nothing has changed then.
+    /// expires, however far ahead the moment is. The test and the step happen under one lock. Returns `None`
+    /// if a deadline is running; nothing has then changed.
     ///
     /// # Errors
     /// As [`Desk::apply`], for the history that the token has then seen. The tally is unchanged.
@@ -318,9 +319,9 @@ impl<S: Identity, B: Bell> Account<S, B> {
     }
 
     /// Returns the reply to the call with a ticket, in the history as it is, which the token has then seen:
-    /// the status, the headers and the body of its answer; none while the call has no answer.
+    /// the status, the headers and the body of its answer; `None` while the call has no answer.
     ///
-    /// The only error is lack of memory.
+    /// It fails only if an allocation fails.
     pub fn render(
         &self,
         rt: &impl Wait,
@@ -335,7 +336,7 @@ impl<S: Identity, B: Bell> Account<S, B> {
 
     /// Returns the text of the history before its first entry.
     ///
-    /// The only error is lack of memory.
+    /// It fails only if an allocation fails.
     pub fn opening(&self, rt: &impl Wait) -> Result<Vec<u8>, AllocError>
         ensures { IfOk result (λ text. text.items ≡ opening_text S.config S.salt S.most) }
     {
@@ -343,9 +344,9 @@ impl<S: Identity, B: Bell> Account<S, B> {
     }
 
     /// Returns the text of the entry with a ticket, in the history as it is, which the token has then seen;
-    /// none past the end. Its bodies are escaped after the lock is released.
+    /// `None` past the end. The entry's bodies are escaped after the lock is released.
     ///
-    /// The only error is lack of memory.
+    /// It fails only if an allocation fails.
     pub fn history(
         &self,
         rt: &impl Wait,

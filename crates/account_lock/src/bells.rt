@@ -10,7 +10,7 @@ use call_model::Ticket;
 /// Rings when a ticket is answered, so that the caller that waits for it looks again. A bell rings at most
 /// once.
 pub trait Bell: Drop {
-    /// Rings it.
+    /// Rings the bell.
     fn ring(self);
 }
 

@@ -22,7 +22,7 @@ fn made(call: &Call) -> Option<Head>
     }
 }
 
-/// Returns the head of the call with a ticket; past the end there is none, and an expiry has none.
+/// Returns the head of the call with a ticket; there is none past the end, and an expiry has none.
 fn head_of_entry(book: &Book, ticket: Ticket) -> Option<Head>
     ensures { result ≡ head_at book.now.history ticket }
 {
@@ -75,7 +75,7 @@ fn fallen(calls: &[(Ticket, Head)]) -> Option<Ticket>
     least
 }
 
-/// Returns the same of a tally that no join made, and none of another.
+/// Returns the same of a tally that no join made, and `None` of any other.
 fn fallen_in<K: Keep, L: Ledgers>(tally: &Tally<K, L>) -> Option<Ticket>
     ensures { FirstFailure (RisesUnjoined tally.now) result }
 {

@@ -21,14 +21,14 @@ use usage_ledger::{Keep, Ledgers, Tally, Totals};
 /// What is known of a ticket.
 #[derive(Clone, Copy, Debug, PartialEq, Eq)]
 pub enum Look {
-    /// It has this answer.
+    /// The ticket has this answer.
     Given(Answer),
-    /// It has no answer yet, or is past the end of the history.
+    /// The ticket has no answer yet, or is past the end of the history.
     Waiting,
 }
 
 impl Look {
-    /// Returns what is known of a ticket with this answer, or with none.
+    /// Returns what is known of a ticket with this answer, or without one.
     pub fn of(answer: Option<Answer>) -> Look
         ensures { result ≡ look_of answer }
     {
@@ -121,7 +121,8 @@ impl<B: Bell, L: Ledgers> Desk<B, L> {
                 bell,
             });
         }
-        // One count of the environments that are due serves the room for bells and the book's own.
+        // One count of the environments that are due serves for the room for bells and the book's own
+        // room.
         let expiries = self.book.count_due(now);
         let most = most_given(&self.book, expiries, &call);
         let Ok(mut rings) = make_room(self.alloc, &mut self.bells, tally, most) else {
@@ -131,7 +132,7 @@ impl<B: Bell, L: Ledgers> Desk<B, L> {
             });
         };
         let head = call.head();
-        // The counts are kept: to read them before the step and after it costs a copy of five numbers.
+        // The counts are kept: reading them before and after the step costs a copy of five numbers.
         let before = self.book.stats();
         let start = self.book.len();
         let Desk {

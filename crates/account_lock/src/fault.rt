@@ -9,7 +9,7 @@ pub enum SettleFault {
     /// The tallies do not have all parts of the ledgers: what some tally counted is missing.
     #[error("TallyMissing")]
     TallyMissing,
-    /// Memory ran out.
+    /// An allocation failed.
     #[error("out of memory")]
     OutOfMemory,
     /// A receipt is not the history's answer at its ticket.

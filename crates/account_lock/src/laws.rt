@@ -12,8 +12,8 @@ ghost use Rattle.account_lock.specs.declared.fault.SettleFault.TheVariants.{OutO
 ghost use Rattle.account_lock.specs.Settlement.{IsSettled, IsFault};
 ghost use Rattle.account_lock.specs.Shown.{IsTaken, Sees};
 
-/// A settled account has no fault: an account settles exactly if none of the faults holds, lack of memory
-/// aside.
+/// A settled account has no fault. An account settles exactly if none of the faults holds, apart from an
+/// allocation that fails.
 pub fn settled_without_fault()
     ensures { (all : Bool) (h : List Entry) (tallies : List Tallied) (fault : SettleFault) →
         IsSettled all h tallies → IsFault all fault h tallies → fault ≡ OutOfMemory }

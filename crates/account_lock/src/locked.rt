@@ -37,7 +37,7 @@ impl<S: Identity, B> Model for Locked<S, B> {
         × (l.desk.book.max_entries ≡ S.most) };
 }
 
-/// The pen writes the history of the desk's book.
+/// Lets the pen write the history of the desk's book.
 struct OfDesk;
 
 impl<B, L: Ledgers> Source<Desk<B, L>, Entry> for OfDesk {
@@ -74,7 +74,7 @@ impl<S: Identity, B: Bell> Locked<S, B> {
         Ok((step, self.pen.token(spine)))
     }
 
-    /// Does the same with a call that is offered.
+    /// Does the same with an offered call.
     pub(crate) fn offer<K: Keep>(
         &mut self,
         spine: &Spine<S>,
@@ -104,7 +104,7 @@ impl<S: Identity, B: Bell> Locked<S, B> {
         Ok((step, self.pen.token(spine)))
     }
 
-    /// Takes a Tick, but only while no deadline is running.
+    /// Takes a Tick, but only if no deadline is running.
     pub(crate) fn tick_at_rest<K: Keep>(
         &mut self,
         spine: &Spine<S>,
@@ -154,7 +154,7 @@ impl<S: Identity, B: Bell> Locked<S, B> {
 
     /// Returns the text of the history before its first entry.
     ///
-    /// The only error is lack of memory.
+    /// It fails only if an allocation fails.
     pub(crate) fn opening(&self) -> Result<Vec<u8>, AllocError>
         ensures { IfOk result (λ text. text.items ≡ opening_text S.config S.salt S.most) }
     {

@@ -12,15 +12,15 @@ use usage_ledger::{Keep, Ledgers, Tally};
 /// Why an offered call was not taken. Nothing has changed.
 #[derive(Drop)]
 pub enum Declined<B> {
-    /// It is premature: an environment that may take it is about to be ready. It is returned with its
-    /// bell.
+    /// The call is premature: an environment that may take it is about to be ready. It is returned with
+    /// its bell.
     Premature {
         /// The call.
         call: Call,
         /// The caller's bell.
         bell: Option<B>,
     },
-    /// It was refused, like a submitted call.
+    /// The call was refused, like a submitted call.
     Refused(Refused<B>),
 }
 
@@ -29,8 +29,8 @@ impl<B: Bell, L: Ledgers> Desk<B, L> {
     /// ([`account_book::Book::is_premature`]).
     ///
     /// # Errors
-    /// `Premature` exactly if it is, otherwise as `apply`. Desk and tally are unchanged, and the bell is
-    /// returned, with the call if that is premature.
+    /// `Premature` exactly if the call is premature, otherwise as `apply`. Desk and tally are unchanged,
+    /// and the bell is returned, with the call if that is premature.
     pub fn offer<K: Keep>(
         &mut self,
         tally: &mut Tally<K, L>,

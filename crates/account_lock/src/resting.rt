@@ -12,8 +12,9 @@ use usage_ledger::{Keep, Ledgers, Tally};
 
 impl<B: Bell, L: Ledgers> Desk<B, L> {
     /// Takes a Tick at a moment in milliseconds, below 2^53, if no deadline is running, so that nothing
-    /// expires, however far ahead the moment is. This catches up on time that passed unseen, as while the
-    /// machine slept. Returns none exactly if a deadline is running; desk and tally are then unchanged.
+    /// expires, however far ahead the moment is. This catches up on time that passed unseen, for example
+    /// while the machine slept. Returns `None` exactly if a deadline is running; desk and tally are then
+    /// unchanged.
     ///
     /// # Errors
     /// As [`Desk::apply`]. Desk and tally are unchanged.

@@ -51,7 +51,7 @@ fn all_parts<K: Keep, L: Ledgers>(tallies: &[Tally<K, L>]) -> bool
     sum == 1 << 32
 }
 
-/// Joins all shares in one tally; returns none if there is no tally.
+/// Joins all shares in one tally; returns `None` if there is no tally.
 fn gather<K: Keep, L: Ledgers>(tallies: Vec<Tally<K, L>>) -> Option<Tally<K, L>>
     ensures some { IfSome result (λ tally. (tally.held.parts ≡ parts_in tallies.items)
         × (tally.held.counts ≡ counts_in tallies.items)) }
@@ -120,8 +120,8 @@ fn keep_nothing<K: Keep, L: Ledgers>(tallies: &[Tally<K, L>]) -> bool
     tallies.iter().all(|tally| keeps_nothing(tally))
 }
 
-/// Returns the first fault of what the tallies keep, given that they have all parts. All memory is allocated
-/// before the first comparison; none is if nothing is kept, and nothing has to be.
+/// Returns the first fault of what the tallies keep, given that they have all parts. Everything is allocated
+/// before the first comparison; if nothing is kept, and nothing has to be, nothing is allocated.
 fn fault_of_keeping<K: Keep, L: Ledgers>(
     alloc: Global,
     book: &Book,
@@ -163,8 +163,8 @@ impl<B: Bell, L: Ledgers> Desk<B, L> {
     ///
     /// # Errors
     /// The first `SettleFault` that holds, in the order in which they are declared; desk and tallies are
-    /// consumed. If no tally was missing, they have counted what the history counts. If nothing is kept,
-    /// and nothing has to be, no memory is allocated, and a missing tally is the only fault.
+    /// consumed. If no tally was missing, they have counted what the history counts. If nothing is kept, and
+    /// nothing has to be, nothing is allocated, and a missing tally is the only fault.
     pub fn settle<K: Keep>(self, tallies: Vec<Tally<K, L>>) -> Result<Settled<K, L>, SettleFault>
         ensures book { IfOk result (λ settled. (settled.book ≡ self.book)
             × (settled.stats ≡ stats self.book.config self.book.history)) }

@@ -47,7 +47,8 @@ fn push_times(bytes: &mut Vec<u8>, part: &Part) -> Result<(), CaseFault> {
 /// | `times N 61` | the byte of this hexadecimal number, N times |
 ///
 /// # Errors
-/// `Unknown` for another part, `Malformed` if a number cannot be read, and `Memory`.
+/// `Unknown` for another part, `Malformed` if a number cannot be read, and `Memory` if an
+/// allocation fails.
 pub fn push_bytes(bytes: &mut Vec<u8>, part: &Part) -> Result<(), CaseFault> {
     match part.word() {
         "body" => Ok(bytes.extend_from_slice(part.lines().as_bytes())?),

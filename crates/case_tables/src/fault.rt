@@ -7,7 +7,7 @@ use thiserror::Error;
 /// Why a case cannot be run.
 #[derive(Clone, Copy)]
 pub enum CaseFault {
-    /// Memory ran out.
+    /// An allocation failed.
     Memory,
     /// The part at this line is unknown to the subject.
     Unknown { line: u64 },
@@ -61,7 +61,7 @@ pub enum TableFault {
     /// Standard output accepted nothing.
     #[error("output: failed")]
     Write,
-    /// Memory ran out.
+    /// An allocation failed.
     #[error("out of memory")]
     OutOfMemory,
 }

@@ -5,8 +5,8 @@ use std::alloc::Global;
 use std::fmt::{Debug, Display};
 use std::str;
 
-/// Text that is being written. If memory runs out, it accepts no more and reports that at its end,
-/// so a writer need not check after each word.
+/// Text that is being written. If an allocation fails, it accepts no more and reports that at its
+/// end, so a writer need not check after each word.
 #[derive(Drop)]
 pub struct Given {
     alloc: Global,
@@ -61,7 +61,7 @@ impl Given {
         }
     }
 
-    /// Notes that memory ran out for something that had to be added.
+    /// Notes that an allocation failed for something that had to be added.
     pub fn cut(&mut self) {
         self.is_cut = true;
     }
@@ -79,7 +79,7 @@ impl Given {
     /// Checks that everything added was written.
     ///
     /// # Errors
-    /// `Memory`, if it was not.
+    /// `Memory` if it was not, because an allocation failed.
     pub fn end(&self) -> Result<(), CaseFault> {
         match self.is_cut {
             true => Err(CaseFault::Memory),
@@ -90,7 +90,7 @@ impl Given {
     /// Appends everything that was written to a text.
     ///
     /// # Errors
-    /// `Memory`, if there was not enough for it.
+    /// `Memory` if an allocation failed, now or before.
     pub fn hand_over(&self, text: &mut String) -> Result<(), CaseFault> {
         match self.is_cut || text.push_str(self.as_str()).is_err() {
             true => Err(CaseFault::Memory),

@@ -67,8 +67,8 @@ where
 }
 
 fn main(rt: HostRuntime) -> ExitCode {
-    // (so that the types of the machine's sockets, which the checks over sockets ask for, are among
-    // those of `main`)
+    // (So that the types of the machine's sockets, which the checks over sockets ask for, are among
+    // those of `main`.)
     let _: PhantomData<(TcpListener, TcpStream)> = PhantomData;
     match read_arguments(&rt) {
         Ok(Some(group)) => end(&rt, run(rt, group)),

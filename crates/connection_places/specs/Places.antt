@@ -1,7 +1,7 @@
 -- The places of a host's connections, each with a tally.
 use Rattle.std.specs.Prelude.{ℕ}
 
--- the most places that there may be, and how many were made
+-- The greatest number of places that there may be, and how many were made.
 pub record Places : Type 0 where
   pub most : ℕ
   pub made : ℕ

@@ -1,4 +1,4 @@
-//! Which newcomers get a place, and which connection makes room for one.
+//! Which new connections get a place, and which connection makes room for one.
 
 ghost use Rattle.std.specs.Prelude.{◌≡◌, ◌≤◌, length};
 ghost use Rattle.connection_places.specs.Choices as choice;
@@ -12,8 +12,8 @@ use http_connection::PortKind;
 /// complete request.
 type Best = Option<(usize, u32)>;
 
-/// Returns the better of two: the one that has been longer without a complete request, else the
-/// first.
+/// Returns the better of two connections to make room: the one that has been longer without a
+/// complete request, or the first of equal ones.
 fn better(best: Best, at: usize, looks: Option<u32>) -> Best
     ensures { result ≡ spec.better best at looks }
 {
@@ -33,8 +33,8 @@ pub(crate) fn reserve_of(most: usize) -> usize
     (most / 16).min(64)
 }
 
-/// Returns for how many looks the connection of a place has been without a complete request, if it
-/// may make room.
+/// Returns for how many looks the connection of a place has been without a complete request; `None`
+/// if it may not make room.
 fn spare_looks(running: &Option<Running>) -> Option<u32>
     ensures { result ≡ choice.spare_of running.now }
 {
@@ -82,8 +82,8 @@ fn count_of_environments<Y, V>(slots: &[Slot<Y, V>]) -> usize
     count
 }
 
-/// Returns whether a newcomer at a port of this kind may have one of `most` places: at an
-/// environment's port, one that is not kept for the account's.
+/// Returns whether a newcomer at a port of this kind may have one of `most` places. At an
+/// environment's port, the places that are kept for the account's port are not available.
 pub(crate) fn admits<Y, V>(most: usize, kind: PortKind, slots: &[Slot<Y, V>]) -> bool
     ensures { result ≡ choice.admits most kind slots.now }
 {

@@ -5,7 +5,7 @@ ghost use Rattle.std.specs.Prelude.{◌≡◌, IfErr};
 use std::sync::{Condvar, Mutex, Wait};
 use std::time::{Clock, Duration};
 
-/// What comes next, if it is there yet, and whether anything more may come.
+/// What comes next, if it is there yet, and whether the mailbox is closed.
 #[derive(Drop)]
 struct Letter<V> {
     next: Option<V>,
@@ -13,8 +13,8 @@ struct Letter<V> {
 }
 
 /// The mailbox of a thread, into which another thread puts what comes next. Once closed, it stays
-/// closed: what is then put in comes back, so that nothing is left in the mailbox of a thread that
-/// has ended. What was put in before can still be taken out.
+/// closed: what is put in after that is returned, so that nothing is left in the mailbox of a
+/// thread that has ended. What was put in before can still be taken out.
 #[derive(Drop)]
 pub struct Mailbox<V> {
     letter: Mutex<Letter<V>>,
@@ -22,7 +22,7 @@ pub struct Mailbox<V> {
 }
 
 impl<V: Drop> Mailbox<V> {
-    /// Makes an empty one, for a thread that is about to begin.
+    /// Makes an empty mailbox, for a thread that is about to begin.
     pub(crate) fn new() -> Mailbox<V> {
         let letter = Letter {
             next: None,
@@ -34,10 +34,10 @@ impl<V: Drop> Mailbox<V> {
         }
     }
 
-    /// Puts this in.
+    /// Puts in what comes next.
     ///
     /// # Errors
-    /// If the mailbox is closed or full, it comes back.
+    /// If the mailbox is closed or full, returns what was to be put in.
     pub(crate) fn put(&self, rt: &impl Wait, next: V) -> Result<(), V>
         ensures { IfErr result (λ back. back ≡ next) }
     {
@@ -67,13 +67,13 @@ impl<V: Drop> Mailbox<V> {
         next
     }
 
-    /// Closes it. A waiting thread at once gets `None`.
+    /// Closes the mailbox. A waiting thread gets `None` at once.
     pub(crate) fn close(&self, rt: &impl Wait) {
         self.letter.lock(rt).is_closed = true;
         self.changed.notify_one();
     }
 
-    /// Returns whether it is closed.
+    /// Returns whether the mailbox is closed.
     pub(crate) fn is_closed(&self, rt: &impl Wait) -> bool {
         self.letter.lock(rt).is_closed
     }

@@ -1,4 +1,4 @@
-//! What is seen of a connection at one look a second.
+//! What is seen of connections, which are looked at once a second.
 
 ghost use Rattle.std.specs.Prelude.{◌≡◌};
 ghost use Rattle.connection_places.specs.Looks as spec;
@@ -32,7 +32,8 @@ impl Observation {
         }
     }
 
-    /// Returns what is seen `looks` looks later, if it has published only this state meanwhile.
+    /// Returns what is seen `looks` looks later, if the connection has published only this state
+    /// meanwhile.
     pub(crate) fn later(self, told: Told, looks: u32) -> Observation
         ensures { result ≡ spec.seen_later self told looks }
     {
@@ -46,16 +47,16 @@ impl Observation {
         }
     }
 
-    /// Returns whether it has reached one of its limits.
+    /// Returns whether the connection has reached one of its limits.
     pub(crate) fn has_outstayed(self) -> bool
         ensures { result ≡ spec.is_over self }
     {
         has_outstayed(self.kind, self.told, self.still, self.whole)
     }
 
-    /// Returns for how many looks it has been without a complete request, if it may make room for a
-    /// newcomer: it came in at the account's port, and either is between two requests, or was
-    /// already sending one at an earlier look.
+    /// Returns for how many looks the connection has been without a complete request; `None` if it
+    /// may not make room for a newcomer. It may if it came in at the account's port, and either is
+    /// between two requests, or was already sending one at an earlier look.
     pub(crate) fn spare_looks(self) -> Option<u32>
         ensures { result ≡ spec.spare_looks self }
     {
@@ -66,7 +67,7 @@ impl Observation {
         }
     }
 
-    /// Returns whether it came in at an environment's port.
+    /// Returns whether the connection came in at an environment's port.
     pub(crate) fn is_of_environment(self) -> bool
         ensures { result ≡ spec.is_of_environment self.kind }
     {
@@ -74,7 +75,7 @@ impl Observation {
     }
 }
 
-/// Returns `looks` more than before if it is still so, else 0.
+/// Returns `looks` more than before if the condition still holds, otherwise 0.
 fn counted(is_still_so: bool, before: u32, looks: u32) -> u32
     ensures { result ≡ spec.counted is_still_so before looks }
 {

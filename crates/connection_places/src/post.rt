@@ -31,8 +31,8 @@ pub struct Post<Y, V> {
 }
 
 impl<Y, V: Drop> Post<Y, V> {
-    /// Notes that its connection has ended, and whether the thread leaves. (There is room for the
-    /// note.)
+    /// Notes that the connection of the place has ended, and whether the thread leaves. (There is
+    /// room for the note.)
     fn tell(&self, rt: &impl Wait, has_left: bool) {
         let end = End {
             at: self.at,
@@ -41,14 +41,14 @@ impl<Y, V: Drop> Post<Y, V> {
         let _ = self.ended.lock(rt).push(end);
     }
 
-    /// Notes that its connection has ended, and waits for the next one. If it returns `None`, the
-    /// thread has to end.
+    /// Notes that the connection of the place has ended, and waits for the next one. If it returns
+    /// `None`, the thread has to end.
     pub fn next<R: Wait + Clock>(&self, rt: &R) -> Option<V> {
         self.tell(rt, false);
         self.mailbox.take(rt, Duration::from_secs(KEPT))
     }
 
-    /// Notes that its connection has ended, and that the thread leaves.
+    /// Notes that the connection of the place has ended, and that the thread leaves.
     pub fn leave(&self, rt: &impl Wait) {
         self.mailbox.close(rt);
         self.tell(rt, true);
@@ -58,7 +58,7 @@ impl<Y, V: Drop> Post<Y, V> {
 /// The thread of a place, and its mailbox.
 #[derive(Drop)]
 pub struct Worker<V> {
-    /// Its handle.
+    /// The handle of the thread.
     pub thread: JoinHandle<()>,
     /// The mailbox into which its next connection is put.
     pub mailbox: Arc<Mailbox<V>>,

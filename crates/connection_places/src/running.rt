@@ -8,11 +8,11 @@ use std::sync::Arc;
 /// The senders of the signals that end a connection.
 #[derive(Drop)]
 pub struct Enders {
-    /// Ends it after its exchange.
+    /// Ends the connection after its exchange.
     pub soft: Sender<()>,
-    /// Ends it at once.
+    /// Ends the connection at once.
     pub hard: Sender<()>,
-    /// Ends it at once if it serves no request.
+    /// Ends the connection at once if it serves no request.
     pub room: Sender<()>,
 }
 

@@ -14,8 +14,8 @@ use std::sync::{Arc, Mutex, Wait};
 use std::thread::Threads;
 
 /// A place of one connection after another, which all count in its tally: so no tally is lost, and
-/// there are no more tallies than connections that were open at once. Its thread may wait for the
-/// next connection.
+/// there are no more tallies than the greatest number of connections that were open at once. Its
+/// thread may wait for the next connection.
 #[derive(Drop)]
 pub(crate) struct Slot<Y, V> {
     tally: Arc<Mutex<Y>>,
@@ -61,10 +61,10 @@ impl<Y, V: Drop> Slot<Y, V> {
 #[derive(Clone, Copy, Debug, PartialEq, Eq)]
 pub struct StillShared;
 
-/// The places: by their type never more than `most`, so no more connections are open at once. Those
-/// that no connection has are in `free`; the last of these is taken next. `free` and `ended` have
-/// room for every place, and `gathered` for the tallies of all places and two more, so that the end
-/// of the service needs no memory.
+/// The places: by their type never more than `most`, so no more connections are open at once.
+/// `free` has the places without a connection; the last of these is taken next. `free` and `ended`
+/// have room for every place, and `gathered` for the tallies of all places and two more, so that
+/// the end of the service allocates nothing.
 #[derive(Drop)]
 pub struct Slots<Y, V> {
     alloc: Global,
@@ -88,8 +88,8 @@ impl<Y, V> Model for Slots<Y, V> {
 }
 
 impl<Y: Drop, V: Drop> Slots<Y, V> {
-    /// Makes an empty list of places, of which there may be `most`. The only error is that memory
-    /// is refused.
+    /// Makes an empty list of places, of which there may be `most`. It fails only if an allocation
+    /// fails.
     pub fn new(alloc: Global, most: u32) -> Result<Slots<Y, V>, AllocError>
         ensures { IfOk result (λ slots. slots ≡ record { most = most; made = 0 }) }
     {
@@ -121,7 +121,7 @@ impl<Y: Drop, V: Drop> Slots<Y, V> {
     /// Makes another place, with this tally, and takes it. There is room for one more.
     ///
     /// # Errors
-    /// If memory is refused, the tally comes back, and no place is made.
+    /// If an allocation fails, the tally is returned, and no place is made.
     pub fn add(&mut self, rt: &impl Wait, tally: Y) -> Result<usize, Y>
         requires { self.old.made < self.old.most }
         ensures added { IfOk result
@@ -156,7 +156,7 @@ impl<Y: Drop, V: Drop> Slots<Y, V> {
     /// Returns a place, as a new thread gets it.
     ///
     /// # Errors
-    /// `AllocError` if memory is refused, or there is no place of this number.
+    /// `AllocError` if an allocation fails, or there is no place of this number.
     pub fn post(&self, at: usize) -> Result<Post<Y, V>, AllocError> {
         let Some(slot) = self.slots.get(at) else {
             return Err(AllocError);
@@ -202,7 +202,7 @@ impl<Y: Drop, V: Drop> Slots<Y, V> {
     }
 
     /// Gives back a place without a thread. It is taken after those at which a thread waits, which
-    /// need no memory and no descriptors for another connection.
+    /// need neither memory nor descriptors for another connection.
     pub fn give_back(&mut self, at: usize)
         ensures { self.new ≡ self.old }
     {
@@ -248,7 +248,7 @@ impl<Y: Drop, V: Drop> Slots<Y, V> {
         }
     }
 
-    /// Signals each thread to end: at once if it waits, else after its connection.
+    /// Signals each thread to end: at once if it waits, otherwise after its connection.
     pub fn dismiss(&self, rt: &impl Wait) {
         for slot in &self.slots {
             if let Some(worker) = &slot.worker {
@@ -285,8 +285,8 @@ impl<Y: Drop, V: Drop> Slots<Y, V> {
         }
     }
 
-    /// Looks at each connection, and ends at once each that has reached one of its limits, so that
-    /// no peer keeps a place without asking for something. Called once a second.
+    /// Looks at each connection, and ends at once those that have reached one of their limits, so
+    /// that no peer keeps a place without asking for something. It is called once a second.
     pub fn end_the_idle(&mut self)
         ensures { self.new ≡ self.old }
     {
@@ -300,7 +300,7 @@ impl<Y: Drop, V: Drop> Slots<Y, V> {
         }
     }
 
-    /// Returns whether a newcomer at a port of this kind may have a place: one in sixteen, at most
+    /// Returns whether a newcomer at a port of this kind may have a place: one in sixteen, up to
     /// 64, are kept for the account's port.
     pub fn admits(&self, kind: PortKind) -> bool {
         admits(self.most, kind, self.slots.as_slice())

@@ -1,14 +1,15 @@
--- What passes through a socket that is read ahead, with the proofs of the laws.
+-- What passes through a socket whose stream is read ahead, with the proofs of the laws.
 use Rattle.std.proofs.Common.{◌≡◌, ℕ, List, [], ◌++◌, refl, sym, ap, ◌∙◌, append_assoc, append-nil}
 use Rattle.tokio.specs.Io.Moved.{Passes, PassesNothing, PassesInOrder}
 use Rattle.http_connection.specs.declared.socket.Socket.{Socket}
 
--- The output is what was read ahead and then what the stream gave, less what is read ahead now.
+-- The reads of such a socket: the bytes that had been read ahead, followed by those that its stream gave, are the bytes
+-- that the reads gave, followed by those that are now read ahead.
 abbrev pub ReadsBehind : {T : Type 0} → Passes T → Passes (Socket T)
 ReadsBehind reads a xs b =
     (more : List ℕ) × reads a.stream more b.stream × (a.ahead.items ++ more ≡ xs ++ b.ahead.items)
 
--- The end is reported only once nothing is left of what was read ahead.
+-- The end is reported only if nothing is left of what was read ahead.
 abbrev pub IsAtEndBehind : {T : Type 0} → (T → Type 0) → Socket T → Type 0
 IsAtEndBehind is_at_end s = (s.ahead.items ≡ []) × is_at_end s.stream
 
@@ -20,9 +21,11 @@ WritesPast writes a xs b = writes a.stream xs b.stream × (b.ahead.items ≡ a.a
 abbrev pub ThrowsAway : {T : Type 0} → Passes T → Socket T → Socket T → Type 0
 ThrowsAway reads a b = (gone : List ℕ) × reads a.stream gone b.stream × (b.ahead.items ≡ a.ahead.items)
 
+-- A socket may stay as it is: no byte is then read.
 pub ReadsBehind_nothing : {T : Type 0} (reads : Passes T) → PassesNothing reads → PassesNothing (ReadsBehind reads)
 ReadsBehind_nothing reads nothing a = ([], nothing a.stream, append-nil a.ahead.items)
 
+-- Two reads, one after the other, are one read of their bytes in order.
 pub ReadsBehind_in_order : {T : Type 0} (reads : Passes T) → PassesInOrder reads → PassesInOrder (ReadsBehind reads)
 ReadsBehind_in_order reads in_order a xs b ys c p q = (
   p.0 ++ q.0,
@@ -31,9 +34,11 @@ ReadsBehind_in_order reads in_order a xs b ys c p q = (
       ∙ ap (λ ws. xs ++ ws) q.2 ∙ sym (append_assoc xs ys c.ahead.items),
 )
 
+-- A socket may stay as it is: no byte is then written.
 pub WritesPast_nothing : {T : Type 0} (writes : Passes T) → PassesNothing writes → PassesNothing (WritesPast writes)
 WritesPast_nothing writes nothing a = (nothing a.stream, refl)
 
+-- Two writes, one after the other, are one write of their bytes in order.
 pub WritesPast_in_order : {T : Type 0} (writes : Passes T) → PassesInOrder writes → PassesInOrder (WritesPast writes)
 WritesPast_in_order writes in_order a xs b ys c p q =
     (in_order a.stream xs b.stream ys c.stream p.0 q.0, q.1 ∙ p.1)

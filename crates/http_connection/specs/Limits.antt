@@ -1,4 +1,4 @@
--- How long a connection may stay open.
+-- How long a connection may stay open. All limits are in seconds.
 use Rattle.std.specs.Prelude.{ℕ, ◌+◌, ◌*◌, ◌/◌, Bool, true, false, ◌||◌, nat_le, Option, Some, None}
 use Rattle.http_connection.specs.declared.pulse.Awaited.{Awaited}
 use Rattle.http_connection.specs.declared.pulse.Awaited.TheVariants.{Answer, First, Head, Body, Taking, Next, End}
@@ -6,13 +6,13 @@ use Rattle.http_connection.specs.declared.pulse.Told.{Told}
 use Rattle.http_connection.specs.declared.limits.PortKind.{PortKind}
 use Rattle.http_connection.specs.declared.limits.PortKind.TheVariants.{Account, Environment}
 
--- The idle limit between two requests, in seconds: at an environment's port well over the 900 that a handler may
--- take, since its runtime keeps the connection of its Next meanwhile.
+-- How many seconds a connection may be idle between two requests. At an environment's port this is far above the 900
+-- that a handler may take, since its runtime keeps the connection of its Next open meanwhile.
 abbrev pub idle_limit : PortKind → ℕ
 idle_limit Account = 300
 idle_limit Environment = 3600
 
--- how many seconds it may stay without a byte; none if there is no limit
+-- How many seconds a connection may go without a byte; `None` if there is no limit.
 abbrev pub still_limit : PortKind → Awaited → Option ℕ
 still_limit kind Answer = None
 still_limit kind First = Some 20
@@ -22,8 +22,8 @@ still_limit kind Taking = None
 still_limit kind Next = Some (idle_limit kind)
 still_limit kind End = Some 2
 
--- How many seconds a stage may take, whatever arrives meanwhile; none if there is no limit. After its first 20
--- seconds, a body has to arrive at 64 KiB a minute.
+-- How many seconds a stage may take in all, whatever arrives meanwhile; `None` if there is no limit. `moved` is the
+-- number of bytes of the stage: after its first 20 seconds, a body has to arrive at 64 KiB a minute or more.
 abbrev pub stage_limit : Awaited → ℕ → Option ℕ
 stage_limit Answer moved = None
 stage_limit First moved = None
@@ -33,15 +33,16 @@ stage_limit Taking moved = Some 300
 stage_limit Next moved = None
 stage_limit End moved = Some 30
 
+-- How many seconds the stage of a published state may take in all; `None` if there is no limit.
 abbrev pub whole_limit : Told → Option ℕ
 whole_limit told = stage_limit told.awaited told.moved
 
--- This many seconds are at least the limit, if there is one.
+-- Whether a number of seconds has reached the limit, if there is one.
 abbrev pub is_reached : ℕ → Option ℕ → Bool
 is_reached seconds (Some limit) = nat_le limit seconds
 is_reached seconds None = false
 
--- A connection has reached a limit: that without a byte, or that of its stage.
+-- Whether a connection has reached a limit, after `still` seconds without a byte and `whole` seconds in its stage.
 abbrev pub has_outstayed : PortKind → Told → ℕ → ℕ → Bool
 has_outstayed kind told still whole = is_reached still (still_limit kind told.awaited)
     || is_reached whole (whole_limit told)

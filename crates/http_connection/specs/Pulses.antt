@@ -4,7 +4,7 @@ use Rattle.http_connection.specs.declared.pulse.Awaited.{Awaited}
 use Rattle.http_connection.specs.declared.pulse.Awaited.TheVariants.{Answer, First, Head, Body, Taking, Next, End}
 use Rattle.http_connection.specs.declared.pulse.Told.{Told}
 
--- the number of what is waited for
+-- The number that stands for what a connection waits for.
 abbrev pub number_of : Awaited → ℕ
 number_of Answer = 0
 number_of First = 1
@@ -14,11 +14,13 @@ number_of Taking = 4
 number_of Next = 5
 number_of End = 6
 
--- the number of a published state
+-- The number that a connection publishes: the bytes that moved, from bit 32 on, the answers, from bit 16 on, and what
+-- it waits for.
 abbrev pub told_of : Told → ℕ
 told_of told = told.moved * 2 ^ 32 + told.answers * 2 ^ 16 + number_of told.awaited
 
--- the stages of an exchange: not begun, its head, its body and its service, its response; and the connection's end
+-- The stage of an exchange: 0 before it begins, 1 for its head, 2 for its body and its service, 3 for its response; 4
+-- is the end of the connection.
 abbrev pub stage_of : Awaited → ℕ
 stage_of First = 0
 stage_of Next = 0
@@ -28,7 +30,7 @@ stage_of Answer = 2
 stage_of Taking = 3
 stage_of End = 4
 
--- It waits for its peer to send a request.
+-- Whether a connection waits for its peer to send a request or the rest of one.
 abbrev pub is_unserved : Awaited → Bool
 is_unserved Answer = false
 is_unserved First = true
@@ -38,7 +40,7 @@ is_unserved Taking = false
 is_unserved Next = true
 is_unserved End = false
 
--- It is between two requests.
+-- Whether a connection is between two requests.
 abbrev pub is_between : Awaited → Bool
 is_between Answer = false
 is_between First = false
@@ -48,11 +50,11 @@ is_between Taking = false
 is_between Next = true
 is_between End = false
 
--- Nothing happened between the two.
+-- Whether nothing happened between two published states.
 abbrev pub is_same : Told → Told → Bool
 is_same one other = (number_of one.awaited == number_of other.awaited) && (one.answers == other.answers)
     && (one.moved == other.moved)
 
--- the same stage of the same exchange
+-- Whether two published states are in the same stage of the same exchange.
 abbrev pub is_in_stage_of : Told → Told → Bool
 is_in_stage_of one other = (stage_of one.awaited == stage_of other.awaited) && (one.answers == other.answers)

@@ -17,7 +17,7 @@ use Rattle.hyper.specs.Server.{history}
 use Rattle.hyper.specs.declared.error.Error.{Error}
 use Rattle.hyper.specs.declared.proto.server.ServerConn.{ServerConn}
 
--- A service gave this response to a request with this head.
+-- The service gave this response to a request with this head.
 pub record Gave {S R F B E : Type 0} (calls : S → Request R → F → Type 0) (gives : F → Result (Response B) E → Type 0)
     (service : S) (head : Asked) (response : Response B) : Type 0 where
   pub request : Request R
@@ -26,27 +26,28 @@ pub record Gave {S R F B E : Type 0} (calls : S → Request R → F → Type 0) 
   pub called : calls service request future
   pub given : gives future (Ok response)
 
--- The bodies of responses yield frames, and the data of a frame has bytes.
+-- In what follows, `yields` says which frames the body of a response yields, and `has` which bytes the data of a frame
+-- has.
 module _ {B D X : Type 0} (yields : B → Runs (Result (Frame D) X)) (has : D → List ℕ → Type 0) where
-  -- the bytes are those of the pieces, joined
+  -- The bytes are those of the pieces, joined.
   abbrev pub Joins : List D → List ℕ → Type 0
   Joins pieces bytes = (parts : List (List ℕ)) × AllZip has pieces parts × (bytes ≡ concat parts)
 
-  -- the body yields these pieces first
+  -- These pieces are the first that the body yields.
   pub data Begins (body : B) : List D → Type 0 where
     no_piece : Begins body []
     one_more : (pieces : List D) (piece : D) → yields body (frames_of pieces) (Some (Ok (data_frame piece)))
         → Begins body (pieces ++ piece ∷ [])
 
-  -- after these pieces the body ends, or yields trailers, of which some are written
+  -- After these pieces the body ends, or it yields trailers, of which some were written.
   abbrev pub Ends : B → List D → Whole Parts → Type 0
   Ends body pieces written =
       (yields body (frames_of pieces) None × (written.trailers ≡ []))
       ⊎ ((map : _) × yields body (frames_of pieces) (Some (Ok (trailers_frame map)))
       × ((written.trailers ≡ []) ⊎ AreAmong written.trailers map))
 
-  -- The whole response to a request with this head was written: its status, its header fields, except those that
-  -- frame a body, and its body, or no body if none may follow.
+  -- The whole response to a request with this head was written: its status; its header fields, except those that frame
+  -- a body; and its body, or no body if none may follow.
   pub record IsWhole (head : Asked) (response : Response B) (written : Whole Parts) : Type 0 where
     pub head_is : IsHeadOf written.head response
     pub body_is : (IsBodiless head written.head × (written.bytes ≡ []) × (written.trailers ≡ []))
@@ -60,10 +61,10 @@ module _ {B D X : Type 0} (yields : B → Runs (Result (Frame D) X)) (has : D �
     pub begins : Begins (body_of response) pieces
 
   module _ (answers : Asked → Response B → Type 0) where
-    -- What was written to a connection that ended by itself with this outcome: whole responses that answer the
-    -- requests one for one, in their order; and after them at most the beginning of one more, which answers the next
-    -- request. `last` is the connection at its end, with all that it took and gave. If the outcome is `Ok`, nothing
-    -- of that is left to send.
+    -- What was written to a connection that ended by itself with this outcome: whole responses, one for each of its
+    -- first requests, in their order; after them, at most the beginning of one more response, to the next request.
+    -- `last` is the connection at its end, with all that it took and gave. If the outcome is `Ok`, nothing of that is
+    -- left to send.
     pub record Written {A : Type 0} (outcome : Result A Error) : Type 0 where
       pub last : ServerConn
       pub answered : List Asked

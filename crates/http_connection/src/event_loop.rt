@@ -46,15 +46,15 @@ struct Ends<R> {
 }
 
 impl EventLoop {
-    /// Opens it for the connections of the present thread.
+    /// Opens an event loop for the connections of the present thread.
     ///
     /// # Errors
-    /// If memory, a descriptor or the machine's randomness is refused.
+    /// If an allocation fails, or the machine refuses a descriptor or its randomness.
     pub fn open<R: Clock + Net + RandomSource + AllocGlobal>(rt: &R) -> io::Result<EventLoop> {
         let keys = RandomState::new(rt)?;
         let runtime = LocalRuntime::new(rt)?;
         let mut http = Builder::new(rt.alloc(), keys);
-        // After a half-close, as by `nc -N`, the caller still gets its answer.
+        // After a half-close, for example by `nc -N`, the caller still gets its answer.
         http.half_close(true);
         Ok(EventLoop { runtime, http })
     }
@@ -65,7 +65,7 @@ impl EventLoop {
     /// then what the service gave. If it was cut off, nothing is said about what was written.
     ///
     /// # Errors
-    /// If the socket cannot be watched, or memory is refused: nothing was read from it then. Also
+    /// If the socket cannot be watched, or an allocation fails: nothing was then read from it. Also
     /// if the reactor fails.
     pub fn serve<R, V, B, O>(
         &mut self,

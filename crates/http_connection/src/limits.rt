@@ -16,8 +16,8 @@ pub enum PortKind {
 
 impl PortKind {
     /// Returns how many seconds a connection may stay without a byte between two requests. A
-    /// handler may run for 900 seconds, during which its runtime keeps the connection of its Next.
-    /// An hour is well over that, and a forgotten connection still gives its place back.
+    /// handler may run for 900 seconds, during which its runtime keeps the connection of its Next
+    /// open. An hour is far above that, and a forgotten connection still gives its place back.
     fn idle_limit(self) -> u64
         ensures { result ≡ spec.idle_limit self }
     {
@@ -28,7 +28,7 @@ impl PortKind {
     }
 }
 
-/// Returns how many seconds a connection that waits for this may stay without a byte, `None` if
+/// Returns how many seconds a connection that waits for this may stay without a byte; `None` if
 /// there is no limit.
 fn still_limit_of(kind: PortKind, awaited: Awaited) -> Option<u64>
     ensures { result ≡ spec.still_limit kind awaited }
@@ -41,7 +41,7 @@ fn still_limit_of(kind: PortKind, awaited: Awaited) -> Option<u64>
     }
 }
 
-/// Returns how many seconds it may stay in its stage, `None` if there is no limit.
+/// Returns how many seconds a connection may stay in its stage; `None` if there is no limit.
 fn whole_limit_of(told: Told) -> Option<u64>
     ensures { result ≡ spec.whole_limit told }
 {
@@ -54,7 +54,7 @@ fn whole_limit_of(told: Told) -> Option<u64>
     }
 }
 
-/// Returns whether this many seconds are at least the limit, if there is one.
+/// Returns whether a number of seconds has reached the limit, if there is one.
 fn is_reached(seconds: u32, limit: Option<u64>) -> bool
     ensures { result ≡ spec.is_reached seconds limit }
 {
@@ -64,9 +64,9 @@ fn is_reached(seconds: u32, limit: Option<u64>) -> bool
     }
 }
 
-/// Returns whether a connection at a port of this kind has reached one of its limits: it published
-/// this state, has since been without a byte for `still` seconds, and in the same stage of its
-/// exchange for `whole` seconds.
+/// Returns whether a connection at a port of this kind has reached one of its limits, given that it
+/// published this state, has since been without a byte for `still` seconds, and has been in the
+/// same stage of its exchange for `whole` seconds.
 pub fn has_outstayed(kind: PortKind, told: Told, still: u32, whole: u32) -> bool
     ensures { result ≡ spec.has_outstayed kind told still whole }
 {

@@ -29,7 +29,7 @@ pub enum Awaited {
 }
 
 impl Awaited {
-    /// Returns its number in a pulse.
+    /// Returns its number in a published state.
     fn number(self) -> u16
         ensures { result ≡ number_of self }
     {
@@ -74,7 +74,7 @@ impl Awaited {
 }
 
 /// The published state of a connection: what it waits for, how many responses its service has given
-/// (from 0 again past the greatest number), and how many bytes of the present request have come.
+/// (modulo 2^16), and how many bytes of the present request have come.
 #[derive(Clone, Copy, Drop)]
 pub struct Told {
     pub awaited: Awaited,
@@ -83,7 +83,7 @@ pub struct Told {
 }
 
 impl Told {
-    /// Returns it as one number.
+    /// Returns the state as one number.
     fn number(self) -> u64
         ensures { result ≡ told_of self }
     {
@@ -145,7 +145,7 @@ pub struct Pulse {
 }
 
 impl Pulse {
-    /// The state of a connection that waits for its first request.
+    /// Makes the state of a connection that waits for its first request.
     pub fn new() -> Pulse {
         let told = Told {
             awaited: Awaited::First,

@@ -36,7 +36,7 @@ pub(crate) struct Socket<T> {
 }
 
 impl<T: Drop> Socket<T> {
-    /// Makes one over which nothing has been read or written yet.
+    /// Makes a socket over which nothing has been read or written yet.
     pub(crate) fn new(alloc: Global, stream: T) -> Socket<T>
         ensures stream { result.stream ≡ stream }
         ensures nothing { result.ahead.items ≡ [] }
@@ -66,7 +66,7 @@ impl<T: Drop> Socket<T> {
     }
 
     /// Keeps the bytes that were read past the end of a request. Returns how many bytes are left to
-    /// hand on: all of them if memory to keep any is refused, since a stream gives them only once.
+    /// hand on: all of them if an allocation fails, since a stream gives them only once.
     fn keep_behind(&mut self, bytes: &[u8]) -> usize
         ensures bound { result ≤ length bytes.now }
         ensures kept { self.new.ahead.items ≡ self.old.ahead.items ++ drop result bytes.now }
@@ -140,8 +140,8 @@ impl<T: AsyncRead> AsyncRead for Socket<T> {
 
     ghost reads_in_order = { ReadsBehind_in_order T.reads T.reads_in_order };
 
-    /// Reads what was read ahead, or else what comes, up to the end of a request, and notes how
-    /// much.
+    /// Reads what was read ahead, or otherwise what comes, up to the end of a request, and notes
+    /// how many bytes it was.
     fn poll_read(&mut self, cx: &mut Context<'_>, buf: &mut [u8]) -> Poll<io::Result<usize>> {
         if !self.ahead.is_empty() {
             let count = self.read_ahead(buf);
@@ -195,7 +195,7 @@ impl<T: AsyncWrite> AsyncWrite for Socket<T> {
     }
 }
 
-/// Returns this count, at most the greatest number.
+/// Returns this count, or the greatest number if it is too large.
 fn small(count: usize) -> u32 {
     u32::try_from(count).unwrap_or(u32::MAX)
 }

@@ -8,7 +8,7 @@ use crate::pulse::{Awaited, Told};
 /// The state of a connection.
 #[derive(Clone, Copy, Drop)]
 pub(crate) struct Stand {
-    // How many responses its service has given, from 0 again past the greatest number.
+    // How many responses its service has given, modulo 2^16.
     answers: u16,
     // How many bytes of the present request have come, up to the greatest number.
     moved: u32,
@@ -45,7 +45,7 @@ impl Stand {
     }
 
     /// Notes that `count` bytes were handed to the connection: bytes of the present request, or the
-    /// first ones of the next.
+    /// first bytes of the next one.
     pub(crate) fn note_read(&mut self, count: u32)
         ensures { self.new ≡ spec.after_read self.old count }
     {
@@ -61,7 +61,7 @@ impl Stand {
         }
     }
 
-    /// Notes that more was asked of the socket than was there.
+    /// Notes that the connection asked its socket for more than was there.
     pub(crate) fn note_short(&mut self)
         ensures { self.new ≡ spec.after_shortage self.old }
     {
@@ -109,7 +109,7 @@ impl Stand {
         }
     }
 
-    /// Returns what it publishes at the end of a turn.
+    /// Returns what the connection publishes at the end of a turn.
     pub(crate) fn told(&self) -> Told
         ensures { result ≡ spec.told_by self.now }
     {
@@ -120,7 +120,7 @@ impl Stand {
         }
     }
 
-    /// Returns what it publishes once it waits for its peer's end.
+    /// Returns what the connection publishes when it waits for its peer to close.
     pub(crate) fn told_at_end(&self) -> Told
         ensures { result ≡ spec.told_at_end self.now }
     {

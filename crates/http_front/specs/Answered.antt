@@ -28,7 +28,8 @@ use Rattle.request_guard.specs.Guarding.{refusal_of}
 use Rattle.request_guard.specs.declared.refusal.Refusal.TheVariants.{BrokenBody, OutOfMemory}
 
 module _ (config : Config) (salt : ℕ) where
-  -- The reply if this was decided: that of the call, or of why it was not taken; the decided one; or what is shown.
+  -- The reply to a decision: that of the call, or of why the call was not taken; the reply that was decided; or what is
+  -- to be shown.
   abbrev pub IsReplyTo : Decision → Reply → Type 0
   IsReplyTo (decided.Submit call) reply = (most : ℕ) × IsReplyAt config most salt call reply
   IsReplyTo (decided.Reply own) reply = reply ≡ own
@@ -38,9 +39,9 @@ module _ (config : Config) (salt : ℕ) where
   IsReplyTo (decided.Show (shown.Reservation f)) reply =
       (most : ℕ) × (h : List Entry) × IsReached config most h × (reply ≡ reservation_reply (reservation config h f))
 
--- These bodies show the account's history, each from where it is asked for.
+-- In what follows, `shows` says which bodies show the account's history from which ticket on.
 module _ {H : Type 0} (shows : Option ℕ → H → Type 0) (door : Served) where
-  -- The outcome if this was decided: a reply, or the history if that is to be shown.
+  -- The outcome of a decision: a reply, or the history if that is to be shown.
   abbrev pub IsOutcomeOf : Decision → Outcome H → Type 0
   IsOutcomeOf made (outcome.Reply reply) = IsReplyTo door.config door.salt made reply
   IsOutcomeOf made (outcome.History body) =
@@ -49,15 +50,15 @@ module _ {H : Type 0} (shows : Option ℕ → H → Type 0) (door : Served) wher
   -- Of the bodies of requests: which frames each yields, and which bytes the data of a frame has.
   module _ {B P E : Type 0} (yields : B → Runs (Result (Frame P) E)) (has : P → List ℕ → Type 0)
       (hosts : List ℕ) (head : Parts) where
-    -- It is the response to the decision, at the door, on a request with this head and the body that came.
+    -- The response is that to the decision, at the door, on a request with this head and the body that came.
     abbrev pub IsDecided : Response (Either (Full (List ℕ)) H) → Type 0
     IsDecided response =
         (came : B) × (given : Outcome H)
         × IsOfBody has (yields came) head [] (λ body. IsOutcomeOf (decision door head body) given)
         × IsResponseTo (declares_too_long head) given response
 
-    -- The response to a request with this head at the door. If the head is refused, it is that refusal's; else that
-    -- of a failed body, of refused memory, or of the decision.
+    -- The response to a request with this head at the door. If the head is refused, it is that of the refusal.
+    -- Otherwise it is that of a body that failed, of an allocation that failed, or of the decision.
     abbrev pub IsAnswerAt : Response (Either (Full (List ℕ)) H) → Type 0
     IsAnswerAt response = MatchOption (refusal_of hosts head)
         (IsRefusal (api_of door.port) (declares_too_long head) BrokenBody response

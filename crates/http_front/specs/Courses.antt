@@ -22,9 +22,10 @@ module _ {R S D N B K L : Type 0} {service : Service.Ghosts S K L} {decider : De
       × (exchange.stage ≡ Collecting head
       (record { alloc = (arc_value port.connection).alloc; body = body; held = [] }))
 
-  -- A request whose head is refused has that refusal and no exchange, so it never becomes a call. Any other request
-  -- has an exchange, or is refused because memory is. Either is answered in the form of the port's API. If the head
-  -- declares a body that is too long, the body is left unread, and the answer is the connection's last.
+  -- What becomes of a request. If its head is refused, it has that refusal and no exchange, so it never becomes a call.
+  -- Any other request has an exchange, or is refused because an allocation fails. Both are answered in the form of the
+  -- port's API. If the head declares a body that is too long, the body is left unread, and the answer is the
+  -- connection's last.
   abbrev pub Takes : Responding R S D N B K L service decider keep → Type 0
   Takes future =
       (future.api ≡ port.api) × (future.is_unread ≡ declares_too_long head)

@@ -26,14 +26,14 @@ use Rattle.usage_ledger.specs.declared.keep.Keep as Keep
 module _ {R S D N K L B P E : Type 0} {service : Service.Ghosts S K L} {decider : Decide.Ghosts D}
     {keep : Keep.Ghosts K} (clock : Clock.Ghosts N) (yields : B → Runs (Result (Frame P) E))
     (has : P → List ℕ → Type 0) (port : Front R S D N K L service decider keep) (head : Parts) where
-  -- An exchange of a request with this head, and with some body, may come to this on the port's connection.
+  -- What an exchange of a request with this head, and some body, may come to on the port's connection.
   abbrev pub ComesTo : Result (Outcome (HistoryBody R S K L)) ExchangeFault → Type 0
   ComesTo made =
       (came : B) × Exchanges (arc_value port.connection) clock
       (ShowsFrom (arc_value (arc_value port.connection).service)) has (yields came) head [] made
 
-  -- The response to a request with this head: that of its refusal if the head is refused; else that of its exchange,
-  -- or of memory that was refused for one.
+  -- The response to a request with this head. If the head is refused, it is that of the refusal. Otherwise it is that
+  -- of its exchange, or of an allocation that failed.
   abbrev pub IsAnswer : Response (Either (Full (List ℕ)) (HistoryBody R S K L)) → Type 0
   IsAnswer response = MatchOption (refusal_of (arc_value port.hosts) head)
       (IsRefusal port.api (declares_too_long head) OutOfMemory response

@@ -9,12 +9,12 @@ use Rattle.http_front.specs.declared.host_fault.HostFault.{HostFault}
 use Rattle.http_front.specs.declared.host_fault.HostFault.TheVariants.{Config, Network, TooFewDescriptors}
 use Rattle.http_front.specs.declared.host_fault.HostFault.TheVariants.{StillShared, OutOfMemory}
 
--- the fault for a history that is not opened
+-- The fault of a host whose history is not opened.
 abbrev pub fault_of_opening : OpenFault → HostFault
 fault_of_opening opening.EntriesOutOfRange = Config BadEntries
 fault_of_opening opening.OutOfMemory = OutOfMemory
 
--- A fault of a plan: the first one of its configuration, or that memory was refused.
+-- A fault of a plan: the first one of its configuration, or that an allocation failed.
 abbrev pub IsFaultOf : Configured → HostFault → Type 0
 IsFaultOf config (Config fault) = first_fault config ≡ Some fault
 IsFaultOf config Network = ⊥
@@ -22,7 +22,7 @@ IsFaultOf config TooFewDescriptors = ⊥
 IsFaultOf config StillShared = ⊥
 IsFaultOf config OutOfMemory = first_fault config ≡ None
 
--- A fault of the machine: a port that cannot be listened on, too few descriptors, or refused memory.
+-- A fault of the machine: a port that cannot be listened on, too few descriptors, or an allocation that failed.
 abbrev pub IsOfMachine : HostFault → Type 0
 IsOfMachine (Config fault) = ⊥
 IsOfMachine Network = Unit {0}

@@ -10,30 +10,30 @@ use Rattle.request_guard.specs.declared.refusal.Api.TheVariants.{Lambda, Runtime
 use Rattle.http_connection.specs.declared.limits.PortKind.{PortKind}
 use Rattle.http_connection.specs.declared.limits.PortKind.TheVariants as limits
 
--- the kind of a port, by which its connections are kept
+-- The kind of a port, which sets the limits of its connections.
 abbrev pub kind_of : Port → PortKind
 kind_of Account = limits.Account
 kind_of (Environment e) = limits.Environment
 
--- The most connections at once: one for each poll of all environments, each with its runtime and ten extensions, and
--- 64 for callers; at least 1,024. (A configuration has at most 256 environments.)
+-- The greatest number of connections at once: one for each poll of all environments, each with its runtime and ten
+-- extensions, and 64 for callers; at least 1,024. (A configuration has up to 256 environments.)
 abbrev pub places_for : Config → ℕ
 places_for config = max 1024 (min (11 * length (owners config) + 64) (2 ^ 32 - 1))
 
--- the ports of environments
+-- The ports of environments.
 abbrev pub ports_of : List Slot → List ℕ
 ports_of slots = map (λ slot. slot.port) slots
 
--- the loopback ports of all environments, in the order of their numbers
+-- The loopback ports of all environments, in the order of their numbers.
 abbrev pub environment_ports : Config → List ℕ
 environment_ports config = flat_map (λ function. ports_of function.slots) config.functions
 
--- the number of a port: the account's, or that of its environment
+-- The number of a port: the account's, or that of its environment.
 abbrev pub number_of : Config → Port → ℕ
 number_of config Account = config.invoke_port
 number_of config (Environment e) = get_or (environment_ports config) (e - 1) 0
 
--- the API that a port speaks, and so the form of its refusals
+-- The API of a port, in whose form it refuses.
 abbrev pub api_of : Port → Api
 api_of Account = Lambda
 api_of (Environment e) = Runtime

@@ -19,33 +19,34 @@ use Rattle.request_guard.specs.declared.refusal.Api.{Api}
 use Rattle.request_guard.specs.declared.refusal.Refusal.{Refusal}
 use Rattle.request_guard.specs.declared.refusal.Refusal.TheVariants.{BrokenBody, OutOfMemory}
 
--- header fields, added in their order
+-- These header fields, in their order.
 abbrev pub fields : List (List ℕ × FieldValue) → Entries FieldValue
 fields headers = fold (λ map header. append map header.0 header.1) [] headers
 
--- If the connection ends after a response, the last of its fields says so (RFC 9112, section 9.6).
+-- These header fields, and if the connection ends after the response, a last one that says so (RFC 9112, section 9.6).
 abbrev pub said_closing : Bool → Entries FieldValue → Entries FieldValue
 said_closing false map = map
 said_closing true map = append map (codes "connection") (plain_value (codes "close"))
 
--- A response has this status, these header fields, says whether it is the last, and has no other field.
+-- A response has this status and these header fields, says whether it is the last, and has no other field.
 pub record HasHead {B : Type 0} (is_last : Bool) (status : ℕ) (headers : List (List ℕ × FieldValue))
     (response : Response B) : Type 0 where
   pub status_is : (head_of response).status ≡ status
   pub version_is : (head_of response).version ≡ HTTP_11
   pub headers_are : (head_of response).headers ≡ said_closing is_last (fields headers)
 
--- a body in one piece, or no piece if there are no bytes
+-- A body in one piece, or without a piece if there are no bytes.
 abbrev pub whole : List ℕ → Option (List ℕ)
 whole bytes = if length bytes == 0 then None else Some bytes
 
--- a body is these bytes in one piece
+-- A body is these bytes in one piece.
 abbrev pub IsWhole : {H : Type 0} → List ℕ → Either (Full (List ℕ)) H → Type 0
 IsWhole bytes (Left full) = full.buf ≡ whole bytes
 IsWhole bytes (Right body) = ⊥
 
--- A response is an outcome's, and the connection's last or not: that of a reply has its status, its header fields and
--- no other, and its bytes; that of a history is 200, has the headers of a text, and shows the history as its body.
+-- A response is that of an outcome, and the connection's last or not. That of a reply has its status, its header fields
+-- and no other, and its bytes. That of a history has status 200 and the headers of a text, and shows the history as its
+-- body.
 abbrev pub IsResponseTo : {H : Type 0} → Bool → Outcome H → Response (Either (Full (List ℕ)) H) → Type 0
 IsResponseTo is_last (Reply reply) response =
     HasHead is_last reply.status reply.headers response × IsWhole reply.body (body_of response)
@@ -58,8 +59,8 @@ abbrev pub IsRefusal : {H : Type 0} → Api → Bool → Refusal → Response (E
 IsRefusal api is_unread refusal response =
     IsResponseTo (is_unread || closes refusal) (Reply (refusal_reply api refusal)) response
 
--- A response is that of an exchange's result, whose body was left unread or not: 400 for a body that failed, 500 if
--- memory was refused. A lost bell has none.
+-- A response is that of an exchange's result, whose body was left unread or not: 400 for a body that failed, 500 if an
+-- allocation failed. There is none for a lost bell.
 abbrev pub IsAnswerTo : {H : Type 0} → Api → Bool → Result (Outcome H) ExchangeFault
     → Response (Either (Full (List ℕ)) H) → Type 0
 IsAnswerTo api is_unread (Ok outcome) response = IsResponseTo is_unread outcome response

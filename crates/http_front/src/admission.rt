@@ -1,4 +1,5 @@
-//! What serving a newcomer's connection needs, and what is known of it outside its thread.
+//! What the connection of a newcomer needs to be served, and what is known of it outside its
+//! thread.
 
 use crate::attendant::{Newcomer, Visit};
 use crate::door::Door;

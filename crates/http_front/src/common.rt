@@ -21,8 +21,8 @@ pub(crate) struct Common<S: Identity, N> {
 }
 
 impl<S: Identity + Drop, N: Drop> Common<S, N> {
-    /// Makes it for this account, this clock and these hosts; the service is not over. The only
-    /// error is that memory is refused; the arguments are then dropped.
+    /// Makes it for this account, this clock and these hosts; the service is not over. It fails
+    /// only if an allocation fails; the arguments are then dropped.
     pub(crate) fn new(
         alloc: Global,
         account: Account<S, OneShotBell>,

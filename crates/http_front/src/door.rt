@@ -16,7 +16,7 @@ use std::marker::{Model, PhantomData};
 use std::sync::Arc;
 
 /// Whose port it is, in the configuration and with the salt of the identifiers that the account's
-/// type names. (A `Side` has routes, which cannot cross threads; so each thread opens its own.)
+/// type names. (A `Side` has routes, which cannot cross threads, so each thread opens its own.)
 #[derive(Drop)]
 pub(crate) struct Door<S: Identity> {
     port: Port,
@@ -54,14 +54,14 @@ impl<S: Identity> Door<S> {
         }
     }
 
-    /// Returns whose port it is.
+    /// Returns whose port this is.
     pub(crate) fn port(&self) -> Port
         ensures { result ≡ self.now.port }
     {
         self.port
     }
 
-    /// Returns the API that it speaks.
+    /// Returns the API of the port.
     pub(crate) fn api(&self) -> Api
         ensures { result ≡ api_of self.now.port }
     {
@@ -71,7 +71,7 @@ impl<S: Identity> Door<S> {
         }
     }
 
-    /// Returns the kind of port that it is.
+    /// Returns the kind of the port.
     pub(crate) fn kind(&self) -> PortKind
         ensures { result ≡ kind_of self.now.port }
     {
@@ -81,7 +81,7 @@ impl<S: Identity> Door<S> {
         }
     }
 
-    /// Returns whether it is that port.
+    /// Returns whether this is the same port as another.
     pub(crate) fn is(&self, other: &Door<S>) -> bool
         ensures { IsTrue result → self.now ≡ other.now }
     {
@@ -96,7 +96,7 @@ impl<S: Identity> Door<S> {
         Ok(Door::new(self.port, config, self.salt))
     }
 
-    /// Makes the decider of its requests. The only error is that memory is refused.
+    /// Makes the decider of the port's requests. It fails only if an allocation fails.
     pub(crate) fn side(&self, alloc: Global) -> Result<Side, AllocError>
         ensures { IfOk result (λ side. (side ≡ self.now) × (side.config ≡ S.config)) }
     {

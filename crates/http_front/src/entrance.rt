@@ -25,7 +25,7 @@ use std::time::Duration;
 const MOST_EVENTS: usize = 256;
 
 /// A port that is listened on, with its door, and whether newcomers may wait at it. A port reports
-/// newcomers once, so this is kept until the port is found empty.
+/// newcomers once, so this is kept until no newcomer is found at the port.
 #[derive(Drop)]
 pub(crate) struct Gate<S: Identity> {
     pub(crate) listener: TcpListener,
@@ -63,7 +63,7 @@ fn ports_in_order(alloc: Global, config: &Checked) -> Result<Vec<u16>, AllocErro
 }
 
 impl<S: Identity> Entrance<S> {
-    /// Listens at the number that a port has in the configuration, and adds its gate.
+    /// Listens at the number that a port has in the configuration, and adds the gate of the port.
     fn listen(
         &mut self,
         net: &impl Net,
@@ -106,11 +106,12 @@ impl<S: Identity> Entrance<S> {
         Ok(listener)
     }
 
-    /// Listens at every port of a configuration on 127.0.0.1: the account's first, and then one of
+    /// Listens at every port of a configuration on 127.0.0.1: first the account's, and then one for
     /// each environment, in the order of their numbers.
     ///
     /// # Errors
-    /// `Network` if a port cannot be listened on, else `OutOfMemory`. No port is then listened on.
+    /// `Network` if a port cannot be listened on, otherwise `OutOfMemory`. No port is then listened
+    /// on.
     pub(crate) fn open(
         net: &impl Net,
         alloc: Global,
@@ -128,7 +129,7 @@ impl<S: Identity> Entrance<S> {
         Ok(entrance)
     }
 
-    /// Makes one without a port.
+    /// Makes an entrance without a port.
     fn new(net: &impl Net, alloc: Global) -> Result<Entrance<S>, HostFault>
         ensures gates { IfOk result (λ entrance. entrance.gates.items ≡ []) }
         ensures fault { IfErr result IsOfMachine }
@@ -141,7 +142,8 @@ impl<S: Identity> Entrance<S> {
         })
     }
 
-    /// Listens at the port of each environment, in the order of their numbers, after the account's.
+    /// Listens at the port of each environment, in the order of their numbers, after the account's
+    /// port.
     #[tactic(auto, using(crate::proofs::PortLemmas::as_many_ports))]
     fn listen_for_environments(
         &mut self,

@@ -62,8 +62,9 @@ impl<
         }
     }
 
-    /// Makes the exchange of a request of this head and body, on the heap: it is large, and `hyper`
-    /// moves the response that holds it several times. Returns `None` if memory is refused.
+    /// Makes the exchange of a request with this head and body, on the heap: it is large, and
+    /// `hyper` moves the response that holds it several times. Returns `None` if an allocation
+    /// fails.
     fn exchange<B: Body>(&self, parts: Parts, body: B) -> Option<Box<Exchange<R, S, D, N, B, K, L>>>
     where
         B::Data: Into<Bytes>,
@@ -80,9 +81,9 @@ impl<
         }
     }
 
-    /// Returns the response to a request of this head and body. If the head is refused, there is no
-    /// exchange, so the request never becomes a call. If the head declares a body that is too long,
-    /// the body is left unread.
+    /// Returns the response to a request with this head and body. If the head is refused, there is
+    /// no exchange, so the request never becomes a call. If the head declares a body that is too
+    /// long, the body is left unread.
     fn respond<B: Body>(&self, parts: Parts, body: B) -> Responding<R, S, D, N, B, K, L>
     where
         B::Data: Into<Bytes>,

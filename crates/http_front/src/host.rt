@@ -56,19 +56,19 @@ impl<
     N: Clock + Drop + Send + Sync + 'static,
     K: Keep + Send + 'static,
 > Host<R, S, N, K> {
-    /// Opens the account of a plan and listens on every port. It takes `most` connections at once;
-    /// one place in sixteen, at most 64, is kept for the account's port. If there is no place, and
-    /// some are kept, a newcomer takes that of the connection at the account's port that has been
-    /// longest without a complete request; any other newcomer is closed. If an Invoke would be
+    /// Opens the account of a plan and listens on every port. It takes up to `most` connections at
+    /// once; one place in sixteen, up to 64, is kept for the account's port. If there is no place,
+    /// and some are kept, a newcomer takes that of the connection at the account's port that has
+    /// been longest without a complete request; any other newcomer is closed. If an Invoke would be
     /// throttled while an environment that could serve it has answered and is about to ask for the
     /// next invocation, it is held back for up to `patience` milliseconds, in which that
-    /// environment may be ready again. A request that names a host which is neither local nor one
-    /// of `hosts` is refused.
+    /// environment may become ready again. A request that names a host which is neither local nor
+    /// one of `hosts` is refused.
     ///
     /// # Errors
     /// `Config(BadEntries)` exactly if not environments + 1 ≤ `max_entries` ≤ 2^32,
-    /// `TooFewDescriptors` if there are too few for the ports or for one connection more, `Network`
-    /// if a port cannot be listened on, else `OutOfMemory`. No port is then listened on.
+    /// `TooFewDescriptors` if there are too few for the ports and one more connection, `Network` if
+    /// a port cannot be listened on, otherwise `OutOfMemory`. No port is then listened on.
     pub fn open(
         rt: R,
         plan: Plan,
@@ -158,8 +158,8 @@ impl<
         })
     }
 
-    /// Returns what the service has to say while it runs, for another thread. The only error is
-    /// that memory is refused.
+    /// Returns what the service has to say while it runs, for another thread. It fails only if an
+    /// allocation fails.
     pub fn notices(&self) -> Result<Arc<Notices>, AllocError> {
         Arc::try_clone(&self.notices)
     }
@@ -169,7 +169,7 @@ impl<
     /// are open are ended, and every thread is joined.
     ///
     /// # Errors
-    /// `Network` if the ports fail, `OutOfMemory` if there is too little memory to begin, or
+    /// `Network` if the ports fail, `OutOfMemory` if an allocation fails before it begins, or
     /// `StillShared`. The account and the tallies are then dropped.
     pub fn run(self) -> Result<Hosted<S, K>, HostFault> {
         let Host {

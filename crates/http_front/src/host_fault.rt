@@ -24,7 +24,7 @@ pub enum HostFault {
     /// The account or a tally was still shared when every thread had ended.
     #[error("still shared")]
     StillShared,
-    /// Memory or a thread was refused.
+    /// An allocation failed, or a thread was refused.
     #[error("out of memory")]
     OutOfMemory,
 }
@@ -54,8 +54,8 @@ impl From<OpenFault> for HostFault {
     }
 }
 
-/// The numbers of the errors for no descriptor left, in the process or in the machine (POSIX,
-/// errno.h; the numbers are Linux's).
+/// The numbers of the errors for no descriptor left, in the process and in the machine (POSIX,
+/// errno.h; the numbers are those of Linux).
 const EMFILE: i32 = 24;
 
 const ENFILE: i32 = 23;

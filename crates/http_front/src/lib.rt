@@ -1,5 +1,5 @@
-//! The server: a listener for each port, a thread for each connection, which then waits for another
-//! connection, a ticker, and shutdown; and `hyper` services over the exchanges of `long_poll`.
+//! The server: a listener for each port, a thread for each connection, which then waits for the
+//! next one, a ticker, and shutdown; and `hyper` services over the exchanges of `long_poll`.
 //!
 //! A fault is passed on by `Err(fault) => Err(fault)` if `?` would add a conversion that the prover
 //! does not see through.

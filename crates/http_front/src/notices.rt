@@ -11,13 +11,13 @@ use std::sync::atomic::Ordering::SeqCst;
 pub enum Room {
     /// Enough.
     Ample,
-    /// Nine tenths of its entries are used.
+    /// Nine tenths of the entries are used.
     Short,
-    /// It takes no call but a Stop.
+    /// The journal takes no call but a Stop.
     Full,
 }
 
-/// Returns the room left in a journal that has this many of at most `most` entries. Each step may
+/// Returns the room left in a journal that has `entries` of at most `most` entries. Each step may
 /// take `step` entries: one for each environment that expires, and one for the call.
 fn room_left(entries: u64, most: u64, step: u32) -> Room
     ensures { result ≡ room_left entries most step }

@@ -15,15 +15,15 @@ use std::sync::Arc;
 /// The most polls that an environment has open at once: those of its runtime and of ten extensions.
 const POLLS_OF_ONE: u32 = 11;
 
-/// The number of places for callers, in addition to those of all polls.
+/// The number of places for callers, in addition to those for all polls.
 const FOR_CALLERS: u32 = 64;
 
 /// The least number of places.
 const LEAST_PLACES: u32 = 1_024;
 
 /// What a host is opened with: a configuration without a fault, the salt of its identifiers, and
-/// the most entries of its history. The account and the ports share the configuration, each by its
-/// own handle.
+/// the greatest number of entries of its history. The account and the ports share the
+/// configuration, each by its own handle.
 #[derive(Drop)]
 pub struct Plan {
     pub(crate) config: Arc<Checked>,
@@ -38,7 +38,7 @@ impl Plan {
     /// range of the number of entries is checked when the host is opened.
     ///
     /// # Errors
-    /// `Config` with the first fault of the configuration; else `OutOfMemory`.
+    /// `Config` with the first fault of the configuration, otherwise `OutOfMemory`.
     pub fn check(alloc: Global, setup: Setup) -> Result<Plan, HostFault>
         ensures { MatchResult result
             (λ plan. (arc_value plan.config ≡ setup.config) × (plan.salt ≡ setup.salt)
@@ -63,8 +63,8 @@ impl Plan {
         })
     }
 
-    /// Returns the most connections at once: one for each poll of all environments, each with its
-    /// runtime and ten extensions, and 64 for callers; at least 1,024.
+    /// Returns the greatest number of connections at once: one for each poll of all environments,
+    /// each with its runtime and ten extensions, and 64 for callers; at least 1,024.
     pub fn places(&self) -> u32
         ensures { result ≡ places_for (arc_value self.now.config) }
     {

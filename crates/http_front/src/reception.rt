@@ -73,8 +73,8 @@ pub(crate) struct Reception<R, S: Identity, N, K: Keep> {
 }
 
 impl<R: Machine, S: Identity + Drop, N: Drop, K: Keep> Reception<R, S, N, K> {
-    /// Opens it for at most `most` connections at once to an open account with its tally. The only
-    /// error is that memory is refused; the account is then dropped.
+    /// Opens it for up to `most` connections at once to an open account with its tally. It fails
+    /// only if an allocation fails; the account is then dropped.
     pub(crate) fn open(
         rt: R,
         opened: (Account<S, OneShotBell>, Tally<K, S>),
@@ -92,7 +92,7 @@ impl<R: Machine, S: Identity + Drop, N: Drop, K: Keep> Reception<R, S, N, K> {
         }
     }
 
-    /// Makes it for at most `most` connections at once. The only error is that memory is refused.
+    /// Makes it for up to `most` connections at once. It fails only if an allocation fails.
     fn new(
         rt: R,
         common: Common<S, N>,
@@ -134,8 +134,8 @@ impl<R: Wait + Threads + time::Clock + Copy + Drop, S: Identity + Drop, N: Drop,
     N,
     K,
 > {
-    /// Makes the ticker of the same account, with a tally of its own. The only error is that memory
-    /// is refused.
+    /// Makes the ticker of the same account, with a tally of its own. It fails only if an
+    /// allocation fails.
     pub(crate) fn ticker(&mut self, notices: Arc<Notices>) -> Result<Ticker<R, S, N, K>, AllocError>
         requires { 2 ≤ self.old.root.held.parts }
     {
@@ -150,7 +150,8 @@ impl<R: Wait + Threads + time::Clock + Copy + Drop, S: Identity + Drop, N: Drop,
         }
     }
 
-    /// Takes a place that no connection has: a free one, or else a new one with a tally of its own.
+    /// Takes a place that no connection has: a free one, or otherwise a new one with a tally of its
+    /// own.
     fn open_place(&mut self) -> Option<usize> {
         if let Some(at) = self.slots.take() {
             return Some(at);
@@ -292,8 +293,8 @@ impl<
         true
     }
 
-    /// Hands a connection to the thread of a place: to the one that waits there, or else to a new
-    /// one. Returns whether there is one.
+    /// Hands a connection to the thread of a place: to the one that waits there, or otherwise to a
+    /// new one. Returns whether there is one.
     fn hand_over(&mut self, at: usize, visit: Visit<S>) -> bool {
         match self.slots.offer(&self.rt, at, visit) {
             Ok(()) => true,
@@ -301,7 +302,8 @@ impl<
         }
     }
 
-    /// Begins a connection at a place. Returns whether there was memory and a thread for it.
+    /// Begins a connection at a place. Returns whether it has begun; it has not if an allocation or
+    /// its thread fails.
     fn begin(&mut self, at: usize, socket: TcpStream, door: &Door<S>) -> bool {
         let Ok((visit, running)) = admit(self.rt.alloc(), socket, door) else {
             return false;
@@ -313,7 +315,7 @@ impl<
         is_begun
     }
 
-    /// Takes a newcomer in. If there is no place for it, or no thread, it is closed.
+    /// Takes a newcomer in, or closes its connection if there is no place or thread for it.
     fn take_in(&mut self, socket: TcpStream, door: &Door<S>) {
         self.slots.reap(&self.rt);
         let Some(at) = self.place(door.kind()) else {

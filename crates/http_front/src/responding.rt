@@ -27,9 +27,9 @@ pub struct Responding<R, S: Service<K, L>, D: Decide, N, B, K: Keep, L: Ledgers>
     api: Api,
     // Whether the request's body is left unread, so that the connection ends.
     is_unread: bool,
-    // `None` if it is refused.
+    // `None` if the request is refused.
     exchange: Option<Box<Exchange<R, S, D, N, B, K, L>>>,
-    // Why it never becomes a call.
+    // Why the request never becomes a call.
     refusal: Option<Refusal>,
 }
 
@@ -129,8 +129,8 @@ fn refused<H: Drop>(
     )
 }
 
-/// Makes the response to an exchange's result. If its body failed or memory was refused, there may
-/// still be memory to say so; a bell is never lost.
+/// Makes the response to an exchange's result. If its body or an allocation failed, the allocations
+/// for this response may still succeed; a bell is never lost.
 fn answer_to<H: Drop>(
     alloc: Global,
     api: Api,

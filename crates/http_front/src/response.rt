@@ -64,13 +64,13 @@ fn with_head<B: Drop>(
     Ok(Response::from_parts(parts, body))
 }
 
-/// Returns the response as which an outcome is sent; it is the connection's last or not. That of a
-/// reply has its status, its header fields, and its body in one piece, which is not copied. That of
-/// a history is a text, which is streamed.
+/// Returns the response as which an outcome is sent; it is the connection's last or not. The
+/// response of a reply has its status, its header fields, and its body in one piece, which is not
+/// copied. The response of a history is a text, which is streamed.
 ///
 /// # Errors
-/// `BadStatus` if the reply's status does not have three digits, else `OutOfMemory`; the outcome is
-/// then dropped.
+/// `BadStatus` if the reply's status does not have three digits, otherwise `OutOfMemory`; the
+/// outcome is then dropped.
 pub(crate) fn response_to<H: Drop>(
     alloc: Global,
     is_last: bool,

@@ -7,13 +7,13 @@ use thiserror::Error;
 /// Why a request has no response, so that its connection is closed.
 #[derive(Clone, Copy, Debug, Drop, Error, PartialEq, Eq)]
 pub enum ResponseFault {
-    /// The request's body failed before its end, memory was refused, or a bell was lost.
+    /// The request's body failed before its end, an allocation failed, or a bell was lost.
     #[error("{0}")]
     Exchange(ExchangeFault),
     /// The reply's status does not have three digits (RFC 9110, section 15).
     #[error("no status code")]
     BadStatus,
-    /// Memory was refused.
+    /// An allocation failed.
     #[error("out of memory")]
     OutOfMemory,
 }

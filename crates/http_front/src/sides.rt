@@ -26,7 +26,7 @@ pub(crate) struct Sides<S: Identity> {
 }
 
 impl<S: Identity> Sides<S> {
-    /// Makes it, with no decider yet.
+    /// Makes it, without a decider.
     pub(crate) fn new() -> Sides<S> {
         Sides { last: None }
     }
@@ -42,7 +42,7 @@ impl<S: Identity> Sides<S> {
         }
     }
 
-    /// Returns the decider of a port's requests. The only error is that memory is refused.
+    /// Returns the decider of a port's requests. It fails only if an allocation fails.
     pub(crate) fn of(&mut self, alloc: Global, door: Door<S>) -> Result<Arc<Side>, AllocError>
         ensures same { IfOk result (λ side. arc_value side ≡ door) }
         ensures configured { IfOk result (λ side. (arc_value side).config ≡ S.config) }

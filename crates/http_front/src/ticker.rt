@@ -22,7 +22,7 @@ use usage_ledger::{Keep, Tally, Token};
 /// How many milliseconds pass between two checks for something due.
 const BEAT: u64 = 50;
 
-/// Returns the moment of a call that is submitted now: the clock's reading, at most 2^53 - 1.
+/// Returns the moment of a call that is submitted now: the reading of the clock, at most 2^53 - 1.
 pub(crate) fn moment<N: Clock>(clock: &N) -> u64
     ensures { result < 2 ^ 53 }
 {
@@ -32,16 +32,16 @@ pub(crate) fn moment<N: Clock>(clock: &N) -> u64
 /// The greatest lag behind the time of day, in milliseconds, at which the clock is not set forward.
 const MOST_LAG: u64 = 1_000;
 
-/// For how many beats in a row the memory for a tick may be refused after a Stop, before the
-/// service ends without it: ten seconds.
+/// For how many beats in a row a tick may be refused after a Stop because an allocation fails,
+/// before the service ends without it: ten seconds.
 const MOST_REFUSED: u32 = 200;
 
-/// Sets the clock forward if the time of day is ahead of it, as after the machine has slept, and no
-/// deadline is running: what is due stays measured by the clock, and what a runtime is given from
-/// now on is the time of day again (Runtime API, `Lambda-Runtime-Deadline-Ms`). The account first
-/// gets the later moment, by a Tick that is taken only while it rests: so no call that read the
-/// clock before can begin a deadline that has passed. If a deadline is running, it is tried again
-/// at the next beat.
+/// Sets the clock forward if the time of day is ahead of it, for example after the machine has
+/// slept, and no deadline is running: what is due stays measured by the clock, and what a runtime
+/// is given from now on is the time of day again (Runtime API, `Lambda-Runtime-Deadline-Ms`). The
+/// account first gets the later moment, by a Tick that is taken only while no deadline is running:
+/// so no call that read the clock before can begin a deadline that has passed. If a deadline is
+/// running, it is tried again at the next beat.
 fn catch_up<S: Identity, N: Clock, K: Keep>(
     rt: &impl Wait,
     account: &Account<S, OneShotBell>,
@@ -59,7 +59,7 @@ fn catch_up<S: Identity, N: Clock, K: Keep>(
     }
 }
 
-/// Submits a `Tick` if something is due. Returns why that was refused, if it was.
+/// Submits a `Tick` if something is due. If it was refused, returns why.
 fn tick<S: Identity, N: Clock, K: Keep>(
     rt: &impl Wait,
     account: &Account<S, OneShotBell>,
@@ -78,7 +78,7 @@ fn tick<S: Identity, N: Clock, K: Keep>(
 }
 
 /// Returns for how many beats in a row ticks were refused, after one more tick with this result. A
-/// full journal stays full, so that counts as the most.
+/// full journal stays full, so a tick that it refuses counts as the most.
 fn refused_after(before: u32, refusal: Option<Refusal>) -> u32 {
     match refusal {
         None => 0,
@@ -87,8 +87,8 @@ fn refused_after(before: u32, refusal: Option<Refusal>) -> u32 {
     }
 }
 
-/// Returns whether the service is at its end: after a Stop, once every environment is off, or if
-/// ticks were refused for too long for time to pass.
+/// Returns whether the service is at its end: after a Stop, once every environment is off, or once
+/// ticks were refused for too long.
 fn has_ended(life: Life, refused: u32) -> bool {
     match life {
         Life::Open => false,
@@ -98,7 +98,7 @@ fn has_ended(life: Life, refused: u32) -> bool {
 }
 
 /// Ticks until the service has come to its end, and then notes that, or until another thread notes
-/// it. Notes how many entries there are. Returns the tally.
+/// it. Also notes how many entries there are. Returns the tally.
 fn tick_on<R: Wait + time::Clock, S: Identity, N: Clock, K: Keep>(
     rt: &R,
     account: &Account<S, OneShotBell>,
@@ -159,7 +159,7 @@ impl<
         )
     }
 
-    /// Starts the thread. If none can be made, the tally is dropped.
+    /// Starts the thread. If no thread can be started, the tally is dropped.
     pub(crate) fn start(self) -> Result<JoinHandle<Tally<K, S>>, AllocError> {
         let rt = self.rt;
         Ok(thread::spawn(&rt, move || self.run())?)

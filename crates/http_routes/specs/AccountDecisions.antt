@@ -25,13 +25,13 @@ use Rattle.http_routes.specs.declared.routes.AccountRoute.{AccountRoute}
 use Rattle.http_routes.specs.declared.routes.AccountRoute.TheVariants.{Invoke, Concurrency, ReadConcurrency, Stop}
 use Rattle.http_routes.specs.declared.routes.AccountRoute.TheVariants.{Spindown, Stats, History}
 
--- the decision about a function
+-- The decision about a function: a malformed or unknown one is refused.
 abbrev pub about : Target → (ℕ → Bool → Decision) → Decision
 about Malformed then_do = refused cause.MalformedName
 about Unknown then_do = refused cause.UnknownFunction
 about (Function f qualified) then_do = then_do f qualified
 
--- Invoke, by the payload read from its body; reading a body never gives `OutOfMemory`
+-- Invoke, given the payload that was read from its body. (Reading a body never gives `OutOfMemory`.)
 abbrev pub by_payload : ℕ → Bool → Option (List ℕ) → Result (List ℕ) WireFault → Decision
 by_payload f qualified trace (Ok payload) = Submit (call.Invoke f qualified trace payload)
 by_payload f qualified trace (Err TooLong) = refused cause.PayloadTooLarge
@@ -40,13 +40,13 @@ by_payload f qualified trace (Err BadShape) = refused cause.UnreadablePayload
 by_payload f qualified trace (Err BadEvent) = refused cause.UnreadablePayload
 by_payload f qualified trace (Err OutOfMemory) = refused cause.UnreadablePayload
 
--- Invoke of a function
+-- Invoke of a function.
 abbrev pub invoke : Parts → List ℕ → ℕ → Bool → Decision
 invoke p body f qualified =
     if is_synchronous p then by_payload f qualified (trace_of p) (read_payload body)
     else refused cause.WrongInvocationType
 
--- PutFunctionConcurrency, by the count that its body asks for
+-- PutFunctionConcurrency, given the count that its body asks for.
 abbrev pub reserve : ℕ → Result ℕ WireFault → Decision
 reserve f (Ok count) = Submit (call.Reserve f (Some count))
 reserve f (Err TooLong) = refused cause.PayloadTooLarge
@@ -55,29 +55,29 @@ reserve f (Err BadShape) = refused cause.UnreadableReservation
 reserve f (Err BadEvent) = refused cause.UnreadableReservation
 reserve f (Err OutOfMemory) = refused cause.UnreadableReservation
 
--- PutFunctionConcurrency, or else DeleteFunctionConcurrency, whose body is ignored
+-- PutFunctionConcurrency, or otherwise DeleteFunctionConcurrency, whose body is ignored.
 abbrev pub set_reservation : Bool → List ℕ → ℕ → Bool → Decision
 set_reservation puts body f qualified = if puts then reserve f (read_count body) else Submit (call.Reserve f None)
 
--- GetFunctionConcurrency, whose body is ignored
+-- GetFunctionConcurrency, whose body is ignored.
 abbrev pub show_reservation : ℕ → Bool → Decision
 show_reservation f qualified = Show (shown.Reservation f)
 
--- the environment that a path names after three slashes: a decimal number without leading zeros
+-- The environment that a path names after three slashes: a decimal number without leading zeros.
 abbrev pub environment_of : Config → Parts → Option ℕ
 environment_of config p = option_and_then (env_in config) (path_part 3 (uri_path p.uri))
 
--- the decision, if the route has the request's method
+-- The decision, if the route has the request's method.
 abbrev pub with_method : AccountRoute → Parts → Decision → Decision
 with_method route p decision =
     if is_account_method route p.method then decision else wrong_method (account_methods route)
 
--- an environment is taken down; if there is none of this number, the path is not found
+-- The spindown of an environment. If there is no environment of this number, the path is not found.
 abbrev pub spindown : Parts → Option ℕ → Decision
 spindown p None = refused cause.NotFound
 spindown p (Some e) = with_method Spindown p (Submit (call.Spindown e))
 
--- the history from a ticket on
+-- The history from a ticket on.
 abbrev pub show_from : Option ℕ → Decision
 show_from None = refused cause.WrongTicket
 show_from (Some ticket) = Show (shown.History (Some ticket))

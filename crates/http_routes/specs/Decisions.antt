@@ -15,12 +15,12 @@ pub record Served : Type 0 where
   pub salt : ℕ
   pub port : Port
 
--- an environment's port is that of a configured environment
+-- A port of the configuration: the account's, or that of a configured environment.
 abbrev pub IsPortOf : Config → Port → Type 0
 IsPortOf config Account = Unit {0}
 IsPortOf config (Environment e) = IsEnv config e
 
--- the decision on a request on a port
+-- The decision on a request on a port.
 abbrev pub decision_on : Config → ℕ → Port → Parts → List ℕ → Decision
 decision_on config salt Account p body = account_decision config p body
 decision_on config salt (Environment e) p body = environment_decision config salt e p body

@@ -25,25 +25,25 @@ use Rattle.http_routes.specs.declared.routes.EnvironmentRoute.TheVariants.{Next,
 use Rattle.http_routes.specs.declared.routes.EnvironmentRoute.TheVariants.{Register, ExtNext, ExtInitFailure}
 use Rattle.http_routes.specs.declared.routes.EnvironmentRoute.TheVariants.{ExtExitFailure}
 
--- a body has at most 6,291,456 bytes (Lambda quotas: invocation payload)
+-- Whether a body is too long: it may have up to 6,291,456 bytes (Lambda quotas: invocation payload).
 abbrev pub is_too_long : List ℕ → Bool
 is_too_long body = nat_lt longest_body (length body)
 
--- a call whose body isn't too long
+-- The call of a request, whose body is refused if it is too long.
 abbrev pub submitted : List ℕ → Call → Decision
 submitted body made = if is_too_long body then refused cause.TooLarge else Submit made
 
--- Invocation response: if it is too long, a call of its own kind, without the bytes
+-- Invocation response. One that is too long is a call of its own kind, without the bytes.
 abbrev pub response : ℕ → List ℕ → Option ℕ → Decision
 response e body None = refused cause.WrongRequest
 response e body (Some id) = Submit (if is_too_long body then call.ResponseTooLarge e id else call.Response e id body)
 
--- Invocation error
+-- Invocation error.
 abbrev pub failure : ℕ → List ℕ → Option ℕ → Decision
 failure e body None = refused cause.WrongRequest
 failure e body (Some id) = submitted body (call.Failure e id body)
 
--- Register, by the events that its body asks for; reading a body never gives `OutOfMemory`
+-- Register, given the events that its body asks for. (Reading a body never gives `OutOfMemory`.)
 abbrev pub registered : ℕ → List ℕ → Bool → Result Events WireFault → Decision
 registered e name account (Ok events) = Submit (call.Register e name events.invoke events.shutdown account)
 registered e name account (Err TooLong) = refused cause.TooLarge
@@ -52,25 +52,26 @@ registered e name account (Err BadShape) = refused cause.UnreadableRegistration
 registered e name account (Err BadEvent) = refused cause.WrongEvent
 registered e name account (Err OutOfMemory) = refused cause.UnreadableRegistration
 
+-- Register, given the name of the extension, which is in a header that must be present.
 abbrev pub register : ℕ → Bool → List ℕ → Option (List ℕ) → Decision
 register e account body None = refused cause.MissingHeader
 register e account body (Some name) = registered e name account (read_events body)
 
--- Next
+-- The Next of an extension.
 abbrev pub ext_next : ℕ → List ℕ → Option ℕ → Decision
 ext_next e body None = refused cause.UnknownExtension
 ext_next e body (Some x) = submitted body (call.ExtNext e x)
 
--- Init error, Exit error: the header with the error's type must be present, whatever its value
+-- Init error and Exit error. The header with the type of the error must be present, whatever its value.
 abbrev pub ext_report : Bool → List ℕ → (ℕ → Call) → Option ℕ → Decision
 ext_report has_type body made None = refused cause.UnknownExtension
 ext_report has_type body made (Some x) = if has_type then submitted body (made x) else refused cause.MissingHeader
 
--- whether the header with an error's type is present (Extensions API, Init error, Exit error)
+-- Whether the header with the type of an error is present (Extensions API, Init error, Exit error).
 abbrev pub has_error_type : Parts → Bool
 has_error_type p = has_header (codes "lambda-extension-function-error-type") p
 
--- The decision on a route, with a method that it has.
+-- The decision on a route, for a method that it has.
 unfoldable pub on_environment_route : Config → ℕ → ℕ → Parts → List ℕ → EnvironmentRoute → Decision
 on_environment_route config salt e p body Next = submitted body (call.RuntimeNext e)
 on_environment_route config salt e p body Response = response e body (request_of salt (function_of config e) p)

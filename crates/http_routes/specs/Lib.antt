@@ -10,6 +10,6 @@ pub mod Identifiers
 pub mod Heads
 -- The replies that refuse a request before there is a call.
 pub mod Refusals
--- What the code keeps of these: only private contracts and the invariants of types use these words.
+-- How the code keeps these. Only private contracts and the invariants of types use these words.
 pub mod Sides
 pub mod Views

@@ -10,19 +10,19 @@ use Rattle.arn_ids.specs.declared.names.NameFault.TheVariants as fault
 use Rattle.http_routes.specs.declared.names.Target.{Target}
 use Rattle.http_routes.specs.declared.names.Target.TheVariants.{Malformed, Unknown, Function}
 
--- a configured function, or an unknown one
+-- The function of a number, or an unknown one.
 abbrev pub numbered : Bool → Option ℕ → Target
 numbered qualified None = Unknown
 numbered qualified (Some f) = Function f qualified
 
--- the function at a version; the one known version is $LATEST
+-- The function at a version. The one known version is $LATEST.
 abbrev pub at_version : Config → Option (List ℕ) → Named → Target
 at_version config qualifier named =
     if is_none_or is_latest qualifier
     then numbered (named.qualified || is_some qualifier) (number_named config named.name)
     else Unknown
 
--- the function by the result of reading its name; reading a name never gives `OutOfMemory`
+-- The function, given the result of reading its name. (Reading a name never gives `OutOfMemory`.)
 abbrev pub by_name : Config → Option (List ℕ) → Result Named NameFault → Target
 by_name config qualifier (Ok named) = at_version config qualifier named
 by_name config qualifier (Err fault.Malformed) = Malformed
@@ -37,8 +37,8 @@ invoked config None qualifier = Malformed
 invoked config (Some name) qualifier =
     if is_none_or is_qualifier qualifier then by_name config qualifier (named_in config.home name) else Malformed
 
--- A name has a qualifier after one, three or seven colons: NAME:QUALIFIER, ACCOUNT:function:NAME:QUALIFIER,
--- arn:aws:lambda:REGION:ACCOUNT:function:NAME:QUALIFIER.
+-- Whether a name has a qualifier, which is after one, three or seven colons: NAME:QUALIFIER,
+-- ACCOUNT:function:NAME:QUALIFIER, arn:aws:lambda:REGION:ACCOUNT:function:NAME:QUALIFIER.
 abbrev pub has_qualifier : List ℕ → Bool
 has_qualifier name = let colons : ℕ = count_by (λ b. b == 58) name in colons == 1 || colons == 3 || colons == 7
 

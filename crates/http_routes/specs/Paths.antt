@@ -9,35 +9,35 @@ use Rattle.form_urlencoded.specs.Form.{decode, raw_pairs}
 use Rattle.http.specs.Uri.{uri_path, uri_query}
 use Rattle.http.specs.declared.request.Parts.{Parts}
 
--- the part of a path after this many slashes, not decoded
+-- The part of a path after n slashes, not decoded.
 abbrev pub path_part : ℕ → List ℕ → Option (List ℕ)
 path_part n path = slice_get (slice_split (λ b. b == 47) path) n
 
--- the decoded text of a part of a path, if it is UTF-8 (RFC 3986, section 2.1)
+-- The decoded text of a part of a path, if it is UTF-8 (RFC 3986, section 2.1).
 abbrev pub path_text : List ℕ → Option (List ℕ)
 path_text part = if is_utf8 (percent_decode part) then Some (percent_decode part) else None
 
--- a name or a value of a query as text (URL Standard, section 5.1)
+-- A name or a value of a query as text (URL Standard, section 5.1).
 abbrev pub text_of : List ℕ → List ℕ
 text_of raw = utf8_lossy (decode raw)
 
--- the value of the first pair of this name
+-- The value of the first pair of this name.
 abbrev pub first_named : List ℕ → List (List ℕ × List ℕ) → Option (List ℕ)
 first_named name [] = None
 first_named name (p ∷ ps) = if bytes_eq (text_of p.0) name then Some (text_of p.1) else first_named name ps
 
--- the first `Qualifier` of a query
+-- The first `Qualifier` of a query.
 abbrev pub qualifier_in : List ℕ → Option (List ℕ)
 qualifier_in query = first_named (codes "Qualifier") (raw_pairs query)
 
--- the first `Qualifier` of a request (Lambda API, Invoke: URI Request Parameters)
+-- The first `Qualifier` of a request (Lambda API, Invoke: URI Request Parameters).
 abbrev pub qualifier_of : Parts → Option (List ℕ)
 qualifier_of p = option_and_then qualifier_in (uri_query p.uri)
 
--- the first `from` of a request for the history (an operation of this service alone)
+-- The first `from` of a request for the history (an operation of this service alone).
 abbrev pub from_of : Parts → Option (List ℕ)
 from_of p = option_and_then (λ query. first_named (codes "from") (raw_pairs query)) (uri_query p.uri)
 
--- the name of a function in a path of the Lambda API, after three slashes
+-- The name of a function in a path of the Lambda API, after three slashes.
 abbrev pub name_of : Parts → Option (List ℕ)
 name_of p = option_and_then path_text (path_part 3 (uri_path p.uri))

@@ -35,7 +35,8 @@ refusal_words PayloadTooLarge = (413, codes "RequestTooLargeException", codes "P
 refusal_words UnreadablePayload = (400, codes "InvalidRequestContentException", codes "Payload is not JSON")
 refusal_words UnreadableReservation = (400, codes "InvalidRequestContentException", codes "Body is not readable")
 
--- whose fault it is, which only replies of the Lambda API say; none for the Runtime API and the Extensions API
+-- Whose fault a refusal says it is, which only replies of the Lambda API say; `None` for the other APIs and for this
+-- service's own routes.
 abbrev pub fault_of : Cause → Option InvokeFault
 fault_of NotFound = None
 fault_of WrongTicket = None
@@ -52,7 +53,7 @@ fault_of PayloadTooLarge = Some fault.User
 fault_of UnreadablePayload = Some fault.User
 fault_of UnreadableReservation = Some fault.User
 
--- the reply in the form of its API
+-- The reply, in the form of its API.
 abbrev pub reply_of : Option InvokeFault → ℕ × List ℕ × List ℕ → Decision
 reply_of None words = Reply (fault_reply words.0 words.2 words.1)
 reply_of (Some fault) words = Reply (invoke_fault_reply words.0 words.1 fault words.2)
@@ -61,7 +62,7 @@ reply_of (Some fault) words = Reply (invoke_fault_reply words.0 words.1 fault wo
 unfoldable pub refused : Cause → Decision
 refused cause = reply_of (fault_of cause) (refusal_words cause)
 
--- The reply if the route does not have the method. It lists those that it has (RFC 9110, section 15.5.6).
+-- The reply if the route does not have the method. It lists those that the route has (RFC 9110, section 15.5.6).
 unfoldable pub wrong_method : FieldValue → Decision
 wrong_method methods = Reply (record (fault_reply 405 (codes "Method not allowed") (codes "MethodNotAllowed"))
     { headers = json_headers ++ (codes "allow", methods) ∷ [] })

@@ -15,19 +15,20 @@ use Rattle.http_routes.specs.declared.routes.AccountRoute.{AccountRoute}
 use Rattle.http_routes.specs.declared.routes.AccountRoute.TheVariants.{Invoke, Concurrency, ReadConcurrency, Stop}
 use Rattle.http_routes.specs.declared.routes.AccountRoute.TheVariants.{Spindown, Stats, History}
 
--- the rows of a router
+-- The rows of a router.
 abbrev pub RowsFor : Type 0 → Type 0
 RowsFor R = RowsOf (RouteOf R)
 
+-- These rows and a route whose text was parsed; the same rows if its text is faulty.
 abbrev pub with_read : {R : Type 0} → Result Scan InsertError → R → RowsFor R → RowsFor R
 with_read (Ok s) route rows = placed (s.pattern, route_from s route) rows
 with_read (Err e) route rows = rows
 
--- these rows and one more route
+-- These rows and one more route.
 unfoldable pub with_route : {R : Type 0} → List ℕ → R → RowsFor R → RowsFor R
 with_route text route rows = with_read (parse_route text) route rows
 
--- these rows and those of the Runtime API (2018-06-01)
+-- These rows and those of the Runtime API (2018-06-01).
 unfoldable pub with_runtime_rows : RowsFor EnvironmentRoute → RowsFor EnvironmentRoute
 with_runtime_rows rows =
     with_route (codes "/2018-06-01/runtime/init/error") InitFailure
@@ -35,7 +36,7 @@ with_runtime_rows rows =
     (with_route (codes "/2018-06-01/runtime/invocation/{id}/response") Response
     (with_route (codes "/2018-06-01/runtime/invocation/next") Next rows)))
 
--- these rows and those of the Extensions API (2020-01-01)
+-- These rows and those of the Extensions API (2020-01-01).
 unfoldable pub with_extension_rows : RowsFor EnvironmentRoute → RowsFor EnvironmentRoute
 with_extension_rows rows =
     with_route (codes "/2020-01-01/extension/exit/error") ExtExitFailure
@@ -47,15 +48,15 @@ with_extension_rows rows =
 unfoldable pub environment_rows : RowsFor EnvironmentRoute
 environment_rows = with_extension_rows (with_runtime_rows [])
 
--- these rows and those of the Lambda API (Invoke; PutFunctionConcurrency and DeleteFunctionConcurrency;
--- GetFunctionConcurrency)
+-- These rows and those of the Lambda API (Invoke; PutFunctionConcurrency and DeleteFunctionConcurrency;
+-- GetFunctionConcurrency).
 unfoldable pub with_lambda_rows : RowsFor AccountRoute → RowsFor AccountRoute
 with_lambda_rows rows =
     with_route (codes "/2019-09-30/functions/{name}/concurrency") ReadConcurrency
     (with_route (codes "/2017-10-31/functions/{name}/concurrency") Concurrency
     (with_route (codes "/2015-03-31/functions/{name}/invocations") Invoke rows))
 
--- these rows and those that this service adds for its operator, under `/_local`
+-- These rows and those that this service adds for its operator, under `/_local`.
 unfoldable pub with_local_rows : RowsFor AccountRoute → RowsFor AccountRoute
 with_local_rows rows =
     with_route (codes "/_local/history") History
@@ -67,10 +68,11 @@ with_local_rows rows =
 unfoldable pub account_rows : RowsFor AccountRoute
 account_rows = with_local_rows (with_lambda_rows [])
 
--- the route that a path matches
+-- The route that a path matches.
 abbrev pub route_in : {R : Type 0} → RowsFor R → List ℕ → Option R
 route_in rows path = option_map (λ r. r.value) (first rows path)
 
+-- Whether a method is GET, POST, PUT or DELETE.
 abbrev pub is_get : List ℕ → Bool
 is_get method = bytes_eq method (codes "GET")
 
@@ -83,7 +85,7 @@ is_put method = bytes_eq method (codes "PUT")
 abbrev pub is_delete : List ℕ → Bool
 is_delete method = bytes_eq method (codes "DELETE")
 
--- The methods of an environment's routes.
+-- Whether an environment's route has a method.
 abbrev pub is_environment_method : EnvironmentRoute → List ℕ → Bool
 is_environment_method Next = is_get
 is_environment_method Response = is_post
@@ -94,7 +96,7 @@ is_environment_method ExtNext = is_get
 is_environment_method ExtInitFailure = is_post
 is_environment_method ExtExitFailure = is_post
 
--- the same methods as the field `Allow` lists them (RFC 9110, section 10.2.1)
+-- The methods of an environment's route, as the field `Allow` lists them (RFC 9110, section 10.2.1).
 abbrev pub environment_methods : EnvironmentRoute → FieldValue
 environment_methods Next = plain_value (codes "GET")
 environment_methods Response = plain_value (codes "POST")
@@ -105,7 +107,7 @@ environment_methods ExtNext = plain_value (codes "GET")
 environment_methods ExtInitFailure = plain_value (codes "POST")
 environment_methods ExtExitFailure = plain_value (codes "POST")
 
--- The methods of the account's routes.
+-- Whether a route of the account has a method.
 abbrev pub is_account_method : AccountRoute → List ℕ → Bool
 is_account_method Invoke = is_post
 is_account_method Concurrency = λ method. is_put method || is_delete method
@@ -115,7 +117,7 @@ is_account_method Spindown = is_post
 is_account_method Stats = is_get
 is_account_method History = is_get
 
--- the same methods as the field `Allow` lists them
+-- The methods of a route of the account, as the field `Allow` lists them.
 abbrev pub account_methods : AccountRoute → FieldValue
 account_methods Invoke = plain_value (codes "POST")
 account_methods Concurrency = plain_value (codes "DELETE, PUT")

@@ -6,16 +6,16 @@ use Rattle.http_routes.specs.declared.side.Port.TheVariants as port
 use Rattle.http_routes.specs.declared.side.Routes.{Routes}
 use Rattle.http_routes.specs.declared.side.Routes.TheVariants.{Account, Environment}
 
--- the port whose routes they are
+-- The port that these are the routes of.
 abbrev pub port_of : Routes → Port
 port_of (Account router) = port.Account
 port_of (Environment e router) = port.Environment e
 
--- they are the routes of that port
+-- All routes of that port are there.
 abbrev pub AreWhole : Routes → Type 0
 AreWhole (Account router) = router ≡ account_rows
 AreWhole (Environment e router) = router ≡ environment_rows
 
--- they are the routes of this port
+-- These are the routes of this port.
 abbrev pub AreRoutesOf : Port → Routes → Type 0
 AreRoutesOf port routes = (port_of routes ≡ port) × AreWhole routes

@@ -3,11 +3,11 @@ use Rattle.std.specs.Prelude.{ℕ, List, [], Option, Some, None}
 use Rattle.std.specs.Borrow.{Bor}
 use Rattle.http_routes.specs.Heads.{parts}
 
--- the parts of what is left; empty if nothing is left
+-- The parts of what is left; none if nothing is left.
 abbrev pub parts_left : Option (Bor (List ℕ)) → List (List ℕ)
 parts_left None = []
 parts_left (Some rest) = parts rest.now
 
--- what a reference to a text points to
+-- The text that a reference points to.
 abbrev pub text_of : Bor (List ℕ) → List ℕ
 text_of text = text.now

@@ -50,7 +50,7 @@ fn invoke(
     }
 }
 
-/// Decides a PutFunctionConcurrency, by the count that its body asks for.
+/// Decides a PutFunctionConcurrency, given the count that its body asks for.
 fn reserve(alloc: Global, body: &Bytes, function: FnNo) -> Result<Decision, AllocError>
     ensures { IfOk result (λ d. d ≡ spec.reserve function (read_count body.now)) }
 {
@@ -89,7 +89,8 @@ fn on_invoke(
     }
 }
 
-/// Decides a PutFunctionConcurrency, or else a DeleteFunctionConcurrency, whose body is ignored.
+/// Decides a PutFunctionConcurrency, or otherwise a DeleteFunctionConcurrency, whose body is
+/// ignored.
 fn on_concurrency(
     alloc: Global,
     config: &Checked,
@@ -138,7 +139,8 @@ fn environment_of(config: &Checked, parts: &Parts) -> Option<EnvNo>
     read_environment(config, path_part(parts.uri.path(), 3)?.as_bytes())
 }
 
-/// Decides to take down an environment; if there is none of this number, the path is not found.
+/// Decides the spindown of an environment. If there is no environment of this number, the path is
+/// not found.
 fn spindown(alloc: Global, config: &Checked, parts: &Parts) -> Result<Decision, AllocError>
     ensures { IfOk result (λ d. d ≡ spec.spindown parts.now (spec.environment_of config.now parts.now)) }
 {

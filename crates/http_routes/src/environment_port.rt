@@ -25,7 +25,7 @@ fn is_too_long(body: &Bytes) -> bool
     body.len() > LONGEST_BODY
 }
 
-/// Submits a call that carries no bytes, if the body isn't too long.
+/// Submits a call that carries no bytes, if the body is not too long.
 fn submitted(alloc: Global, body: &Bytes, call: Call) -> Result<Decision, AllocError>
     ensures { IfOk result (λ d. d ≡ spec.submitted body.now call) }
 {
@@ -79,7 +79,7 @@ fn init_failure(alloc: Global, env: EnvNo, body: &Bytes) -> Result<Decision, All
     Ok(Decision::Submit(Call::InitFailure { env, body }))
 }
 
-/// Decides a Register, by the events that its body asks for.
+/// Decides a Register, given the events that its body asks for.
 fn register(
     alloc: Global,
     env: EnvNo,
@@ -171,7 +171,7 @@ fn ext_exit_failure(
     Ok(Decision::Submit(Call::ExtExitFailure { env, ext, body }))
 }
 
-/// Decides a request on a route, with a method that it has.
+/// Decides a request on a route, for a method that it has.
 #[tactic(auto, unfolding(crate::specs::EnvironmentDecisions::on_environment_route))]
 fn on_route(
     alloc: Global,

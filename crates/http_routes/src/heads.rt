@@ -30,7 +30,8 @@ fn has_name(parts: &Parts, name: &str) -> bool
     parts.headers.keys().any(|key| is_named(key, name))
 }
 
-/// Returns the bytes of the first header of a name, which is in lower case. Few requests have one.
+/// Returns the bytes of the first header of a name, which is given in lower case. Few requests have
+/// one.
 #[tactic(auto, using(crate::proofs::HeadLemmas::no_header))]
 fn header<'p>(parts: &'p Parts, name: &str) -> Option<&'p [u8]>
     requires { lowercase name.now ≡ name.now }
@@ -43,7 +44,7 @@ fn header<'p>(parts: &'p Parts, name: &str) -> Option<&'p [u8]>
     Some(value.as_bytes())
 }
 
-/// Returns the text of a header, if it is visible.
+/// Returns the text of a header, if all of it is visible or blank.
 fn header_text<'p>(parts: &'p Parts, name: &str) -> Option<&'p str>
     ensures { option_map (λ t. t.now) result ≡ spec.header_text (lowercase name.now) parts.now }
 {
@@ -64,7 +65,7 @@ pub(crate) fn extension_identifier(parts: &Parts) -> Option<&str>
     header_text(parts, "lambda-extension-identifier")
 }
 
-/// Copies a text of 1 to `most` printing characters; `None` if it is any other.
+/// Copies a text of 1 to `most` printing characters; returns `None` if it is any other.
 fn printable_text(alloc: Global, bytes: &[u8], most: usize) -> Result<Option<Text>, AllocError>
     ensures { IfOk result (λ text. text ≡ spec.that (is_word is_printable_byte most) bytes.now) }
 {
@@ -87,7 +88,7 @@ pub(crate) fn extension_name(alloc: Global, parts: &Parts) -> Result<Option<Text
     }
 }
 
-/// Returns the trace of an invocation; a malformed one counts as absent.
+/// Returns the trace of an invocation. A malformed one counts as absent.
 pub(crate) fn trace(alloc: Global, parts: &Parts) -> Result<Option<Text>, AllocError>
     ensures { IfOk result (λ trace. trace ≡ spec.trace_of parts.now) }
 {
@@ -97,8 +98,8 @@ pub(crate) fn trace(alloc: Global, parts: &Parts) -> Result<Option<Text>, AllocE
     }
 }
 
-/// Returns whether an error's type is given, whatever it is (Extensions API, Init error, Exit
-/// error).
+/// Returns whether the type of an error is given, whatever its value (Extensions API, Init error,
+/// Exit error).
 pub(crate) fn has_error_type(parts: &Parts) -> bool
     ensures { result ≡ spec.has_header (codes "lambda-extension-function-error-type") parts.now }
 {
@@ -133,7 +134,7 @@ fn before_spaces(bytes: &[u8]) -> &[u8]
     rest
 }
 
-/// Returns whether a part is this one, without the spaces around it.
+/// Returns whether a part is this feature, without the spaces around it.
 fn is_feature(part: &[u8], feature: &[u8]) -> bool
     ensures { result ≡ bytes_eq (spec.trimmed part.now) feature.now }
 {
@@ -157,7 +158,8 @@ fn cut(bytes: &[u8]) -> (&[u8], Option<&[u8]>)
     }
 }
 
-/// Returns whether one of the parts between the commas is this one, without the spaces around it.
+/// Returns whether one of the parts between the commas is this feature, without the spaces around
+/// it.
 fn lists(bytes: &[u8], feature: &[u8]) -> bool
     ensures { result ≡ spec.lists feature.now bytes.now }
 {

@@ -20,7 +20,7 @@ fn uuid_in(text: &str) -> Option<Uuid>
     }
 }
 
-/// Returns the parts of a text that is an identifier of this service.
+/// Returns the parts of a text, if it is an identifier of this service.
 #[tactic(auto, unfolding(crate::specs::Identifiers::identifier_in))]
 fn identifier_in(text: &str) -> Option<IdParts>
     ensures { result ≡ spec.identifier_in text.now }
@@ -29,7 +29,7 @@ fn identifier_in(text: &str) -> Option<IdParts>
     id_parts(&id)
 }
 
-/// Returns the count in an identifier of this salt and number.
+/// Returns the count in an identifier, if it has this salt and number.
 fn count_of(salt: u64, number: u32, id: &IdParts) -> Option<u64>
     ensures { result ≡ spec.count_of salt number id.now }
 {

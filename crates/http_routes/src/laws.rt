@@ -1,4 +1,4 @@
-//! Laws of the tables of routes: a function with no work in it, whose contract is proved.
+//! Laws of the tables of routes: a function that does nothing, whose contract is proved.
 
 ghost use Rattle.std.specs.Prelude.{◌≡◌, codes, Some, length};
 ghost use Rattle.http_routes.specs.Routes.{environment_rows, account_rows, route_in};
@@ -8,7 +8,7 @@ ghost use Rattle.http_routes.specs.declared.routes.EnvironmentRoute.TheVariants.
 ghost use Rattle.http_routes.specs.declared.routes.AccountRoute.TheVariants.{Invoke, Concurrency, ReadConcurrency};
 ghost use Rattle.http_routes.specs.declared.routes.AccountRoute.TheVariants.{Stop, Spindown, Stats, History};
 
-/// The tables are complete: each route has its row, and is found by a path.
+/// The tables are complete: each route has its row, and some path leads to it.
 pub fn routes()
     ensures environment_routes { length environment_rows ≡ 8 }
     ensures next { route_in environment_rows (codes "/2018-06-01/runtime/invocation/next") ≡ Some Next }

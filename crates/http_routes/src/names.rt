@@ -66,7 +66,7 @@ fn at_version(config: &Checked, qualifier: Option<&str>, named: Named) -> Target
     }
 }
 
-/// Returns what a name stands for.
+/// Returns the function that a name stands for.
 fn by_name(
     alloc: Global,
     config: &Checked,
@@ -120,7 +120,7 @@ pub(crate) fn invoked(alloc: Global, config: &Checked, parts: &Parts) -> Result<
     )
 }
 
-/// Returns whether a name has a qualifier, after one, three or seven colons.
+/// Returns whether a name has a qualifier, which is after one, three or seven colons.
 fn has_qualifier(name: &str) -> bool
     ensures { result ≡ spec.has_qualifier name.now }
 {

@@ -24,7 +24,7 @@ fn cut(path: &str) -> (&str, Option<&str>)
     }
 }
 
-/// Returns the part of a path after this many slashes, not decoded.
+/// Returns the part of a path after `n` slashes, not decoded.
 pub(crate) fn path_part(path: &str, n: usize) -> Option<&str>
     ensures { option_map (λ t. t.now) result ≡ spec.path_part n path.now }
 {
@@ -37,8 +37,8 @@ pub(crate) fn path_part(path: &str, n: usize) -> Option<&str>
     Some(front)
 }
 
-/// Returns the part of a path after this many slashes. It is found at once if the path begins with
-/// this front.
+/// Returns the part of a path after `n` slashes. It is found at once if the path begins with
+/// `front`.
 pub(crate) fn path_part_behind<'p>(path: &'p str, front: &str, n: usize) -> Option<&'p str>
     requires { (rest : List ℕ) → spec.path_part n (front.now ++ rest) ≡ spec.path_part 0 rest }
     ensures { option_map (λ t. t.now) result ≡ spec.path_part n path.now }

@@ -1,4 +1,5 @@
-//! Replies that refuse a request before there is a call. The only error is `AllocError`.
+//! Replies that refuse a request before there is a call. Each call here fails only if an allocation
+//! fails.
 
 ghost use Rattle.std.specs.Prelude.{◌≡◌, true, IfOk};
 ghost use Rattle.std.specs.List.{list_all};
@@ -94,8 +95,8 @@ fn refusal_words(cause: Cause) -> (u16, &'static str, &'static str)
     }
 }
 
-/// Returns whose fault it is, which only replies of the Lambda API say; `None` for the Runtime API
-/// and the Extensions API.
+/// Returns whose fault a refusal says it is, which only replies of the Lambda API say; `None` for
+/// the other APIs and for this service's own routes.
 fn fault_of(cause: Cause) -> Option<InvokeFault>
     ensures { result ≡ spec.fault_of cause }
 {
@@ -143,7 +144,7 @@ pub(crate) fn refused(alloc: Global, cause: Cause) -> Result<Decision, AllocErro
     Ok(Decision::Reply(reply))
 }
 
-/// Makes the reply that lists a route's methods, if it does not have the request's.
+/// Makes the reply that lists a route's methods, if the route does not have the request's.
 #[tactic(auto, unfolding(crate::specs::Refusals::wrong_method))]
 pub(crate) fn wrong_method(alloc: Global, methods: HeaderValue) -> Result<Decision, AllocError>
     ensures { IfOk result (λ d. d ≡ spec.wrong_method methods) }

@@ -12,13 +12,13 @@ use http_header::HeaderValue;
 use matchit::{InsertError, Router};
 use std::alloc::Global;
 
-/// The path of a Next, that of every second request of a runtime.
+/// The path of a Next, which every second request of a runtime has.
 const NEXT: &str = "/2018-06-01/runtime/invocation/next";
 
-/// The front of a response's path, before the invocation's identifier.
+/// The front of the path of a response, before the invocation's identifier.
 pub(crate) const INVOCATION: &str = "/2018-06-01/runtime/invocation/";
 
-/// The front of an Invoke's path, before the function's name.
+/// The front of the path of an Invoke, before the function's name.
 pub(crate) const FUNCTIONS: &str = "/2015-03-31/functions/";
 
 /// A route of an environment's port (Runtime API 2018-06-01, Extensions API 2020-01-01).
@@ -32,13 +32,13 @@ pub enum EnvironmentRoute {
     Failure,
     /// Initialization error.
     InitFailure,
-    /// An extension registers.
+    /// Registration of an extension.
     Register,
-    /// An extension's next event.
+    /// Next event of an extension.
     ExtNext,
-    /// An extension's Init error.
+    /// Init error of an extension.
     ExtInitFailure,
-    /// An extension's Exit error.
+    /// Exit error of an extension.
     ExtExitFailure,
 }
 
@@ -51,9 +51,9 @@ pub enum AccountRoute {
     Concurrency,
     /// GetFunctionConcurrency (Lambda API 2019-09-30).
     ReadConcurrency,
-    /// The service stops.
+    /// The stop of the service.
     Stop,
-    /// An idle environment is taken down.
+    /// The spindown of an idle environment.
     Spindown,
     /// The account's counts.
     Stats,
@@ -177,8 +177,8 @@ fn add_extensions(router: &mut Router<EnvironmentRoute>) -> Result<(), InsertErr
     )
 }
 
-/// Makes the routes of an environment's port. They don't conflict: the only error is that memory is
-/// refused.
+/// Makes the routes of an environment's port. They do not conflict, so it fails only if an
+/// allocation fails.
 pub(crate) fn environment_routes(alloc: Global) -> Result<Router<EnvironmentRoute>, InsertError>
     ensures { IfOk result (λ router. router ≡ environment_rows) }
 {
@@ -219,8 +219,8 @@ fn add_local(router: &mut Router<AccountRoute>) -> Result<(), InsertError>
     add(router, "/_local/history", AccountRoute::History)
 }
 
-/// Makes the routes of the account's port. They don't conflict: the only error is that memory is
-/// refused.
+/// Makes the routes of the account's port. They do not conflict, so it fails only if an allocation
+/// fails.
 pub(crate) fn account_routes(alloc: Global) -> Result<Router<AccountRoute>, InsertError>
     ensures { IfOk result (λ router. router ≡ account_rows) }
 {
@@ -230,12 +230,12 @@ pub(crate) fn account_routes(alloc: Global) -> Result<Router<AccountRoute>, Inse
     Ok(router)
 }
 
-/// Bytes are numbers below 256.
+/// States that bytes are numbers below 256.
 fn bytes_fit(bytes: &[u8])
     ensures { All (λ b. b < 256) bytes.now }
 {}
 
-/// Returns the part of a path between this front and a slash with this back: its first byte, and
+/// Returns the part of a path between `front` and a slash followed by `back`: its first byte, and
 /// the others.
 fn part_between<'p>(path: &'p str, front: &str, back: &str) -> Option<(u8, &'p [u8])>
     ensures { MatchOption result Unit (λ p. (p.0 < 256) × (path.now ≡ front.now ++ (p.0 ∷ (p.1.now ++ (47 ∷ back.now))))

@@ -20,7 +20,7 @@ use std::alloc::{AllocError, Global};
 use std::marker::Model;
 use std::sync::Arc;
 
-/// Whose port it is.
+/// Whose port a port is.
 #[derive(Clone, Copy, Debug, PartialEq, Eq)]
 pub enum Port {
     /// The account's: callers and operators.
@@ -82,8 +82,8 @@ fn long_body(alloc: Global) -> Result<Bytes, AllocError>
 
 impl Side {
     /// Opens a port of the configuration, with the salt of its identifiers: the account's port, or
-    /// that of an environment from 1 to `Checked::environments`. Its routes are made here, once.
-    /// The only error is that memory is refused.
+    /// that of an environment from 1 to `Checked::environments`. Its routes are made here, once. It
+    /// fails only if an allocation fails.
     pub fn open(
         alloc: Global,
         config: Arc<Checked>,
@@ -102,8 +102,8 @@ impl Side {
     }
 
     /// Decides a request by its head and body: to `Submit` its call, to `Reply` with the first
-    /// refusal that holds, or to `Show` what is asked for. The call shares the body, which isn't
-    /// copied. A payload is read in the scratch's room. The only error is `AllocError`.
+    /// refusal that holds, or to `Show` what is asked for. The call shares the body, which is not
+    /// copied. A payload is read in the scratch's room. It fails only if an allocation fails.
     pub fn decide(
         &self,
         alloc: Global,
@@ -138,8 +138,9 @@ impl Side {
 }
 
 impl Side {
-    /// Decides a request of this head whose body is longer than 6,291,456 bytes. The decision is
-    /// the same for each such body, so it is made with one of them. The only error is `AllocError`.
+    /// Decides a request with this head whose body is longer than 6,291,456 bytes. The decision is
+    /// the same for each such body, so it is made with one of them. It fails only if an allocation
+    /// fails.
     pub fn decide_too_long(&self, alloc: Global, parts: &Parts) -> Result<Decision, AllocError>
         ensures decision_too_long { IfOk result (IsForTooLong (λ body d. d ≡ decision self.now parts.now body)) }
         ensures allowed_too_long { IfOk result (IsAllowed self.now.config) }

@@ -7,9 +7,9 @@ use Rattle.usage_ledger.specs.Tallies.{Tallied}
 use Rattle.account_lock.specs.Counting.{counts_of}
 use Rattle.headline.specs.Headline.{Headline}
 
--- The counts are those of a history of the configuration, for which the headline holds. The tally has counted what
--- that history counts; it has all parts of the account's four ledgers, so no share of what the threads counted is
--- anywhere else.
+-- The counts are those of a history of the configuration, for which the headline holds. The tally has counted what that
+-- history counts. It has all parts of the account's four ledgers, so no other tally has a share of what the threads
+-- counted.
 pub record IsSettled (config : Config) (counts : Stats) (tally : Tallied) : Type 0 where
   pub history : List Entry
   pub headline : Headline config history counts

@@ -9,12 +9,12 @@ use Rattle.lambda_local.specs.declared.serve_fault.ServeFault.{ServeFault}
 use Rattle.lambda_local.specs.declared.serve_fault.ServeFault.TheVariants.{Config, Wire, Settlement, Network}
 use Rattle.lambda_local.specs.declared.serve_fault.ServeFault.TheVariants.{TooFewDescriptors, OutOfMemory}
 
--- the fault for a configuration that is not read
+-- The fault of a configuration that cannot be read.
 abbrev pub of_wire : WireFault → ServeFault
 of_wire wire.OutOfMemory = OutOfMemory
 of_wire fault = Wire fault
 
--- the fault for a host that does not open or does not end; the account lacks the tally of a thread that never ended
+-- The fault of a host that does not open or does not end. If a thread never ended, the account lacks its tally.
 abbrev pub of_host : HostFault → ServeFault
 of_host (host.Config fault) = Config fault
 of_host host.Network = Network
@@ -22,7 +22,7 @@ of_host host.TooFewDescriptors = TooFewDescriptors
 of_host host.StillShared = Settlement settling.TallyMissing
 of_host host.OutOfMemory = OutOfMemory
 
--- the fault for an account that does not settle
+-- The fault of an account that does not settle.
 abbrev pub of_settling : SettleFault → ServeFault
 of_settling settling.OutOfMemory = OutOfMemory
 of_settling fault = Settlement fault

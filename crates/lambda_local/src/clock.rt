@@ -13,14 +13,14 @@ use std::time::{self, Duration};
 #[derive(Drop)]
 pub struct UnixClock<R> {
     rt: R,
-    // The readings of the two clocks when this one was made.
+    // The readings of the two clocks when this clock was made.
     since_1970: Duration,
     monotonic: Duration,
     // By how many milliseconds it was set forward since then.
     forward: AtomicU64,
 }
 
-/// Returns a time in milliseconds.
+/// Returns a duration in milliseconds.
 fn millis(time: Duration) -> u64 {
     u64::try_from(time.as_millis()).unwrap_or(u64::MAX)
 }
@@ -40,7 +40,8 @@ impl<R: time::Clock> UnixClock<R> {
 }
 
 impl<R: time::Clock> long_poll::Clock for UnixClock<R> {
-    /// Returns its reading. A clock that fails reads 0, which counts as the last moment.
+    /// Returns the reading of the clock. A clock that fails reads 0, which counts as the last
+    /// moment.
     fn now(&self) -> u64 {
         match self.rt.monotonic() {
             Ok(monotonic) => {

@@ -4,7 +4,7 @@ use crate::setting_fault::SettingFault;
 use request_guard::Hosts;
 use std::env::{self, Env, VarError};
 
-/// The variable that lists them.
+/// The environment variable that lists them.
 const NAME: &str = "LAMBDA_LOCAL_HOSTS";
 
 /// Reads the hosts that the service answers for in addition to the local ones. The environment
@@ -12,7 +12,7 @@ const NAME: &str = "LAMBDA_LOCAL_HOSTS";
 /// empty or absent, there are none.
 ///
 /// # Errors
-/// `Malformed` if it is not such a list, else `OutOfMemory`.
+/// `Malformed` if it is not such a list, otherwise `OutOfMemory`.
 pub fn read_hosts<R: Env + AllocGlobal>(rt: &R) -> Result<Hosts, SettingFault> {
     match env::var(rt, NAME) {
         Ok(text) => Hosts::read(text).ok_or(SettingFault::Malformed),

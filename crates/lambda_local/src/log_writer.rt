@@ -71,7 +71,7 @@ impl LogWriter {
     /// Starts the thread, which logs that the service listens, and then what its notices say.
     ///
     /// # Errors
-    /// If memory or a thread is refused.
+    /// If an allocation fails, or a thread is refused.
     pub fn start<R: Machine + Log>(rt: R, notices: Arc<Notices>) -> Result<LogWriter, AllocError> {
         let progress = Progress {
             is_over: AtomicBool::new(false),
@@ -83,8 +83,8 @@ impl LogWriter {
         Ok(LogWriter { progress, thread })
     }
 
-    /// Lets the thread log that the service has stopped, and waits until it has, for a second at
-    /// most: its output may not be read.
+    /// Lets the thread log that the service has stopped, and waits until it has, for up to a
+    /// second: its output may not be read.
     pub fn finish<R: Machine>(self, rt: &R) {
         let LogWriter { progress, thread } = self;
         progress.is_over.store(true, SeqCst);

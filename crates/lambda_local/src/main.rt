@@ -43,7 +43,7 @@ enum Asked {
 /// Why the program fails. It prints as the line on standard error.
 #[derive(Clone, Copy, Debug, PartialEq, Eq, Error)]
 enum ProgramFault {
-    /// The arguments ask for anything else, or an environment variable is malformed.
+    /// The arguments ask for something else, or an environment variable is malformed.
     #[error("usage: lambda_local [replay | serve PATH]")]
     Usage,
     /// The replay ended before its input.

@@ -5,7 +5,7 @@ ghost use Rattle.std.specs.Prelude.{◌≤◌, IfSome};
 use crate::setting_fault::SettingFault;
 use std::env::{self, Env, VarError};
 
-/// The variable with the number of milliseconds.
+/// The environment variable with the number of milliseconds.
 const NAME: &str = "LAMBDA_LOCAL_PATIENCE_MS";
 
 /// The number if the variable is absent.
@@ -28,7 +28,7 @@ fn patience_of(text: &str) -> Option<u32>
 /// variable's number, from 0 (not at all) to 2,000, or 100 if it is absent.
 ///
 /// # Errors
-/// `Malformed` if it is not such a number, else `OutOfMemory`.
+/// `Malformed` if it is not such a number, otherwise `OutOfMemory`.
 pub fn read_patience<R: Env + AllocGlobal>(rt: &R) -> Result<u32, SettingFault> {
     match env::var(rt, NAME) {
         Ok(text) => patience_of(text.as_str()).ok_or(SettingFault::Malformed),

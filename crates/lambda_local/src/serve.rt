@@ -21,7 +21,7 @@ use std::marker::Brand;
 use std::rt::Files;
 use usage_ledger::{Blanks, KeepNone, Ledgers, Tally};
 
-/// The most bytes of a configuration that are read: one more than the longest one has.
+/// The most bytes of a configuration that are read: one more than the longest configuration has.
 const MOST_READ: u64 = 20_000_001;
 
 /// Reads the plan in a file.
@@ -51,7 +51,7 @@ pub struct Counted<L: Ledgers> {
 /// that the shares count what its history counts.
 ///
 /// # Errors
-/// `Settlement` if they have not, else `OutOfMemory`.
+/// `Settlement` if they do not, otherwise `OutOfMemory`.
 fn settled<S: Identity>(hosted: Hosted<S, KeepNone>) -> Result<Counted<S>, ServeFault>
     ensures { IfOk result (λ counted. IsSettled S.config counted.counts counted.tally) }
 {
@@ -128,7 +128,7 @@ fn serve_by_brand<R: Machine + Log>(
 /// is refused if it names a host that is neither local nor one of `hosts` ([`Host::open`]).
 ///
 /// # Errors
-/// As the fault says; nothing is then written to standard output.
+/// Those of the fault; nothing is then written to standard output.
 pub fn serve<R: Machine + Log + Files + Print>(
     rt: R,
     path: &str,

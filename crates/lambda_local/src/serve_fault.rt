@@ -36,7 +36,7 @@ pub enum ServeFault {
     /// The process may not open enough descriptors for the ports and one connection.
     #[error("network: too few descriptors (ulimit -n)")]
     TooFewDescriptors,
-    /// Memory was refused.
+    /// An allocation failed.
     #[error("out of memory")]
     OutOfMemory,
 }

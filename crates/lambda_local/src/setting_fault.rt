@@ -1,10 +1,10 @@
 //! Why an environment variable cannot be used.
 
-/// Why no setting was read.
+/// Why a setting was not read.
 #[derive(Clone, Copy, Debug, PartialEq, Eq)]
 pub enum SettingFault {
     /// The variable's value is malformed.
     Malformed,
-    /// Memory was refused.
+    /// An allocation failed.
     OutOfMemory,
 }

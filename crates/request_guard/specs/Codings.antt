@@ -5,12 +5,13 @@ use Rattle.http.specs.HeaderMap.{get_all}
 use Rattle.http.specs.declared.request.Parts.{Parts}
 use Rattle.http_header.specs.FieldValue.{FieldValue}
 
--- no coding, or `chunked` alone in one field
+-- Whether a request has no transfer coding, or `chunked` alone in one field.
 abbrev pub is_chunked_at_most : List FieldValue → Bool
 is_chunked_at_most [] = true
 is_chunked_at_most (value ∷ []) = str_eq_ignore_ascii_case value.bytes (codes "chunked")
 is_chunked_at_most (value ∷ other ∷ values) = false
 
--- The bytes that arrive of a request's body are its content: the connection decodes `chunked`, and no other coding.
+-- Whether the bytes that arrive of a request's body are its content. The connection decodes `chunked`, and no other
+-- coding.
 abbrev pub is_plainly_coded : Parts → Bool
 is_plainly_coded parts = is_chunked_at_most (get_all parts.headers (codes "transfer-encoding"))

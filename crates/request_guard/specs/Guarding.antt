@@ -8,7 +8,7 @@ use Rattle.request_guard.specs.declared.refusal.Refusal.{Refusal}
 use Rattle.request_guard.specs.declared.refusal.Refusal.TheVariants.{MalformedHost, FromPage}
 use Rattle.request_guard.specs.declared.refusal.Refusal.TheVariants.{ForeignHost, ForeignCoding}
 
--- Why a request of this head is refused, the first cause that holds, with these names of hosts listed.
+-- Why a request with this head is refused, if it is: the first cause that holds, given the listed names of hosts.
 abbrev pub refusal_of : List ℕ → Parts → Option Refusal
 refusal_of listed p =
     if has_malformed_host p then Some MalformedHost

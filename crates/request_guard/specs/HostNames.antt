@@ -7,13 +7,14 @@ use Rattle.request_guard.specs.Views.{text_of}
 use Rattle.request_guard.specs.declared.refusal.Refusal.{Refusal}
 use Rattle.request_guard.specs.declared.refusal.Refusal.TheVariants.{MalformedHost}
 
--- the result for a host's text: a name that is served exactly if the host is, or that the text is not a host
+-- The result for the text of a host: a name that is served exactly if the host is, or the refusal of a text that is not
+-- a host.
 abbrev pub IsNamedBy : Option (List ℕ) → Result (Option (Bor (List ℕ))) Refusal → Type 0
 IsNamedBy text (Ok name) =
     (is_host text ≡ true) × ((listed : List ℕ) → is_served listed text ≡ serves listed (option_map text_of name))
 IsNamedBy text (Err refusal) = (is_host text ≡ false) × (refusal ≡ MalformedHost)
 
--- the result for the host of a request
+-- The result for the host of a request.
 abbrev pub IsNameOf : Parts → Result (Option (Bor (List ℕ))) Refusal → Type 0
 IsNameOf p (Ok name) =
     (has_malformed_host p ≡ false)

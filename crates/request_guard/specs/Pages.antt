@@ -5,16 +5,16 @@ use Rattle.http.specs.HeaderMap.{get_all}
 use Rattle.http.specs.declared.request.Parts.{Parts}
 use Rattle.http_header.specs.FieldValue.{FieldValue}
 
--- there is a field
+-- Whether there is a field.
 abbrev pub are_some : List FieldValue → Bool
 are_some [] = false
 are_some (value ∷ values) = true
 
--- by the user's own action, such as a typed address, or by a page of this service itself
+-- Whether a site says that the user's own action sent the request, such as a typed address, or a page of this service.
 abbrev pub is_own_site : List ℕ → Bool
 is_own_site site = bytes_eq site (codes "none") || bytes_eq site (codes "same-origin")
 
--- the name of a field that a browser adds to a page's requests
+-- Whether a field is one that a browser adds to a page's requests.
 abbrev pub is_of_page : List ℕ → Bool
 is_of_page name = bytes_eq name (codes "origin") || bytes_eq name (codes "sec-fetch-site")
 

@@ -9,7 +9,8 @@ use Rattle.request_guard.specs.declared.refusal.Refusal.{Refusal}
 use Rattle.request_guard.specs.declared.refusal.Refusal.TheVariants.{MalformedHost, FromPage, ForeignHost}
 use Rattle.request_guard.specs.declared.refusal.Refusal.TheVariants.{ForeignCoding, BrokenBody, OutOfMemory}
 
--- The connection ends after the reply, whatever is left of the request. (After a broken body it ends by itself.)
+-- Whether a refusal ends the connection after its reply, whatever is left of the request. (After a broken body, the
+-- connection ends by itself.)
 abbrev pub closes : Refusal → Bool
 closes MalformedHost = false
 closes FromPage = false
@@ -18,7 +19,7 @@ closes ForeignCoding = true
 closes BrokenBody = false
 closes OutOfMemory = true
 
--- the reply on a port of the Lambda API
+-- The reply on a port of the Lambda API.
 abbrev pub lambda_reply : Refusal → Reply
 lambda_reply MalformedHost = invoke_fault_reply 400 (codes "InvalidParameterValueException") User
     (codes "Host is malformed")
@@ -31,7 +32,7 @@ lambda_reply BrokenBody = invoke_fault_reply 400 (codes "InvalidRequestContentEx
     (codes "Body is malformed")
 lambda_reply OutOfMemory = invoke_fault_reply 500 (codes "ServiceException") Service (codes "Out of memory")
 
--- the reply on a port of the Runtime API and the Extensions API
+-- The reply on a port of the Runtime API and the Extensions API.
 abbrev pub runtime_reply : Refusal → Reply
 runtime_reply MalformedHost = fault_reply 400 (codes "Host is malformed") (codes "InvalidHost")
 runtime_reply FromPage = fault_reply 403 (codes "Web pages may not call this service") (codes "AccessDenied")

@@ -3,11 +3,11 @@ use Rattle.std.specs.Prelude.{ℕ, ◌==◌, List, [], Option, Some, None}
 use Rattle.std.specs.Borrow.{Bor}
 use Rattle.std.specs.List.{slice_split}
 
--- the pieces of what is left; empty if nothing is left
+-- The pieces of what is left; none if nothing is left.
 abbrev pub pieces_left : Option (Bor (List ℕ)) → List (List ℕ)
 pieces_left None = []
 pieces_left (Some rest) = slice_split (λ b. b == 44) rest.now
 
--- what a reference to a text points to
+-- The text that a reference points to.
 abbrev pub text_of : Bor (List ℕ) → List ℕ
 text_of text = text.now

@@ -11,9 +11,9 @@ use crate::{Hosts, Refusal};
 use http::request::Parts;
 
 impl Hosts {
-    /// Returns why a request of this head never becomes a call, the first cause that holds: its
-    /// host is named in two fields or by a text that is not a host, a web page sent it, its host is
-    /// neither local nor listed, or its body is coded in a way that isn't served.
+    /// Returns why a request with this head never becomes a call; the first of these causes that
+    /// holds: its host is named in two fields or by a text that is not a host, a web page sent it,
+    /// its host is neither local nor listed, or its body is coded in a way that is not supported.
     pub fn refusal(&self, parts: &Parts) -> Option<Refusal>
         ensures { result ≡ spec.refusal_of self.now parts.now }
     {

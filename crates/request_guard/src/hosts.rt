@@ -57,7 +57,7 @@ fn are_names(text: &[u8]) -> bool
 }
 
 impl Hosts {
-    /// Returns an empty list, for the local ones alone. It takes no memory.
+    /// Returns an empty list, for the local ones alone. It allocates nothing.
     pub fn none(alloc: Global) -> Hosts
         ensures { result ≡ [] }
     {
@@ -102,8 +102,8 @@ fn host_fields(parts: &Parts) -> (Option<&[u8]>, bool)
     }
 }
 
-/// Returns what names the host: the authority of the target, else the field `Host` (RFC 9112,
-/// section 3.2.2).
+/// Returns the text that names the host: the authority of the target, or otherwise the field `Host`
+/// (RFC 9112, section 3.2.2).
 fn host_text<'p>(parts: &'p Parts, field: Option<&'p [u8]>) -> Option<&'p [u8]>
     ensures { option_map (λ t. t.now) result
         ≡ spec.or_else (uri_authority parts.now.uri) (option_map (λ t. t.now) field.entry) }
@@ -114,7 +114,7 @@ fn host_text<'p>(parts: &'p Parts, field: Option<&'p [u8]>) -> Option<&'p [u8]>
     }
 }
 
-/// Returns the name in a host's text, `None` if it is an address in brackets.
+/// Returns the name in a host's text; `None` if it is an address in brackets.
 fn named_by(text: &[u8]) -> Result<Option<&[u8]>, Refusal>
     ensures { IsNamedBy (Some text.now) result }
 {
@@ -127,8 +127,8 @@ fn named_by(text: &[u8]) -> Result<Option<&[u8]>, Refusal>
     }
 }
 
-/// Returns the name of the host that a request names, which may be an IPv4 address, or `None` if
-/// the request names no host, or an address in brackets.
+/// Returns the name of the host that a request names, which may be an IPv4 address; `None` if the
+/// request names no host, or an address in brackets.
 ///
 /// # Errors
 /// `MalformedHost` if the host is named in two fields, or by a text that is not a host (RFC 9112,

@@ -65,7 +65,7 @@ fn are_digits(text: &[u8]) -> bool
     text.iter().all(|b| b.is_ascii_digit())
 }
 
-/// Returns whether it is nothing, or a colon and the digits of a port (RFC 3986, section 3.2.3).
+/// Returns whether a text is empty, or a colon and the digits of a port (RFC 3986, section 3.2.3).
 fn is_port_part(text: &[u8]) -> bool
     ensures { result ≡ spec.is_port_part text.now }
 {
@@ -75,7 +75,7 @@ fn is_port_part(text: &[u8]) -> bool
     }
 }
 
-/// Returns the name before the port, if it is a name with an optional port.
+/// Returns the name before the port, if the text is a name with an optional port.
 pub(crate) fn name_in(text: &[u8]) -> Option<&[u8]>
     ensures there { is_some result ≡ spec.is_named text.now }
     ensures value { IfSome result (λ name. name.now ≡ spec.name_of text.now) }
@@ -87,7 +87,7 @@ pub(crate) fn name_in(text: &[u8]) -> Option<&[u8]>
     None
 }
 
-/// Returns whether it is the bracket that ends an address, with an optional port after it.
+/// Returns whether a text is the bracket that ends an address, with an optional port after it.
 fn closes(text: &[u8]) -> bool
     ensures { result ≡ spec.closes text.now }
 {
@@ -97,8 +97,8 @@ fn closes(text: &[u8]) -> bool
     }
 }
 
-/// Returns whether it is what follows the bracket that begins an address: the address, the bracket
-/// that ends it, and an optional port.
+/// Returns whether a text is what follows the bracket that begins an address: the address, the
+/// bracket that ends it, and an optional port.
 fn is_address(rest: &[u8]) -> bool
     ensures { result ≡ spec.is_address rest.now }
 {
@@ -106,7 +106,7 @@ fn is_address(rest: &[u8]) -> bool
     length > 0 && closes(&rest[length..])
 }
 
-/// Returns whether it is an address in brackets, with an optional port.
+/// Returns whether a text is an address in brackets, with an optional port.
 pub(crate) fn is_literal(text: &[u8]) -> bool
     ensures { result ≡ spec.is_literal text.now }
 {
@@ -126,7 +126,7 @@ pub(crate) fn relative(name: &[u8]) -> &[u8]
     }
 }
 
-/// Returns whether a name ends with this suffix, in any case.
+/// Returns whether a name ends with a suffix, in any case.
 fn ends_as(name: &[u8], suffix: &[u8]) -> bool
     ensures { result ≡ spec.ends_as suffix.now name.now }
 {
@@ -154,7 +154,7 @@ pub(crate) fn cut(bytes: &[u8]) -> (&[u8], Option<&[u8]>)
     }
 }
 
-/// Returns whether one of the names between the commas is this one, in any case.
+/// Returns whether a list of names between commas has this name, in any case.
 fn lists(listed: &[u8], name: &[u8]) -> bool
     ensures { result ≡ spec.lists listed.now name.now }
 {
@@ -169,22 +169,22 @@ fn lists(listed: &[u8], name: &[u8]) -> bool
     false
 }
 
-/// Returns whether it is one label, like `localhost` and the names of containers.
+/// Returns whether a name has one label, as `localhost` and the names of containers do.
 fn is_one_label(name: &[u8]) -> bool
     ensures { result ≡ spec.is_one_label name.now }
 {
     !name.contains(&b'.')
 }
 
-/// Returns whether it is an IPv4 address: no registered name consists of digits and dots alone.
+/// Returns whether a name is an IPv4 address: no registered name consists of digits and dots alone.
 fn is_numeric(name: &[u8]) -> bool
     ensures { result ≡ spec.is_numeric name.now }
 {
     name.iter().all(|b| b.is_ascii_digit() || *b == b'.')
 }
 
-/// Returns whether it is below a domain that no one has on the public network (RFC 6761, RFC 6762;
-/// ICANN's `.internal`).
+/// Returns whether a name is below a domain that no one has on the public network (RFC 6761, RFC
+/// 6762; ICANN's `.internal`).
 fn is_below_local(name: &[u8]) -> bool
     ensures { result ≡ spec.is_below_local name.now }
 {
@@ -194,7 +194,7 @@ fn is_below_local(name: &[u8]) -> bool
         || ends_as(name, b".localdomain")
 }
 
-/// Returns whether it is a name of this machine or of a container, or a listed one.
+/// Returns whether a name is that of this machine or of a container, or a listed one.
 pub(crate) fn is_local(listed: &[u8], name: &[u8]) -> bool
     ensures { result ≡ spec.is_local listed.now name.now }
 {

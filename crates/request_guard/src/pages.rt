@@ -9,8 +9,8 @@ use http::header;
 use http::request::Parts;
 use http_header::HeaderName;
 
-/// Returns whether the request is by the user's own action, such as a typed address, or by a page
-/// of this service itself.
+/// Returns whether a site says that the user's own action sent the request, such as a typed
+/// address, or a page of this service.
 fn is_own_site(site: &[u8]) -> bool
     ensures { result ≡ spec.is_own_site site.now }
 {

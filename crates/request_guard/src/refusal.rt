@@ -10,7 +10,7 @@ ghost use Rattle.request_guard.specs.declared.refusal.Refusal.TheVariants.{Forei
 use lambda_wire::{InvokeFault, Reply, fault_reply, invoke_fault_reply};
 use std::alloc::{AllocError, Global};
 
-/// The API that a port speaks, and so the form of its refusals.
+/// The API of a port, in whose form it refuses.
 #[derive(Clone, Copy, Debug, PartialEq, Eq)]
 pub enum Api {
     /// The Lambda API, for callers.
@@ -28,11 +28,11 @@ pub enum Refusal {
     FromPage,
     /// Its host is neither local nor listed.
     ForeignHost,
-    /// Its body is coded in a way that isn't served (RFC 9112, section 6.1).
+    /// Its body is coded in a way that is not supported (RFC 9112, section 6.1).
     ForeignCoding,
     /// Its body is broken (RFC 9112, section 2.2).
     BrokenBody,
-    /// There was no memory for it.
+    /// An allocation for it failed.
     OutOfMemory,
 }
 
@@ -143,8 +143,8 @@ fn runtime_reply(alloc: Global, refusal: Refusal) -> Result<Reply, AllocError>
     }
 }
 
-/// Makes the reply to a refused request, in the form of its port's API. The only error is
-/// `AllocError`.
+/// Makes the reply to a refused request, in the form of its port's API. It fails only if an
+/// allocation fails.
 pub fn refusal_reply(alloc: Global, api: Api, refusal: Refusal) -> Result<Reply, AllocError>
     ensures { IfOk result (λ reply. reply ≡ spec.refusal_reply api refusal) }
 {

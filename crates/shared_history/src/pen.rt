@@ -30,7 +30,7 @@ impl<T> Writing<T> for Brand {
     ghost history = { [] };
 }
 
-/// The pen writes.
+/// Lets the pen write.
 struct Writes<W> {
     of: PhantomData<W>,
 }
@@ -41,7 +41,7 @@ impl<T, W: Writing<T>> Play<(), View<T>> for Writes<W> {
     ghost then = { λ _ before _ after. Wrote W.history before after };
 }
 
-/// The pen compares what another token has seen with all that was written.
+/// Lets the pen compare what another token has seen with all that was written.
 struct Compares;
 
 impl<T> Play<(), View<T>> for Compares {
@@ -50,7 +50,7 @@ impl<T> Play<(), View<T>> for Compares {
     ghost then = { λ _ before _ after. Compared before after };
 }
 
-/// The pen lets a new token see all that was written.
+/// Lets a new token see all that was written.
 struct Lets;
 
 impl<T> Split<View<T>> for Lets {
@@ -61,7 +61,7 @@ impl<T> Split<View<T>> for Lets {
     ghost right = { λ v. token_view v.all };
 }
 
-/// The pen learns what another token has seen.
+/// Lets the pen learn what another token has seen.
 struct Hears;
 
 impl<T> Join<View<T>> for Hears {
@@ -104,7 +104,7 @@ impl<T, N: Naming> Pen<T, N> {
         }
     }
 
-    /// Extends the history to the one that this value has. It takes no memory.
+    /// Extends the history to the one that this value has. It allocates nothing.
     pub fn write<X, M: Source<X, T>>(&mut self, spine: &Spine<T, N>, about: &X)
         requires { Extends self.old (M.history about.now) }
         ensures { self.new ≡ M.history about.now }
@@ -119,7 +119,7 @@ impl<T, N: Naming> Pen<T, N> {
         spine.table.shared.load::<Writes<W>>(&mut self.seat, 0);
     }
 
-    /// Returns a token that has seen all that was written. It takes no memory.
+    /// Returns a token that has seen all that was written. It allocates nothing.
     pub fn token(&mut self, spine: &Spine<T, N>) -> Token<T, N>
         ensures all { result ≡ self.old }
         ensures same { self.new ≡ self.old }
@@ -127,7 +127,7 @@ impl<T, N: Naming> Pen<T, N> {
         Token::of(spine.table.shared.split_seat::<Lets>(&mut self.seat))
     }
 
-    /// Shows all that was written to a token, which had seen a beginning of it. It takes no memory.
+    /// Shows a token all that was written; it had seen a beginning of it. It allocates nothing.
     pub fn show(&mut self, spine: &Spine<T, N>, token: &mut Token<T, N>)
         ensures all { token.new ≡ self.old }
         ensures longer { Extends token.old self.old }

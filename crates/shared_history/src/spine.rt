@@ -16,7 +16,7 @@ pub trait Naming {
     ghost spine: { TableId };
 }
 
-/// A caller that names `Brand` picks the spine in its proof; this is the spine if none is picked.
+/// If a caller names `Brand`, it picks the spine in its proof; this is the spine if none is picked.
 impl Naming for Brand {
     ghost use Rattle.shared_history.specs.Sharing.{no_spine};
 
@@ -45,7 +45,7 @@ impl<T> Model for Opened<T> {
 }
 
 impl<T> Opened<T> {
-    /// Returns a history without an entry. The only error is lack of memory.
+    /// Returns a history without an entry. It fails only if an allocation fails.
     pub fn new(alloc: Global) -> Result<Opened<T>, AllocError> {
         let (table, pen) = Table::of_words(alloc, &[0], &())?;
         Ok(Opened { table, pen })

@@ -8,7 +8,7 @@ use crate::view::View;
 use atomic_table::{Join, Play, Seat, Split};
 use std::marker::{Model, PhantomData};
 
-/// A copy has seen as much as its original.
+/// Gives a copy of a token what its original has seen.
 struct Copies;
 
 impl<T> Split<View<T>> for Copies {
@@ -19,7 +19,7 @@ impl<T> Split<View<T>> for Copies {
     ghost right = { λ v. token_view v.seen };
 }
 
-/// A token learns what another one has seen.
+/// Lets a token learn what another one has seen.
 struct Hears;
 
 impl<T> Join<View<T>> for Hears {
@@ -31,7 +31,7 @@ impl<T> Join<View<T>> for Hears {
     ghost spent = { token_view [] };
 }
 
-/// A token compares what it learned with what it has seen.
+/// Lets a token compare what it learned with what it has seen.
 struct Compares;
 
 impl<T> Play<(), View<T>> for Compares {
@@ -79,7 +79,7 @@ impl<T, N: Naming> Token<T, N> {
         spine.table.shared.split_seat::<Copies>(&mut self.seat)
     }
 
-    /// Returns another token that has seen as much. It takes no memory.
+    /// Returns another token that has seen as much. It allocates nothing.
     pub fn again(&mut self, spine: &Spine<T, N>) -> Token<T, N>
         ensures { (result ≡ self.old) × (self.new ≡ self.old) }
     {
@@ -87,7 +87,7 @@ impl<T, N: Naming> Token<T, N> {
     }
 
     /// Shows that of what two tokens have seen, one is a beginning of the other: there is one history. It
-    /// takes no memory.
+    /// allocates nothing.
     pub fn agree(&mut self, spine: &Spine<T, N>, other: &mut Token<T, N>)
         ensures one { Extends self.old other.old ⊎ Extends other.old self.old }
         ensures same { (self.new ≡ self.old) × (other.new ≡ other.old) }

@@ -4,13 +4,13 @@ use atomic_table::TableRule;
 use std::collections::LinkedList;
 use std::marker::PhantomData;
 
-/// What a token knows. No value of it is made. Its lists have the newest first.
+/// What a token knows. No value of this type is made. Its lists have the newest first.
 pub struct View<T> {
-    /// Whether it is the pen, which knows the whole history.
+    /// Whether the token is the pen, which knows the whole history.
     pub keeps: bool,
-    /// The history, if it is the pen; otherwise a beginning of it.
+    /// The history, if the token is the pen; otherwise a beginning of it.
     pub all: LinkedList<T>,
-    /// A beginning of the history, which was seen.
+    /// The beginning of the history that was seen.
     pub seen: LinkedList<T>,
 }
 

@@ -59,7 +59,7 @@ impl<R: Machine> Stage<R> {
         Ok(Progress::On)
     }
 
-    /// Performs a step. (docs/architecture.md, "Adding a case", has a table of the steps.)
+    /// Performs a step. (docs/checks.md, "Adding a case", has a table of the steps.)
     fn perform(&mut self, part: &Part, given: &mut Given) -> Result<Progress, CaseFault> {
         if !part.text().is_empty() && !takes_lines(part.word()) {
             return Err(part.malformed("no lines are wanted here"));

@@ -33,7 +33,7 @@ pub struct Stage<R> {
     moment: u64,
     server: Option<Server>,
     is_stopping: bool,
-    // (so that the types of the machine's sockets are among those of each method)
+    // (So that the types of the machine's sockets are among those of each method.)
     of: PhantomData<(TcpListener, TcpStream)>,
 }
 

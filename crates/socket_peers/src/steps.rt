@@ -49,7 +49,7 @@ pub fn bytes_of(alloc: Global, part: &Part) -> Result<Vec<u8>, AllocError> {
 /// of the last.
 ///
 /// # Errors
-/// Only `Memory`.
+/// Only `Memory`, if an allocation fails.
 pub fn request_of(alloc: Global, method: &str, path: &str, body: &str) -> Result<Given, CaseFault> {
     let body = body.strip_suffix('\n').unwrap_or(body);
     let mut request = Given::new(alloc);

@@ -8,9 +8,9 @@ ghost use Rattle.usage_ledger.specs.Keeping.{Kept, nothing};
 use call_types::{Answer, Head, Ticket};
 use std::alloc::{AllocError, Global};
 
-/// What a tally keeps: receipts, which are the answers that were given in its steps, and the heads
-/// of the calls that were made by it, each with its ticket and in the order of the steps. Room for
-/// them is made before a step, so that to note one takes no memory.
+/// What a tally keeps: receipts, which are the answers that were given in its steps, and the heads of
+/// the calls that were made by it, each with its ticket and in the order of the steps. Room for them is
+/// made before a step, so noting one allocates nothing.
 pub trait Keep: Drop {
     /// What is kept now.
     ghost holds: { Self → Kept };
@@ -40,7 +40,7 @@ pub trait Keep: Drop {
     /// Makes room for `n` more receipts and `n` more calls. What is kept stays the same.
     ///
     /// # Errors
-    /// Only if memory is refused.
+    /// Only if an allocation fails.
     fn room(&mut self, n: usize) -> Result<(), AllocError>
         ensures same { holds self.new ≡ holds self.old }
         ensures notes { OnOk result (n ≤ spare_notes self.new) }

@@ -58,7 +58,8 @@ impl Keep for KeepAll {
     }
 }
 
-/// Keeps nothing: for a service that runs for long, and whose callers have their own records.
+/// Keeps nothing: for a service that runs for a long time, and whose callers have their own
+/// records.
 #[derive(Drop)]
 pub struct KeepNone;
 

@@ -16,7 +16,7 @@ pub trait Ledgers {
     ghost names: { Names };
 }
 
-/// A caller that names `Brand` picks the names in its proof; these are the names if none are picked.
+/// If a caller names `Brand`, it picks the names in its proof; these are the names if none are picked.
 impl Ledgers for Brand {
     ghost use Rattle.shared_history.specs.Sharing.{no_spine};
     ghost use Rattle.usage_ledger.specs.Ledgers.{names};
@@ -53,10 +53,10 @@ impl<L: Ledgers> Naming for History<L> {
     ghost spine = { L.names.spine };
 }
 
-/// What the threads of an account share beside its lock, so that what they see is of one history.
+/// What the threads of an account share beside its lock, so that all that they see is one history.
 pub type Spine<L> = shared_history::Spine<Entry, History<L>>;
 
-/// The token that writes the account's history. It lies under the lock.
+/// The token that writes the account's history. It is kept under the lock.
 pub type Pen<L> = shared_history::Pen<Entry, History<L>>;
 
 /// A token that has seen a beginning of the account's history.
@@ -118,7 +118,8 @@ impl Model for Blanks {
 }
 
 impl Blanks {
-    /// Returns new ledgers and a new history, which no type names yet. The only error is lack of memory.
+    /// Returns new ledgers and a new history, which no type names yet. It fails only if an allocation
+    /// fails.
     pub fn new(alloc: Global) -> Result<Blanks, AllocError> {
         Ok(Blanks {
             calls: Blank::new(1 << 32),

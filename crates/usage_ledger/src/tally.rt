@@ -118,7 +118,7 @@ impl<K: Keep, L: Ledgers> Tally<K, L> {
     /// Adds up two tallies. What the other one keeps comes after what this one keeps.
     ///
     /// # Errors
-    /// Only if memory is refused; the fault has both tallies.
+    /// Only if an allocation fails; the fault has both tallies.
     pub fn join(self, other: Tally<K, L>) -> Result<Tally<K, L>, JoinFault<Tally<K, L>>>
         ensures parts { IfOk result (λ t. t.held.parts ≡ self.held.parts + other.held.parts) }
         ensures counts { IfOk result (λ t. t.held.counts ≡ plus self.held.counts other.held.counts) }
@@ -157,7 +157,7 @@ impl<K: Keep, L: Ledgers> Tally<K, L> {
     /// Makes room for `n` more receipts and `n` more calls. What it holds stays the same.
     ///
     /// # Errors
-    /// Only if memory is refused.
+    /// Only if an allocation fails.
     pub fn room(&mut self, n: usize) -> Result<(), AllocError>
         ensures same { self.new.held ≡ self.old.held }
         ensures ok { OnOk result ((n ≤ self.new.spare_notes) × (n ≤ self.new.spare_calls)) }

@@ -19,7 +19,7 @@ count_reversed p (x ∷ xs) =
     let front = sum_by-cons (λ y. cond (p y) 1 0) x xs in
     ap (count_by p) one ∙ pushed ∙ ap (λ n. n + cond (p x) 1 0) rest ∙ omega arith ∙ sym front
 
--- an Invoke that follows is counted for its function
+-- An Invoke that follows is counted for its function.
 pub one_more : (entry : Entry) (h : List Entry) (f : ℕ) (qualified : Bool) (trace : Option (List ℕ)) (body : List ℕ) → entry.call ≡ Invoke f qualified trace body
     → request_count (entry ∷ h) entry.call ≡ requests h f + 1
 one_more entry h f qualified trace body same =

@@ -1,4 +1,4 @@
--- The call of a line brings no trace but one that a header holds.
+-- The call of a line has no trace but one that a header can hold.
 use Rattle.std.proofs.Common.{ℕ}
 use Rattle.arn_ids.specs.declared.config.Config.{Config}
 use Rattle.call_types.specs.declared.call.Call.{Call}

@@ -28,8 +28,8 @@ enum Table {
     Scripts(scripts::Table),
 }
 
-/// The files. Those whose shortest case is long come last: a test that refuses each memory request
-/// in turn reaches them least often.
+/// The files. Those whose shortest case is long come last: a test that lets each allocation fail in
+/// turn reaches them least often.
 const TABLES: [(&str, Table); 43] = [
     ("parts/names.txt", Table::Parts(parts::Table::Names)),
     (

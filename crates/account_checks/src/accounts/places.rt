@@ -18,15 +18,15 @@ use usage_ledger::{Blanks, Keep, Tally, Token, root};
 /// The outcome of a line.
 #[derive(Clone, Copy)]
 pub enum Taken {
-    /// Its call has this ticket.
+    /// The call of the line has this ticket.
     At(Ticket),
     /// The journal is full, and the call's bell came back.
     Full,
     /// The journal is full, and the call's bell is gone.
     BellGone,
-    /// It stands for no call.
+    /// The line stands for no call.
     NoCall,
-    /// Memory ran out.
+    /// An allocation failed.
     NoMemory,
 }
 
@@ -102,7 +102,7 @@ impl<R: Wait, S: Identity> Place<R, S> {
         }
     }
 
-    /// Submits the call of a line with a bell and a tally. If memory was refused, which leaves
+    /// Submits the call of a line with a bell and a tally. If an allocation fails, which leaves
     /// account and tally unchanged, submits it once more, with the bell that came back. The token
     /// has then seen the history.
     pub fn submit<K: Keep>(
@@ -118,8 +118,8 @@ impl<R: Wait, S: Identity> Place<R, S> {
         }
     }
 
-    /// Submits the call of a line once more if memory was refused; returns the outcome of the last
-    /// try.
+    /// Submits the call of a line once more if an allocation failed; returns the outcome of the
+    /// last try.
     fn submit_again<K: Keep>(
         &self,
         tally: &mut Tally<K, S>,

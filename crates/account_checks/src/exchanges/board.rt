@@ -1,4 +1,4 @@
-//! A service that is not an account, and does as a case says.
+//! A service that is not an account, and behaves as a case says.
 
 use account_book::Refusal;
 use account_lock::{Account, Bell, Declined, Identity, Look, Refused};

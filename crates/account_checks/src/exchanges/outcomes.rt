@@ -15,7 +15,7 @@ use std::random::RandomSource;
 use std::str;
 use std::sync::Wait;
 
-/// Runs a future to its end. An executor fails only if memory runs out.
+/// Runs a future to its end. An executor fails only if an allocation fails.
 pub fn finished<R: Wait + RandomSource + AllocGlobal, F: Future>(
     rt: &R,
     future: F,
@@ -45,14 +45,14 @@ fn made<R: Wait + RandomSource + AllocGlobal, F: Future>(
     }
 }
 
-/// Whether a reply says that its call was refused because memory ran out.
+/// Whether a reply says that its call was refused because an allocation failed.
 fn lacks_memory(reply: &Reply) -> bool {
     reply.status == 500
         && str::from_utf8(reply.body.as_slice()).is_ok_and(|text| text.contains("Out of memory"))
 }
 
-/// Returns the outcome of an exchange; a reply that memory ran out becomes a fault, so that no
-/// other exchange waits for the refused call.
+/// Returns the outcome of an exchange. A reply that an allocation failed becomes a fault, so that
+/// no other exchange waits for the refused call.
 fn with_memory<H: Drop>(
     came: Result<Outcome<H>, ExchangeFault>,
 ) -> Result<Outcome<H>, ExchangeFault> {

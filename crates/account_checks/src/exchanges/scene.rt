@@ -26,7 +26,7 @@ use std::thread::{self, Threads};
 use std::time::Clock;
 use usage_ledger::{KeepNone, Tally};
 
-/// How often to withdraw a call that another thread waits for: memory may be refused.
+/// How often to withdraw a call that another thread waits for: an allocation may fail.
 const TRIES: u32 = 2;
 
 /// What the connections of a case share: a service, its decider, and a tally.

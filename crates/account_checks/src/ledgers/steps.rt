@@ -15,7 +15,7 @@ use usage_ledger::{Counts, JoinFault, Keep, Ledgers, Start, Tally, Totals};
 /// The number of parts in all.
 const ALL_PARTS: u64 = 4_294_967_296;
 
-/// More room than memory can hold.
+/// More room than can be allocated.
 const TOO_MUCH: usize = 18_446_744_073_709_551_615;
 
 /// The receipts of one invocation: a runtime's Next waits for it, and a response answers it.
@@ -109,7 +109,7 @@ fn push_fault<K: Keep, L: Ledgers>(fault: &JoinFault<Tally<K, L>>, given: &mut G
     given.push("\n");
 }
 
-/// Joins a tally with the next one while memory is refused; both are then moved to the end.
+/// Joins a tally with the next one while allocations fail; both are then moved to the end.
 fn push_refused<K: Keep, L: Ledgers>(
     tallies: &mut Vec<Tally<K, L>>,
     seat: usize,

@@ -67,7 +67,7 @@ impl Calls for Environments {
 /// | `set E MOMENT`, `set E -` | nothing; sets or removes the environment's deadline |
 /// | `set-all N` | nothing; sets each environment's deadline to the environment's number modulo N |
 /// | `first-due MOMENT` | the environment that is due at this moment |
-/// | `environments` | how many there are |
+/// | `environments` | the number of environments |
 pub fn give(case: &Case, given: &mut Given) -> Result<(), CaseFault> {
     let mut environments = Environments {
         due: Due::open(given.alloc(), 0)?,

@@ -18,7 +18,7 @@ struct Environment {
     set: ExtensionSet,
 }
 
-/// The events that an extension can subscribe to: whether INVOKE, and whether SHUTDOWN.
+/// The events that an extension can subscribe to: whether to INVOKE, and whether to SHUTDOWN.
 const EVENTS: [(&str, (bool, bool)); 4] = [
     ("i", (true, false)),
     ("s", (false, true)),

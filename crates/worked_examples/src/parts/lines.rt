@@ -8,7 +8,7 @@ use std::alloc::{AllocError, AllocFailed, Global};
 /// Why a line was not accepted.
 #[derive(Clone, Copy)]
 pub enum LineFault {
-    /// Memory ran out.
+    /// An allocation failed.
     Memory,
     /// It names no call that is known here, or one that cannot be made.
     Malformed,

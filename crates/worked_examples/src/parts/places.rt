@@ -132,7 +132,7 @@ impl Opens for Places {
 /// | `{..}` | nothing; the account that the lines after it call |
 /// | `note E CLASS`, `note-all CLASS` | nothing; the class of an environment, or of all |
 /// | `choose F` | the environment that takes the function's next invocation |
-/// | `environments` | how many there are |
+/// | `environments` | the number of environments |
 /// | `class PHASE` | the class of an environment in this phase |
 pub fn give(case: &Case, given: &mut Given) -> Result<(), CaseFault> {
     call_opened::<Places>(case, given)

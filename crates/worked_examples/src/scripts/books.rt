@@ -33,7 +33,7 @@ fn push_taken(given: &mut Given, taken: Taken) -> bool {
     true
 }
 
-/// Gives a book the call of a line, and again if memory was refused: the book is then unchanged.
+/// Gives a book the call of a line, and again if an allocation fails: the book is then unchanged.
 fn take_in_the_end(alloc: Global, book: &mut Book, line: &str) -> Result<Taken, AllocError> {
     match take(alloc, book, true, line.as_bytes()) {
         Ok(taken) => Ok(taken),

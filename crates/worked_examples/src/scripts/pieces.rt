@@ -37,7 +37,7 @@ impl<'a> Read for Pieces<'a> {
     }
 }
 
-/// The number of bytes that a page has memory for from the start.
+/// The number of bytes that a page has allocated from the start.
 const PAGE: usize = 32768;
 
 /// The most bytes that a page takes at once.
@@ -51,8 +51,8 @@ pub struct Page {
 }
 
 impl Page {
-    /// Creates a page that takes up to `room` bytes. It allocates its memory here, so that a replay
-    /// that runs out of memory can still write.
+    /// Creates a page that takes up to `room` bytes. It allocates them here, so that a replay whose
+    /// allocations fail can still write.
     pub fn new(alloc: Global, room: usize) -> Result<Page, AllocError> {
         Ok(Page {
             bytes: Vec::with_capacity(alloc, PAGE)?,

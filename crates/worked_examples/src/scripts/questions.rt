@@ -10,15 +10,15 @@ use case_tables::value_of;
 /// |---|---|
 /// | `entries` | for each ticket, and the one past the end: its moment, place, request count and answer |
 /// | `opening` | the history's text before its first entry |
-/// | `history T` | that of the entry with a ticket |
-/// | `render T` | the reply to a ticket: its status, its headers, and behind `=` its body |
+/// | `history T` | the text of the entry with this ticket |
+/// | `render T` | the reply to this ticket: its status, its headers, and behind `=` its body |
 /// | `stats` | the counts of the account |
-/// | `due M` | whether an environment is due at a moment |
-/// | `life` | how far the service has come to its end |
-/// | `reservation F` | the reservation in force of the function of this number |
+/// | `due M` | whether an environment is due at this moment |
+/// | `life` | how far the service's shutdown has come |
+/// | `reservation F` | the reservation in force of the function with this number |
 /// | `salt`, `config` | the salt; the environments, the functions and the account's limit |
 ///
-/// If there is no such thing, the answer has `-`.
+/// If there is nothing to show, the answer has `-`.
 #[derive(Clone, Copy)]
 pub enum Question {
     Entries,

@@ -19,7 +19,7 @@ fn push_number(given: &mut Given, number: Option<u64>, behind: &str) {
     given.push(behind);
 }
 
-/// Adds the text of an entry as lines, if memory sufficed for it.
+/// Adds the text of an entry as lines, unless an allocation fails.
 fn push_draft(given: &mut Given, draft: Draft) {
     match draft.finish() {
         Ok(text) => push_bytes(given, text.as_slice()),

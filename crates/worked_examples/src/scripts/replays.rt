@@ -37,7 +37,7 @@ fn play(alloc: Global, way: &Way<'_>) -> Result<Played, AllocError> {
     Ok(Played { ended, page })
 }
 
-/// Whether what was written before memory ran out is whole lines from the start of `wanted`.
+/// Whether what was written before an allocation failed is whole lines from the start of `wanted`.
 fn is_front(wanted: &str, written: &[u8]) -> bool {
     matches!(written.last(), None | Some(b'\n')) && wanted.as_bytes().starts_with(written)
 }
@@ -50,8 +50,8 @@ fn push_fault(text: &mut Given, fault: ReplayFault) {
     text.push("\n");
 }
 
-/// Adds what a replay wrote, and the line of its fault if it has one. If memory ran out, what was
-/// written must be whole lines from the start of `wanted`.
+/// Adds what a replay wrote, and the line of its fault if it has one. If an allocation failed, what
+/// was written must be whole lines from the start of `wanted`.
 fn push_played(text: &mut Given, wanted: &str, played: &Played) -> Result<(), CaseFault> {
     let written = played.page.written();
     if played.ended == Err(ReplayFault::OutOfMemory) {

@@ -15,7 +15,7 @@ pub enum Unopened {
     Config(ConfigFault),
     /// The greatest number of entries is out of range.
     Open(OpenFault),
-    /// Memory ran out.
+    /// An allocation failed.
     Memory,
 }
 

@@ -67,7 +67,7 @@ fn plain_body(alloc: Global, word: &str, arguments: &Arguments) -> Result<Vec<u8
     }
 }
 
-/// Adds a written body as a line, if memory sufficed for it.
+/// Adds a written body as a line, unless an allocation failed.
 fn push_written(given: &mut Given, body: Result<Vec<u8>, AllocError>) {
     match body {
         Ok(body) => push_line(given, body.as_slice()),

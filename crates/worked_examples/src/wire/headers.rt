@@ -36,7 +36,7 @@ pub fn field<'a>(alloc: Global, arguments: &'a Arguments, name: &str) -> Result<
     }
 }
 
-/// Returns headers, if memory sufficed for them.
+/// Returns headers, unless an allocation failed.
 fn made(headers: Result<Headers, AllocError>) -> Result<Headers, CaseFault> {
     match headers {
         Ok(headers) => Ok(headers),

@@ -14,7 +14,7 @@ fn status_of(arguments: &Arguments) -> Result<u16, CaseFault> {
     }
 }
 
-/// Returns a reply, if memory sufficed for it.
+/// Returns a reply, unless an allocation failed.
 fn made(reply: Result<Reply, AllocError>) -> Result<Reply, CaseFault> {
     match reply {
         Ok(reply) => Ok(reply),

@@ -1,7 +1,7 @@
 use Rattle.std.specs.Arc.{arc_value}
 use Rattle.socket_checks.proofs.server.serve.Given as goal
 
--- configuration, salt and limit are the plan's, and the ledgers are those of the blanks
+-- Configuration, salt and limit are the plan's, and the ledgers are those of the blanks.
 abbrev pub ghosts-run-S-Identity : goal.ghosts-run-S-Identity
 ghosts-run-S-Identity g a =
     record { config = arc_value a.plan.config; salt = a.plan.salt; most = a.plan.max_entries }

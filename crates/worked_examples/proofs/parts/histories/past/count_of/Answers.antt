@@ -5,7 +5,7 @@ use Rattle.call_types.specs.declared.call.Entry.{Entry}
 use Rattle.worked_examples.proofs.parts.histories.past.count_of.Goals as goal
 use Rattle.worked_examples.proofs.parts.histories.past.count_of.Goals.{then-invokes, else-invokes}
 
--- the count of the entries so far and of one more
+-- The count of the entries so far, and of one more.
 pub loop-number-preserved : goal.loop-number-preserved
 loop-number-preserved c =
     let p = (λ (entry : Entry). is_invoke_of c.args.function entry.call) in
