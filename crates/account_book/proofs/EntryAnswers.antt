@@ -1,5 +1,5 @@
 -- The answers of an entry: those that the environments give which it reaches, and its own.
-use Rattle.std.proofs.Common.{◌≡◌, ◌≢◌, ℕ, suc, ◌<◌, ◌≤◌, Bool, true, false, List, [], ◌∷◌, ◌++◌, length, filter, Option, Some, None, is_some, sym, refl, ap, ◌∙◌, arith, inl, inr, if◌then◌else◌, true≢false, le_refl}
+use Rattle.std.proofs.Common.{◌≡◌, ◌≢◌, ℕ, ◌<◌, ◌≤◌, Bool, true, false, List, [], ◌∷◌, ◌++◌, length, filter, Option, Some, None, is_some, sym, refl, ap, ◌∙◌, arith, inl, inr, if◌then◌else◌, true≢false, le_refl}
 use Rattle.std.proofs.lemmas.Bool.{cases_lt}
 use Rattle.arn_ids.specs.declared.config.Config.{Config}
 use Rattle.call_types.specs.declared.answer.Answer.{Answer}
@@ -8,7 +8,7 @@ use Rattle.call_types.specs.declared.answer.Rejection.TheVariants.{BadReservatio
 use Rattle.call_types.specs.declared.call.Call.{Call}
 use Rattle.call_types.specs.declared.call.Call.TheVariants.{Invoke, RuntimeNext, Response, ResponseTooLarge, Failure, InitFailure, Register, ExtNext, ExtInitFailure, ExtExitFailure, Tick, Withdraw, Spindown, Stop, Expire, Reserve}
 use Rattle.call_types.specs.declared.call.Entry.{Entry}
-use Rattle.call_model.specs.Answers.{answers, answer_to, first_answer, first_entry, second_answer, own_first, home, verdict_answer, with_event, reserve_answer}
+use Rattle.call_model.specs.Answers.{first_answer, second_answer, own_first, home, verdict_answer, with_event, reserve_answer}
 use Rattle.call_model.specs.History.{answer_in, or_else, stopped}
 use Rattle.call_types.specs.Calls.{env_of}
 use Rattle.call_model.specs.Life.{is_event}
@@ -20,7 +20,7 @@ use Rattle.environment_step.proofs.Frame.{quiet_here}
 use Rattle.call_model.proofs.Once.{answers_at}
 use Rattle.call_model.proofs.Pairs.{eqb-other, is_some_none}
 use Rattle.environment_step.proofs.Puts.{filter_rising, filter_answer}
-use Rattle.environment_step.proofs.Rising.{IsRising, each_rising, numbered_rising, rising_same}
+use Rattle.environment_step.proofs.Rising.{IsRising, rising_same}
 use Rattle.env_phase.proofs.Homes.{home_new, home_old, past}
 use Rattle.env_phase.proofs.Meets.{answers_rising}
 use Rattle.account_book.specs.Reaches.{reach, reaches, book_answer, unless_named, with_own}

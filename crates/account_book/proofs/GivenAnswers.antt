@@ -1,8 +1,9 @@
 -- How many answers a call leads to, its own entry's and those of the expiries before it.
-use Rattle.std.proofs.Common.{◌≡◌, ℕ, suc, ◌+◌, ◌*◌, ◌≤◌, ◌++◌, Bool, true, false, List, [], ◌∷◌, length, get_or, All, Option, Some, None, sym, refl, ap, subst, ◌∙◌, ◌-◌, arith, if◌then◌else◌, length-append}
-use Rattle.std.proofs.lemmas.List.Elements.{All-map, All-get_or}
+use Rattle.std.proofs.Common.{◌≡◌, ℕ, suc, ◌+◌, ◌*◌, ◌≤◌, ◌++◌, Bool, true, false, List, [], ◌∷◌, length, All, Option, Some, None, sym, refl, ap, subst, ◌∙◌, ◌-◌, arith, if◌then◌else◌, length-append}
+use Rattle.std.proofs.lemmas.List.Elements.{All-get_or}
+use Rattle.arn_ids.specs.Limits.{most_extensions}
 use Rattle.arn_ids.specs.declared.config.Config.{Config}
-use Rattle.arn_ids.specs.Environments.{environments, owners}
+use Rattle.arn_ids.specs.Environments.{owners}
 use Rattle.call_types.specs.declared.answer.Answer.{Answer}
 use Rattle.call_types.specs.declared.call.Call.{Call}
 use Rattle.call_types.specs.declared.call.Call.TheVariants.{Expire}
@@ -22,7 +23,7 @@ use Rattle.call_types.specs.Within.{IsWithin}
 use Rattle.account_book.specs.declared.reach.Reach.{Reach}
 use Rattle.account_book.specs.declared.reach.Reach.TheVariants.{Nowhere, At, Everywhere}
 use Rattle.account_book.specs.declared.site.Site.{Site}
-use Rattle.account_book.specs.Answering.{most_answers, answers_in, IsNarrow}
+use Rattle.account_book.specs.Answering.{IsNarrow, answers_in, most_answers, most_of_one}
 use Rattle.account_book.specs.Fleets.{no_site, moves_at}
 use Rattle.account_book.specs.Reaches.{reach, book_answer, with_own, homed}
 use Rattle.account_book.specs.Taking.{site, sites, request_counts, IsKnown, AllKnown}
@@ -67,7 +68,7 @@ few_in_entry config h entry widest l w k known narrow =
     moves : Site → List (ℕ × Answer)
     moves s = moves_at (length h) entry.moment (request_counts config (entry ∷ h)) entry.call s
 
-    one : (b : Bool) → 1 ≤ (if b then 13 * n + 1 else widest + 4)
+    one : (b : Bool) → 1 ≤ (if b then most_of_one most_extensions * n + 1 else most_of_one widest + 1)
     one true = omega arith
     one false = omega arith
 
@@ -93,7 +94,7 @@ first_due (x ∷ xs) e f = ap (λ (d : ℕ). Some d) (sym f)
 
 -- expiries are of environments that there are, and each has as many answers as there is room for
 record IsPast (config : Config) (es h : List Entry) (widest : ℕ) : Type 0 where
-  few : answers_in es ≤ length es * (widest + 4)
+  few : answers_in es ≤ length es * (most_of_one widest + 1)
   known : AllKnown config (es ++ h)
   narrow : IsNarrow config (es ++ h) widest
 
@@ -115,7 +116,7 @@ past_expiries config (entry ∷ es) h widest x l k narrow = go (past_expiries co
 
     go : IsPast config es h widest → IsPast config (entry ∷ es) h widest
     go p = record {
-      few = let one : length entry.answers ≤ widest + 4 = subst (λ (c : Call). length entry.answers ≤ most_answers widest (length (owners config)) c) x.0.1 (few_in_entry config (es ++ h) entry widest l.0 l.1 p.known known p.narrow) in omega (arith, one, p.few);
+      few = let one : length entry.answers ≤ most_of_one widest + 1 = subst (λ (c : Call). length entry.answers ≤ most_answers widest (length (owners config)) c) x.0.1 (few_in_entry config (es ++ h) entry widest l.0 l.1 p.known known p.narrow) in omega (arith, one, p.few);
       known = (p.known, known);
       narrow = narrow_on config (es ++ h) entry widest l.0 l.1 (ap registered_name x.0.1) p.narrow;
     }
@@ -126,7 +127,7 @@ within_known config call w = w
 
 -- The answers that a call leads to.
 pub few_given : (config : Config) (h : List Entry) (now : ℕ) (call : Call) (widest : ℕ) → IsLegal config h → AllKnown config h → IsWithin config call → IsNarrow config h widest
-    → answers_in (added config h now call) ≤ length (due config h (moment_at h now)) * (widest + 4) + most_answers widest (length (owners config)) call
+    → answers_in (added config h now call) ≤ length (due config h (moment_at h now)) * (most_of_one widest + 1) + most_answers widest (length (owners config)) call
 unfolding added next
 few_given config h now call widest l k within narrow = go (legal_next config h now call l (no_expiry config call within)) (added_length config h now call)
   where
@@ -136,7 +137,7 @@ few_given config h now call widest l k within narrow = go (legal_next config h n
     es : List Entry
     es = expiries config m (due config h m) h
 
-    go : IsLegal config (entry_of config (es ++ h) m call ∷ es ++ h) → suc (length es) ≡ suc (length (due config h m)) → answers_in (entry_of config (es ++ h) m call ∷ es) ≤ length (due config h m) * (widest + 4) + most_answers widest (length (owners config)) call
+    go : IsLegal config (entry_of config (es ++ h) m call ∷ es ++ h) → suc (length es) ≡ suc (length (due config h m)) → answers_in (entry_of config (es ++ h) m call ∷ es) ≤ length (due config h m) * (most_of_one widest + 1) + most_answers widest (length (owners config)) call
     go legal as_many =
         let p = past_expiries config es h widest (are_expiries config m (due config h m) h) legal.0 k narrow in
         let same : length es ≡ length (due config h m) = omega (arith, as_many) in

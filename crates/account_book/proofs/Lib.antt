@@ -33,5 +33,7 @@ mod Replaying
 mod WholeText
 -- What a reply is made of.
 mod Rendered
+-- A reply that a history gives, each history that continues it gives too.
+mod RepliesStay
 -- A reserved function gets the replies that it would get alone.
 pub mod Isolating

@@ -1,17 +1,20 @@
 //! Laws of histories and their texts: functions with no work in them, whose contracts are proved.
 
-ghost use Rattle.std.specs.Prelude.{◌≡◌, ◌+◌, ℕ, true, false, List, [], ◌++◌, length, reverse, slice_index_or, codes};
-ghost use Rattle.std.specs.Prelude.{None};
+ghost use Rattle.std.specs.Prelude.{◌≡◌, ◌+◌, ◌<◌, ℕ, true, false, List, [], ◌++◌, length, reverse, slice_index_or};
+ghost use Rattle.std.specs.Prelude.{codes, None, Some};
 ghost use Rattle.std.specs.List.{flat_map};
 ghost use Rattle.std.specs.Str.Lines.{lines};
 ghost use Rattle.arn_ids.specs.Environments.{count_from};
 ghost use Rattle.arn_ids.specs.declared.config.Config.{Config};
 ghost use Rattle.call_types.specs.declared.call.Call.{Call};
 ghost use Rattle.call_types.specs.declared.call.Entry.{Entry};
+ghost use Rattle.call_model.specs.History.{call_of};
 ghost use Rattle.call_model.specs.Next.{IsLegal, next};
+ghost use Rattle.lambda_wire.specs.declared.reply.Reply.{Reply};
 ghost use Rattle.script.specs.AnswerText.{entry_text};
 ghost use Rattle.account_book.specs.HistoryText.{answers_text, history_text, opening_text};
 ghost use Rattle.account_book.specs.Reached.{IsBooked, IsReached, IsTakenAfter};
+ghost use Rattle.account_book.specs.ReplyText.{reply_text};
 ghost use Rattle.account_book.specs.Run.{Taking, before, is_of_form_2, replay_from, run};
 
 /// The history of a new book is reached, each call that a book takes reaches the next history, and
@@ -23,6 +26,17 @@ pub fn reached()
         → IsReached config max_entries (next config h now call) }
     ensures legal { (config : Config) (max_entries : ℕ) (h : List Entry) → IsReached config max_entries h
         → IsLegal config h }
+{}
+
+/// A reply stays: once a history gives the reply to a ticket, each history that continues it has the same call at
+/// that ticket, and gives it the same reply, to the byte. Entries are listed the newest first, so the history that
+/// continues `h` is `newer ++ h`.
+pub fn replies_stay()
+    ensures calls { (h newer : List Entry) (ticket : ℕ) → ticket < length h
+        → call_of (newer ++ h) ticket ≡ call_of h ticket }
+    ensures replies { (config : Config) (salt max_entries : ℕ) (h newer : List Entry) (ticket : ℕ) (reply : Reply)
+        → IsReached config max_entries (newer ++ h) → reply_text config salt h ticket ≡ Some reply
+        → reply_text config salt (newer ++ h) ticket ≡ Some reply }
 {}
 
 /// The text of a history is what its book gives part by part: the opening, and then the text of each

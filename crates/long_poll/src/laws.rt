@@ -11,7 +11,7 @@ ghost use Rattle.long_poll.specs.Exchanges.{IsReply};
 ghost use Rattle.long_poll.specs.Replies.{AreOfOne, IsReplyAt, IsReplyIn, IsReplyOf};
 
 use crate::{Clock, Connection, OneShotBell};
-use account_book::laws::reached;
+use account_book::laws::replies_stay;
 use account_lock::laws::stands_where_it_was_taken;
 use account_lock::{Account, Identity};
 use decisions::Decide;
@@ -41,5 +41,5 @@ pub fn one_history()
         → Sees config most given.history given'.history ⊎ Sees config most given'.history given.history
         → AreOfOne config most salt call reply call' reply' }
 {
-    reached();
+    replies_stay();
 }

@@ -4,9 +4,7 @@ use Rattle.arn_ids.specs.declared.config.Config.{Config}
 use Rattle.arn_ids.specs.Environments.{owners}
 use Rattle.call_types.specs.declared.call.Call.{Call}
 use Rattle.call_types.specs.declared.call.Entry.{Entry}
-use Rattle.call_model.specs.Limits.{place_for}
-use Rattle.call_model.specs.Next.{IsLegal, Follows, entry_of}
-use Rattle.concurrency_pool.specs.Meets.{numbers}
+use Rattle.call_model.specs.Next.{entry_of}
 use Rattle.concurrency_pool.specs.Numbers.{Numbers}
 use Rattle.concurrency_pool.specs.Pools.{throttle}
 use Rattle.account_book.specs.Answering.{most_answers}
@@ -15,7 +13,7 @@ use Rattle.account_book.specs.declared.reach.Reach.TheVariants.{At}
 use Rattle.account_book.specs.declared.site.Site.{Site}
 use Rattle.account_book.specs.Fleets.{no_site, site_at, moved, moves_at, put_all}
 use Rattle.account_book.specs.Reaches.{reach, homed}
-use Rattle.account_book.specs.Taking.{site, sites, request_counts, IsKnown, AllKnown}
+use Rattle.account_book.specs.Taking.{site, sites, request_counts}
 use Rattle.account_book.proofs.Concerned.{sites_nowhere, sites_at, sites_everywhere}
 use Rattle.account_book.proofs.EntryMoves.{homed_nowhere, homed_at, homed_everywhere}
 use Rattle.account_book.proofs.Extent.{few_site, few_sites}

@@ -2,7 +2,7 @@ use Rattle.long_poll.proofs.RepliesStay.{stays, one}
 use Rattle.long_poll.proofs.laws.one_history.Goals as goal
 
 pub returns-clause-stays : goal.returns-clause-stays
-returns-clause-stays c = stays c.reached.ensures.legal
+returns-clause-stays c = stays c.replies_stay.ensures.calls c.replies_stay.ensures.replies
 
 pub returns-clause-one : goal.returns-clause-one
-returns-clause-one c = one c.reached.ensures.legal
+returns-clause-one c = one c.replies_stay.ensures.calls c.replies_stay.ensures.replies

@@ -12,20 +12,20 @@ use Rattle.account_book.proofs.book.Book.most_given.Goals as goal
 with_most : (expiries environments widest : ℕ) (call : Call) → widest ≤ most_extensions → expiries * (most_of_one widest + 1) + most_answers widest environments call ≤ (most_of_one most_extensions + 1) * expiries + most_answers most_extensions environments call
 with_most expiries environments widest call ten = own (is_stop call)
   where
-    each : expiries * (widest + 4) ≤ expiries * 14
+    each : expiries * (most_of_one widest + 1) ≤ expiries * 14
     each = mul-le-mul_left expiries (omega (arith, ten))
 
-    own : (b : Bool) → expiries * (widest + 4) + (if b then 13 * environments + 1 else widest + 4) ≤ 14 * expiries + (if b then 13 * environments + 1 else 14)
+    own : (b : Bool) → expiries * (most_of_one widest + 1) + (if b then most_of_one most_extensions * environments + 1 else most_of_one widest + 1) ≤ (most_of_one most_extensions + 1) * expiries + (if b then most_of_one most_extensions * environments + 1 else most_of_one most_extensions + 1)
     own true = omega (arith, each)
     own false = omega (arith, each, ten)
 
 pub returns-clause-enough : goal.returns-clause-enough
 returns-clause-enough c = λ now is.
     let j = c.self.inside.journal in
-    rw (sym c.self.view_is, c.answers_wanted-own.ensures, c.environments.ensures.value, rw (sym c.self.view_is) at is)
+    rw (sym c.self.view_is, c.answers_wanted-own.ensures, c.environments.ensures.value, c.most_of_one.ensures, rw (sym c.self.view_is) at is)
     (few_given j.config j.history now c.args.call.now c.widest-widest.result c.facts.ensures.legal c.facts.ensures.all_known (rw (ap (λ (k : Kept). k.config) (sym c.self.view_is)) at c.requires.within) (rw (sym c.widest-widest.ensures.value) at c.facts.ensures.narrow))
 
 pub returns-clause-few : goal.returns-clause-few
 returns-clause-few c =
-    rw (sym c.self.view_is, c.answers_wanted-own.ensures, c.environments.ensures.value)
+    rw (sym c.self.view_is, c.answers_wanted-own.ensures, c.environments.ensures.value, c.most_of_one.ensures)
     (with_most c.args.expiries _ c.widest-widest.result c.args.call.now c.widest-widest.ensures.ten)
