@@ -226,7 +226,8 @@ impl Fleet {
         requires counted { length arrival.now.requests.now ≡ length self.old.pool.functions }
         requires few { All IsFew self.old.sites }
         requires unnamed { registered_name arrival.now.call.now ≡ None }
-        requires gives_few { All (λ site. length (moves_by arrival.now site) ≤ most_of_one most_extensions) self.old.sites }
+        requires gives_few { All
+            (λ site. length (moves_by arrival.now site) ≤ most_of_one most_extensions) self.old.sites }
         requires room { most_of_one most_extensions * length self.old.sites ≤ answers.old.1 }
         requires brings_none { is_invoke arrival.now.call.now ≡ false }
         ensures sites { self.new.sites ≡ map (moved_by arrival.now) self.old.sites }

@@ -75,8 +75,8 @@ pub record IsSettled (all : Bool) (h : List Entry) (tallies : List Tallied) : Ty
   pub counts : counts_in tallies ≡ counts_of h
   pub kept : IsKept all h tallies
 
--- The cause of each fault, in the order of the faults: no fault above it holds, lack of memory aside, and its ticket
--- is the least at which it holds.
+-- The cause of each fault, in the order of the faults: apart from a failed allocation, no fault above it holds, and its
+-- ticket is the least at which it holds.
 abbrev pub IsFault : Bool → SettleFault → List Entry → List Tallied → Type 0
 IsFault all TallyMissing h tallies = parts_in tallies ≢ 2 ^ 32
 IsFault all OutOfMemory h tallies = parts_in tallies ≡ 2 ^ 32

@@ -8,7 +8,6 @@ use Rattle.call_types.specs.declared.call.Call.TheVariants.{Invoke}
 use Rattle.call_types.specs.declared.call.Entry.{Entry}
 use Rattle.call_model.specs.History.{answer_in, answer_of, answered, call_of, is_expiry, is_invoke_of, or_else, pending, place_of}
 use Rattle.call_model.specs.Laws.{times}
-use Rattle.call_model.specs.Life.{phase}
 use Rattle.call_model.specs.Next.{IsLegal}
 use Rattle.call_model.proofs.AtHand.{held}
 use Rattle.call_model.proofs.Basics.{count_cons, eqb-self, number_some}

@@ -1,5 +1,5 @@
 -- The length that a request declares for its body.
-use Rattle.std.specs.Prelude.{ℕ, Bool, false, not, ◌&&◌, nat_lt, List, codes, Option, Some, None}
+use Rattle.std.specs.Prelude.{ℕ, Bool, false, not, ◌&&◌, nat_lt, codes, Option, Some, None}
 use Rattle.std.specs.Prelude.{is_some, option_and_then}
 use Rattle.http.specs.HeaderMap.{get}
 use Rattle.http.specs.declared.request.Parts.{Parts}

@@ -1,4 +1,4 @@
-use Rattle.std.proofs.Common.{◌≡◌, ◌≤◌, ◌⊎◌, ℕ, [], ◌∷◌, inl, inr, refl, arith, true≢false, sym}
+use Rattle.std.proofs.Common.{◌≡◌, ◌≤◌, ◌⊎◌, [], inl, inr, refl, arith, true≢false, sym}
 use Rattle.call_model.specs.Limits.{in_flight, reservation}
 use Rattle.call_model.specs.Sample.{one}
 use Rattle.headline.specs.Headline.{Waits, Answered, IsWithinLimits}

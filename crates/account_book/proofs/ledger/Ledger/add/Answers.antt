@@ -1,4 +1,4 @@
-use Rattle.std.proofs.Common.{◌≡◌, ◌<◌, ◌≤◌, ◌+◌, ◌∙◌, ◌++◌, ◌∷◌, [], ap, ap₂, arith, length, reverse, All, ℕ, length-append, List, Option, None, ◌-◌, count_by}
+use Rattle.std.proofs.Common.{◌≡◌, ◌<◌, ◌≤◌, ◌+◌, ◌∙◌, ◌++◌, ◌∷◌, [], ap, ap₂, arith, length, reverse, All, ℕ, length-append, List, Option, None, count_by}
 use Rattle.call_types.specs.declared.answer.Answer.{Answer}
 use Rattle.call_model.specs.Counts.{is_throttle, is_failure}
 use Rattle.account_book.specs.declared.ledger.Ledger.TheInside.{Inside}

@@ -1,4 +1,3 @@
-use Rattle.std.proofs.Common.{rules}
 use Rattle.long_poll.proofs.Beginnings.{if_ok, begun_submitted}
 use Rattle.long_poll.proofs.connection.Connection.carry_out.Goals as goal
 
