@@ -6,3 +6,4 @@ pub mod Doors
 pub mod Notices
 pub mod Exchanged
 pub mod Answered
+pub mod Attended

@@ -3,10 +3,9 @@
 ghost use Rattle.std.specs.Prelude.{◌≡◌, IfOk, IfSome};
 ghost use Rattle.std.specs.Arc.{arc_value};
 ghost use Rattle.http_connection.specs.Written.{Written};
-ghost use Rattle.http_front.specs.Answered.{IsAnswerAt};
+ghost use Rattle.http_front.specs.Attended.{IsAttended};
 ghost use Rattle.http_front.specs.Exchanged.{IsAnswer};
 ghost use Rattle.http_front.specs.Ports.{api_of};
-ghost use Rattle.long_poll.specs.Outcomes.{ShowsFrom};
 
 use crate::Side;
 use crate::common::Common;
@@ -191,10 +190,8 @@ impl<R: Machine, S: Identity + Drop, N: Clock + Drop, K: Keep> Attendant<R, S, N
     /// # Errors
     /// If the event loop cannot serve another connection.
     fn attend(&self, tools: &mut Tools<S>, visit: Visit<S>) -> io::Result<Option<hyper::Result<()>>>
-        ensures { IfOk result (λ ended. IfSome ended
-            (Written ⟦<Either<Full<Bytes>, HistoryBody<R, Account<S, OneShotBell>, K, S>> as Body>⟧.yields
-            ⟦<Bytes as Into<Bytes>>⟧.converts (IsAnswerAt (ShowsFrom (arc_value self.now.common.account)) visit.door
-            ⟦<Incoming<Wire> as Body>⟧.yields ⟦<Bytes as Into<Bytes>>⟧.converts (arc_value self.now.common.hosts)))) }
+        ensures { IsAttended ⟦<Either<Full<Bytes>, HistoryBody<R, Account<S, OneShotBell>, K, S>> as Body>⟧.yields
+            ⟦<Incoming<Wire> as Body>⟧.yields ⟦<Bytes as Into<Bytes>>⟧.converts self.now.common visit.door result }
     {
         let open = Arc::new(self.rt.alloc(), OpenPoll::new()).map_err(AllocError::from)?;
         let ended = self.serve(tools, visit, &open);
@@ -212,10 +209,8 @@ impl<R: Machine, S: Identity + Drop, N: Clock + Drop, K: Keep> Attendant<R, S, N
         visit: Visit<S>,
         open: &Arc<OpenPoll>,
     ) -> io::Result<Option<hyper::Result<()>>>
-        ensures { IfOk result (λ ended. IfSome ended
-            (Written ⟦<Either<Full<Bytes>, HistoryBody<R, Account<S, OneShotBell>, K, S>> as Body>⟧.yields
-            ⟦<Bytes as Into<Bytes>>⟧.converts (IsAnswerAt (ShowsFrom (arc_value self.now.common.account)) visit.door
-            ⟦<Incoming<Wire> as Body>⟧.yields ⟦<Bytes as Into<Bytes>>⟧.converts (arc_value self.now.common.hosts)))) }
+        ensures { IsAttended ⟦<Either<Full<Bytes>, HistoryBody<R, Account<S, OneShotBell>, K, S>> as Body>⟧.yields
+            ⟦<Incoming<Wire> as Body>⟧.yields ⟦<Bytes as Into<Bytes>>⟧.converts self.now.common visit.door result }
     {
         let Visit { newcomer, door } = visit;
         let kind = door.kind();

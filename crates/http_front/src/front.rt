@@ -1,10 +1,7 @@
 //! The service that answers the requests of a port.
 
-ghost use Rattle.std.specs.Prelude.{◌≡◌, [], IfSome};
-ghost use Rattle.std.specs.Arc.{arc_value};
-ghost use Rattle.http.specs.Request.{head_of, body_of};
-ghost use Rattle.long_poll.specs.declared.exchange.Stage.TheVariants.{Collecting};
-ghost use Rattle.http_front.specs.Courses.{Takes};
+ghost use Rattle.std.specs.Prelude.{◌≡◌, IfSome};
+ghost use Rattle.http_front.specs.Courses.{IsExchangeOf, Takes};
 
 use crate::ResponseFault;
 use crate::responding::Responding;
@@ -68,9 +65,7 @@ impl<
     fn exchange<B: Body>(&self, parts: Parts, body: B) -> Option<Box<Exchange<R, S, D, N, B, K, L>>>
     where
         B::Data: Into<Bytes>,
-        ensures { IfSome result (λ e. (arc_value e.value.connection ≡ arc_value self.now.connection)
-            × (e.value.stage ≡ Collecting parts
-            (record { alloc = (arc_value self.now.connection).alloc; body = body; held = [] }))) }
+        ensures { IfSome result (λ exchange. IsExchangeOf self.now parts body exchange.value) }
     {
         let Ok(connection) = Arc::try_clone(&self.connection) else {
             return None;
@@ -88,8 +83,7 @@ impl<
     where
         B::Data: Into<Bytes>,
         ensures takes { Takes self.now parts body result }
-        ensures begins { IfSome result.exchange (λ e. e.value.stage ≡ Collecting parts
-            (record { alloc = (arc_value self.now.connection).alloc; body = body; held = [] })) }
+        ensures begins { IfSome result.exchange (λ exchange. IsExchangeOf self.now parts body exchange.value) }
     {
         let is_unread = declares_too_long(&parts);
         if let Some(refusal) = self.hosts.refusal(&parts) {
