@@ -1,1 +1,2 @@
 mod Inner
+mod Places

@@ -1,7 +1,8 @@
 //! A connection, and the signals that end it.
 
 ghost use Rattle.std.specs.Prelude.{◌≡◌, IfOk, IfSome, IsFalse, IsTrue, Some};
-ghost use Rattle.futures.specs.Task.{Keeps};
+ghost use Rattle.futures.specs.Poll.{IfReady, OnPending};
+ghost use Rattle.futures.specs.Task.{IsArmed, Keeps};
 
 use crate::park::Park;
 use crate::pulse::Pulse;
@@ -24,7 +25,7 @@ pub struct Signals {
     pub room: Receiver<()>,
 }
 
-/// A connection until it ends: by itself, and then gives its outcome, or at once by a signal.
+/// A connection, and the signals that end it in any state.
 #[derive(Drop)]
 pub(crate) struct Ending<C> {
     conn: C,
@@ -67,17 +68,17 @@ impl<C> Ending<C> {
     }
 }
 
-impl<C: GracefulConnection<Output = hyper::Result<()>>> Future for Ending<C> {
-    type Output = Option<hyper::Result<()>>;
-
-    ghost can_poll = { λ e. C.can_poll e.conn };
-
-    ghost gives = { λ e outcome. IfSome outcome (C.gives e.conn) };
-
-    fn poll(&mut self, cx: &mut Context<'_>) -> Poll<Option<hyper::Result<()>>> {
+impl<C: GracefulConnection<Output = hyper::Result<()>>> Ending<C> {
+    /// Returns whether a signal ends the connection at once. If the soft one comes, the connection
+    /// ends after the exchange that has begun.
+    fn is_cut_off(&mut self, cx: &mut Context<'_>) -> bool
+        requires { C.can_poll self.old.conn }
+        ensures can_poll { C.can_poll self.new.conn }
+        ensures same { (x : _) → C.gives self.new.conn x → C.gives self.old.conn x }
+        ensures kept { Keeps cx.old cx.new }
+    {
         if self.hard.poll(cx).is_ready() {
-            self.soft = None;
-            return Poll::Ready(None);
+            return true;
         }
         if let Some(soft) = &mut self.soft
             && soft.poll(cx).is_ready()
@@ -85,10 +86,7 @@ impl<C: GracefulConnection<Output = hyper::Result<()>>> Future for Ending<C> {
             self.soft = None;
             self.conn.graceful_shutdown();
         }
-        match self.conn.poll(cx) {
-            Poll::Ready(outcome) => Poll::Ready(Some(outcome)),
-            Poll::Pending => Poll::Pending,
-        }
+        false
     }
 }
 
@@ -149,6 +147,28 @@ impl<C, O> Watched<C, O> {
         self.room = None;
         self.peer.is_unserved()
     }
+
+    /// Lets the peer of a connection that has ended by itself read its answer, and then gives the
+    /// outcome, or gives it at once if a signal has come. (Not inlined, so that no other turn of a
+    /// connection takes steps for it.)
+    #[inline(never)]
+    fn poll_end(&mut self, cx: &mut Context<'_>) -> Poll<Option<hyper::Result<()>>>
+        ensures value { IfReady result (λ outcome. outcome ≡ self.old.outcome) }
+        ensures same { OnPending result ((self.new.outcome ≡ self.old.outcome)
+            × (self.new.has_ended ≡ self.old.has_ended) × (self.new.ending.value.conn ≡ self.old.ending.value.conn)) }
+        ensures registered { OnPending result (IsArmed cx.new) }
+        ensures kept { Keeps cx.old cx.new }
+    {
+        if self.ending.is_told(cx) {
+            return Poll::Ready(self.outcome.take());
+        }
+        let drained = self.peer.poll_drained(cx);
+        self.peer.await_end(&self.pulse);
+        match drained {
+            Poll::Ready(()) => Poll::Ready(self.outcome.take()),
+            Poll::Pending => Poll::Pending,
+        }
+    }
 }
 
 impl<C: GracefulConnection<Output = hyper::Result<()>>, O: Park> Future for Watched<C, O> {
@@ -162,33 +182,26 @@ impl<C: GracefulConnection<Output = hyper::Result<()>>, O: Park> Future for Watc
         × (IsTrue w.has_ended → IfSome given (λ outcome. w.outcome ≡ Some outcome)) };
 
     fn poll(&mut self, cx: &mut Context<'_>) -> Poll<Option<hyper::Result<()>>> {
-        if !self.has_ended {
-            if self.makes_room(cx) {
-                return Poll::Ready(None);
-            }
-            self.peer.begin_turn();
-            match self.ending.poll(cx) {
-                Poll::Pending => {
-                    self.peer.end_turn(&self.pulse);
-                    if self.open.is_parked() && self.peer.poll_ended(cx).is_ready() {
-                        return Poll::Ready(None);
-                    }
-                    return Poll::Pending;
-                }
-                Poll::Ready(outcome) => {
-                    self.outcome = outcome;
-                    self.has_ended = true;
-                }
-            }
+        if self.has_ended {
+            return self.poll_end(cx);
         }
-        if self.ending.is_told(cx) {
-            return Poll::Ready(self.outcome.take());
+        if self.makes_room(cx) || self.ending.is_cut_off(cx) {
+            return Poll::Ready(None);
         }
-        let drained = self.peer.poll_drained(cx);
-        self.peer.await_end(&self.pulse);
-        match drained {
-            Poll::Ready(()) => Poll::Ready(self.outcome.take()),
-            Poll::Pending => Poll::Pending,
+        self.peer.begin_turn();
+        match self.ending.conn.poll(cx) {
+            Poll::Pending => {
+                self.peer.end_turn(&self.pulse);
+                if self.open.is_parked() && self.peer.poll_ended(cx).is_ready() {
+                    return Poll::Ready(None);
+                }
+                Poll::Pending
+            }
+            Poll::Ready(outcome) => {
+                self.outcome = Some(outcome);
+                self.has_ended = true;
+                self.poll_end(cx)
+            }
         }
     }
 }

@@ -1,11 +1,20 @@
 //! The position in a connection's input: in a head, or in the body that a head declares.
 
-ghost use Rattle.std.specs.Prelude.{◌≤◌, ◌<◌, length, IfSome};
+ghost use Rattle.std.specs.Prelude.{◌≤◌, ◌<◌, length};
 
-use memchr::memchr;
+use memchr::memchr_iter;
 
 /// The name of the field that declares a body's length, with its colon.
 const NAME: &[u8] = b"content-length:";
+
+/// The same as most clients write it.
+const USUAL_NAME: &[u8] = b"Content-Length:";
+
+/// Returns whether these bytes are the name, in any case. Its usual forms come first, since they
+/// are compared as a whole.
+fn is_name(bytes: &[u8]) -> bool {
+    bytes == USUAL_NAME || bytes == NAME || bytes.eq_ignore_ascii_case(NAME)
+}
 
 /// How much of the present line is a field that declares a body's length.
 #[derive(Clone, Copy, Drop)]
@@ -56,13 +65,16 @@ impl Input {
                     _ => Line::Other,
                 };
             }
-            Line::Length => {
-                if byte.is_ascii_digit() {
-                    let digit = u64::from(byte - b'0');
-                    self.length = self.length.saturating_mul(10).saturating_add(digit);
-                }
-            }
+            Line::Length => self.take_digit(byte),
             Line::Other => {}
+        }
+    }
+
+    /// Takes a byte of a declared length. What is not a digit is skipped.
+    fn take_digit(&mut self, byte: u8) {
+        if byte.is_ascii_digit() {
+            let digit = u64::from(byte - b'0');
+            self.length = self.length.saturating_mul(10).saturating_add(digit);
         }
     }
 
@@ -101,25 +113,33 @@ impl Input {
         }
         self.is_empty = false;
         let (name, value) = bytes.split_at(NAME.len());
-        if name.eq_ignore_ascii_case(NAME) {
-            self.line = Line::Length;
-            self.take_each(value);
-        } else {
+        if !is_name(name) {
             self.line = Line::Other;
+            return;
+        }
+        self.line = Line::Length;
+        for byte in value {
+            self.take_digit(*byte);
         }
     }
 
-    /// Takes bytes up to the end of the present line. Returns how many they are, with that end, and
-    /// whether it ends the head; `None` if the line goes on after the bytes.
-    fn take_line(&mut self, bytes: &[u8]) -> Option<(usize, bool)>
-        ensures { IfSome result (λ taken. (0 < taken.0) × (taken.0 ≤ length bytes.now)) }
-    {
-        let Some(place) = memchr(b'\n', bytes) else {
-            self.take_bytes(bytes);
-            return None;
-        };
-        self.take_bytes(&bytes[..place]);
-        Some((place + 1, self.take_end()))
+    /// Takes the rest of a line, without its end, and the end. Returns whether the line is empty,
+    /// and so ends a head. (Not inlined, since it is for few lines.)
+    #[inline(never)]
+    fn take_rest(&mut self, bytes: &[u8]) -> bool {
+        self.take_bytes(bytes);
+        self.take_end()
+    }
+
+    /// Does the same. The first byte of most lines says that they are not empty and do not declare
+    /// a length: nothing else of them is looked at.
+    fn take_line(&mut self, bytes: &[u8]) -> bool {
+        let is_special = matches!(bytes.first(), None | Some(b'c' | b'C' | b'\r'));
+        if is_special || !matches!(self.line, Line::Name(0)) {
+            return self.take_rest(bytes);
+        }
+        self.is_empty = true;
+        false
     }
 
     /// Returns how many of these bytes belong to the present head: those up to and including its
@@ -129,13 +149,14 @@ impl Input {
         ensures some { 0 < length bytes.now → 0 < result }
     {
         let mut part = 0;
-        for _ in 0..bytes.len() {
-            match self.take_line(&bytes[part..]) {
-                Some((count, true)) => return part + count,
-                Some((count, false)) => part += count,
-                None => break,
+        for end in memchr_iter(b'\n', bytes) {
+            let is_head_end = self.take_line(&bytes[part..end]);
+            part = end + 1;
+            if is_head_end {
+                return part;
             }
         }
+        self.take_bytes(&bytes[part..]);
         bytes.len()
     }
 

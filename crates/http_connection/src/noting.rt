@@ -5,6 +5,7 @@ use futures::task::{Context, Poll};
 use futures::{Future, ready};
 use http::{Method, Request, Response};
 use hyper::service::Service;
+use std::alloc::AllocGlobal;
 use std::time::{Clock, Duration};
 use tokio::time::{Handle, Sleep};
 
@@ -21,10 +22,16 @@ pub(crate) struct Pace<R> {
     pub(crate) is_kept: bool,
 }
 
-impl<R: Clock> Pace<R> {
-    /// Begins a pause, or returns `None` if memory is refused.
-    fn pause(&self) -> Option<Sleep> {
-        self.time.sleep(&self.rt, Duration::from_millis(PAUSE)).ok()
+impl<R: Clock + AllocGlobal> Pace<R> {
+    /// Begins a pause, or returns `None` if memory is refused. (Not inlined, since it is rare, and
+    /// every request would take steps for it.)
+    #[inline(never)]
+    fn pause(&self) -> Option<Box<Sleep>> {
+        let sleep = self
+            .time
+            .sleep(&self.rt, Duration::from_millis(PAUSE))
+            .ok()?;
+        Box::new(self.rt.alloc(), sleep).ok()
     }
 }
 
@@ -36,9 +43,9 @@ pub(crate) struct Noting<V, R> {
     pub(crate) pace: Pace<R>,
 }
 
-impl<V, R: Clock> Noting<V, R> {
+impl<V, R: Clock + AllocGlobal> Noting<V, R> {
     /// Begins the pause before the next request, if the last one was a poll that was refused.
-    fn pause(&self) -> Option<Sleep> {
+    fn pause(&self) -> Option<Box<Sleep>> {
         if self.wire.takes_refusal() {
             self.pace.pause()
         } else {
@@ -51,17 +58,20 @@ impl<V, R: Clock> Noting<V, R> {
 #[derive(Drop)]
 pub(crate) struct Noted<F> {
     future: F,
-    // `None` once it is over.
-    pause: Option<Sleep>,
+    // `None` once it is over. On the heap, since it is rare, and each request's future is moved.
+    pause: Option<Box<Sleep>>,
     // `None` only if a wire had more than 2^63 holders.
     wire: Option<Wire>,
     // Whether its request is a poll whose refusal is noted.
     is_poll: bool,
 }
 
-impl<I: Drop, B: Drop, V: Service<Request<I>, Response = Response<B>>, R: Clock + Drop> Service<
-    Request<I>,
-> for Noting<V, R> {
+impl<
+    I: Drop,
+    B: Drop,
+    V: Service<Request<I>, Response = Response<B>>,
+    R: Clock + AllocGlobal + Drop,
+> Service<Request<I>> for Noting<V, R> {
     type Response = Response<B>;
 
     type Error = V::Error;
@@ -109,7 +119,8 @@ impl<B: Drop, E: Drop, F: Future<Output = Result<Response<B>, E>>> Future for No
 
     ghost can_poll = { λ noted. F.can_poll noted.future };
 
-    ghost needs = { λ noted s. MatchOption noted.pause (F.needs noted.future s) (λ pause. s ≡ sleep_source pause) };
+    ghost needs = { λ noted s. MatchOption noted.pause (F.needs noted.future s)
+        (λ pause. s ≡ sleep_source pause.value) };
 
     ghost gives = { λ noted. F.gives noted.future };
 
