@@ -23,7 +23,7 @@ pub(crate) struct Pace<R> {
 }
 
 impl<R: Clock + AllocGlobal> Pace<R> {
-    /// Begins a pause, or returns `None` if memory is refused. (Not inlined, since it is rare, and
+    /// Begins a pause, or returns `None` if an allocation fails. (Not inlined, since it is rare, and
     /// every request would take steps for it.)
     #[inline(never)]
     fn pause(&self) -> Option<Box<Sleep>> {

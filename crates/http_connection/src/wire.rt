@@ -22,7 +22,7 @@ pub struct Wire {
 }
 
 impl Wire {
-    /// Makes the first holder of a socket. The only error is that memory is refused.
+    /// Makes the first holder of a socket. It fails only if an allocation fails.
     pub(crate) fn new(alloc: Global, stream: TcpStream) -> io::Result<Wire> {
         let socket = Rc::new(alloc, RefCell::new(Socket::new(alloc, stream)))?;
         Ok(Wire { socket })
