@@ -145,8 +145,7 @@ def of_readme(root, page, text):
 
 def of_formats(root, page, text):
     said = re.search(r"in this order: (.*?)\.\n", text)
-    faults = variants(root, "crates/arn_ids/src/faults.rt", "ConfigFault")
-    there = ["EntriesOutOfRange" if it == "BadEntries" else it for it in faults]
+    there = variants(root, "crates/arn_ids/src/faults.rt", "ConfigFault")
     if not said or sorted(re.findall(r"`(\w+)`", said[1])) != sorted(there):
         yield f"the faults of a configuration are {there}"
     said = re.search(r"`refused KIND`.*", text)

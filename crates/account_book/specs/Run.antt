@@ -5,7 +5,7 @@ use Rattle.std.specs.Str.Lines.{lines}
 use Rattle.arn_ids.specs.Environments.{owners}
 use Rattle.arn_ids.specs.Faults.{first_fault, is_between}
 use Rattle.arn_ids.specs.declared.faults.ConfigFault.{ConfigFault}
-use Rattle.arn_ids.specs.declared.faults.ConfigFault.TheVariants.{BadEntries}
+use Rattle.arn_ids.specs.declared.faults.ConfigFault.TheVariants.{EntriesOutOfRange}
 use Rattle.lambda_wire.specs.Configuration.{read_setup}
 use Rattle.lambda_wire.specs.declared.setup.Setup.{Setup}
 use Rattle.lambda_wire.specs.declared.fault.WireFault.{WireFault}
@@ -55,7 +55,7 @@ abbrev pub book_where : Option ConfigFault → Setup → Result Kept ScriptFault
 book_where (Some fault) setup = Err (InConfiguration fault)
 book_where None setup =
     if is_between (length (owners setup.config) + 1) (2 ^ 32) setup.max_entries then Ok (new_book setup)
-    else Err (InConfiguration BadEntries)
+    else Err (InConfiguration EntriesOutOfRange)
 
 -- The book of a setup that was read, or the fault.
 abbrev pub book_of : Result Setup WireFault → Result Kept ScriptFault

@@ -48,9 +48,9 @@ pub enum ConfigFault {
     /// The reservations and the least remainder are together above the account's limit.
     RemainderTooSmall,
     /// The greatest number of entries of a journal is out of its range. `Config::check` never
-    /// returns this fault: it is for a program, whose configuration has that number too. It is
-    /// printed as `EntriesOutOfRange`, as the fault of `Book::open` is called.
-    BadEntries,
+    /// returns this fault: it is for a program, whose configuration has that number too. The fault
+    /// of `Book::open` has the same name.
+    EntriesOutOfRange,
 }
 
 impl ConfigFault {
@@ -75,7 +75,7 @@ impl ConfigFault {
             ConfigFault::DuplicateExtension => "DuplicateExtension",
             ConfigFault::ReservationAboveEnvironments => "ReservationAboveEnvironments",
             ConfigFault::RemainderTooSmall => "RemainderTooSmall",
-            ConfigFault::BadEntries => "EntriesOutOfRange",
+            ConfigFault::EntriesOutOfRange => "EntriesOutOfRange",
         }
     }
 }

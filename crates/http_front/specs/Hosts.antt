@@ -2,7 +2,7 @@
 use Rattle.std.specs.Prelude.{◌≡◌, Some, None}
 use Rattle.arn_ids.specs.Faults.{first_fault}
 use Rattle.arn_ids.specs.declared.config.Config.{Config as Configured}
-use Rattle.arn_ids.specs.declared.faults.ConfigFault.TheVariants.{BadEntries}
+use Rattle.arn_ids.specs.declared.faults.ConfigFault.TheVariants.{EntriesOutOfRange}
 use Rattle.account_book.specs.declared.book.OpenFault.{OpenFault}
 use Rattle.account_book.specs.declared.book.OpenFault.TheVariants as opening
 use Rattle.http_front.specs.declared.host_fault.HostFault.{HostFault}
@@ -11,7 +11,7 @@ use Rattle.http_front.specs.declared.host_fault.HostFault.TheVariants.{StillShar
 
 -- The fault of a host whose history is not opened.
 abbrev pub fault_of_opening : OpenFault → HostFault
-fault_of_opening opening.EntriesOutOfRange = Config BadEntries
+fault_of_opening opening.EntriesOutOfRange = Config EntriesOutOfRange
 fault_of_opening opening.OutOfMemory = OutOfMemory
 
 -- A fault of a plan: the first one of its configuration, or that an allocation failed.

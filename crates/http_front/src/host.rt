@@ -3,7 +3,7 @@
 ghost use Rattle.std.specs.Prelude.{◌≡◌, ◌⊎◌, ◌+◌, ◌^◌, ◌≤◌, ◌↔◌, length, IfErr, IsErrOf};
 ghost use Rattle.std.specs.Arc.{arc_value};
 ghost use Rattle.arn_ids.specs.Environments.{owners};
-ghost use Rattle.arn_ids.specs.declared.faults.ConfigFault.TheVariants.{BadEntries};
+ghost use Rattle.arn_ids.specs.declared.faults.ConfigFault.TheVariants.{EntriesOutOfRange};
 ghost use Rattle.http_front.specs.Hosts.{IsOfMachine};
 ghost use Rattle.http_front.specs.declared.host_fault.HostFault.TheVariants.{Config};
 
@@ -66,7 +66,7 @@ impl<
     /// one of `hosts` is refused.
     ///
     /// # Errors
-    /// `Config(BadEntries)` exactly if not environments + 1 ≤ `max_entries` ≤ 2^32,
+    /// `Config(EntriesOutOfRange)` exactly if not environments + 1 ≤ `max_entries` ≤ 2^32,
     /// `TooFewDescriptors` if there are too few for the ports and one more connection, `Network` if
     /// a port cannot be listened on, otherwise `OutOfMemory`. No port is then listened on.
     pub fn open(
@@ -82,9 +82,9 @@ impl<
         requires salted { plan.salt ≡ S.salt }
         requires limited { plan.max_entries ≡ S.most }
         requires named { blanks ≡ S.names }
-        ensures range { IsErrOf result (Config BadEntries)
+        ensures range { IsErrOf result (Config EntriesOutOfRange)
             ↔ ((length (owners (arc_value plan.config)) + 1 ≤ plan.max_entries) × (plan.max_entries ≤ 2 ^ 32) → ⊥) }
-        ensures fault { IfErr result (λ fault. (fault ≡ Config BadEntries) ⊎ IsOfMachine fault) }
+        ensures fault { IfErr result (λ fault. (fault ≡ Config EntriesOutOfRange) ⊎ IsOfMachine fault) }
     {
         let Plan {
             config,

@@ -48,7 +48,7 @@ impl From<OpenFault> for HostFault {
 
     fn from(fault: OpenFault) -> HostFault {
         match fault {
-            OpenFault::EntriesOutOfRange => HostFault::Config(ConfigFault::BadEntries),
+            OpenFault::EntriesOutOfRange => HostFault::Config(ConfigFault::EntriesOutOfRange),
             OpenFault::OutOfMemory => HostFault::OutOfMemory,
         }
     }

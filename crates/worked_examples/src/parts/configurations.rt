@@ -161,7 +161,7 @@ impl Calls for Read {
             return self.read(line, given);
         }
         if line == "entries-fault" {
-            say_fault(ConfigFault::BadEntries, given);
+            say_fault(ConfigFault::EntriesOutOfRange, given);
             return Ok(());
         }
         match line.strip_prefix("many ") {
