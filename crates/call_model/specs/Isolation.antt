@@ -6,7 +6,6 @@ use Rattle.call_types.specs.declared.call.Entry.{Entry}
 use Rattle.call_types.specs.declared.answer.Answer.{Answer}
 use Rattle.call_types.specs.declared.answer.Answer.TheVariants.{Delivered, Told, Output, Error}
 use Rattle.arn_ids.specs.declared.config.Config.{Config}
-use Rattle.call_model.specs.History.{answer_of, call_of, requests, upto}
 use Rattle.call_model.specs.Limits.{reserves, place_for}
 use Rattle.call_model.specs.Answers.{answers}
 use Rattle.call_model.specs.Next.{IsTimely, due, last_moment}
@@ -60,13 +59,3 @@ pub record Gist : Type 0 where
   pub count : ℕ
   pub source : Call
   pub source_count : ℕ
-
--- The gist of ticket t in a history, with the request counts of function f.
-abbrev pub gist : List Entry → ℕ → ℕ → Gist
-gist h f t = record {
-  answer = answer_of h t;
-  call = call_of h t;
-  count = requests (upto h t) f;
-  source = call_of h (source_of t (named_in (answer_of h t)));
-  source_count = requests (upto h (source_of t (named_in (answer_of h t)))) f;
-}
