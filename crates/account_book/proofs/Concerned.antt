@@ -14,7 +14,7 @@ use Rattle.call_types.specs.declared.call.Entry.{Entry}
 use Rattle.call_model.specs.History.{call_of, requests, poll_env}
 use Rattle.call_model.specs.Life.{concerns, names}
 use Rattle.call_model.specs.Limits.{place_for}
-use Rattle.call_model.specs.Next.{IsLegal, Follows}
+use Rattle.call_model.specs.Next.{IsLegal, Follows, IsTimely}
 use Rattle.call_model.specs.Stand.{is_number}
 use Rattle.concurrency_pool.proofs.Numbered.{numbered_is}
 use Rattle.account_book.specs.declared.reach.Reach.{Reach}
@@ -55,7 +55,7 @@ concerns_reach config h entry d w = go entry.call entry.place w.place
 
 -- an environment that isn't reached
 pub site_elsewhere : (config : Config) (h : List Entry) (entry : Entry) (d : ℕ) → IsLegal config h → Follows config h entry → reaches (reach h entry.place entry.call) d ≡ false → site config (entry ∷ h) d ≡ site config h d
-site_elsewhere config h entry d l w away = rw (stand_elsewhere config h entry d l w (concerns_reach config h entry d w ∙ away)) refl
+site_elsewhere config h entry d l w away = rw (stand_elsewhere IsTimely config h entry d l w (concerns_reach config h entry d w ∙ away)) refl
 
 -- the count that a call comes with there
 pub count_here : (config : Config) (h : List Entry) (e : ℕ) → 1 ≤ e → e ≤ length (owners config) → numbered 0 (request_counts config h) (function_of config e) ≡ requests h (function_of config e)

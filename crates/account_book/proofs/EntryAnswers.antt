@@ -13,7 +13,7 @@ use Rattle.call_model.specs.History.{answer_in, or_else, stopped}
 use Rattle.call_types.specs.Calls.{env_of}
 use Rattle.call_model.specs.Life.{is_event}
 use Rattle.call_model.specs.Limits.{place_for, Verdict, verdict, AfterStop, Refuses, Admits, admitted_to}
-use Rattle.call_model.specs.Next.{Follows}
+use Rattle.call_model.specs.Next.{Follows, IsTimely}
 use Rattle.call_model.proofs.AnswerValues.{plain, valued}
 use Rattle.call_model.proofs.Basics.{eqb-self, some-none, none-some}
 use Rattle.environment_step.proofs.Frame.{quiet_here}
@@ -60,7 +60,7 @@ answered_is config h entry t w q = elim (cases_lt t (length h)) [
       where
         at : (b : Bool) → reaches (reach h entry.place entry.call) d ≡ b → Answered config h entry t
         at true s = Older lt d r s
-        at false s = absurd (unanswered (answer_in entry.answers t) q (quiet_here config h entry d t w (concerns_reach config h entry d w ∙ s) lt r))
+        at false s = absurd (unanswered (answer_in entry.answers t) q (quiet_here IsTimely config h entry d t w (concerns_reach config h entry d w ∙ s) lt r))
 
 -- a part of the answers, by their tickets
 abbrev pub part : (ℕ → Bool) → Entry → List (ℕ × Answer)

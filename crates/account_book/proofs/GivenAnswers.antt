@@ -47,7 +47,7 @@ narrow_on : (config : Config) (h : List Entry) (entry : Entry) (widest : ℕ) �
 narrow_on config h entry widest l w none k e there = go (concerns h e entry) refl
   where
     go : (b : Bool) → concerns h e entry ≡ b → length (stand config (entry ∷ h) e).members ≤ widest
-    go false q = rw (stand_elsewhere config h entry e l w q) (k e there)
+    go false q = rw (stand_elsewhere IsTimely config h entry e l w q) (k e there)
     go true q = rw (stand_is config h entry e l w q) (omega (arith, none_joins (fixed_of config e) (step_at h entry (count_at config h entry e)) (stand config h e) entry.call none, k e there))
 
 -- an entry has an answer of the book's own at most, beside those of its environments

@@ -7,10 +7,12 @@ use Rattle.call_types.specs.declared.call.Call.{Call}
 use Rattle.call_types.specs.declared.call.Call.TheVariants.{Invoke}
 use Rattle.call_types.specs.declared.call.Entry.{Entry}
 use Rattle.call_model.specs.History.{answer_of, call_of, requests, upto}
-use Rattle.call_model.specs.Isolation.{Gist, gist, named, named_in, source_of}
+use Rattle.call_model.specs.Isolation.{named, named_in, source_of}
 use Rattle.call_model.specs.Next.{IsLegal}
 use Rattle.call_model.specs.Own.{own, own_ticket, is_own}
-use Rattle.call_model.proofs.OwnTexts.{named_own, own_gist as own_gist_of}
+use Rattle.call_model.proofs.OwnHistory.{own_requests_upto}
+use Rattle.call_model.proofs.OwnTexts.{named_own}
+use Rattle.call_model.proofs.OwnTickets.{own_answer_of, own_call}
 use Rattle.replies.specs.Replies.{reply_of}
 use Rattle.call_model.specs.CallCounts.{request_count}
 use Rattle.account_book.specs.ReplyText.{own_gist, reply_text}
@@ -55,16 +57,20 @@ source_own config h f t l q = go (answer_of h t) refl
 same_gist : (config : Config) (h : List Entry) (f t : ℕ) → IsLegal config h → own_ticket config h f t ≡ true → own_gist (own config h f) t ≡ own_gist h t
 same_gist config h f t l q =
     let k = own config h f in
-    let same : gist k f t ≡ gist h f t = own_gist_of config h f t l q in
-    let answer : answer_of k t ≡ answer_of h t = ap (λ (g : Gist). g.answer) same in
-    let source : source_of t (named_in (answer_of k t)) ≡ source_of t (named_in (answer_of h t)) = ap (λ (a : Option Answer). source_of t (named_in a)) answer in
+    let answer : answer_of k t ≡ answer_of h t = own_answer_of config h f t l q in
+    let source : ℕ = source_of t (named_in (answer_of h t)) in
+    let source_alone : ℕ = source_of t (named_in (answer_of k t)) in
+    let same : source_alone ≡ source = ap (λ (a : Option Answer). source_of t (named_in a)) answer in
+    let mine : own_ticket config h f source ≡ true = source_own config h f t l q in
+    let call : call_of k t ≡ call_of h t = own_call config h f t q in
+    let source_call : call_of k source_alone ≡ call_of h source = ap (call_of k) same ∙ own_call config h f source mine in
     (λ i. record {
       answer = answer i;
-      call = (same i).call;
-      count = counts_same f (upto k t) (upto h t) (call_of k t) (call_of h t) (ap (λ (g : Gist). g.call) same) (invokes_at config h f t q) (ap (λ (g : Gist). g.count) same) i;
-      source = (same i).source;
-      source_count = counts_same f (upto k (source_of t (named_in (answer_of k t)))) (upto h (source_of t (named_in (answer_of h t)))) (call_of k (source_of t (named_in (answer_of k t)))) (call_of h (source_of t (named_in (answer_of h t))))
-          (ap (λ (g : Gist). g.source) same) (invokes_at config h f (source_of t (named_in (answer_of h t))) (source_own config h f t l q)) (ap (λ (g : Gist). g.source_count) same) i;
+      call = call i;
+      count = counts_same f (upto k t) (upto h t) (call_of k t) (call_of h t) call (invokes_at config h f t q) (own_requests_upto config h f t) i;
+      source = source_call i;
+      source_count = counts_same f (upto k source_alone) (upto h source) (call_of k source_alone) (call_of h source)
+          source_call (invokes_at config h f source mine) (ap (λ (n : ℕ). requests (upto k n) f) same ∙ own_requests_upto config h f source) i;
     })
 
 pub same_reply : (config : Config) (salt : ℕ) (h : List Entry) (f t : ℕ) → IsLegal config h → own_ticket config h f t ≡ true → reply_text config salt (own config h f) t ≡ reply_text config salt h t

@@ -13,10 +13,10 @@ use Rattle.call_types.specs.Calls.{is_invoke}
 use Rattle.call_model.specs.Stand.{Stand, at_hand, bound_of, is_number, is_known}
 use Rattle.call_model.specs.Table.{reborn, settled, kept, closes, or_closing, placed, clock_started, unbound, is_registered, own_answer}
 use Rattle.call_model.specs.Life.{Lifecycle, life, phase, stand, seen, concerns, names, limit_of}
-use Rattle.call_model.specs.Next.{IsLegal, Follows}
+use Rattle.call_model.specs.Next.{IsLegal, IsLegalBy, Follows, FollowsBy, IsTimely, Rule}
 use Rattle.call_model.proofs.Pairs.{eqb-other}
-use Rattle.call_model.proofs.Once.{fresh}
-use Rattle.call_model.proofs.Scans.{legal_silent}
+use Rattle.call_model.proofs.Once.{fresh_by}
+use Rattle.call_model.proofs.Scans.{silent_by}
 use Rattle.call_model.proofs.PhaseStep.{phase_step, cell_of}
 use Rattle.call_model.specs.Limits.{is_busy_with}
 use Rattle.std.proofs.lemmas.Bool.{eqb-true}
@@ -108,10 +108,10 @@ from_after true over r w now limit cell p e = bound_at_hand cell p (from_reborn 
 from_after false over r w now limit cell p e = from_settled limit r w cell p e
 
 -- what is at hand after an entry
-pub from_entry : (config : Config) (h : List Entry) (entry : Entry) (e p : ℕ) → IsLegal config h → Follows config h entry → at_hand (phase config (entry ∷ h) e) ≡ Some p
+pub from_entry_by : (rule : Rule) (config : Config) (h : List Entry) (entry : Entry) (e p : ℕ) → IsLegalBy rule config h → FollowsBy rule config h entry → at_hand (phase config (entry ∷ h) e) ≡ Some p
     → ((length h ≡ p) × (is_invoke entry.call ≡ true) × (concerns h e entry ≡ true)) ⊎ (at_hand (phase config h e) ≡ Some p)
 unfolding seen
-from_entry config h entry e p l f q = go (concerns h e entry) refl
+from_entry_by rule config h entry e p l f q = go (concerns h e entry) refl
   where
     cell : Phase
     cell = cell_of config e entry (length h) (stand config h e)
@@ -121,7 +121,11 @@ from_entry config h entry e p l f q = go (concerns h e entry) refl
 
     go : (c : Bool) → concerns h e entry ≡ c → ((length h ≡ p) × (is_invoke entry.call ≡ true) × (concerns h e entry ≡ true)) ⊎ (at_hand (phase config h e) ≡ Some p)
     go false w = inr (ap (λ (x : Lifecycle). at_hand x.phase) (sym (life_elsewhere config h entry e w)) ∙ q)
-    go true w = elim (at_cell (from_after _ _ _ _ entry.moment (limit_of config e entry.moment) cell p (sym (ap at_hand (phase_step config h entry e w (fresh config h (length h) l (omega arith)) (legal_silent config h entry f))) ∙ q))) [ inl x ↦ inl (x.0, x.1, w) | inr x ↦ inr x ]
+    go true w = elim (at_cell (from_after _ _ _ _ entry.moment (limit_of config e entry.moment) cell p (sym (ap at_hand (phase_step config h entry e w (fresh_by rule config h (length h) l (omega arith)) (silent_by rule config h entry f))) ∙ q))) [ inl x ↦ inl (x.0, x.1, w) | inr x ↦ inr x ]
+
+pub from_entry : (config : Config) (h : List Entry) (entry : Entry) (e p : ℕ) → IsLegal config h → Follows config h entry → at_hand (phase config (entry ∷ h) e) ≡ Some p
+    → ((length h ≡ p) × (is_invoke entry.call ≡ true) × (concerns h e entry ≡ true)) ⊎ (at_hand (phase config h e) ≡ Some p)
+from_entry config h entry e p l f q = from_entry_by IsTimely config h entry e p l f q
 
 -- The invocation at hand is one that was placed there.
 pub record IsHeld (h : List Entry) (e p : ℕ) : Type 0 where
@@ -142,17 +146,20 @@ placed_here h entry e i c = go entry.call i c
     go (Invoke f qualified trace body) a b = sym (or-false (is_number entry.place e)) ∙ b
     go call a b = absurd (true≢false (sym a))
 
-pub held : (config : Config) (h : List Entry) (e p : ℕ) → IsLegal config h → at_hand (phase config h e) ≡ Some p → IsHeld h e p
+pub held_by : (rule : Rule) (config : Config) (h : List Entry) (e p : ℕ) → IsLegalBy rule config h → at_hand (phase config h e) ≡ Some p → IsHeld h e p
 unfolding life
-held config [] e p l q = absurd (some-none (sym q))
-held config (entry ∷ h) e p l q =
-    elim (from_entry config h entry e p l.0 l.1 q) [
+held_by rule config [] e p l q = absurd (some-none (sym q))
+held_by rule config (entry ∷ h) e p l q =
+    elim (from_entry_by rule config h entry e p l.0 l.1 q) [
       | inl new ↦ newly new.0 new.1 new.2
-      | inr old ↦ kept_older entry h e p (held config h e p l.0 old)
+      | inr old ↦ kept_older entry h e p (held_by rule config h e p l.0 old)
     ]
   where
     newly : length h ≡ p → is_invoke entry.call ≡ true → concerns h e entry ≡ true → IsHeld (entry ∷ h) e p
     newly at i c = subst (λ n. IsHeld (entry ∷ h) e n) at (record { older = omega arith; invoke = rw (eqb-self (length h)) i; placed = rw (eqb-self (length h)) (placed_here h entry e i c) })
+
+pub held : (config : Config) (h : List Entry) (e p : ℕ) → IsLegal config h → at_hand (phase config h e) ≡ Some p → IsHeld h e p
+held config h e p l q = held_by IsTimely config h e p l q
 
 pub busy_at_hand : (P : Phase) (t : ℕ) → is_busy_with P t ≡ true → at_hand P ≡ Some t
 busy_at_hand (Busy p d) t e = ap (λ (n : ℕ). Some n) (eqb-true p t e)

@@ -47,7 +47,7 @@ pub mod Added
 -- Isolation: what a function would see alone.
 pub mod OwnTickets
 mod TwinHistories
-mod OwnHistory
+pub mod OwnHistory
 mod OwnEvents
 mod OwnStands
 mod OwnVerdict

@@ -13,7 +13,7 @@ use Rattle.call_model.specs.Stand.{role, NoRole, is_number, at_hand}
 use Rattle.call_model.specs.Polls.{delivered, begun}
 use Rattle.call_model.specs.Generation.{Generation, Extension, Actor, TheRuntime, TheExtension, parked, if_pending, last_next, extensions, member, members}
 use Rattle.call_model.specs.Answers.{each_from, first_answer, other_answer, answer_at, home, second_answer, second_at, answer_to, answers, first_entry, first_answers}
-use Rattle.call_model.specs.Next.{IsLegal}
+use Rattle.call_model.specs.Next.{IsLegal, IsLegalBy, IsTimely, Rule}
 use Rattle.call_model.proofs.Pairs.{in_each, past_each, numbered_same, eqb-other, is_some_none, times_in, times_each, numbered_times, times_none}
 use Rattle.call_model.proofs.Basics.{and_false, some-none}
 
@@ -122,10 +122,13 @@ times [] t = 0
 times (entry ∷ h) t = times_in entry.answers t + times h t
 
 -- what isn't in the history yet has no answer
+pub fresh_by : (rule : Rule) (config : Config) (h : List Entry) (t : ℕ) → IsLegalBy rule config h → length h ≤ t → answer_of h t ≡ None
+fresh_by rule config [] t l le = refl
+fresh_by rule config (entry ∷ h) t l le =
+    rw (l.1.answers, answers_past config h entry.moment entry.call t (omega arith)) (fresh_by rule config h t l.0 (omega arith))
+
 pub fresh : (config : Config) (h : List Entry) (t : ℕ) → IsLegal config h → length h ≤ t → answer_of h t ≡ None
-fresh config [] t l le = refl
-fresh config (entry ∷ h) t l le =
-    rw (l.1.answers, answers_past config h entry.moment entry.call t (omega arith)) (fresh config h t l.0 (omega arith))
+fresh config h t l le = fresh_by IsTimely config h t l le
 
 times_zero : (h : List Entry) (t : ℕ) → answer_of h t ≡ None → times h t ≡ 0
 times_zero [] t e = refl

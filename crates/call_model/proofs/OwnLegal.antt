@@ -15,8 +15,8 @@ use Rattle.call_model.specs.Life.{Lifecycle, life, phase, seen, lived, after, ph
 use Rattle.call_model.specs.Limits.{place_for}
 use Rattle.arn_ids.specs.Environments.{environments, function_at}
 use Rattle.call_types.specs.declared.answer.Phase.TheVariants.{Starting, Off}
-use Rattle.call_model.specs.Next.{due, due_at, deadline_of, by_deadline, IsFirst, IsTimely, last_moment, IsLegal}
-use Rattle.call_model.specs.Isolation.{IsUnnamed, IsTimelySave, IsLegalSave, FollowsSave}
+use Rattle.call_model.specs.Next.{due, due_at, deadline_of, by_deadline, IsFirst, IsTimely, last_moment, IsLegal, FollowsBy}
+use Rattle.call_model.specs.Isolation.{IsUnnamed, IsTimelySave, IsLegalSave}
 use Rattle.call_model.proofs.OwnVerdict.{own_verdict}
 use Rattle.call_model.proofs.OwnAnswers.{own_answers, tick_answers, own_place_for}
 use Rattle.call_model.proofs.OwnTickets.{placed_function, own_length}
@@ -202,7 +202,7 @@ own_legal config (entry ∷ h) f limit l r u = (own_legal config h f limit l.0 r
     o : List Entry
     o = own config h f
 
-    go : (b : Bool) → is_own config h f entry.call ≡ b → FollowsSave config o (own_entry b config h f entry)
+    go : (b : Bool) → is_own config h f entry.call ≡ b → FollowsBy IsTimelySave config o (own_entry b config h f entry)
     go true w = record {
       later = subst (λ n. n ≤ entry.moment) (sym (own_moment config h f)) (l.1.later);
       timely = own_timely config h f entry.moment entry.call l.0 w (l.1.timely);

@@ -9,7 +9,7 @@ use Rattle.call_types.specs.declared.call.Call.TheVariants.{Invoke, RuntimeNext,
 use Rattle.call_types.specs.declared.call.Entry.{Entry}
 use Rattle.arn_ids.specs.declared.config.Config.{Config}
 use Rattle.arn_ids.specs.Environments.{function_of}
-use Rattle.call_model.specs.History.{answer_in, answer_of, call_of, place_of, requests, stopped, upto, or_else}
+use Rattle.call_model.specs.History.{answer_in, answer_of, call_of, place_of, stopped, or_else}
 use Rattle.call_types.specs.Calls.{env_of}
 use Rattle.call_model.specs.Generation.{Member}
 use Rattle.call_model.specs.Stand.{Stand, at_hand, role, Role, NoRole, Waiting, RuntimePoll, ExtensionPoll}
@@ -21,16 +21,16 @@ use Rattle.call_types.specs.declared.answer.Phase.TheVariants.{Busy}
 use Rattle.call_types.specs.declared.answer.Rejection.TheVariants.{Container, Replaced}
 use Rattle.call_types.specs.declared.answer.Reason.{Reason}
 use Rattle.call_model.specs.Polls.{by_role, delivered, begun, at_close, replaced}
-use Rattle.call_model.specs.Isolation.{named, named_in, source_of, gist}
+use Rattle.call_model.specs.Isolation.{named}
 use Rattle.call_model.proofs.Pairs.{in_each, eqb-other}
 use Rattle.call_model.proofs.AnswerValues.{seen_by, numbered_keeps}
 use Rattle.call_model.proofs.OwnAnswers.{first_fit, first_of}
-use Rattle.call_model.proofs.OwnHistory.{others_silent, own_requests_upto}
+use Rattle.call_model.proofs.OwnHistory.{others_silent}
 use Rattle.call_model.proofs.OwnStands.{same_fit}
 use Rattle.call_model.specs.Next.{IsLegal}
 use Rattle.call_model.specs.Own.{own, own_ticket, is_own}
 use Rattle.call_model.proofs.Once.{fresh}
-use Rattle.call_model.proofs.OwnTickets.{own_call, own_answer_of, own_home, own_old}
+use Rattle.call_model.proofs.OwnTickets.{own_home, own_old}
 use Rattle.call_model.proofs.Basics.{eqb-self, some-none}
 use Rattle.call_model.proofs.Cells.{own_values, waiting_values}
 
@@ -225,24 +225,3 @@ named_own config (entry ∷ h) f t p a l k q n = go (answer_in entry.answers t) 
     go : (x : Option Answer) → answer_in entry.answers t ≡ x → (own_ticket config h f t ≡ true → answer_of h t ≡ Some a → named a ≡ Some p → own_ticket config h f p ≡ true) → or_else x (answer_of h t) ≡ Some a → own_ticket config (entry ∷ h) f p ≡ true
     go (Some b) r ih m = now (ap names_of (r ∙ m) ∙ n) (is_own config h f entry.call) refl
     go None r ih m = older (ih (before m (t == length h) refl k) m n)
-
--- All that the text of a ticket of the function is made of is the same alone.
-pub own_gist : (config : Config) (h : List Entry) (f t : ℕ) → IsLegal config h → own_ticket config h f t ≡ true → gist (own config h f) f t ≡ gist h f t
-own_gist config h f t l k = λ i. record {
-  answer = own_answer_of config h f t l k i;
-  call = own_call config h f t k i;
-  count = own_requests_upto config h f t i;
-  source = (ap (λ n. call_of (own config h f) (source_of t (named_in n))) (own_answer_of config h f t l k) ∙ own_call config h f (source_of t (named_in (answer_of h t))) mine) i;
-  source_count = (ap (λ n. requests (upto (own config h f) (source_of t (named_in n))) f) (own_answer_of config h f t l k) ∙ own_requests_upto config h f (source_of t (named_in (answer_of h t)))) i;
-}
-  where
-    by_name : (a : Answer) → answer_of h t ≡ Some a → (o : Option ℕ) → named a ≡ o → own_ticket config h f (source_of t o) ≡ true
-    by_name a q None r = k
-    by_name a q (Some p) r = named_own config h f t p a l k q r
-
-    by_answer : (x : Option Answer) → answer_of h t ≡ x → own_ticket config h f (source_of t (named_in x)) ≡ true
-    by_answer None q = k
-    by_answer (Some a) q = by_name a q (named a) refl
-
-    mine : own_ticket config h f (source_of t (named_in (answer_of h t))) ≡ true
-    mine = by_answer (answer_of h t) refl

@@ -9,7 +9,7 @@ use Rattle.arn_ids.specs.declared.config.Config.{Config}
 use Rattle.call_model.specs.History.{answer_in, answer_of, pending, is_expiry, or_else}
 use Rattle.call_model.specs.Generation.{Generation, Extension, Actor, TheRuntime, TheExtension, Member, parked, if_pending, last_next, asks, extensions, member, members, told, asked_again, exited, answer_to_next, is_ending, reports_exit, is_accepted, as_registered}
 use Rattle.call_model.specs.Life.{life, lived, after, concerns, ends_here}
-use Rattle.call_model.specs.Next.{Follows}
+use Rattle.call_model.specs.Next.{Follows, FollowsBy, IsTimely, Rule}
 use Rattle.call_model.proofs.Once.{pending_cons, silent}
 use Rattle.call_model.proofs.Basics.{some-none, eqb-self, map_map, map_same}
 use Rattle.call_model.proofs.Visits.{visit, if_concerned, if_ended}
@@ -74,8 +74,11 @@ parked_asks entry h g actor call_kind none asks_now = rw (asks_now, eqb-self (le
 abbrev pub IsSilent : List Entry → Entry → Type 0
 IsSilent h entry = (t : ℕ) → t < length h → pending h t ≡ false → answer_in entry.answers t ≡ None
 
+pub silent_by : (rule : Rule) (config : Config) (h : List Entry) (entry : Entry) → FollowsBy rule config h entry → IsSilent h entry
+silent_by rule config h entry f t lt e = rw (f.answers) (silent config h entry.moment entry.call t (omega (arith, lt)) e)
+
 pub legal_silent : (config : Config) (h : List Entry) (entry : Entry) → Follows config h entry → IsSilent h entry
-legal_silent config h entry f t lt e = rw (f.answers) (silent config h entry.moment entry.call t (omega (arith, lt)) e)
+legal_silent config h entry f = silent_by IsTimely config h entry f
 
 -- the actor's last Next after a call, where it was this before
 abbrev pub asked : Actor → Call → ℕ → Option ℕ → Option ℕ

@@ -6,10 +6,8 @@ use Rattle.call_types.specs.declared.call.Entry.{Entry}
 use Rattle.call_types.specs.declared.answer.Answer.{Answer}
 use Rattle.call_types.specs.declared.answer.Answer.TheVariants.{Delivered, Told, Output, Error}
 use Rattle.arn_ids.specs.declared.config.Config.{Config}
-use Rattle.call_model.specs.History.{answer_of, call_of, requests, upto}
-use Rattle.call_model.specs.Limits.{reserves, place_for}
-use Rattle.call_model.specs.Answers.{answers}
-use Rattle.call_model.specs.Next.{IsTimely, due, last_moment}
+use Rattle.call_model.specs.Limits.{reserves}
+use Rattle.call_model.specs.Next.{IsTimely, IsLegalBy}
 
 -- No Reserve of the history names function f.
 abbrev pub IsUnnamed : ℕ → List Entry → Type 0
@@ -22,17 +20,9 @@ abbrev pub IsTimelySave : ℕ → Call → List ℕ → Type 0
 IsTimelySave m Tick due = Unit {0}
 IsTimelySave m call due = IsTimely m call due
 
--- An entry that the rules allow after a history, except that a Tick may be taken although environments are due.
-pub record FollowsSave (config : Config) (h : List Entry) (entry : Entry) : Type 0 where
-  pub later : last_moment h ≤ entry.moment
-  pub timely : IsTimelySave entry.moment entry.call (due config h entry.moment)
-  pub answers : entry.answers ≡ answers config h entry.moment entry.call
-  pub place : entry.place ≡ place_for config h entry.call
-
--- A history that the rules allow, with the same exception for Ticks.
+-- A history that the rules allow, except that a Tick may be taken although environments are due.
 abbrev pub IsLegalSave : Config → List Entry → Type 0
-IsLegalSave config [] = Unit {0}
-IsLegalSave config (entry ∷ h) = IsLegalSave config h × FollowsSave config h entry
+IsLegalSave config h = IsLegalBy IsTimelySave config h
 
 -- The ticket of the call that an answer names, if it names one: the text of the answer is made of this call.
 abbrev pub named : Answer → Option ℕ
@@ -60,13 +50,3 @@ pub record Gist : Type 0 where
   pub count : ℕ
   pub source : Call
   pub source_count : ℕ
-
--- The gist of ticket t in a history, with the request counts of function f.
-abbrev pub gist : List Entry → ℕ → ℕ → Gist
-gist h f t = record {
-  answer = answer_of h t;
-  call = call_of h t;
-  count = requests (upto h t) f;
-  source = call_of h (source_of t (named_in (answer_of h t)));
-  source_count = requests (upto h (source_of t (named_in (answer_of h t)))) f;
-}

@@ -65,19 +65,32 @@ abbrev pub IsTimely : ℕ → Call → List ℕ → Type 0
 IsTimely m (Expire e) due = IsFirst e due
 IsTimely m _ due = due ≡ []
 
--- An entry follows a history if the rules allow it: time does not go back, what is due expires first, and the answers
--- and the place are the ones defined.
-pub record Follows (config : Config) (h : List Entry) (entry : Entry) : Type 0 where
+-- A rule says which calls may be taken at a moment, given what is due: `IsTimely`, or what the laws of isolation allow
+-- in a function's own history.
+abbrev pub Rule : Type 1
+Rule = ℕ → Call → List ℕ → Type 0
+
+-- An entry follows a history by a rule: time does not go back, the rule allows the call, and the answers and the place
+-- are the ones defined.
+pub record FollowsBy (rule : Rule) (config : Config) (h : List Entry) (entry : Entry) : Type 0 where
   pub later : last_moment h ≤ entry.moment
-  pub timely : IsTimely entry.moment entry.call (due config h entry.moment)
+  pub timely : rule entry.moment entry.call (due config h entry.moment)
   pub answers : entry.answers ≡ answers config h entry.moment entry.call
   pub place : entry.place ≡ place_for config h entry.call
+
+-- Each entry of a history follows the ones before it by a rule.
+abbrev pub IsLegalBy : Rule → Config → List Entry → Type 0
+IsLegalBy rule config [] = Unit {0}
+IsLegalBy rule config (entry ∷ h) = IsLegalBy rule config h × FollowsBy rule config h entry
+
+-- An entry follows a history if the rules allow it: what is due expires first.
+abbrev pub Follows : Config → List Entry → Entry → Type 0
+Follows config h entry = FollowsBy IsTimely config h entry
 
 -- A history is legal if each of its entries follows the ones before it. This is the sequential specification: the
 -- service as a machine with one thread.
 abbrev pub IsLegal : Config → List Entry → Type 0
-IsLegal config [] = Unit {0}
-IsLegal config (entry ∷ h) = IsLegal config h × Follows config h entry
+IsLegal config h = IsLegalBy IsTimely config h
 
 -- The entry of a call that is taken at moment m.
 abbrev pub entry_of : Config → List Entry → ℕ → Call → Entry

@@ -1,6 +1,6 @@
 -- The own history of a function: the history of the account, in which each entry that does not concern the function is
 -- replaced by a Tick. If the configuration reserves the function and no Reserve names it, this is what the account
--- would have recorded if no one else had called, the clock aside (`laws::isolated`).
+-- would have recorded if no one else had called, the clock aside (`headline::laws::isolated`).
 use Rattle.std.specs.Prelude.{ℕ, ◌==◌, Bool, true, false, if◌then◌else◌, List, [], ◌∷◌, length, Option, Some, None}
 use Rattle.std.specs.Prelude.{filter}
 use Rattle.call_types.specs.declared.call.Call.{Call}

@@ -6,7 +6,7 @@ ghost use Rattle.call_types.specs.declared.call.Call.{Call};
 ghost use Rattle.call_types.specs.declared.call.Entry.{Entry};
 ghost use Rattle.call_types.specs.declared.answer.Answer.{Answer};
 ghost use Rattle.arn_ids.specs.declared.config.Config.{Config};
-ghost use Rattle.arn_ids.specs.Environments.{function_of, environments, function_at};
+ghost use Rattle.arn_ids.specs.Environments.{function_of, environments};
 ghost use Rattle.call_model.specs.History.{pending, place_of, call_of, answer_in, answer_of, is_expiry, is_invoke_of};
 ghost use Rattle.call_model.specs.History.{requests, upto};
 ghost use Rattle.call_model.specs.CallCounts.{call_counts};
@@ -14,7 +14,7 @@ ghost use Rattle.call_model.specs.Generation.{Actor};
 ghost use Rattle.call_model.specs.Life.{phase, stand};
 ghost use Rattle.call_model.specs.Stand.{bound_of};
 ghost use Rattle.call_model.specs.Own.{own, own_ticket};
-ghost use Rattle.call_model.specs.Isolation.{IsUnnamed, IsLegalSave, named, gist};
+ghost use Rattle.call_model.specs.Isolation.{named};
 ghost use Rattle.call_model.specs.Limits.{reservation, remainder, in_flight, unreserved_in_flight};
 ghost use Rattle.call_model.specs.Laws.{lives, times, deliveries, is_outcome, poll_of, is_open, admits, re_reserved};
 ghost use Rattle.call_model.specs.Laws.{charged_in, is_taken, is_due, deadlines_of, are_in_order, ended_by};
@@ -105,16 +105,8 @@ pub fn counted()
         ≡ in_flight config h f + cond (admits f entry) 1 0 }
 {}
 
-/// Isolation by reservation: if the configuration reserves a function and no Reserve names it, the function gets what
-/// it would get in an account in which no one else calls and the clock ticks at the same moments.
+/// What is a function's own, in every legal history, with or without a reservation.
 pub fn isolated()
-    // Its own history is legal, except that something may be due at a Tick.
-    ensures legal { (config : Config) (h : List Entry) (f limit : ℕ) → IsLegal config h
-        → (function_at config f).reserved ≡ Some limit → IsUnnamed f h → IsLegalSave config (own config h f) }
-    // In its own history, everything that the reply to one of its tickets is made of is the same as in the whole
-    // history: the answer, the calls and the counts.
-    ensures texts { (config : Config) (h : List Entry) (f t : ℕ) → IsLegal config h → own_ticket config h f t ≡ true
-        → gist (own config h f) f t ≡ gist h f t }
     // An answer to one of its tickets never names a ticket of another function.
     ensures names { (config : Config) (h : List Entry) (f t p : ℕ) (a : Answer) → IsLegal config h
         → own_ticket config h f t ≡ true → answer_of h t ≡ Some a → named a ≡ Some p → own_ticket config h f p ≡ true }

@@ -12,7 +12,7 @@ use Rattle.call_types.specs.declared.call.Entry.{Entry}
 use Rattle.environment_step.specs.After.{Fixed, Step, stand_after, turned, closing_ends, expires_now, first_stand, members_first, fresh_members, finished, restarted, settled_stand, settled_phase, member_second, fixed_of, step_at, count_at, member_first}
 use Rattle.call_model.specs.Generation.{Extension, as_registered, Member, members}
 use Rattle.call_model.specs.Life.{stand, concerns, seen, life}
-use Rattle.call_model.specs.Next.{IsLegal}
+use Rattle.call_model.specs.Next.{IsLegal, IsTimely}
 use Rattle.call_model.specs.Polls.{begun}
 use Rattle.call_model.specs.Stand.{Stand}
 use Rattle.call_model.specs.Table.{own_answer}
@@ -83,7 +83,7 @@ little config [] e l = record { ten = omega arith; events = omega arith; registr
 little config (entry ∷ h) e l = go (concerns h e entry) refl (little config h e l.0)
   where
     go : (b : Bool) → concerns h e entry ≡ b → IsLittle (length h) (stand config h e) → IsLittle (suc (length h)) (stand config (entry ∷ h) e)
-    go false q k = rw (stand_elsewhere config h entry e l.0 l.1 q) (record { ten = k.ten; events = omega (arith, k.events); registrations = omega (arith, k.registrations) })
+    go false q k = rw (stand_elsewhere IsTimely config h entry e l.0 l.1 q) (record { ten = k.ten; events = omega (arith, k.events); registrations = omega (arith, k.registrations) })
     go true q k = rw (stand_is config h entry e l.0 l.1 q) (record {
       ten = ten_kept (fixed_of config e) (step_at h entry (count_at config h entry e)) (stand config h e) entry.call k.ten;
       events = omega (arith, events_more (fixed_of config e) (step_at h entry (count_at config h entry e)) (stand config h e) entry.call, k.events, k.ten);

@@ -14,7 +14,7 @@ use Rattle.call_model.specs.History.{answer_in, or_else, place_of}
 use Rattle.call_types.specs.Calls.{env_of}
 use Rattle.call_model.specs.Life.{concerns, life, names, seen, stand}
 use Rattle.call_model.specs.Limits.{is_charged}
-use Rattle.call_model.specs.Next.{Follows, IsLegal}
+use Rattle.call_model.specs.Next.{Follows, IsLegal, IsTimely}
 use Rattle.call_model.specs.Stand.{is_number}
 use Rattle.call_model.proofs.Basics.{eqb-self, number_some, some-none}
 use Rattle.environment_step.proofs.Ended as E
@@ -76,7 +76,7 @@ none_here config h entry e l q = no_answers (answers_there h entry e) (λ t. fil
     at : (t : ℕ) (b : Bool) → is_number (home (entry ∷ h) t) e ≡ b → (if b then answer_in entry.answers t else None) ≡ None
     at t false r = refl
     at t true r = elim (cases_lt t (length h)) [
-      | inl lt ↦ quiet_here config h entry e t l.1 q lt (sym (home_old entry h t lt) ∙ number_some (home (entry ∷ h) t) e r)
+      | inl lt ↦ quiet_here IsTimely config h entry e t l.1 q lt (sym (home_old entry h t lt) ∙ number_some (home (entry ∷ h) t) e r)
       | inr ge ↦ elim (cases_lt (length h) t) [
         | inl lt ↦ past config h entry t l.1 lt
         | inr le ↦ let same : t ≡ length h = omega (arith, ge, le) in absurd (true≢false (sym r ∙ ap (λ u. is_number (home (entry ∷ h) u) e) same ∙ ap (λ o. is_number o e) (home_new entry h) ∙ own))

@@ -17,7 +17,7 @@ use Rattle.call_model.specs.Stand.{Stand, is_number, is_known}
 use Rattle.call_model.specs.Table.{is_registered, own_answer, Cell, ext_row}
 use Rattle.call_model.specs.Life.{life, lived, after, stand, seen, concerns, names, registrations, ends_here}
 use Rattle.call_model.specs.Answers.{first_answer, second_answer, first_entry, own_first, own_at}
-use Rattle.call_model.specs.Next.{IsLegal, Follows}
+use Rattle.call_model.specs.Next.{IsLegal, Follows, IsTimely}
 use Rattle.environment_step.proofs.Frame.{env_place, parked_elsewhere}
 use Rattle.call_model.proofs.AnswerValues.{plain, stripped, valued}
 use Rattle.environment_step.proofs.FirstValues.{ending_plain, accepted_plain}
@@ -228,5 +228,5 @@ unregistered config (entry ∷ h) e x l lt = go (concerns h e entry) refl (unreg
     at_end false c k = member_steps entry entry h g refl (generation_below config h e) (fresh config h (length h) l.0 (omega arith)) (legal_silent config h entry l.1) x ∙ ap (member_step entry entry (length h)) k ∙ blank_step config h entry e x l.0 l.1 c older
 
     go : (b : Bool) → concerns h e entry ≡ b → member h g x ≡ blank x → member (entry ∷ h) (if_concerned b (visit config h e entry)).generation x ≡ blank x
-    go false c k = (λ i. record { extension = x; next = parked_elsewhere config h entry e (TheExtension x.count) l.0 l.1 c i; told = told g x.count; again = asked_again g x.count; exited = exited g x.count }) ∙ k
+    go false c k = (λ i. record { extension = x; next = parked_elsewhere IsTimely config h entry e (TheExtension x.count) l.0 l.1 c i; told = told g x.count; again = asked_again g x.count; exited = exited g x.count }) ∙ k
     go true c k = at_end (ends_here (visit config h e entry)) c k

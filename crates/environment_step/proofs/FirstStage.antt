@@ -13,7 +13,7 @@ use Rattle.call_model.specs.Table.{own_answer, closes}
 use Rattle.call_model.specs.Polls.{by_role}
 use Rattle.call_model.specs.Life.{stand, concerns, names, first_part, life, seen}
 use Rattle.call_model.specs.Answers.{first_answer, home, answer_at, first_entry}
-use Rattle.call_model.specs.Next.{Follows, IsLegal}
+use Rattle.call_model.specs.Next.{Follows, IsLegal, IsTimely}
 use Rattle.environment_step.specs.After.{left, poll_gets, actor_gets, step_at, member_first, runtime_first, member_gets, members_first, fresh_members}
 use Rattle.call_model.proofs.Pairs.{eqb-other}
 use Rattle.call_model.proofs.Scans.{still, asked, member_steps, parked_step, IsSilent, generation_below, last_below, member_step}
@@ -126,7 +126,7 @@ pub member_actor : (config : Config) (h : List Entry) (e : ℕ) (x : Extension) 
 member_actor config h e x l i = record {
   poll = refl;
   below = λ t q. last_below (length h) g (TheExtension x.count) (generation_below config h e) t (parked_last h g (TheExtension x.count) t q);
-  here = λ t q. poll_home config h t e l (last_here e h g (TheExtension x.count) t (generation_here config h e l) (generation_part config h e) (parked_last h g (TheExtension x.count) t q));
+  here = λ t q. poll_home IsTimely config h t e l (last_here e h g (TheExtension x.count) t (generation_here IsTimely config h e l) (generation_part config h e) (parked_last h g (TheExtension x.count) t q));
   role_is = λ t q. role_member config h e t x l i q;
 }
   where
@@ -137,7 +137,7 @@ pub runtime_actor : (config : Config) (h : List Entry) (e : ℕ) → IsLegal con
 runtime_actor config h e l = record {
   poll = refl;
   below = λ t q. last_below (length h) g TheRuntime (generation_below config h e) t (parked_last h g TheRuntime t q);
-  here = λ t q. poll_home config h t e l (last_here e h g TheRuntime t (generation_here config h e l) (generation_part config h e) (parked_last h g TheRuntime t q));
+  here = λ t q. poll_home IsTimely config h t e l (last_here e h g TheRuntime t (generation_here IsTimely config h e l) (generation_part config h e) (parked_last h g TheRuntime t q));
   role_is = λ t q. role_runtime config h e t l q;
 }
   where

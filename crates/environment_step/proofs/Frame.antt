@@ -16,11 +16,11 @@ use Rattle.call_model.specs.Table.{is_registered}
 use Rattle.call_model.specs.Life.{life, lived, after, phase, stand, seen, concerns, names, request_at, registrations, events, events_in, is_event, ends_here}
 use Rattle.call_model.specs.Limits.{place_for}
 use Rattle.call_model.specs.Answers.{home}
-use Rattle.call_model.specs.Next.{IsLegal, Follows}
+use Rattle.call_model.specs.Next.{IsLegalBy, FollowsBy, Rule}
 use Rattle.call_model.proofs.Pairs.{eqb-other}
 use Rattle.call_model.proofs.Once.{pending_cons, answers_past}
 use Rattle.call_model.proofs.Scans.{generation_below, last_below}
-use Rattle.call_model.proofs.AtHand.{IsHeld, held}
+use Rattle.call_model.proofs.AtHand.{IsHeld, held_by}
 use Rattle.call_model.proofs.BoundWaits.{IsPart, generation_part}
 use Rattle.call_model.proofs.Basics.{eqb-self, number_some, map_same, some-none, and_false}
 use Rattle.call_model.proofs.Elsewhere.{life_elsewhere, elsewhere}
@@ -38,10 +38,10 @@ poll_named (ExtNext e x) d q = q
 poll_named call d q = absurd (some-none (sym q))
 
 -- the environment of a poll
-pub poll_home : (config : Config) (h : List Entry) (t d : ℕ) → IsLegal config h → poll_env (call_of h t) ≡ Some d → home h t ≡ Some d
-poll_home config h t d l q = rw (placed h l q, poll_named (call_of h t) d q) refl
+pub poll_home : (rule : Rule) (config : Config) (h : List Entry) (t d : ℕ) → IsLegalBy rule config h → poll_env (call_of h t) ≡ Some d → home h t ≡ Some d
+poll_home rule config h t d l q = rw (placed h l q, poll_named (call_of h t) d q) refl
   where
-    placed : (h : List Entry) → IsLegal config h → poll_env (call_of h t) ≡ Some d → place_of h t ≡ None
+    placed : (h : List Entry) → IsLegalBy rule config h → poll_env (call_of h t) ≡ Some d → place_of h t ≡ None
     placed [] l q = refl
     placed (entry ∷ h) l q = go (t == length h) (placed h l.0) q
       where
@@ -50,8 +50,8 @@ poll_home config h t d l q = rw (placed h l q, poll_named (call_of h t) d q) ref
         go false ih r = ih r
 
 -- an entry that doesn't concern an environment answers none of its tickets
-pub quiet_here : (config : Config) (h : List Entry) (entry : Entry) (e t : ℕ) → Follows config h entry → concerns h e entry ≡ false → t < length h → home h t ≡ Some e → answer_in entry.answers t ≡ None
-quiet_here config h entry e t w c lt at = rw (w.answers) (elsewhere config h entry.moment entry.call t e lt at (ap (λ (o : Option ℕ). is_number o e || names h e entry.call) (sym (w.place)) ∙ c))
+pub quiet_here : (rule : Rule) (config : Config) (h : List Entry) (entry : Entry) (e t : ℕ) → FollowsBy rule config h entry → concerns h e entry ≡ false → t < length h → home h t ≡ Some e → answer_in entry.answers t ≡ None
+quiet_here rule config h entry e t w c lt at = rw (w.answers) (elsewhere config h entry.moment entry.call t e lt at (ap (λ (o : Option ℕ). is_number o e || names h e entry.call) (sym (w.place)) ∙ c))
 
 -- the polls of a generation are those of its environment
 abbrev pub AreHere : ℕ → Generation → Type 0
@@ -63,10 +63,10 @@ poll_names h (RuntimeNext b) e d q n = let same : b ≡ d = cc in sym same ∙ e
 poll_names h (ExtNext b x) e d q n = let same : b ≡ d = cc in sym same ∙ eqb-true b e n
 poll_names h call e d q n = absurd (some-none (sym q))
 
-pub generation_here : (config : Config) (h : List Entry) (e : ℕ) → IsLegal config h → AreHere e (life config h e).generation
+pub generation_here : (rule : Rule) (config : Config) (h : List Entry) (e : ℕ) → IsLegalBy rule config h → AreHere e (life config h e).generation
 unfolding life lived after
-generation_here config [] e l = tt
-generation_here config (entry ∷ h) e l = go (concerns h e entry) refl (generation_here config h e l.0)
+generation_here rule config [] e l = tt
+generation_here rule config (entry ∷ h) e l = go (concerns h e entry) refl (generation_here rule config h e l.0)
   where
     no_place : (d : ℕ) → poll_env entry.call ≡ Some d → is_number entry.place e ≡ false
     no_place d q = ap (λ (o : Option ℕ). is_number o e) (l.1.place ∙ poll_place config h entry.call d q)
@@ -98,9 +98,9 @@ last_here e h (taken ∷ g) actor t a p q = go (asks actor taken.1.call) refl (l
     go false k ih r = ih r
 
 -- the pending Next of an actor of an environment that the entry doesn't concern
-pub parked_elsewhere : (config : Config) (h : List Entry) (entry : Entry) (e : ℕ) (actor : Actor) → IsLegal config h → Follows config h entry → concerns h e entry ≡ false
+pub parked_elsewhere : (rule : Rule) (config : Config) (h : List Entry) (entry : Entry) (e : ℕ) (actor : Actor) → IsLegalBy rule config h → FollowsBy rule config h entry → concerns h e entry ≡ false
     → parked (entry ∷ h) (life config h e).generation actor ≡ parked h (life config h e).generation actor
-parked_elsewhere config h entry e actor l w c = go (last_next (life config h e).generation actor) refl
+parked_elsewhere rule config h entry e actor l w c = go (last_next (life config h e).generation actor) refl
   where
     g : Generation
     g = (life config h e).generation
@@ -113,34 +113,34 @@ parked_elsewhere config h entry e actor l w c = go (last_next (life config h e).
         below = last_below (length h) g actor (generation_below config h e) t q
 
         none : answer_in entry.answers t ≡ None
-        none = quiet_here config h entry e t w c below (poll_home config h t e l (last_here e h g actor t (generation_here config h e l) (generation_part config h e) q))
+        none = quiet_here rule config h entry e t w c below (poll_home rule config h t e l (last_here e h g actor t (generation_here rule config h e l) (generation_part config h e) q))
 
         both : (b : Bool) → (b && is_none (answer_in entry.answers t)) ≡ b
         both true = ap is_none none
         both false = refl
 
-members_elsewhere : (config : Config) (h : List Entry) (entry : Entry) (e : ℕ) → IsLegal config h → Follows config h entry → concerns h e entry ≡ false
+members_elsewhere : (rule : Rule) (config : Config) (h : List Entry) (entry : Entry) (e : ℕ) → IsLegalBy rule config h → FollowsBy rule config h entry → concerns h e entry ≡ false
     → members (entry ∷ h) (life config h e).generation ≡ members h (life config h e).generation
 unfolding members
-members_elsewhere config h entry e l w c = map_same (member (entry ∷ h) g) (member h g) each (extensions g)
+members_elsewhere rule config h entry e l w c = map_same (member (entry ∷ h) g) (member h g) each (extensions g)
   where
     g : Generation
     g = (life config h e).generation
 
     each : (x : Extension) → member (entry ∷ h) g x ≡ member h g x
-    each x = λ i. record { extension = x; next = parked_elsewhere config h entry e (TheExtension x.count) l w c i; told = told g x.count; again = asked_again g x.count; exited = exited g x.count }
+    each x = λ i. record { extension = x; next = parked_elsewhere rule config h entry e (TheExtension x.count) l w c i; told = told g x.count; again = asked_again g x.count; exited = exited g x.count }
 
 -- the request count of what is at hand
-request_elsewhere : (config : Config) (h : List Entry) (entry : Entry) (e : ℕ) → IsLegal config h → Follows config h entry → concerns h e entry ≡ false
+request_elsewhere : (rule : Rule) (config : Config) (h : List Entry) (entry : Entry) (e : ℕ) → IsLegalBy rule config h → FollowsBy rule config h entry → concerns h e entry ≡ false
     → request_at config (entry ∷ h) e (at_hand (phase config h e)) ≡ request_at config h e (at_hand (phase config h e))
-request_elsewhere config h entry e l w c = go (at_hand (phase config h e)) refl
+request_elsewhere rule config h entry e l w c = go (at_hand (phase config h e)) refl
   where
     go : (o : Option ℕ) → at_hand (phase config h e) ≡ o → request_at config (entry ∷ h) e o ≡ request_at config h e o
     go None q = refl
     go (Some p) q = rw (same_pending, same_upto) refl
       where
         k : IsHeld h e p
-        k = held config h e p l q
+        k = held_by rule config h e p l q
 
         at : home h p ≡ Some e
         at = placed (place_of h p) (k.placed)
@@ -155,7 +155,7 @@ request_elsewhere config h entry e l w c = go (at_hand (phase config h e)) refl
         both b (Some a) r = absurd (some-none r)
 
         same_pending : pending (entry ∷ h) p ≡ pending h p
-        same_pending = pending_cons entry h p (let lt : p < length h = k.older in omega (arith, lt)) ∙ both (pending h p) (answer_in entry.answers p) (quiet_here config h entry e p w c (k.older) at)
+        same_pending = pending_cons entry h p (let lt : p < length h = k.older in omega (arith, lt)) ∙ both (pending h p) (answer_in entry.answers p) (quiet_here rule config h entry e p w c (k.older) at)
 
         same_upto : upto (entry ∷ h) p ≡ upto h p
         same_upto = let yes : ltb p (length h) ≡ true = grind (arith, nat_tests, k.older) in rw yes refl
@@ -189,10 +189,10 @@ env_place config h (Invoke f qualified trace body) d q = absurd (some-none (sym 
 env_place config h call d q = refl
 
 -- the environment of a call that names one
-pub env_home : (config : Config) (h : List Entry) (t d : ℕ) → IsLegal config h → env_of (call_of h t) ≡ Some d → home h t ≡ Some d
-env_home config h t d l q = rw (placed h l q, q) refl
+pub env_home : (rule : Rule) (config : Config) (h : List Entry) (t d : ℕ) → IsLegalBy rule config h → env_of (call_of h t) ≡ Some d → home h t ≡ Some d
+env_home rule config h t d l q = rw (placed h l q, q) refl
   where
-    placed : (h : List Entry) → IsLegal config h → env_of (call_of h t) ≡ Some d → place_of h t ≡ None
+    placed : (h : List Entry) → IsLegalBy rule config h → env_of (call_of h t) ≡ Some d → place_of h t ≡ None
     placed [] l q = refl
     placed (entry ∷ h) l q = go (t == length h) (placed h l.0) q
       where
@@ -201,12 +201,12 @@ env_home config h t d l q = rw (placed h l q, q) refl
         go false ih r = ih r
 
 -- no event is told at an environment that the entry doesn't concern
-events_elsewhere : (config : Config) (h : List Entry) (entry : Entry) (e : ℕ) → IsLegal config h → Follows config h entry → concerns h e entry ≡ false → events_in (entry ∷ h) e entry.answers ≡ 0
-events_elsewhere config h entry e l w c = uncounted (λ a. is_event a.1 && is_number (env_of (call_of (entry ∷ h) a.0)) e) entry.answers each
+events_elsewhere : (rule : Rule) (config : Config) (h : List Entry) (entry : Entry) (e : ℕ) → IsLegalBy rule config h → FollowsBy rule config h entry → concerns h e entry ≡ false → events_in (entry ∷ h) e entry.answers ≡ 0
+events_elsewhere rule config h entry e l w c = uncounted (λ a. is_event a.1 && is_number (env_of (call_of (entry ∷ h) a.0)) e) entry.answers each
   where
     older : (t : ℕ) (b : Bool) → is_number (env_of (call_of h t)) e ≡ b → t < length h → is_some (answer_in entry.answers t) ≡ true → b ≡ false
     older t false q lt r = refl
-    older t true q lt r = absurd (true≢false (sym r ∙ ap is_some (quiet_here config h entry e t w c lt (env_home config h t e l (number_some (env_of (call_of h t)) e q)))))
+    older t true q lt r = absurd (true≢false (sym r ∙ ap is_some (quiet_here rule config h entry e t w c lt (env_home rule config h t e l (number_some (env_of (call_of h t)) e q)))))
 
     at : (t : ℕ) → is_some (answer_in entry.answers t) ≡ true → is_number (env_of (call_of (entry ∷ h) t)) e ≡ false
     at t r = elim (cases_lt t (length h)) [
@@ -227,16 +227,16 @@ registrations_elsewhere h entry e c = sum_by-cons (λ (taken : ℕ × Entry). co
     no = not_named h entry.call e ((or_parts (is_number entry.place e) (names h e entry.call) c).1)
 
 -- An entry that doesn't concern an environment leaves its stand.
-pub stand_elsewhere : (config : Config) (h : List Entry) (entry : Entry) (e : ℕ) → IsLegal config h → Follows config h entry → concerns h e entry ≡ false → stand config (entry ∷ h) e ≡ stand config h e
+pub stand_elsewhere : (rule : Rule) (config : Config) (h : List Entry) (entry : Entry) (e : ℕ) → IsLegalBy rule config h → FollowsBy rule config h entry → concerns h e entry ≡ false → stand config (entry ∷ h) e ≡ stand config h e
 unfolding seen
-stand_elsewhere config h entry e l w c = ap (seen config (entry ∷ h) e) (life_elsewhere config h entry e c) ∙ (λ i. record {
+stand_elsewhere rule config h entry e l w c = ap (seen config (entry ∷ h) e) (life_elsewhere config h entry e c) ∙ (λ i. record {
   phase = phase config h e;
-  runtime = parked_elsewhere config h entry e TheRuntime l w c i;
-  members = members_elsewhere config h entry e l w c i;
-  request = request_elsewhere config h entry e l w c i;
+  runtime = parked_elsewhere rule config h entry e TheRuntime l w c i;
+  members = members_elsewhere rule config h entry e l w c i;
+  request = request_elsewhere rule config h entry e l w c i;
   stopped = no_stop i || stopped h;
   registrations = registrations_elsewhere h entry e c i;
-  events = (events_elsewhere config h entry e l w c i) + events h e;
+  events = (events_elsewhere rule config h entry e l w c i) + events h e;
 }) ∙ (λ i. record (seen config h e (life config h e)) { events = zero_left (events h e) i })
   where
     no_stop : is_stop entry.call ≡ false

@@ -13,7 +13,7 @@ use Rattle.call_model.specs.Polls.{begun, delivered}
 use Rattle.call_model.specs.Life.{life, lived, after, phase, stand, seen, concerns, names, first_part, limit_of, registrations, events, request_at, ends_here}
 use Rattle.call_model.specs.Limits.{place_for}
 use Rattle.call_model.specs.Answers.{first_answer, second_answer, second_at, first_entry, home}
-use Rattle.call_model.specs.Next.{IsLegal, Follows}
+use Rattle.call_model.specs.Next.{IsLegal, Follows, IsTimely}
 use Rattle.environment_step.specs.After.{fixed_of, step_at, count_at, first_stand, expires_now, closing_ends, cell_at, left, Step, stand_after, finished, turned, restarted, settled_stand, settled_phase, member_second, if_held, runtime_first, members_first, with_events}
 use Rattle.call_model.proofs.Scans.{IsSilent, legal_silent, last_below, generation_below}
 use Rattle.environment_step.proofs.Frame.{AreHere, poll_home, generation_here, last_here}
@@ -115,7 +115,7 @@ second_value config h entry e actor r t l w c gen q at =
 
     here : home (first ∷ h) t ≡ Some e
     here = ap (λ (o : Option ℕ). home (record { moment = entry.moment; call = entry.call; answers = []; place = o } ∷ h) t) (sym (w.place))
-        ∙ poll_home config (entry ∷ h) t e (l, w) (last_here e (entry ∷ h) G actor t (subst (λ (g : Generation). AreHere e g) gen (generation_here config (entry ∷ h) e (l, w))) (subst (λ (g : Generation). IsPart (entry ∷ h) g) gen (generation_part config (entry ∷ h) e)) q)
+        ∙ poll_home IsTimely config (entry ∷ h) t e (l, w) (last_here e (entry ∷ h) G actor t (subst (λ (g : Generation). AreHere e g) gen (generation_here IsTimely config (entry ∷ h) e (l, w))) (subst (λ (g : Generation). IsPart (entry ∷ h) g) gen (generation_part config (entry ∷ h) e)) q)
 
 -- the entry's generation where none begins anew: the polls of the history with the first answers
 abbrev pub with_first : Config → List Entry → Entry → ℕ → Generation

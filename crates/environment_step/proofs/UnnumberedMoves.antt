@@ -12,7 +12,7 @@ use Rattle.call_model.specs.Polls.{begun, delivered}
 use Rattle.call_model.specs.Life.{life, phase, stand, concerns, registrations, seen}
 use Rattle.call_model.specs.Limits.{place_for}
 use Rattle.call_model.specs.Answers.{first_answer, first_entry, second_answer, second_at, home}
-use Rattle.call_model.specs.Next.{IsLegal, Follows}
+use Rattle.call_model.specs.Next.{IsLegal, Follows, IsTimely}
 use Rattle.environment_step.specs.After.{turned, first_stand, fixed_of, step_at, count_at, expires_now, give, give_each, served_moves, turned_moves, first_moves}
 use Rattle.call_model.proofs.Scans.{IsBelow, generation_below, last_below}
 use Rattle.call_model.proofs.AtHand.{held}
@@ -50,7 +50,7 @@ pub is_early : (config : Config) (h : List Entry) (entry : Entry) (e : ℕ) (x :
 is_early config h entry e x l w c q = record {
   generation = stays;
   part = part;
-  here = subst (AreHere e) old (generation_here config (entry ∷ h) e (l, w));
+  here = subst (AreHere e) old (generation_here IsTimely config (entry ∷ h) e (l, w));
   order = orderly (early_history config h entry) (with_first config h entry e) _ (at_hand (phase config (early_history config h entry) e)) part under (λ t k. (held config (entry ∷ h) e t (l, w) (ap at_hand (sym same) ∙ k)).invoke);
 }
   where
@@ -208,7 +208,7 @@ turned_moved config h entry e l w c = subst moved (sym (turned_served (fixed_of 
         low actor t p = last_below (suc (length h)) gF actor (subst (IsBelow (suc (length h))) (k.generation) (generation_below config hF e)) t (parked_last hF gF actor t p)
 
         comes : (actor : Actor) (t : ℕ) → parked hF gF actor ≡ Some t → is_here (entry ∷ h) e t ≡ true
-        comes actor t p = ap (λ (o : Option ℕ). is_number o e) (poll_home config (entry ∷ h) t e (l, w) (last_here e hF gF actor t (k.here) (k.part) (parked_last hF gF actor t p))) ∙ eqb-self e
+        comes actor t p = ap (λ (o : Option ℕ). is_number o e) (poll_home IsTimely config (entry ∷ h) t e (l, w) (last_here e hF gF actor t (k.here) (k.part) (parked_last hF gF actor t p))) ∙ eqb-self e
 
         made : IsServed D r0 xs0 M (give_each (λ y. D (ExtensionPoll y)) xs0 (give r0 (D RuntimePoll) M)) → moved (give_each (λ y. D (ExtensionPoll y)) xs0 (give r0 (D RuntimePoll) M))
         made v = record {
