@@ -11,8 +11,7 @@ use Rattle.call_types.specs.declared.call.Entry.{Entry}
 use Rattle.environment_step.specs.After.{fixed_of, step_at, count_at}
 use Rattle.call_model.specs.History.{is_stop}
 use Rattle.call_model.specs.Life.{stand, concerns}
-use Rattle.call_model.specs.Next.{IsLegal, Follows, IsTimely, IsFirst, added, next, due, expiries, entry_of, moment_at}
-use Rattle.call_model.specs.Next.{first}
+use Rattle.call_model.specs.Next.{IsLegal, Follows, IsTimely, added, next, due, expiries, entry_of, moment_at}
 use Rattle.call_model.proofs.Added.{added_length}
 use Rattle.environment_step.proofs.Frame.{stand_elsewhere}
 use Rattle.call_model.proofs.NextLegal.{legal_next}
@@ -23,7 +22,8 @@ use Rattle.call_types.specs.Within.{IsWithin}
 use Rattle.account_book.specs.declared.reach.Reach.{Reach}
 use Rattle.account_book.specs.declared.reach.Reach.TheVariants.{Nowhere, At, Everywhere}
 use Rattle.account_book.specs.declared.site.Site.{Site}
-use Rattle.account_book.specs.Answering.{IsNarrow, answers_in, most_answers, most_of_one}
+use Rattle.account_book.specs.Answering.{answers_in, most_answers, most_of_one}
+use Rattle.account_book.specs.Room.{IsNarrow}
 use Rattle.account_book.specs.Fleets.{no_site, moves_at}
 use Rattle.account_book.specs.Reaches.{reach, book_answer, with_own, homed}
 use Rattle.account_book.specs.Taking.{site, sites, request_counts, IsKnown, AllKnown}
@@ -88,10 +88,6 @@ few_in_entry config h entry widest l w k known narrow =
           sites_length config h,
         ))
 
-first_due : (xs : List ℕ) (e : ℕ) → IsFirst e xs → first xs ≡ Some e
-first_due [] e f = absurd f
-first_due (x ∷ xs) e f = ap (λ (d : ℕ). Some d) (sym f)
-
 -- expiries are of environments that there are, and each has as many answers as there is room for
 record IsPast (config : Config) (es h : List Entry) (widest : ℕ) : Type 0 where
   few : answers_in es ≤ length es * (most_of_one widest + 1)
@@ -109,7 +105,7 @@ past_expiries config (entry ∷ es) h widest x l k narrow = go (past_expiries co
     timely = subst (λ (c : Call). IsTimely entry.moment c (due config (es ++ h) entry.moment)) x.0.1 l.1.timely
 
     there : IsKnown config (Expire env)
-    there = due_within config (es ++ h) entry.moment env (first_due (due config (es ++ h) entry.moment) env timely)
+    there = due_within config (es ++ h) entry.moment env timely
 
     known : IsKnown config entry.call
     known = subst (IsKnown config) (sym x.0.1) there

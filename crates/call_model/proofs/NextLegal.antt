@@ -19,7 +19,7 @@ use Rattle.call_model.specs.Laws.{is_due}
 use Rattle.call_model.specs.Life.{Lifecycle, phase, stand, seen, limit_of}
 use Rattle.call_model.specs.Answers.{answers}
 use Rattle.std.proofs.lemmas.List.{append_assoc}
-use Rattle.call_model.specs.Next.{entry_of, expiries, expiries_at, added, moment_at, due, due_at, deadline_of, by_deadline, entered, next, last_moment, IsLegal, Follows, IsTimely, IsFirst}
+use Rattle.call_model.specs.Next.{entry_of, expiries, expiries_at, added, moment_at, due, due_at, deadline_of, by_deadline, entered, next, last_moment, IsLegal, Follows, IsTimely, first}
 use Rattle.call_model.proofs.Pairs.{eqb-other}
 use Rattle.call_model.proofs.Once.{fresh}
 use Rattle.call_model.proofs.Scans.{legal_silent}
@@ -159,7 +159,7 @@ rest_due config h m e rest l w q =
 
 -- The expiry of the first that is due keeps the history legal,
 pub legal_expiry : (config : Config) (h : List Entry) (m e : ℕ) (rest : List ℕ) → IsLegal config h → last_moment h ≤ m → due config h m ≡ e ∷ rest → IsLegal config (entered config h m (Expire e))
-legal_expiry config h m e rest l le q = (l, record { later = le; timely = subst (λ (es : List ℕ). IsFirst e es) (sym q) refl; answers = refl; place = refl })
+legal_expiry config h m e rest l le q = (l, record { later = le; timely = ap first q; answers = refl; place = refl })
 
 -- and then the rest is due.
 pub due_after_expiry : (config : Config) (h : List Entry) (m e : ℕ) (rest : List ℕ) → IsLegal config h → last_moment h ≤ m → due config h m ≡ e ∷ rest → due config (entered config h m (Expire e)) m ≡ rest

@@ -15,7 +15,7 @@ use Rattle.call_model.specs.Life.{Lifecycle, life, phase, seen, lived, after, ph
 use Rattle.call_model.specs.Limits.{place_for}
 use Rattle.arn_ids.specs.Environments.{environments, function_at}
 use Rattle.call_types.specs.declared.answer.Phase.TheVariants.{Starting, Off}
-use Rattle.call_model.specs.Next.{due, due_at, deadline_of, by_deadline, IsFirst, IsTimely, last_moment, IsLegal, FollowsBy}
+use Rattle.call_model.specs.Next.{due, due_at, deadline_of, by_deadline, first, IsTimely, last_moment, IsLegal, FollowsBy}
 use Rattle.call_model.specs.Isolation.{IsUnnamed, IsTimelySave, IsLegalSave}
 use Rattle.call_model.proofs.OwnVerdict.{own_verdict}
 use Rattle.call_model.proofs.OwnAnswers.{own_answers, tick_answers, own_place_for}
@@ -175,13 +175,13 @@ own_timely config h f m call l w t = subst (IsTimelySave m call) (sym (own_due c
     none [] q = refl
     none (a ∷ rest) q = absurd (cc)
 
-    first : (e : ℕ) → (function_of config e == f) ≡ true → (xs : List (ℕ × ℕ)) → IsFirst e (map (λ a. a.1) xs) → IsFirst e (map (λ a. a.1) (filter (of_f config f) xs))
-    first e q [] k = k
-    first e q (a ∷ rest) k = rw (ap (λ (n : ℕ). function_of config n == f) (sym k) ∙ q) k
+    first_own : (e : ℕ) → (function_of config e == f) ≡ true → (xs : List (ℕ × ℕ)) → first (map (λ a. a.1) xs) ≡ Some e → first (map (λ a. a.1) (filter (of_f config f) xs)) ≡ Some e
+    first_own e q [] k = k
+    first_own e q (a ∷ rest) k = let same : a.1 ≡ e = cc in rw (ap (λ (n : ℕ). function_of config n == f) same ∙ q) k
 
     go : (call : Call) → is_own config h f call ≡ true → (xs : List (ℕ × ℕ)) → IsTimely m call (map (λ a. a.1) xs) → IsTimelySave m call (map (λ a. a.1) (filter (of_f config f) xs))
     go Tick q xs k = tt
-    go (Expire e) q xs k = first e q xs k
+    go (Expire e) q xs k = first_own e q xs k
     go call q xs k = none xs k
 
 own_moment : (config : Config) (h : List Entry) (f : ℕ) → last_moment (own config h f) ≡ last_moment h

@@ -21,7 +21,7 @@ use Rattle.call_model.specs.Next.{deadline_of}
 -- The number of charged invocations that are placed in environment e.
 abbrev pub charged_in : Config → List Entry → ℕ → ℕ
 charged_in config h e =
-    count_by (λ taken. is_number taken.1.place e && charged config h taken.0 taken.1) (with_tickets h)
+    count_by (λ taken. is_number taken.1.place e && charged config h taken.0 taken.1.place) (with_tickets h)
 
 -- Whether an environment in this phase is taken: it is Busy, or an invocation is bound to it.
 abbrev pub is_taken : Phase → Bool

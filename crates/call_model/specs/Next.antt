@@ -54,15 +54,10 @@ abbrev pub first : {A : Type 0} → List A → Option A
 first [] = None
 first (x ∷ xs) = Some x
 
--- A number is the first of a list.
-abbrev pub IsFirst : ℕ → List ℕ → Type 0
-IsFirst e [] = ⊥
-IsFirst e (d ∷ rest) = e ≡ d
-
 -- A call is taken in its turn: an environment expires only if it is the first of those that are due, and any other call
 -- is taken only if nothing is due.
 abbrev pub IsTimely : ℕ → Call → List ℕ → Type 0
-IsTimely m (Expire e) due = IsFirst e due
+IsTimely m (Expire e) due = first due ≡ Some e
 IsTimely m _ due = due ≡ []
 
 -- A rule says which calls may be taken at a moment, given what is due: `IsTimely`, or what the laws of isolation allow

@@ -9,12 +9,13 @@ use Rattle.call_types.specs.declared.call.Entry.{Entry}
 use Rattle.call_types.specs.declared.stats.Stats.{Stats}
 use Rattle.call_model.specs.Counts.{stats}
 use Rattle.call_model.specs.Laws.{admits}
-use Rattle.call_model.specs.Life.{concerns, names}
+use Rattle.call_model.specs.Life.{concerns, names, stand}
 use Rattle.call_model.specs.Limits.{place_for, reservation, verdict, Refuses}
-use Rattle.call_model.specs.Next.{Follows, IsLegal}
+use Rattle.call_model.specs.Next.{FollowsBy, IsLegal, IsLegalBy, Rule}
 use Rattle.call_model.specs.Stand.{is_number}
 use Rattle.call_model.proofs.AdmissionLimits.{within_reservation, within_remainder}
 use Rattle.call_model.proofs.NoLocalRefusal.{never_crowded}
+use Rattle.environment_step.proofs.Frame.{stand_elsewhere}
 use Rattle.headline.specs.Headline.{Headline, IsWithinLimits}
 use Rattle.headline.proofs.Fates.{one_fate}
 
@@ -41,8 +42,11 @@ pub never_local : (config : Config) (h : List Entry) (f limit : ℕ) → first_f
 never_local config h f limit sound l r v = never_crowded config h f limit l (λ n is. reserved_within config f n sound is) r v
 
 -- a Tick is placed nowhere and names no environment
-pub tick_elsewhere : (config : Config) (h : List Entry) (e : ℕ) (entry : Entry) → Follows config h entry → entry.call ≡ Tick → concerns h e entry ≡ false
-tick_elsewhere config h e entry l is = ap₂ (λ place call. is_number place e || names h e call) (l.place ∙ ap (place_for config h) is) is
+tick_elsewhere : (rule : Rule) (config : Config) (h : List Entry) (e : ℕ) (entry : Entry) → FollowsBy rule config h entry → entry.call ≡ Tick → concerns h e entry ≡ false
+tick_elsewhere rule config h e entry l is = ap₂ (λ place call. is_number place e || names h e call) (l.place ∙ ap (place_for config h) is) is
+
+pub tick_leaves : (rule : Rule) (config : Config) (h : List Entry) (entry : Entry) (e : ℕ) → IsLegalBy rule config (entry ∷ h) → entry.call ≡ Tick → stand config (entry ∷ h) e ≡ stand config h e
+tick_leaves rule config h entry e l is = stand_elsewhere rule config h entry e l.0 l.1 (tick_elsewhere rule config h e entry l.1 is)
 
 -- the same under another name of the configuration
 pub holds_as : (config other : Config) (h : List Entry) (told : Stats) → config ≡ other → IsLegal config h → told ≡ stats other h → Headline other h told

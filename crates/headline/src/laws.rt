@@ -18,9 +18,7 @@ ghost use Rattle.call_model.specs.Sample.{one};
 ghost use Rattle.account_book.specs.ReplyText.{reply_text};
 ghost use Rattle.account_lock.specs.Shown.{Sees};
 ghost use Rattle.headline.specs.Headline.{Headline, HasOneFate, IsWithinLimits};
-ghost use Rattle.headline.specs.Refused.{admitted, answered_twice, shut};
-
-use environment_step::laws::step;
+ghost use Rattle.headline.specs.Refused.{admitted, answered_twice, one_waits, shut, two_wait};
 
 /// The headline holds of every legal history, with its own counts.
 pub fn headline()
@@ -33,10 +31,13 @@ pub fn seen()
         → Headline config h (stats config h) }
 {}
 
-/// The headline can fail: an invocation that was answered twice has no fate, an admission beyond a
+/// The headline can hold and can fail. An invocation that waits in its environment has one fate; one that was
+/// answered twice has none, nor has one that waits beside another in one environment. An admission beyond a
 /// reservation is not within the limits, and only the history's own counts can be shown.
 pub fn refuses()
+    ensures waits { Headline one one_waits (stats one one_waits) × HasOneFate one one_waits 0 1 }
     ensures twice { HasOneFate one answered_twice 0 1 → ⊥ }
+    ensures alone { HasOneFate one two_wait 1 1 → ⊥ }
     ensures past { IsWithinLimits shut [] admitted 1 → ⊥ }
     ensures counts { (config : Config) (h : List Entry) (told : Stats) → Headline config h told
         → told ≡ stats config h }
@@ -65,9 +66,9 @@ pub fn isolated()
 /// A Tick leaves every environment as it is: each change that time brings is an expiry, with an entry of its
 /// own.
 pub fn ticks_change_nothing()
-    ensures { (config : Config) (h : List Entry) (entry : Entry) (e : ℕ) → IsLegal config (entry ∷ h)
-        → entry.call ≡ Tick
-        → stand config (entry ∷ h) e ≡ stand config h e }
-{
-    step();
-}
+    ensures legal { (config : Config) (h : List Entry) (entry : Entry) (e : ℕ) → IsLegal config (entry ∷ h)
+        → entry.call ≡ Tick → stand config (entry ∷ h) e ≡ stand config h e }
+    // Nor does a Tick change one in a function's own history.
+    ensures own { (config : Config) (h : List Entry) (entry : Entry) (e : ℕ) → IsLegalSave config (entry ∷ h)
+        → entry.call ≡ Tick → stand config (entry ∷ h) e ≡ stand config h e }
+{}

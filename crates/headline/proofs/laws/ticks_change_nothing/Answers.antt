@@ -1,5 +1,7 @@
-use Rattle.headline.proofs.Holding.{tick_elsewhere}
+use Rattle.call_model.specs.Isolation.{IsTimelySave}
+use Rattle.call_model.specs.Next.{IsTimely}
+use Rattle.headline.proofs.Holding.{tick_leaves}
 use Rattle.headline.proofs.laws.ticks_change_nothing.Goals as goal
 
 pub returns : goal.returns
-returns c = λ config h entry e l is. c.step.ensures.frame config h entry e l (tick_elsewhere config h e entry l.1 is)
+returns c = record { legal = tick_leaves IsTimely; own = tick_leaves IsTimelySave }
