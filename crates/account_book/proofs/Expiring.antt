@@ -13,7 +13,7 @@ use Rattle.call_model.specs.Next.{IsLegal, due, due_at, deadline_of, in_order, b
 use Rattle.call_model.specs.Next.{first}
 use Rattle.call_model.proofs.NextLegal.{due_after_expiry, expiries_on}
 use Rattle.call_types.specs.Within.{IsEnv}
-use Rattle.account_book.specs.Answering.{IsRoom, first_or_0}
+use Rattle.account_book.specs.Room.{IsRoom, first_or_0}
 use Rattle.account_book.specs.Pages.{Pages}
 
 -- every environment that is due is one that there is

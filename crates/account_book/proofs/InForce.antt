@@ -20,7 +20,7 @@ use Rattle.concurrency_pool.specs.Meets.{numbers, usage, by_reserve}
 use Rattle.concurrency_pool.specs.Numbers.{Numbers}
 use Rattle.concurrency_pool.specs.Pools.{may_reserve, with_reserved}
 use Rattle.concurrency_pool.proofs.History as pool
-use Rattle.account_book.specs.Answering.{in_force, IsInOrder, IsAllowed}
+use Rattle.account_book.specs.Reserving.{in_force, IsInOrder, IsAllowed}
 use Rattle.account_book.specs.declared.site.Site.{Site}
 use Rattle.account_book.specs.Fleets.{flown, serves_function}
 use Rattle.account_book.specs.Reaches.{book_answer}

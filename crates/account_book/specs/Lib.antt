@@ -13,6 +13,8 @@ pub mod Premature
 pub mod Answering
 -- What the code keeps beside the history, and how it agrees with it. These modules need not be trusted: private
 -- contracts and the invariants of types use them, and no public contract does.
+-- The reservations that a call leaves in force.
+pub mod Reserving
 -- The environments, those that a call reaches, and what it changes there.
 pub mod Taking
 pub mod Arriving

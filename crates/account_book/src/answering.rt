@@ -5,7 +5,7 @@ ghost use Rattle.call_model.specs.Answers.{answers as answers_to};
 ghost use Rattle.call_model.specs.Next.{entry_of, entered};
 ghost use Rattle.concurrency_pool.specs.Meets.{numbers};
 ghost use Rattle.call_model.specs.CallCounts.{request_count};
-ghost use Rattle.account_book.specs.Answering.{in_force, IsInOrder};
+ghost use Rattle.account_book.specs.Reserving.{in_force, IsInOrder};
 ghost use Rattle.account_book.specs.Arriving.{IsArriving, IsMoved};
 ghost use Rattle.account_book.specs.Fleets.{flown};
 ghost use Rattle.account_book.specs.Reaches.{book_answer, homed};

@@ -18,7 +18,8 @@ ghost use Rattle.call_model.specs.Next.{IsLegal, Follows, entry_of, entered, due
 ghost use Rattle.env_phase.specs.Taking.{registered_name, is_off};
 ghost use Rattle.call_model.specs.CallCounts.{call_counts};
 ghost use Rattle.call_types.specs.Within.{IsWithin};
-ghost use Rattle.account_book.specs.Answering.{most_answers, first_or_0, IsRoom, IsNarrow};
+ghost use Rattle.account_book.specs.Answering.{most_answers};
+ghost use Rattle.account_book.specs.Room.{first_or_0, IsRoom, IsNarrow};
 ghost use Rattle.account_book.specs.Premature.{awaits};
 ghost use Rattle.account_book.specs.Reaches.{book_answer};
 ghost use Rattle.account_book.specs.Taking.{IsKnown, AllKnown};

@@ -1,5 +1,5 @@
 -- An environment meets its stand: what its words say of the definitions.
-use Rattle.std.proofs.Common.{◌≡◌, ℕ, suc, ◌+◌, ◌≤◌, Bool, true, false, not, ◌&&◌, ◌||◌, List, [], ◌∷◌, length, Option, Some, None, inl, inr, sym, refl, ap, ◌∙◌, arith, subst, true≢false, if◌then◌else◌}
+use Rattle.std.proofs.Common.{◌≡◌, ◌*◌, ℕ, suc, ◌+◌, ◌≤◌, Bool, true, false, not, ◌&&◌, ◌||◌, List, [], ◌∷◌, length, Option, Some, None, inl, inr, sym, refl, ap, ◌∙◌, arith, subst, true≢false, if◌then◌else◌}
 use Rattle.std.proofs.lemmas.Bool.{cases_lt}
 use Rattle.arn_ids.specs.declared.config.Config.{Config}
 use Rattle.arn_ids.specs.Environments.{function_at, function_of, owners}
@@ -32,6 +32,9 @@ use Rattle.env_phase.proofs.Waiting.{few_tickets, moves_in, rising_few, tickets}
 pub opens : (config : Config) (e : ℕ) → 1 ≤ e → e ≤ length (owners config) → opened (function_at config (function_of config e)) ≡ record { fixed = fixed_of config e; stand = stand config [] e }
 unfolding seen life members
 opens config e low high = rw (sym (owner_is_function config e low high).2) refl
+
+pub few_events : (config : Config) (h : List Entry) (e : ℕ) → IsLegal config h → (stand config h e).events ≤ 24 * length h
+few_events config h e l = (little config h e l).events
 
 pub ten_members : (config : Config) (h : List Entry) (e : ℕ) → IsLegal config h → length (stand config h e).members ≤ 10
 ten_members config h e l = (little config h e l).ten

@@ -1,6 +1,6 @@
 //! The laws of an environment over every legal history. The function does nothing; its clauses are the laws.
 
-ghost use Rattle.std.specs.Prelude.{◌≡◌, ◌+◌, ◌≤◌, ℕ, true, List, [], ◌∷◌, length, not, ◌&&◌};
+ghost use Rattle.std.specs.Prelude.{◌≡◌, ◌+◌, ◌*◌, ◌≤◌, ℕ, true, List, [], ◌∷◌, length, not, ◌&&◌};
 ghost use Rattle.arn_ids.specs.declared.config.Config.{Config};
 ghost use Rattle.arn_ids.specs.Environments.{owners, function_of, function_at};
 ghost use Rattle.call_types.specs.declared.call.Entry.{Entry};
@@ -43,4 +43,7 @@ pub fn meets()
     // and so 13 answers.
     ensures few { (config : Config) (h : List Entry) (entry : Entry) (e : ℕ) → IsLegal config (entry ∷ h)
         → length (answers_there h entry e) ≤ 13 }
+    // Each entry adds at most 24 events to the number that an environment has told.
+    ensures events { (config : Config) (h : List Entry) (e : ℕ) → IsLegal config h
+        → (stand config h e).events ≤ 24 * length h }
 {}

@@ -2,7 +2,7 @@ use Rattle.std.proofs.Common.{sym, ap, ap₂, ◌∙◌, reverse, length, List, 
 use Rattle.std.proofs.lemmas.List.{length-reverse}
 use Rattle.call_model.specs.Next.{entry_of}
 use Rattle.call_types.specs.declared.answer.Answer.{Answer}
-use Rattle.account_book.specs.Answering.{in_force}
+use Rattle.account_book.specs.Reserving.{in_force}
 use Rattle.account_book.specs.Crew.{Crew}
 use Rattle.account_book.specs.Fleets.{flown}
 use Rattle.account_book.specs.Reaches.{with_own, homed}

@@ -1,6 +1,6 @@
 use Rattle.std.proofs.Common.{◌≡◌, suc, length, All, sym, ◌∷◌, [], ap, ◌∙◌, length-append, add-one}
 use Rattle.std.proofs.lemmas.List.Elements.{All-take}
-use Rattle.account_book.specs.Answering.{IsRoom}
+use Rattle.account_book.specs.Room.{IsRoom}
 use Rattle.account_book.proofs.Expiring.{expires_one}
 use Rattle.account_book.proofs.journal.Journal.expire_due.Goals as goal
 
