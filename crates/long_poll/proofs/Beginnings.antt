@@ -83,7 +83,7 @@ module _ {R S D N K L : Type 0} {service : Service.Ghosts S K L} {decider : Deci
   pub begun_submitted : (head : Parts) (body : List ℕ) (call : Call)
       → Decides connection head body (decision.Submit call)
       → (begun : Begun L) → IsBegun connection clock call begun → HasBegun connection clock head body begun
-  begun_submitted head body call made (Replied reply) h = (decision.Submit call, made, inr h)
+  begun_submitted head body call made (Replied reply token) h = (decision.Submit call, made, inr h)
   begun_submitted head body call made (Dozes held) h = (rw h.0 made, h.1)
   begun_submitted head body call made (AsksForHistory from) h = absurd h
   begun_submitted head body call made (Parked ticket heard token) h = (call, made, h)
@@ -93,7 +93,7 @@ module _ {R S D N K L : Type 0} {service : Service.Ghosts S K L} {decider : Deci
     -- what comes of a later body may come of this one
     pub exchanges_later : (parts : Parts) (new old : B) (later held : List ℕ)
         → ((r : Result (List ℕ) ExchangeFault) → Collects reads (yields new) later r → Collects reads (yields old) held r)
-        → (r : Result (Outcome H) ExchangeFault) → Exchanges connection clock shows reads (yields new) parts later r
+        → (r : Result (Outcome H L) ExchangeFault) → Exchanges connection clock shows reads (yields new) parts later r
         → Exchanges connection clock shows reads (yields old) parts held r
     exchanges_later parts new old later held same (Ok answer) h = of_later reads (yields new) (yields old) parts later held _ same h
     exchanges_later parts new old later held same (Err BellLost) h = of_later reads (yields new) (yields old) parts later held _ same h
@@ -103,9 +103,9 @@ module _ {R S D N K L : Type 0} {service : Service.Ghosts S K L} {decider : Deci
     -- its call was submitted, and this came of the wait
     pub gives_answer : (stage : Stage B L) (ticket : ℕ) (heard : Heard) (seen : List Entry)
         → StartsFrom connection clock yields reads stage (Ok (Parked ticket heard seen))
-        → (r : Result (Outcome H) ExchangeFault) → Awaits (shown connection seen) ticket r
+        → (r : Result (Outcome H L) ExchangeFault) → Awaits (shown connection seen) ticket r
         → GivesFrom connection clock yields reads shows stage r
-    gives_answer (Collecting parts collecting) ticket heard seen h (Ok (outcome.Reply reply)) rendered =
+    gives_answer (Collecting parts collecting) ticket heard seen h (Ok (outcome.Reply reply token)) rendered =
         of_body reads (yields collecting.body) parts collecting.held _ _
         (λ body b. (decision.Submit b.0, b.1, inl (ticket, seen, b.2.0, rendered))) h
     gives_answer (Collecting parts collecting) ticket heard seen h (Ok (outcome.History body)) rendered = absurd rendered
@@ -113,23 +113,23 @@ module _ {R S D N K L : Type 0} {service : Service.Ghosts S K L} {decider : Deci
         of_body reads (yields collecting.body) parts collecting.held _ _
         (λ body b. (b.0, b.1, (ticket, heard, seen, b.2, rendered))) h
     gives_answer (Collecting parts collecting) ticket heard seen h (Err OutOfMemory) rendered = tt
-    gives_answer (Collecting parts collecting) ticket heard seen h (Err BodyFailed) rendered = absurd rendered
-    gives_answer (Holding held) ticket heard seen h (Ok (outcome.Reply reply)) rendered = inl (ticket, seen, h.0, rendered)
+    gives_answer (Collecting parts collecting) ticket heard seen h (Err BodyFailed) rendered = absurd rendered.1
+    gives_answer (Holding held) ticket heard seen h (Ok (outcome.Reply reply token)) rendered = inl (ticket, seen, h.0, rendered)
     gives_answer (Holding held) ticket heard seen h (Ok (outcome.History body)) rendered = absurd rendered
     gives_answer (Holding held) ticket heard seen h (Err BellLost) rendered = (ticket, heard, seen, h, rendered)
     gives_answer (Holding held) ticket heard seen h (Err OutOfMemory) rendered = tt
-    gives_answer (Holding held) ticket heard seen h (Err BodyFailed) rendered = absurd rendered
+    gives_answer (Holding held) ticket heard seen h (Err BodyFailed) rendered = absurd rendered.1
     gives_answer Submitting ticket heard seen h r rendered = absurd h
-    gives_answer (Waiting t heard' token) ticket heard seen h r rendered = absurd h
+    gives_answer (Waiting t heard' before) ticket heard seen h r rendered = absurd h
 
     -- it has its reply
-    pub gives_reply : (stage : Stage B L) (reply : Reply)
-        → StartsFrom connection clock yields reads stage (Ok (Replied reply))
-        → GivesFrom connection clock yields reads shows stage (Ok (outcome.Reply reply))
-    gives_reply (Collecting parts collecting) reply h = h
-    gives_reply (Holding held) reply h = inr h
-    gives_reply Submitting reply h = absurd h
-    gives_reply (Waiting t heard token) reply h = absurd h
+    pub gives_reply : (stage : Stage B L) (reply : Reply) (token : List Entry)
+        → StartsFrom connection clock yields reads stage (Ok (Replied reply token))
+        → GivesFrom connection clock yields reads shows stage (Ok (outcome.Reply reply token))
+    gives_reply (Collecting parts collecting) reply token h = h
+    gives_reply (Holding held) reply token h = inr h
+    gives_reply Submitting reply token h = absurd h
+    gives_reply (Waiting t heard before) reply token h = absurd h
 
     -- it has none
     pub gives_fault : (stage : Stage B L) (fault : ExchangeFault)
@@ -147,9 +147,9 @@ module _ {R S D N K L : Type 0} {service : Service.Ghosts S K L} {decider : Deci
     -- its call is held back, and this came of it in the end
     pub gives_held : (stage : Stage B L) (held : Dozing)
         → StartsFrom connection clock yields reads stage (Ok (Dozes held))
-        → (r : Result (Outcome H) ExchangeFault) → ComesOfCall connection clock held.call r
+        → (r : Result (Outcome H L) ExchangeFault) → ComesOfCall connection clock held.call r
         → GivesFrom connection clock yields reads shows stage r
-    gives_held (Collecting parts collecting) held h (Ok (outcome.Reply reply)) came =
+    gives_held (Collecting parts collecting) held h (Ok (outcome.Reply reply token)) came =
         of_body reads (yields collecting.body) parts collecting.held _ _
         (λ body b. (decision.Submit held.call, b.0, came)) h
     gives_held (Collecting parts collecting) held h (Ok (outcome.History body)) came = absurd came
@@ -175,10 +175,10 @@ module _ {R S D N K L : Type 0} {service : Service.Ghosts S K L} {decider : Deci
     -- it asks for the history, and this shows it
     pub gives_history : (stage : Stage B L) (from : Option ℕ)
         → StartsFrom connection clock yields reads stage (Ok (AsksForHistory from))
-        → (r : Result (Outcome (HistoryBody R S K L)) ExchangeFault)
+        → (r : Result (Outcome (HistoryBody R S K L) L) ExchangeFault)
         → MatchResult r (IsHistoryOf s from) (λ fault. fault ≡ OutOfMemory)
         → GivesFrom connection clock yields reads (ShowsFrom s) stage r
-    gives_history (Collecting parts collecting) from h (Ok (outcome.Reply reply)) is = absurd is
+    gives_history (Collecting parts collecting) from h (Ok (outcome.Reply reply token)) is = absurd is
     gives_history (Collecting parts collecting) from h (Ok (outcome.History body)) is =
         of_body reads (yields collecting.body) parts collecting.held _ _ (λ body b. (from, b, is)) h
     gives_history (Collecting parts collecting) from h (Err fault) is = rw is tt

@@ -8,7 +8,7 @@ use Rattle.call_model.specs.History.{call_of}
 use Rattle.call_types.specs.declared.call.Call.{Call}
 use Rattle.call_types.specs.declared.call.Entry.{Entry}
 use Rattle.lambda_wire.specs.declared.reply.Reply.{Reply}
-use Rattle.long_poll.specs.Replies.{IsReplyIn, IsReplyOf, AreOfOne}
+use Rattle.long_poll.specs.Replies.{IsBeginning, IsReplyIn, IsReplyOf, AreOfOne}
 
 -- By the law of account_book.
 module _ (calls : (h newer : List Entry) (ticket : ℕ) → ticket < length h
@@ -31,19 +31,18 @@ module _ (calls : (h newer : List Entry) (ticket : ℕ) → ticket < length h
             given.gives;
       })
 
-  pub one : (config : Config) (most salt : ℕ) (call call' : Call) (reply reply' : Reply)
-      (given : IsReplyOf config most salt call reply) (given' : IsReplyOf config most salt call' reply')
-      → Sees config most given.history given'.history ⊎ Sees config most given'.history given.history
-      → AreOfOne config most salt call reply call' reply'
-  one config most salt call call' reply reply' given given' (inl sees) = record {
-    history = given'.history;
+  pub one : (config : Config) (most salt : ℕ) (call call' : Call) (reply reply' : Reply) (h h' : List Entry)
+      → IsReplyOf config most salt call reply h → IsReplyOf config most salt call' reply' h'
+      → IsBeginning h h' ⊎ IsBeginning h' h → AreOfOne config most salt call reply call' reply'
+  one config most salt call call' reply reply' h h' given given' (inl later) = record {
+    history = h';
     reached = given'.reached;
-    one = stays config most salt given.history given'.history call reply sees given.is;
+    one = stays config most salt h h' call reply (record { later = later; reached = given'.reached }) given.is;
     other = given'.is;
   }
-  one config most salt call call' reply reply' given given' (inr sees) = record {
-    history = given.history;
+  one config most salt call call' reply reply' h h' given given' (inr later) = record {
+    history = h;
     reached = given.reached;
     one = given.is;
-    other = stays config most salt given'.history given.history call' reply' sees given'.is;
+    other = stays config most salt h' h call' reply' (record { later = later; reached = given.reached }) given'.is;
   }

@@ -1,5 +1,5 @@
 -- What the relations of an account say of the reply to a call.
-use Rattle.std.proofs.Common.{◌≡◌, ◌<◌, ℕ, List, length, Option, Some, Ok, Err, inl, inr, sym}
+use Rattle.std.proofs.Common.{◌≡◌, ◌<◌, ℕ, List, length, Option, Some, Ok, Err, inl, inr, sym, subst}
 use Rattle.std.specs.Arc.{arc_value}
 use Rattle.account_lock.specs.Shown.{IsTaken, Sees}
 use Rattle.account_lock.specs.Submits.{IsTurnedAway}
@@ -43,35 +43,35 @@ module _ {R S D N K L : Type 0} {service : Service.Ghosts S K L} {decider : Deci
     (stands : (config : Config) (most : ℕ) (had : List Entry) (now : ℕ) (call : Call) (ticket : ℕ)
     (seen then : List Entry)
     → IsTaken config most had now call ticket seen → Sees config most seen then → call_of then ticket ≡ call) where
-  pub replies : (call : Call) (reply : Reply) → IsReply connection clock (Submit call) reply
-      → IsReplyAt config most salt call reply
-  replies call reply (inl x) =
+  pub replies : (call : Call) (reply : Reply) (token : List Entry) → IsReply connection clock (Submit call) reply token
+      → IsReplyAt config most salt call reply token
+  replies call reply token (inl x) =
       let ticket = x.0 in
       let seen = x.1 in
       let submitted = x.2 in
       let now = moment_of submitted.reading in
       let taken = takes submitted.had submitted.before now call (Some submitted.bell) ticket seen submitted.then
       submitted.after submitted.came in
-      let then = x.3.0 in
-      let shown = renders seen ticket (Some reply) then x.3.1 in
+      let shown = renders seen ticket (Some reply) token x.3 in
       inl (record {
-        history = then;
         reached = shown.0.reached;
         is = record {
           ticket = ticket;
-          there = there config most submitted.had now call ticket seen then taken shown.0;
-          stands = stands config most submitted.had now call ticket seen then taken shown.0;
+          there = there config most submitted.had now call ticket seen token taken shown.0;
+          stands = stands config most submitted.had now call ticket seen token taken shown.0;
           gives = sym shown.1;
         };
       })
-  replies call reply (inr x) =
-      let submitted = x.1 in
-      let turned = refuses submitted.had submitted.before (moment_of submitted.reading) call (Some submitted.bell) x.0
-      submitted.then submitted.after submitted.came in
+  replies call reply token (inr x) =
+      let refused = x.1 in
+      let submitted = x.2.0 in
+      let turned : IsTurnedAway config most submitted.had call refused.refusal token =
+      subst (IsTurnedAway config most submitted.had call refused.refusal) (sym x.2.2)
+      (refuses submitted.had submitted.before (moment_of submitted.reading) call (Some submitted.bell) refused
+      submitted.then submitted.after submitted.came) in
       inr (record {
-        history = submitted.then;
         reached = turned.sees.reached;
-        refusal = x.0.refusal;
+        refusal = refused.refusal;
         exactly = turned.exactly;
-        says = x.2;
+        says = x.3;
       })

@@ -2,7 +2,7 @@
 use Rattle.std.specs.Prelude.{◌≡◌, ◌<◌, ℕ}
 use Rattle.call_types.specs.declared.call.Call.{Call}
 use Rattle.decisions.specs.declared.decide.Decide as Decide
-use Rattle.long_poll.specs.Exchanges.{SubmittedWith}
+use Rattle.long_poll.specs.Exchanges.{CameTo}
 use Rattle.long_poll.specs.declared.bell.OneShotBell.{OneShotBell}
 use Rattle.long_poll.specs.declared.clock.Clock as Clock
 use Rattle.long_poll.specs.declared.connection.Attempt.{Attempt}
@@ -20,7 +20,7 @@ IsPatient left (HeldBack call bell) = 0 < left
 
 -- If a call is held back again, less time is left for it than before.
 abbrev pub IsNearer : {L : Type 0} → ℕ → Begun L → Type 0
-IsNearer left (Replied reply) = Unit {0}
+IsNearer left (Replied reply token) = Unit {0}
 IsNearer left (Dozes held) = held.left < left
 IsNearer left (AsksForHistory from) = Unit {0}
 IsNearer left (Parked ticket heard token) = Unit {0}
@@ -30,5 +30,5 @@ module _ {R S D N K L : Type 0} {service : Service.Ghosts S K L} {decider : Deci
     (clock : Clock.Ghosts N) where
   -- The call was submitted with this bell, or is returned with it.
   abbrev pub IsAttempt : OneShotBell → Call → Attempt L → Type 0
-  IsAttempt bell call (Made back) = SubmittedWith connection clock bell call back
+  IsAttempt bell call (Made back) = CameTo connection clock bell call back
   IsAttempt bell call (HeldBack other its) = (other ≡ call) × (its ≡ bell)

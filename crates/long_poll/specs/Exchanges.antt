@@ -39,24 +39,26 @@ use Rattle.long_poll.specs.declared.outcome.Outcome.TheVariants as outcome
 use Rattle.long_poll.specs.declared.service.Service as Service
 use Rattle.usage_ledger.specs.declared.keep.Keep as Keep
 
--- What is rendered at a ticket; if nothing is, the fault is that of a lost bell.
-abbrev pub Renders : (ℕ → Option Reply → Type 0) → ℕ → Result Reply ExchangeFault → Type 0
-Renders renders ticket (Ok reply) = renders ticket (Some reply)
-Renders renders ticket (Err BellLost) = renders ticket None
-Renders renders ticket (Err OutOfMemory) = Unit {0}
-Renders renders ticket (Err BodyFailed) = ⊥
+-- What is rendered at a ticket, in the history that the token has then seen; if nothing is, the fault is that of a lost
+-- bell.
+abbrev pub Renders : (ℕ → Option Reply → List Entry → Type 0) → ℕ → Result Reply ExchangeFault → List Entry → Type 0
+Renders renders ticket (Ok reply) then = renders ticket (Some reply) then
+Renders renders ticket (Err BellLost) then = renders ticket None then
+Renders renders ticket (Err OutOfMemory) then = Unit {0}
+Renders renders ticket (Err BodyFailed) then = ⊥
 
 -- Something was heard, which `hears` allows, and this is rendered at the ticket.
-abbrev pub RendersOnce : {O : Type 0} → (O → Type 0) → (ℕ → Option Reply → Type 0) → ℕ
-    → Result Reply ExchangeFault → Type 0
-RendersOnce {O} hears renders ticket result = ((said : O) × hears said) × Renders renders ticket result
+abbrev pub RendersOnce : {O : Type 0} → (O → Type 0) → (ℕ → Option Reply → List Entry → Type 0) → ℕ
+    → Result Reply ExchangeFault → List Entry → Type 0
+RendersOnce {O} hears renders ticket result then = ((said : O) × hears said) × Renders renders ticket result then
 
--- What is rendered at a ticket whose answer was awaited: a reply, never a history.
-abbrev pub Awaits : {H : Type 0} → (ℕ → Option Reply → Type 0) → ℕ → Result (Outcome H) ExchangeFault
-    → Type 0
-Awaits renders ticket (Ok (outcome.Reply reply)) = Renders renders ticket (Ok reply)
+-- What is rendered at a ticket whose answer was awaited: a reply, with a token of the history that it is of; never a
+-- history.
+abbrev pub Awaits : {H L : Type 0} → (ℕ → Option Reply → List Entry → Type 0) → ℕ
+    → Result (Outcome H L) ExchangeFault → Type 0
+Awaits renders ticket (Ok (outcome.Reply reply token)) = renders ticket (Some reply) token
 Awaits renders ticket (Ok (outcome.History body)) = ⊥
-Awaits renders ticket (Err fault) = Renders renders ticket (Err fault)
+Awaits renders ticket (Err fault) = (then : List Entry) × Renders renders ticket (Err fault) then
 
 -- The property holds of what was read of a body, of which the bytes `held` are held already; or the head declares a
 -- body that is too long, none of it is read, and the property holds of each body that is too long.
@@ -69,10 +71,10 @@ IsOfBody reads source head held is =
 -- Of a connection: its account, its clock and who decides its requests, each by the relations of its trait.
 module _ {R S D N K L : Type 0} {service : Service.Ghosts S K L} {decider : Decide.Ghosts D}
     {keep : Keep.Ghosts K} (connection : Connection R S D N K L service decider keep) where
-  -- What the connection's account renders at a ticket, to a token that has seen this beginning of the history.
-  abbrev pub shown : List Entry → ℕ → Option Reply → Type 0
-  shown seen ticket reply =
-      (then : List Entry) × service.renders (arc_value connection.service) seen ticket reply then
+  -- What the connection's account renders at a ticket, to a token that had seen the first beginning of the history, and
+  -- has then seen the second.
+  abbrev pub shown : List Entry → ℕ → Option Reply → List Entry → Type 0
+  shown seen ticket reply then = service.renders (arc_value connection.service) seen ticket reply then
 
   -- What holds of a call that is held back: it is within the limits of the account's configuration, its bell can be
   -- heard, and each pause takes some time.
@@ -85,22 +87,20 @@ module _ {R S D N K L : Type 0} {service : Service.Ghosts S K L} {decider : Deci
   abbrev pub Decides : Parts → List ℕ → Decision → Type 0
   Decides head body made = decider.decides (arc_value connection.decider) head body made
 
-  -- The account shows these counts to some token.
-  abbrev pub Counts : Counted → Type 0
-  Counts stats =
-      (seen : List Entry) × (then : List Entry) × service.counts (arc_value connection.service) seen stats then
+  -- The account shows these counts to a token that has then seen this history.
+  abbrev pub Counts : Counted → List Entry → Type 0
+  Counts stats then = (seen : List Entry) × service.counts (arc_value connection.service) seen stats then
 
-  -- The account shows this reservation of a function to some token.
-  abbrev pub Reserves : ℕ → Option ℕ → Type 0
-  Reserves f count =
-      (seen : List Entry) × (then : List Entry) × service.reserves (arc_value connection.service) seen f count then
+  -- The account shows this reservation of a function to a token that has then seen this history.
+  abbrev pub Reserves : ℕ → Option ℕ → List Entry → Type 0
+  Reserves f count then = (seen : List Entry) × service.reserves (arc_value connection.service) seen f count then
 
-  -- The reply shows what is asked for, as the account gives it. A history is shown by a body that is streamed, never
-  -- by a reply.
-  abbrev pub IsView : Shown → Reply → Type 0
-  IsView Stats reply = (stats : _) × Counts stats × (reply ≡ stats_reply stats)
-  IsView (History from) reply = ⊥
-  IsView (Reservation f) reply = (count : Option ℕ) × Reserves f count × (reply ≡ reservation_reply count)
+  -- The reply shows what is asked for, as the account gives it to a token that has then seen this history. A history is
+  -- shown by a body that is streamed, never by a reply.
+  abbrev pub IsView : Shown → Reply → List Entry → Type 0
+  IsView Stats reply then = (stats : _) × Counts stats then × (reply ≡ stats_reply stats)
+  IsView (History from) reply then = ⊥
+  IsView (Reservation f) reply then = (count : Option ℕ) × Reserves f count then × (reply ≡ reservation_reply count)
 
   module _ (clock : Clock.Ghosts N) where
     -- A call was submitted at a reading of the clock, with a bell, and this was the result.
@@ -119,16 +119,27 @@ module _ {R S D N K L : Type 0} {service : Service.Ghosts S K L} {decider : Deci
     abbrev pub SubmittedWith : OneShotBell → Call → CameBack → Type 0
     SubmittedWith bell call back = (submitted : Submitted call back) × (submitted.bell ≡ bell)
 
-    -- A call was submitted, and this is rendered at the ticket that it got, to a token that has seen the history that
-    -- the call made.
-    abbrev pub IsRendered : Call → Option Reply → Type 0
-    IsRendered call rendered =
-        (ticket : ℕ) × (seen : List Entry) × Submitted call (Ok (ticket, seen)) × shown seen ticket rendered
+    -- A call was submitted and refused, and what was then seen is this.
+    abbrev pub TurnedAway : OneShotBell → Call → Refused OneShotBell → List Entry → Type 0
+    TurnedAway bell call refused then =
+        (submitted : Submitted call (Err refused)) × (submitted.bell ≡ bell) × (then ≡ submitted.then)
 
-    -- A call was submitted and refused, and the reply says so.
-    abbrev pub IsRefusal : Call → Reply → Type 0
-    IsRefusal call reply =
-        (refused : Refused OneShotBell) × Submitted call (Err refused)
+    -- A call was submitted with this bell: it was taken, and this is its ticket with a token; or it was refused, and the
+    -- token is of what was then seen.
+    abbrev pub CameTo : OneShotBell → Call → Result (ℕ × List Entry) (Refused OneShotBell × List Entry) → Type 0
+    CameTo bell call (Ok taken) = SubmittedWith bell call (Ok taken)
+    CameTo bell call (Err refused) = TurnedAway bell call refused.0 refused.1
+
+    -- A call was submitted, and this is rendered at the ticket that it got, to a token that had seen the history that
+    -- the call made, and has then seen this one.
+    abbrev pub IsRendered : Call → Option Reply → List Entry → Type 0
+    IsRendered call rendered then =
+        (ticket : ℕ) × (seen : List Entry) × Submitted call (Ok (ticket, seen)) × shown seen ticket rendered then
+
+    -- A call was submitted and refused, and the reply says so; what was then seen is this.
+    abbrev pub IsRefusal : Call → Reply → List Entry → Type 0
+    IsRefusal call reply then =
+        (bell : OneShotBell) × (refused : Refused OneShotBell) × TurnedAway bell call refused then
         × (reply ≡ refusal_reply (is_invoke call) refused.refusal)
 
     -- A call was submitted, got this ticket and made this history, and `heard` hears the bell that was submitted with
@@ -141,33 +152,34 @@ module _ {R S D N K L : Type 0} {service : Service.Ghosts S K L} {decider : Deci
     abbrev pub IsLost : Call → Type 0
     IsLost call =
         (ticket : ℕ) × (heard : Heard) × (seen : List Entry) × IsParked call ticket heard seen
-        × shown seen ticket None
+        × ((then : List Entry) × shown seen ticket None then)
 
     -- How far a call has come: it was submitted, and was refused and has its reply, or has its ticket; or this very
     -- call is held back.
     abbrev pub IsBegun : Call → Begun L → Type 0
-    IsBegun call (Replied reply) = IsRefusal call reply
+    IsBegun call (Replied reply token) = IsRefusal call reply token
     IsBegun call (Dozes held) = (held.call ≡ call) × IsHeld held
     IsBegun call (AsksForHistory from) = ⊥
     IsBegun call (Parked ticket heard token) = IsParked call ticket heard token
 
-    -- The reply to a request, given what is decided about it.
-    abbrev pub IsReply : Decision → Reply → Type 0
-    IsReply (decision.Submit call) reply = IsRendered call (Some reply) ⊎ IsRefusal call reply
-    IsReply (decision.Reply own) reply = reply ≡ own
-    IsReply (decision.Show shown) reply = IsView shown reply
+    -- The reply to a request, given what is decided about it, with what its token has seen: the history that the reply
+    -- is of, or anything if the reply itself was decided.
+    abbrev pub IsReply : Decision → Reply → List Entry → Type 0
+    IsReply (decision.Submit call) reply token = IsRendered call (Some reply) token ⊎ IsRefusal call reply token
+    IsReply (decision.Reply own) reply token = reply ≡ own
+    IsReply (decision.Show shown) reply token = IsView shown reply token
 
     -- How far a request with this head and this body has come.
     abbrev pub HasBegun : Parts → List ℕ → Begun L → Type 0
-    HasBegun head body (Replied reply) = (made : Decision) × Decides head body made × IsReply made reply
+    HasBegun head body (Replied reply token) = (made : Decision) × Decides head body made × IsReply made reply token
     HasBegun head body (Dozes held) = Decides head body (decision.Submit held.call) × IsHeld held
     HasBegun head body (AsksForHistory from) = Decides head body (decision.Show (History from))
     HasBegun head body (Parked ticket heard token) =
         (call : Call) × Decides head body (decision.Submit call) × IsParked call ticket heard token
 
     -- The result of a call that was held back: it was submitted in the end, or an allocation failed.
-    abbrev pub ComesOfCall : {H : Type 0} → Call → Result (Outcome H) ExchangeFault → Type 0
-    ComesOfCall call (Ok (outcome.Reply reply)) = IsRendered call (Some reply) ⊎ IsRefusal call reply
+    abbrev pub ComesOfCall : {H : Type 0} → Call → Result (Outcome H L) ExchangeFault → Type 0
+    ComesOfCall call (Ok (outcome.Reply reply token)) = IsRendered call (Some reply) token ⊎ IsRefusal call reply token
     ComesOfCall call (Ok (outcome.History shown)) = ⊥
     ComesOfCall call (Err BellLost) = IsLost call
     ComesOfCall call (Err OutOfMemory) = Unit {0}
@@ -177,9 +189,9 @@ module _ {R S D N K L : Type 0} {service : Service.Ghosts S K L} {decider : Deci
       -- The result of a request with this head and this body: a reply, or, if the history is asked for, a body that
       -- shows it from there on. The fault of a lost bell is returned only if the call was submitted and nothing is
       -- rendered at its ticket; that the bell was heard before is not stated.
-      abbrev pub ComesOf : Parts → List ℕ → Result (Outcome H) ExchangeFault → Type 0
-      ComesOf head body (Ok (outcome.Reply reply)) =
-          (made : Decision) × Decides head body made × IsReply made reply
+      abbrev pub ComesOf : Parts → List ℕ → Result (Outcome H L) ExchangeFault → Type 0
+      ComesOf head body (Ok (outcome.Reply reply token)) =
+          (made : Decision) × Decides head body made × IsReply made reply token
       ComesOf head body (Ok (outcome.History shown)) =
           (from : Option ℕ) × Decides head body (decision.Show (History from)) × shows from shown
       ComesOf head body (Err BellLost) =
@@ -190,7 +202,7 @@ module _ {R S D N K L : Type 0} {service : Service.Ghosts S K L} {decider : Deci
       -- The result of a request with this head, and with a body of which the bytes `held` are held already: the body
       -- failed, an allocation failed, or it is a result of the head and the body.
       abbrev pub Exchanges : {P E : Type 0} → (P → List ℕ → Type 0) → Runs (Result (Frame P) E) → Parts
-          → List ℕ → Result (Outcome H) ExchangeFault → Type 0
+          → List ℕ → Result (Outcome H L) ExchangeFault → Type 0
       Exchanges reads source head held (Err BodyFailed) = Fails source
       Exchanges reads source head held (Err OutOfMemory) = Unit {0}
       Exchanges reads source head held (Err BellLost) =

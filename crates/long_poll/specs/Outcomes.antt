@@ -11,6 +11,6 @@ abbrev pub ShowsFrom : {R S K L : Type 0} → S → Option ℕ → HistoryBody R
 ShowsFrom s from body = (arc_value body.service ≡ s) × (body.stage ≡ first_stage from)
 
 -- The outcome is such a body.
-abbrev pub IsHistoryOf : {R S K L : Type 0} → S → Option ℕ → Outcome (HistoryBody R S K L) → Type 0
-IsHistoryOf s from (Reply reply) = ⊥
+abbrev pub IsHistoryOf : {R S K L : Type 0} → S → Option ℕ → Outcome (HistoryBody R S K L) L → Type 0
+IsHistoryOf s from (Reply reply token) = ⊥
 IsHistoryOf s from (History body) = ShowsFrom s from body

@@ -1,5 +1,5 @@
 -- The replies that an exchange over an account gives to a call.
-use Rattle.std.specs.Prelude.{◌≡◌, ◌<◌, ◌⊎◌, ◌↔◌, ℕ, true, List, length, Some}
+use Rattle.std.specs.Prelude.{◌≡◌, ◌<◌, ◌⊎◌, ◌↔◌, ℕ, true, List, ◌++◌, length, Some}
 use Rattle.account_book.specs.Reached.{IsReached}
 use Rattle.account_book.specs.ReplyText.{reply_text}
 use Rattle.account_book.specs.declared.book.Refusal.{Refusal}
@@ -21,11 +21,14 @@ pub record IsReplyIn (config : Config) (salt : ℕ) (h : List Entry) (call : Cal
   pub stands : call_of h ticket ≡ call
   pub gives : reply_text config salt h ticket ≡ Some reply
 
--- The reply to a call that was taken: its reply in a history that calls led to.
-pub record IsReplyOf (config : Config) (most salt : ℕ) (call : Call) (reply : Reply) : Type 0 where
-  pub history : List Entry
-  pub reached : IsReached config most history
-  pub is : IsReplyIn config salt history call reply
+-- The reply to a call that was taken: its reply in this history, which calls led to.
+pub record IsReplyOf (config : Config) (most salt : ℕ) (call : Call) (reply : Reply) (h : List Entry) : Type 0 where
+  pub reached : IsReached config most h
+  pub is : IsReplyIn config salt h call reply
+
+-- The first history is a beginning of the second: newer entries stand before those of the first.
+abbrev pub IsBeginning : List Entry → List Entry → Type 0
+IsBeginning h later = (newer : List Entry) × (later ≡ newer ++ h)
 
 -- Two replies, each to its call, are of one history that calls led to.
 pub record AreOfOne (config : Config) (most salt : ℕ) (call : Call) (reply : Reply) (call' : Call) (reply' : Reply)
@@ -35,15 +38,15 @@ pub record AreOfOne (config : Config) (most salt : ℕ) (call : Call) (reply : R
   pub one : IsReplyIn config salt history call reply
   pub other : IsReplyIn config salt history call' reply'
 
--- The reply to a call that was refused says why: the refusal is JournalFull exactly if a history that calls led to,
--- which was then seen, has no room for the call.
-pub record IsRefusalOf (config : Config) (most : ℕ) (call : Call) (reply : Reply) : Type 0 where
-  pub history : List Entry
-  pub reached : IsReached config most history
+-- The reply to a call that was refused says why: the refusal is JournalFull exactly if this history, which calls led to,
+-- has no room for the call.
+pub record IsRefusalOf (config : Config) (most : ℕ) (call : Call) (reply : Reply) (h : List Entry) : Type 0 where
+  pub reached : IsReached config most h
   pub refusal : Refusal
-  pub exactly : (refusal ≡ JournalFull) ↔ (full config most history call ≡ true)
+  pub exactly : (refusal ≡ JournalFull) ↔ (full config most h call ≡ true)
   pub says : reply ≡ refusal_reply (is_invoke call) refusal
 
--- The reply to a call, whether the call was taken or refused.
-abbrev pub IsReplyAt : Config → ℕ → ℕ → Call → Reply → Type 0
-IsReplyAt config most salt call reply = IsReplyOf config most salt call reply ⊎ IsRefusalOf config most call reply
+-- The reply to a call, whether the call was taken or refused, in this history.
+abbrev pub IsReplyAt : Config → ℕ → ℕ → Call → Reply → List Entry → Type 0
+IsReplyAt config most salt call reply h =
+    IsReplyOf config most salt call reply h ⊎ IsRefusalOf config most call reply h

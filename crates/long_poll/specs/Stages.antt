@@ -59,7 +59,8 @@ module _ {R S D N K L : Type 0} {service : Service.Ghosts S K L} {decider : Deci
     (clock : Clock.Ghosts N) {B P E : Type 0}
     (yields : B → Runs (Result (Frame P) E)) (reads : P → List ℕ → Type 0) where
   -- What the exchange may return; `shows` says which bodies show the history, whole or from a ticket on.
-  abbrev pub GivesFrom : {H : Type 0} → (Option ℕ → H → Type 0) → Stage B L → Result (Outcome H) ExchangeFault → Type 0
+  abbrev pub GivesFrom : {H : Type 0} → (Option ℕ → H → Type 0) → Stage B L → Result (Outcome H L) ExchangeFault
+      → Type 0
   GivesFrom shows (Collecting parts collecting) =
       Exchanges connection clock shows reads (yields collecting.body) parts collecting.held
   GivesFrom shows (Holding held) = ComesOfCall connection clock held.call

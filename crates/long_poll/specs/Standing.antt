@@ -28,7 +28,7 @@ module _ {R S D N B K L P E : Type 0} {service : Service.Ghosts S K L} {decider 
     (reads : P → List ℕ → Type 0) (exchange : Exchange R S D N B K L service decider keep) where
   -- What the exchange may return: a reply, a body that shows its account's history, whole or from a ticket on, or a
   -- fault.
-  abbrev pub Gives : Result (Outcome (HistoryBody R S K L)) ExchangeFault → Type 0
+  abbrev pub Gives : Result (Outcome (HistoryBody R S K L) L) ExchangeFault → Type 0
   Gives = GivesFrom (arc_value exchange.connection) clock yields reads
       (ShowsFrom (arc_value (arc_value exchange.connection).service)) exchange.stage
 

@@ -13,7 +13,7 @@ use crate::clock::moment;
 use crate::history_body::HistoryBody;
 use crate::refusal::refusal_reply;
 use crate::views::{reservation_reply, stats_reply};
-use crate::{Clock, ExchangeFault, Heard, OneShotBell, OpenPoll, Service};
+use crate::{Clock, ExchangeFault, Heard, OneShotBell, OpenPoll, Outcome, Service};
 use account_lock::{Declined, Refused};
 use arn_ids::FnNo;
 use bytes::Bytes;
@@ -74,8 +74,8 @@ pub(crate) struct Dozing {
 /// How far a request has come.
 #[derive(Drop)]
 pub(crate) enum Begun<L: Ledgers> {
-    /// It has its reply.
-    Replied(Reply),
+    /// It has its reply, with a token of the history that the reply is of.
+    Replied(Reply, Token<L>),
     /// Its call is premature and held back; a pause has passed.
     Dozes(Dozing),
     /// It asks for the history, from the entry of a ticket on or whole.
@@ -94,8 +94,8 @@ pub(crate) enum Begun<L: Ledgers> {
 /// The result of an attempt to submit a call.
 #[derive(Drop)]
 enum Attempt<L: Ledgers> {
-    /// It was submitted, with this result.
-    Made(Result<(Ticket, Token<L>), Refused<OneShotBell>>),
+    /// It was submitted, with this result; if it was refused, the token has seen what was then seen.
+    Made(Result<(Ticket, Token<L>), (Refused<OneShotBell>, Token<L>)>),
     /// It was premature, and is returned with its bell.
     HeldBack(Call, OneShotBell),
 }
@@ -117,9 +117,10 @@ impl<
     L: Ledgers,
 > Connection<R, S, D, N, K, L> {
     ghost use Rattle.long_poll.specs.Attempts.{IsAttempt, IsPatient, IsNearer};
-    ghost use Rattle.long_poll.specs.Exchanges.{SubmittedWith, IsHeld, IsBegun, HasBegun, Decides};
+    ghost use Rattle.long_poll.specs.Exchanges.{CameTo, IsHeld, IsBegun, HasBegun, Decides};
     ghost use Rattle.long_poll.specs.Exchanges.{Counts, Reserves, Renders, RendersOnce, shown};
     ghost use Rattle.long_poll.specs.Outcomes.{ShowsFrom};
+    ghost use Rattle.long_poll.specs.declared.outcome.Outcome.TheVariants.{Reply as replied};
     ghost use Rattle.long_poll.specs.Pending.{KeepsTo};
 
     /// Returns a connection to this account, whose requests are decided for the same configuration. Each
@@ -169,14 +170,23 @@ impl<
         }
     }
 
-    /// Submits a call with its bell at the clock's reading.
+    /// Returns another token of the connection's, which has seen as much.
+    fn another_token(&self) -> Token<L> {
+        let mut token = self.token();
+        let other = self.service.again(&mut token);
+        self.seen.set(Some(token));
+        other
+    }
+
+    /// Submits a call with its bell at the clock's reading. If it is refused, the token that is returned has seen
+    /// what was then seen.
     fn submit_at_reading(
         &self,
         call: Call,
         bell: OneShotBell,
-    ) -> Result<(Ticket, Token<L>), Refused<OneShotBell>>
+    ) -> Result<(Ticket, Token<L>), (Refused<OneShotBell>, Token<L>)>
         requires { IsWithin (S.serves (arc_value self.now.service)) call }
-        ensures { SubmittedWith self.now N.Clock bell call result }
+        ensures { CameTo self.now N.Clock bell call result }
     {
         let mut token = self.token();
         let mut tally = self.tally.lock(&self.rt);
@@ -184,8 +194,12 @@ impl<
         let came = self
             .service
             .submit(&self.rt, &mut tally, &mut token, now, call, Some(bell));
+        let seen = self.service.again(&mut token);
         self.seen.set(Some(token));
-        came
+        match came {
+            Ok(taken) => Ok(taken),
+            Err(refused) => Err((refused, seen)),
+        }
     }
 
     /// Submits a call with its bell at the clock's reading, unless it is premature.
@@ -199,10 +213,11 @@ impl<
         let came = self
             .service
             .offer(&self.rt, &mut tally, &mut token, now, call, Some(bell));
+        let seen = self.service.again(&mut token);
         self.seen.set(Some(token));
         match came {
             Ok(taken) => Attempt::Made(Ok(taken)),
-            Err(Declined::Refused(refused)) => Attempt::Made(Err(refused)),
+            Err(Declined::Refused(refused)) => Attempt::Made(Err((refused, seen))),
             Err(Declined::Premature { call, bell }) => match bell {
                 Some(bell) => Attempt::HeldBack(call, bell),
                 None => unreachable!(),
@@ -267,11 +282,10 @@ impl<
                     pause: next_pause(pause),
                 }))
             }
-            Attempt::Made(Err(refused)) => Ok(Begun::Replied(refusal_reply(
-                self.alloc,
-                is_invoke,
-                refused.refusal,
-            )?)),
+            Attempt::Made(Err((refused, seen))) => {
+                let reply = refusal_reply(self.alloc, is_invoke, refused.refusal)?;
+                Ok(Begun::Replied(reply, seen))
+            }
             Attempt::Made(Ok((ticket, token))) => {
                 if is_next {
                     self.open.note(ticket);
@@ -306,25 +320,27 @@ impl<
         self.carry_out(decided?)
     }
 
-    /// Returns the counts of its account.
-    fn stats(&self) -> Stats
-        ensures { Counts self.now result }
+    /// Returns the counts of its account, with a token of the history that has them.
+    fn stats(&self) -> (Stats, Token<L>)
+        ensures { Counts self.now result.0 result.1 }
     {
         let mut token = self.token();
         let stats = self.service.stats(&self.rt, &mut token);
+        let seen = self.service.again(&mut token);
         self.seen.set(Some(token));
-        stats
+        (stats, seen)
     }
 
-    /// Returns a function's reservation in its account.
-    fn reservation(&self, function: FnNo) -> Option<u32>
+    /// Returns a function's reservation in its account, with a token of the history that has it.
+    fn reservation(&self, function: FnNo) -> (Option<u32>, Token<L>)
         requires { IsFunction (S.serves (arc_value self.now.service)) function }
-        ensures { Reserves self.now function result }
+        ensures { Reserves self.now function result.0 result.1 }
     {
         let mut token = self.token();
         let count = self.service.reservation(&self.rt, &mut token, function);
+        let seen = self.service.again(&mut token);
         self.seen.set(Some(token));
-        count
+        (count, seen)
     }
 
     /// Does what was decided about a request.
@@ -336,15 +352,15 @@ impl<
         ensures err { IfErr result (λ fault. fault ≡ ExchangeFault.OutOfMemory) }
     {
         match decision {
-            Decision::Reply(reply) => Ok(Begun::Replied(reply)),
+            Decision::Reply(reply) => Ok(Begun::Replied(reply, self.another_token())),
             Decision::Show(Shown::Stats) => {
-                let stats = self.stats();
-                Ok(Begun::Replied(stats_reply(self.alloc, stats)?))
+                let (stats, seen) = self.stats();
+                Ok(Begun::Replied(stats_reply(self.alloc, stats)?, seen))
             }
             Decision::Show(Shown::History { from }) => Ok(Begun::AsksForHistory { from }),
             Decision::Show(Shown::Reservation { function }) => {
-                let count = self.reservation(function);
-                Ok(Begun::Replied(reservation_reply(self.alloc, count)?))
+                let (count, seen) = self.reservation(function);
+                Ok(Begun::Replied(reservation_reply(self.alloc, count)?, seen))
             }
             Decision::Submit(call) => self.submit(call),
         }
@@ -363,7 +379,7 @@ impl<
 
     /// Renders the answer to a ticket, and takes back the note of a Next.
     fn render(&self, token: &mut Token<L>, ticket: Ticket) -> Result<Reply, ExchangeFault>
-        ensures { Renders (shown self.now token.old) ticket result }
+        ensures { Renders (shown self.now token.old) ticket result token.new }
     {
         match self.service.render(&self.rt, token, ticket) {
             Err(AllocError) => Err(ExchangeFault::OutOfMemory),
@@ -387,7 +403,8 @@ impl<
     where
         H::Output: Drop,
         requires { H.can_poll heard.old }
-        ensures value { IfReady result (RendersOnce (H.gives heard.old) (shown self.now token.old) ticket) }
+        ensures value { IfReady result
+            (λ reply. RendersOnce (H.gives heard.old) (shown self.now token.old) ticket reply token.new) }
         ensures again { OnPending result (H.can_poll heard.new) }
         ensures same { OnPending result (KeepsTo H.gives heard.old heard.new) }
         ensures registered { OnPending result (Covers cx.new (H.needs heard.new)) }
@@ -398,5 +415,16 @@ impl<
             Poll::Pending => Poll::Pending,
             Poll::Ready(_) => Poll::Ready(self.render(token, ticket)),
         }
+    }
+
+    /// Returns a reply as an outcome, with another token that has seen as much as this one.
+    pub(crate) fn replied(
+        &self,
+        reply: Reply,
+        token: &mut Token<L>,
+    ) -> Outcome<HistoryBody<R, S, K, L>, L>
+        ensures { result ≡ replied reply token.old }
+    {
+        Outcome::Reply(reply, self.service.again(token))
     }
 }

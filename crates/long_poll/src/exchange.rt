@@ -140,7 +140,7 @@ where
     fn history(
         &self,
         from: Option<Ticket>,
-    ) -> Result<Outcome<HistoryBody<R, S, K, L>>, ExchangeFault>
+    ) -> Result<Outcome<HistoryBody<R, S, K, L>, L>, ExchangeFault>
         ensures { MatchResult result
             (IsHistoryOf (arc_value (arc_value self.now.connection).service) from)
             (λ fault. fault ≡ OutOfMemory) }
@@ -152,7 +152,7 @@ where
     fn poll_answer(
         &mut self,
         cx: &mut Context<'_>,
-    ) -> Poll<Result<Outcome<HistoryBody<R, S, K, L>>, ExchangeFault>>
+    ) -> Poll<Result<Outcome<HistoryBody<R, S, K, L>, L>, ExchangeFault>>
         requires { IsWaiting self.old.stage }
         ensures value { IfReady result (⟦<Self as Future>⟧.gives self.old) }
         ensures again { OnPending result (IsWaiting self.new.stage) }
@@ -168,7 +168,7 @@ where
                 token,
             } => match self.connection.poll_render(heard, token, *ticket, cx) {
                 Poll::Pending => Poll::Pending,
-                Poll::Ready(Ok(reply)) => Poll::Ready(Ok(Outcome::Reply(reply))),
+                Poll::Ready(Ok(reply)) => Poll::Ready(Ok(self.connection.replied(reply, token))),
                 Poll::Ready(Err(fault)) => Poll::Ready(Err(fault)),
             },
         }
@@ -190,7 +190,7 @@ where
     ghost use Rattle.long_poll.specs.Stages.{CanGoOn, WaitsFor};
     ghost use Rattle.long_poll.specs.Standing.{Holds, Gives};
 
-    type Output = Result<Outcome<HistoryBody<R, S, K, L>>, ExchangeFault>;
+    type Output = Result<Outcome<HistoryBody<R, S, K, L>, L>, ExchangeFault>;
 
     ghost can_poll = { λ exchange. CanGoOn (Holds exchange) B.can_poll exchange.stage };
 
@@ -204,7 +204,7 @@ where
         }
         match ready!(self.poll_start(cx)) {
             Err(fault) => Poll::Ready(Err(fault)),
-            Ok(Begun::Replied(reply)) => Poll::Ready(Ok(Outcome::Reply(reply))),
+            Ok(Begun::Replied(reply, token)) => Poll::Ready(Ok(Outcome::Reply(reply, token))),
             Ok(Begun::Dozes(held)) => {
                 self.stage = Stage::Holding(held);
                 cx.yield_now()

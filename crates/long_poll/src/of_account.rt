@@ -63,6 +63,10 @@ impl<S: Identity + Drop, K: Keep> Service<K, S> for Account<S, OneShotBell> {
         Account::token(self, rt)
     }
 
+    fn again(&self, token: &mut Token<S>) -> Token<S> {
+        Account::again(self, token)
+    }
+
     fn look<R: Wait>(&self, rt: &R, token: &mut Token<S>, ticket: Ticket) -> Look {
         Account::look(self, rt, token, ticket)
     }

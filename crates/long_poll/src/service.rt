@@ -1,6 +1,6 @@
 //! What a connection asks of an account.
 
-ghost use Rattle.std.specs.Prelude.{◌<◌, ◌^◌, ℕ, List, Option, IfOk, option_map};
+ghost use Rattle.std.specs.Prelude.{◌≡◌, ◌<◌, ◌^◌, ℕ, List, Option, IfOk, option_map};
 ghost use Rattle.arn_ids.specs.declared.config.Config.{Config};
 ghost use Rattle.call_types.specs.declared.call.Call.{Call as Called};
 ghost use Rattle.call_types.specs.declared.call.Entry.{Entry};
@@ -97,6 +97,10 @@ pub trait Service<K: Keep, L: Ledgers>: Drop {
     /// Makes a token that has seen the history as it is.
     fn token<R: Wait>(&self, rt: &R) -> Token<L>
         ensures { shows self.now result };
+
+    /// Returns another token, which has seen as much.
+    fn again(&self, token: &mut Token<L>) -> Token<L>
+        ensures { (result ≡ token.old) × (token.new ≡ token.old) };
 
     /// Returns the answer to a ticket, or that it waits.
     fn look<R: Wait>(&self, rt: &R, token: &mut Token<L>, ticket: Ticket) -> Look

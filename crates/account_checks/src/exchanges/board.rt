@@ -138,6 +138,10 @@ impl<S: Identity> Service<KeepNone, S> for Board<S> {
         self.account.token(rt)
     }
 
+    fn again(&self, token: &mut Token<S>) -> Token<S> {
+        self.account.again(token)
+    }
+
     fn look<R: Wait>(&self, _rt: &R, _token: &mut Token<S>, _ticket: Ticket) -> Look {
         match self.mood {
             Mood::Answers(_) => Look::Given(Answer::Done),

@@ -14,6 +14,7 @@ use std::alloc::{AllocError, AllocGlobal};
 use std::random::RandomSource;
 use std::str;
 use std::sync::Wait;
+use usage_ledger::Ledgers;
 
 /// Runs a future to its end. An executor fails only if an allocation fails.
 pub fn finished<R: Wait + RandomSource + AllocGlobal, F: Future>(
@@ -53,10 +54,10 @@ fn lacks_memory(reply: &Reply) -> bool {
 
 /// Returns the outcome of an exchange. A reply that an allocation failed becomes a fault, so that
 /// no other exchange waits for the refused call.
-fn with_memory<H: Drop>(
-    came: Result<Outcome<H>, ExchangeFault>,
-) -> Result<Outcome<H>, ExchangeFault> {
-    if let Ok(Outcome::Reply(reply)) = &came
+fn with_memory<H: Drop, L: Ledgers>(
+    came: Result<Outcome<H, L>, ExchangeFault>,
+) -> Result<Outcome<H, L>, ExchangeFault> {
+    if let Ok(Outcome::Reply(reply, _)) = &came
         && lacks_memory(reply)
     {
         return Err(ExchangeFault::OutOfMemory);
@@ -65,17 +66,17 @@ fn with_memory<H: Drop>(
 }
 
 /// Returns the reply to a request; its part begins at this line.
-fn reply_of<H: Drop>(line: u64, outcome: Outcome<H>) -> Result<Reply, CaseFault> {
+fn reply_of<H: Drop, L: Ledgers>(line: u64, outcome: Outcome<H, L>) -> Result<Reply, CaseFault> {
     match outcome {
-        Outcome::Reply(reply) => Ok(reply),
+        Outcome::Reply(reply, _token) => Ok(reply),
         Outcome::History(_) => Err(malformed(line, "three that have a reply are wanted")),
     }
 }
 
 /// Returns the replies to three requests; their part begins at this line.
-fn replies_of<H: Drop>(
+fn replies_of<H: Drop, L: Ledgers>(
     line: u64,
-    outcomes: (Outcome<H>, Outcome<H>, Outcome<H>),
+    outcomes: (Outcome<H, L>, Outcome<H, L>, Outcome<H, L>),
 ) -> Result<(Reply, Reply, Reply), CaseFault> {
     let (one, other, last) = outcomes;
     let one = reply_of(line, one)?;
@@ -87,7 +88,8 @@ fn replies_of<H: Drop>(
 fn made_together<
     R: Wait + RandomSource + AllocGlobal,
     H: Drop,
-    F: Future<Output = Result<Outcome<H>, ExchangeFault>>,
+    L: Ledgers,
+    F: Future<Output = Result<Outcome<H, L>, ExchangeFault>>,
 >(rt: &R, line: u64, first: F, second: F, third: F) -> Result<(Reply, Reply, Reply), CaseFault>
     requires first { F.can_poll first }
     requires second { F.can_poll second }
@@ -109,7 +111,8 @@ fn made_together<
 pub fn made_at_once<
     R: Wait + RandomSource + AllocGlobal,
     H: Drop,
-    F: Future<Output = Result<Outcome<H>, ExchangeFault>>,
+    L: Ledgers,
+    F: Future<Output = Result<Outcome<H, L>, ExchangeFault>>,
 >(
     rt: &R,
     line: u64,
@@ -166,9 +169,12 @@ fn push_fault(given: &mut Given, fault: ExchangeFault) {
 }
 
 /// Adds the outcome of an exchange. Returns the history, if that is the outcome.
-fn push_came<H: Drop>(given: &mut Given, came: Result<Outcome<H>, ExchangeFault>) -> Option<H> {
+fn push_came<H: Drop, L: Ledgers>(
+    given: &mut Given,
+    came: Result<Outcome<H, L>, ExchangeFault>,
+) -> Option<H> {
     match came {
-        Ok(Outcome::Reply(reply)) => push_answer(given, &reply),
+        Ok(Outcome::Reply(reply, _token)) => push_answer(given, &reply),
         Ok(Outcome::History(history)) => return Some(history),
         Err(fault) => push_fault(given, fault),
     }
@@ -180,7 +186,8 @@ fn push_came<H: Drop>(given: &mut Given, came: Result<Outcome<H>, ExchangeFault>
 pub fn push_made<
     R: Wait + RandomSource + AllocGlobal,
     H: Drop,
-    F: Future<Output = Result<Outcome<H>, ExchangeFault>>,
+    L: Ledgers,
+    F: Future<Output = Result<Outcome<H, L>, ExchangeFault>>,
 >(rt: &R, exchange: F, drops: bool, given: &mut Given) -> Option<H>
     requires { F.can_poll exchange }
 {

@@ -31,4 +31,5 @@ returns-in-Err-Refused g c =
         came = rw (c.in-Err-Refused.field-0-is, c.deref-3.ensures, at.2) at c.in-Err-Refused.ensures;
       },
       refl,
+      c.again-seen.ensures.0,
     )

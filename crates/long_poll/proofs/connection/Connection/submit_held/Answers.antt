@@ -6,3 +6,11 @@ pub returns-after-is_next-clause-ok : goal.returns-after-is_next-clause-ok
 returns-after-is_next-clause-ok g c =
     let parked = rw (c.in-Made-Ok.is, c.in-Made-Ok.field-0-is) at c.attempt_within.ensures.attempt in
     (parked.0, ap rings_at parked.1 ∙ c.requires.1)
+
+pub returns-in_ok-reply-in-Made-Err-clause-ok : goal.returns-in_ok-reply-in-Made-Err-clause-ok
+returns-in_ok-reply-in-Made-Err-clause-ok g c = (
+  c.args.held.bell,
+  c.in-Made-Err.refused,
+  rw (c.in-Made-Err.is, c.in-Made-Err.field-0-is) at c.attempt_within.ensures.attempt,
+  rw c.is_invoke-is_invoke.ensures at c.in_ok-reply-in-Made-Err.ensures,
+)

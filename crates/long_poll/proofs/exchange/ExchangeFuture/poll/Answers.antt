@@ -38,7 +38,7 @@ pub returns-in-Ok-Replied-clause-value : goal.returns-in-Ok-Replied-clause-value
 returns-in-Ok-Replied-clause-value g c =
     let shared = arc_value c.args.self.now.connection in
     gives_reply shared g.N.Clock g.B.Body.yields g.B.Data.Into.converts (ShowsFrom (arc_value shared.service))
-    c.args.self.now.stage c.in-Ok-Replied.reply (search rules)
+    c.args.self.now.stage c.in-Ok-Replied.reply c.in-Ok-Replied.token (search rules)
 
 pub returns-in-Ok-AsksForHistory-clause-value : goal.returns-in-Ok-AsksForHistory-clause-value
 returns-in-Ok-AsksForHistory-clause-value g c =
