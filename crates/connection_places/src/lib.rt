@@ -11,5 +11,5 @@ mod slots;
 
 pub use mailbox::Mailbox;
 pub use post::{Post, Worker};
-pub use running::{Enders, Running};
+pub use running::Running;
 pub use slots::{Slots, StillShared};

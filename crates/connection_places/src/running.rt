@@ -1,64 +1,52 @@
 //! What is known of an open connection outside its thread.
 
 use crate::observation::Observation;
-use futures::channel::oneshot::Sender;
-use http_connection::{PortKind, Pulse};
+use http_connection::{Ender, PortKind, Pulse, Signal};
 use std::sync::Arc;
 
-/// The senders of the signals that end a connection.
-#[derive(Drop)]
-pub struct Enders {
-    /// Ends the connection after its exchange.
-    pub soft: Sender<()>,
-    /// Ends the connection at once.
-    pub hard: Sender<()>,
-    /// Ends the connection at once if it serves no request.
-    pub room: Sender<()>,
-}
-
-/// The signals that end a connection, and what is seen of it.
+/// The sender of a connection's signals, and what is seen of the connection.
 #[derive(Drop)]
 pub struct Running {
-    // `None` once it was sent.
-    soft: Option<Sender<()>>,
-    hard: Option<Sender<()>>,
-    room: Option<Sender<()>>,
+    // `None` once the connection was signalled to end at once.
+    ender: Option<Ender>,
+    // Which signals were sent.
+    has_sent_soft: bool,
+    has_sent_room: bool,
     pulse: Arc<Pulse>,
     pub(crate) seen: Observation,
 }
 
-/// Sends a signal, unless it was sent before.
-fn send(sender: &mut Option<Sender<()>>) {
-    if let Some(sender) = sender.take() {
-        let _ = sender.send(());
-    }
-}
-
 impl Running {
     /// Describes a connection that has just begun at a port of this kind.
-    pub fn new(enders: Enders, pulse: Arc<Pulse>, kind: PortKind) -> Running {
-        let Enders { soft, hard, room } = enders;
+    pub fn new(ender: Ender, pulse: Arc<Pulse>, kind: PortKind) -> Running {
         Running {
-            soft: Some(soft),
-            hard: Some(hard),
-            room: Some(room),
+            ender: Some(ender),
+            has_sent_soft: false,
+            has_sent_room: false,
             seen: Observation::first(kind, pulse.told()),
             pulse,
         }
     }
 
-    /// Signals the connection to end: after its exchange, or at once.
+    /// Signals the connection to end: after its exchange, or at once. If an allocation fails, it is
+    /// not signalled to end after its exchange; a stop ends it at once half a second later.
     pub(crate) fn tell(&mut self, at_once: bool) {
         if at_once {
-            send(&mut self.hard);
-        } else {
-            send(&mut self.soft);
+            self.ender = None;
+        } else if let Some(ender) = &self.ender
+            && !self.has_sent_soft
+        {
+            self.has_sent_soft = ender.send(Signal::Soft);
         }
     }
 
     /// Signals the connection to end at once if it serves no request.
     pub(crate) fn ask_for_room(&mut self) {
-        send(&mut self.room);
+        if let Some(ender) = &self.ender
+            && !self.has_sent_room
+        {
+            self.has_sent_room = ender.send(Signal::Room);
+        }
     }
 
     /// Looks at the connection, `looks` looks after the last one.

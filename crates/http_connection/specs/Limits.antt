@@ -1,5 +1,5 @@
 -- How long a connection may stay open. All limits are in seconds.
-use Rattle.std.specs.Prelude.{ℕ, ◌+◌, ◌*◌, ◌/◌, Bool, true, false, ◌||◌, nat_le, Option, Some, None}
+use Rattle.std.specs.Prelude.{ℕ, ◌+◌, ◌*◌, ◌/◌, Bool, false, ◌||◌, nat_le, Option, Some, None}
 use Rattle.http_connection.specs.declared.pulse.Awaited.{Awaited}
 use Rattle.http_connection.specs.declared.pulse.Awaited.TheVariants.{Answer, First, Head, Body, Taking, Next, End}
 use Rattle.http_connection.specs.declared.pulse.Told.{Told}

@@ -1,5 +1,5 @@
 -- The state of a connection: how its reads and its service change it, and what it waits for.
-use Rattle.std.specs.Prelude.{ℕ, ◌+◌, ◌-◌, ◌^◌, ◌%◌, ◌==◌, min, Bool, true, false, ◌||◌, if◌then◌else◌}
+use Rattle.std.specs.Prelude.{ℕ, ◌+◌, ◌-◌, ◌^◌, ◌%◌, ◌==◌, min, true, false, ◌||◌, if◌then◌else◌}
 use Rattle.http_connection.specs.declared.pulse.Awaited.{Awaited}
 use Rattle.http_connection.specs.declared.pulse.Awaited.TheVariants.{Answer, First, Head, Body, Taking, Next, End}
 use Rattle.http_connection.specs.declared.pulse.Told.{Told}

@@ -6,32 +6,21 @@ ghost use Rattle.futures.specs.Task.{IsArmed, Keeps};
 
 use crate::park::Park;
 use crate::pulse::Pulse;
+use crate::signals::{Signal, Signals};
 use crate::wire::Wire;
 use futures::Future;
-use futures::channel::oneshot::Receiver;
 use futures::task::{Context, Poll};
 use hyper::server::graceful::GracefulConnection;
 use std::alloc::{AllocError, Global};
 use std::sync::Arc;
 
-/// The signals that end a connection.
-#[derive(Drop)]
-pub struct Signals {
-    /// Ends it softly, after the exchange that has begun.
-    pub soft: Receiver<()>,
-    /// Ends it at once.
-    pub hard: Receiver<()>,
-    /// Ends it at once if it serves no request; has no effect otherwise.
-    pub room: Receiver<()>,
-}
-
 /// A connection, and the signals that end it in any state.
 #[derive(Drop)]
 pub(crate) struct Ending<C> {
     conn: C,
-    // `None` once a signal has come.
-    soft: Option<Receiver<()>>,
-    hard: Receiver<()>,
+    signals: Signals,
+    // Whether the soft signal has come.
+    is_soft: bool,
 }
 
 impl<C: Drop> Ending<C> {
@@ -41,52 +30,54 @@ impl<C: Drop> Ending<C> {
     pub(crate) fn boxed(
         alloc: Global,
         conn: C,
-        soft: Receiver<()>,
-        hard: Receiver<()>,
+        signals: Signals,
     ) -> Result<Box<Ending<C>>, AllocError>
         ensures { IfOk result (λ ending. ending.value.conn ≡ conn) }
     {
         let ending = Ending {
             conn,
-            soft: Some(soft),
-            hard,
+            signals,
+            is_soft: false,
         };
         Box::new(alloc, ending).map_err(AllocError::from)
     }
 }
 
 impl<C> Ending<C> {
-    /// Returns whether a signal has come, once the connection has ended by itself.
+    /// Returns whether the soft signal has come, or its sender was dropped, once the connection has
+    /// ended by itself.
     fn is_told(&mut self, cx: &mut Context<'_>) -> bool
         ensures same { self.new.conn ≡ self.old.conn }
         ensures kept { Keeps cx.old cx.new }
     {
-        match &mut self.soft {
-            None => true,
-            Some(soft) => soft.poll(cx).is_ready() || self.hard.poll(cx).is_ready(),
-        }
+        self.is_soft
+            || matches!(
+                self.signals.poll_next(cx),
+                Poll::Ready(None | Some(Signal::Soft))
+            )
     }
 }
 
 impl<C: GracefulConnection<Output = hyper::Result<()>>> Ending<C> {
-    /// Returns whether a signal ends the connection at once. If the soft one comes, the connection
-    /// ends after the exchange that has begun.
-    fn is_cut_off(&mut self, cx: &mut Context<'_>) -> bool
+    /// Returns whether a signal ends the connection at once. It makes room if, by its socket, it
+    /// served no request when its last turn ended. If the soft signal comes, it ends after the
+    /// exchange that has begun.
+    fn is_cut_off(&mut self, peer: &Wire, cx: &mut Context<'_>) -> bool
         requires { C.can_poll self.old.conn }
         ensures can_poll { C.can_poll self.new.conn }
         ensures same { (x : _) → C.gives self.new.conn x → C.gives self.old.conn x }
         ensures kept { Keeps cx.old cx.new }
     {
-        if self.hard.poll(cx).is_ready() {
-            return true;
+        match self.signals.poll_next(cx) {
+            Poll::Pending => false,
+            Poll::Ready(None) => true,
+            Poll::Ready(Some(Signal::Room)) => peer.is_unserved(),
+            Poll::Ready(Some(Signal::Soft)) => {
+                self.is_soft = true;
+                self.conn.graceful_shutdown();
+                false
+            }
         }
-        if let Some(soft) = &mut self.soft
-            && soft.poll(cx).is_ready()
-        {
-            self.soft = None;
-            self.conn.graceful_shutdown();
-        }
-        false
     }
 }
 
@@ -97,8 +88,6 @@ impl<C: GracefulConnection<Output = hyper::Result<()>>> Ending<C> {
 #[derive(Drop)]
 pub(crate) struct Watched<C, O> {
     ending: Box<Ending<C>>,
-    // `None` once its place was needed.
-    room: Option<Receiver<()>>,
     peer: Wire,
     open: O,
     pulse: Arc<Pulse>,
@@ -108,11 +97,10 @@ pub(crate) struct Watched<C, O> {
 }
 
 impl<C, O> Watched<C, O> {
-    /// Watches a connection. `room` signals that its place is needed, `peer` is its socket, `open`
-    /// notes whether a request is parked, and `pulse` is where it publishes its state.
+    /// Watches a connection. `peer` is its socket, `open` notes whether a request is parked, and
+    /// `pulse` is where it publishes its state.
     pub(crate) fn new(
         ending: Box<Ending<C>>,
-        room: Receiver<()>,
         peer: Wire,
         open: O,
         pulse: Arc<Pulse>,
@@ -122,30 +110,12 @@ impl<C, O> Watched<C, O> {
     {
         Watched {
             ending,
-            room: Some(room),
             peer,
             open,
             pulse,
             has_ended: false,
             outcome: None,
         }
-    }
-
-    /// Returns whether it makes room: its place is needed, and it served no request when its last
-    /// turn ended.
-    fn makes_room(&mut self, cx: &mut Context<'_>) -> bool
-        ensures same { (self.new.ending ≡ self.old.ending) × (self.new.has_ended ≡ self.old.has_ended) }
-        ensures kept { Keeps cx.old cx.new }
-    {
-        let is_wanted = match &mut self.room {
-            Some(room) => room.poll(cx).is_ready(),
-            None => false,
-        };
-        if !is_wanted {
-            return false;
-        }
-        self.room = None;
-        self.peer.is_unserved()
     }
 
     /// Lets the peer of a connection that has ended by itself read its answer, and then gives the
@@ -185,7 +155,7 @@ impl<C: GracefulConnection<Output = hyper::Result<()>>, O: Park> Future for Watc
         if self.has_ended {
             return self.poll_end(cx);
         }
-        if self.makes_room(cx) || self.ending.is_cut_off(cx) {
+        if self.ending.is_cut_off(&self.peer, cx) {
             return Poll::Ready(None);
         }
         self.peer.begin_turn();

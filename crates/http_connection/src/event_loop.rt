@@ -4,14 +4,14 @@ ghost use Rattle.std.specs.Prelude.{IfOk, IfSome};
 ghost use Rattle.hyper.specs.ServerDispatch.{GivesBodies};
 ghost use Rattle.http_connection.specs.Written.{Gave, Written};
 
-use crate::ending::{Ending, Signals, Watched};
+use crate::ending::{Ending, Watched};
 use crate::limits::PortKind;
 use crate::noting::{Noting, Pace};
 use crate::park::Park;
 use crate::pulse::Pulse;
+use crate::signals::Signals;
 use crate::wire::Wire;
 use bytes::Bytes;
-use futures::channel::oneshot::Receiver;
 use http::{Request, Response};
 use http_body::Body;
 use hyper::body::Incoming;
@@ -103,9 +103,8 @@ impl EventLoop {
             pace,
         };
         let conn = self.http.serve_connection(wire, service);
-        let Signals { soft, hard, room } = signals;
-        let ending = Ending::boxed(rt.alloc(), conn, soft, hard)?;
-        self.wait_for(rt, ending, room, peer, open, pulse)
+        let ending = Ending::boxed(rt.alloc(), conn, signals)?;
+        self.wait_for(rt, ending, peer, open, pulse)
     }
 
     /// Watches a socket at a port of this kind, and returns its holders. Polls at an environment's
@@ -141,7 +140,6 @@ impl EventLoop {
         &mut self,
         rt: &R,
         ending: Box<Ending<C>>,
-        room: Receiver<()>,
         peer: Wire,
         open: O,
         pulse: Arc<Pulse>,
@@ -154,6 +152,6 @@ impl EventLoop {
         ensures { IfOk result (λ ended. IfSome ended (C.gives ending.value.conn)) }
     {
         self.runtime
-            .block_on(rt, Watched::new(ending, room, peer, open, pulse))
+            .block_on(rt, Watched::new(ending, peer, open, pulse))
     }
 }

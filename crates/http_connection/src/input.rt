@@ -134,12 +134,17 @@ impl Input {
     /// Does the same. The first byte of most lines says that they are not empty and do not declare
     /// a length: nothing else of them is looked at.
     fn take_line(&mut self, bytes: &[u8]) -> bool {
-        let is_special = matches!(bytes.first(), None | Some(b'c' | b'C' | b'\r'));
-        if is_special || !matches!(self.line, Line::Name(0)) {
+        if !matches!(self.line, Line::Name(0)) {
             return self.take_rest(bytes);
         }
-        self.is_empty = true;
-        false
+        match bytes {
+            [] | [b'\r'] => self.take_end(),
+            [b'c' | b'C' | b'\r', ..] => self.take_rest(bytes),
+            _ => {
+                self.is_empty = true;
+                false
+            }
+        }
     }
 
     /// Returns how many of these bytes belong to the present head: those up to and including its

@@ -10,14 +10,15 @@ mod machine;
 mod noting;
 mod park;
 mod pulse;
+mod signals;
 mod socket;
 mod stand;
 mod wire;
 
-pub use ending::Signals;
 pub use event_loop::EventLoop;
 pub use limits::{PortKind, has_outstayed};
 pub use machine::Machine;
 pub use park::Park;
 pub use pulse::{Awaited, Pulse, Told};
+pub use signals::{Ender, Signal, Signals};
 pub use wire::Wire;

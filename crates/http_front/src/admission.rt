@@ -4,25 +4,11 @@
 use crate::attendant::{Newcomer, Visit};
 use crate::door::Door;
 use account_lock::Identity;
-use connection_places::{Enders, Running};
-use futures::channel::oneshot;
+use connection_places::Running;
 use http_connection::{PortKind, Pulse, Signals};
 use std::alloc::{AllocError, Global};
 use std::net::TcpStream;
 use std::sync::Arc;
-
-/// Makes the signals that end a connection, and their senders.
-fn signals(alloc: Global) -> Result<(Signals, Enders), AllocError> {
-    let (soft_sender, soft) = oneshot::channel(alloc)?;
-    let (hard_sender, hard) = oneshot::channel(alloc)?;
-    let (room_sender, room) = oneshot::channel(alloc)?;
-    let enders = Enders {
-        soft: soft_sender,
-        hard: hard_sender,
-        room: room_sender,
-    };
-    Ok((Signals { soft, hard, room }, enders))
-}
 
 /// Returns a socket at a port of this kind, as its thread watches it, and what is known of it
 /// outside that thread.
@@ -33,13 +19,13 @@ fn newcomer(
 ) -> Result<(Newcomer, Running), AllocError> {
     let pulse = Arc::new(alloc, Pulse::new()).map_err(AllocError::from)?;
     let noted = Arc::try_clone(&pulse)?;
-    let (signals, enders) = signals(alloc)?;
+    let (ender, signals) = Signals::open(alloc)?;
     let newcomer = Newcomer {
         socket,
         signals,
         pulse,
     };
-    Ok((newcomer, Running::new(enders, noted, kind)))
+    Ok((newcomer, Running::new(ender, noted, kind)))
 }
 
 /// Returns a connection to serve at a port, and what is known of it outside its thread.
