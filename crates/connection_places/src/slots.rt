@@ -61,10 +61,9 @@ impl<Y, V: Drop> Slot<Y, V> {
 #[derive(Clone, Copy, Debug, PartialEq, Eq)]
 pub struct StillShared;
 
-/// The places: by their type never more than `most`, so no more connections are open at once.
-/// `free` has the places without a connection; the last of these is taken next. `free` and `ended`
-/// have room for every place, and `gathered` for the tallies of all places and two more, so that
-/// the end of the service allocates nothing.
+/// The places: by their type never more than `most`. `free` has the places without a connection;
+/// the last of these is taken next. `free` and `ended` have room for every place, and `gathered`
+/// for the tallies of all places and two more, so that the end of the service allocates nothing.
 #[derive(Drop)]
 pub struct Slots<Y, V> {
     alloc: Global,

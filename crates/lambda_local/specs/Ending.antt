@@ -1,5 +1,5 @@
 -- The settled end of a service.
-use Rattle.std.specs.Prelude.{◌≡◌, ◌^◌, ℕ, List, ◌++◌, codes, decimal}
+use Rattle.std.specs.Prelude.{◌≡◌, ◌^◌, ℕ, List, ◌++◌, Option, Some, codes, decimal}
 use Rattle.arn_ids.specs.declared.config.Config.{Config}
 use Rattle.call_types.specs.declared.call.Entry.{Entry}
 use Rattle.call_types.specs.declared.stats.Stats.{Stats}
@@ -21,3 +21,7 @@ abbrev pub closing_line : Stats → List ℕ
 closing_line counts =
     codes "admitted " ++ decimal counts.admitted ++ codes " throttled " ++ decimal counts.throttled ++ codes " failed "
     ++ decimal counts.failed
+
+-- The counts are those of a settled end with this tally, and the text is their line.
+abbrev pub IsClosing : Config → Stats → Option (List ℕ) → Tallied → Type 0
+IsClosing config counts text tally = IsSettled config counts tally × (text ≡ Some (closing_line counts))

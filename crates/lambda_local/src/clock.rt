@@ -20,9 +20,12 @@ pub struct UnixClock<R> {
     forward: AtomicU64,
 }
 
-/// Returns a duration in milliseconds.
+/// Returns a duration in milliseconds. (The library's `as_millis` takes more steps, since its result
+/// has 128 bits.)
 fn millis(time: Duration) -> u64 {
-    u64::try_from(time.as_millis()).unwrap_or(u64::MAX)
+    time.as_secs()
+        .saturating_mul(1_000)
+        .saturating_add(u64::from(time.subsec_millis()))
 }
 
 impl<R: time::Clock> UnixClock<R> {

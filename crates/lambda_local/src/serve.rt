@@ -3,18 +3,18 @@
 ghost use Rattle.std.specs.Prelude.{◌≡◌, IfOk};
 ghost use Rattle.std.specs.Arc.{arc_value};
 ghost use Rattle.usage_ledger.specs.Tallies.{Tallied};
-ghost use Rattle.lambda_local.specs.Ending.{IsSettled};
+ghost use Rattle.lambda_local.specs.Ending.{IsClosing};
 
 use crate::clock::UnixClock;
 use crate::closing::ClosingLine;
 use crate::log_writer::LogWriter;
 use crate::serve_fault::ServeFault;
 use account_lock::{Identity, Settled};
-use call_model::Stats;
 use http_front::{Host, Hosted, Machine, Plan};
 use lambda_wire::read_config;
 use log::Log;
 use request_guard::Hosts;
+use std::fmt::Display;
 use std::fs;
 use std::io::{self, Read};
 use std::marker::Brand;
@@ -37,35 +37,35 @@ where
     Ok(Plan::check(rt.alloc(), setup)?)
 }
 
-/// What a service has counted: the counts of its history, and the shares of all its threads in one
-/// tally.
+/// What a service has counted: the line with the counts of its history, and the shares of all its
+/// threads in one tally.
 #[derive(Drop)]
 pub struct Counted<L: Ledgers> {
-    /// The counts.
-    pub counts: Stats,
+    /// The line.
+    pub line: ClosingLine,
     /// The shares.
     pub tally: Tally<KeepNone, L>,
 }
 
-/// Returns the counts of an account that was served, with the shares of its threads, after a check
-/// that the shares count what its history counts.
+/// Returns the line with the counts of an account that was served, with the shares of its threads,
+/// after a check that the shares count what its history counts.
 ///
 /// # Errors
 /// `Settlement` if they do not, otherwise `OutOfMemory`.
 fn settled<S: Identity>(hosted: Hosted<S, KeepNone>) -> Result<Counted<S>, ServeFault>
-    ensures { IfOk result (λ counted. IsSettled S.config counted.counts counted.tally) }
+    ensures { IfOk result (λ counted.
+        IsClosing S.config counted.line.counts (⟦<ClosingLine as Display>⟧.output counted.line) counted.tally) }
 {
     let Hosted { account, tallies } = hosted;
     let Settled { stats, tally, .. } = headline::settle(account, tallies)?;
-    Ok(Counted {
-        counts: stats,
-        tally,
-    })
+    let line = ClosingLine { counts: stats };
+    Ok(Counted { line, tally })
 }
 
-/// Serves a plan until it is stopped, settles, and returns the account's counts with the shares of
-/// all its threads, which add up to them: no share of the account's ledgers is anywhere else. `S`
-/// names the configuration, the salt, the limit, the ledgers and the history of the account.
+/// Serves a plan until it is stopped, settles, and returns the line with the account's counts and
+/// the shares of all its threads, which add up to them: no share of the account's ledgers is
+/// anywhere else. `S` names the configuration, the salt, the limit, the ledgers and the history of
+/// the account.
 fn serve_counted<R: Machine + Log, S: Identity + Drop + Send + Sync + 'static>(
     rt: R,
     plan: Plan,
@@ -77,7 +77,8 @@ fn serve_counted<R: Machine + Log, S: Identity + Drop + Send + Sync + 'static>(
     requires salted { plan.salt ≡ S.salt }
     requires limited { plan.max_entries ≡ S.most }
     requires named { blanks ≡ S.names }
-    ensures { IfOk result (λ counted. IsSettled (arc_value plan.config) counted.counts counted.tally) }
+    ensures { IfOk result (λ counted. IsClosing (arc_value plan.config) counted.line.counts
+        (⟦<ClosingLine as Display>⟧.output counted.line) counted.tally) }
 {
     let clock = UnixClock::new(rt);
     let places = plan.places();
@@ -90,37 +91,22 @@ fn serve_counted<R: Machine + Log, S: Identity + Drop + Send + Sync + 'static>(
     settled(served?)
 }
 
-/// Does the same, but returns the counts alone.
-fn serve_plan<R: Machine + Log, S: Identity + Drop + Send + Sync + 'static>(
-    rt: R,
-    plan: Plan,
-    patience: u32,
-    hosts: Hosts,
-    blanks: Blanks,
-) -> Result<Stats, ServeFault>
-    requires configured { arc_value plan.config ≡ S.config }
-    requires salted { plan.salt ≡ S.salt }
-    requires limited { plan.max_entries ≡ S.most }
-    requires named { blanks ≡ S.names }
-    ensures { IfOk result (λ counts. (tally : Tallied) × IsSettled (arc_value plan.config) counts tally) }
-{
-    match serve_counted::<R, S>(rt, plan, patience, hosts, blanks) {
-        Ok(counted) => Ok(counted.counts),
-        Err(fault) => Err(fault),
-    }
-}
-
-/// Names the configuration, the salt, the limit, the ledgers and the history, and serves the plan.
+/// Names the configuration, the salt, the limit, the ledgers and the history, serves the plan, and
+/// returns the line with the account's counts.
 fn serve_by_brand<R: Machine + Log>(
     rt: R,
     plan: Plan,
     patience: u32,
     hosts: Hosts,
-) -> Result<Stats, ServeFault>
-    ensures { IfOk result (λ counts. (tally : Tallied) × IsSettled (arc_value plan.config) counts tally) }
+) -> Result<ClosingLine, ServeFault>
+    ensures { IfOk result (λ line. (tally : Tallied)
+        × IsClosing (arc_value plan.config) line.counts (⟦<ClosingLine as Display>⟧.output line) tally) }
 {
     let blanks = Blanks::new(rt.alloc()).map_err(|_fault| ServeFault::OutOfMemory)?;
-    serve_plan::<R, Brand>(rt, plan, patience, hosts, blanks)
+    match serve_counted::<R, Brand>(rt, plan, patience, hosts, blanks) {
+        Ok(counted) => Ok(counted.line),
+        Err(fault) => Err(fault),
+    }
 }
 
 /// Serves the configuration in a file until it is stopped, settles, and writes the account's counts
@@ -139,7 +125,6 @@ where
     R::File: Read + Drop,
 {
     let plan = read_plan(&rt, path)?;
-    let counts = serve_by_brand(rt, plan, patience, hosts)?;
-    let line = ClosingLine { counts };
+    let line = serve_by_brand(rt, plan, patience, hosts)?;
     println!(rt; "{line}").map_err(|fault| ServeFault::at_output(&fault))
 }
