@@ -72,21 +72,21 @@ module _ {R S D N K L B P E : Type 0} {service : Service.Ghosts S K L} {decider 
   H = HistoryBody R S K L
 
   reply_to : (made : Decision) (reply : Reply) → IsReply connection clock made reply
-      → IsReplyTo door.config door.salt made reply
-  reply_to (decided.Submit call) reply x = (most, replies call reply x)
+      → IsReplyTo door.config most door.salt made reply
+  reply_to (decided.Submit call) reply x = replies call reply x
   reply_to (decided.Reply own) reply x = x
   reply_to (decided.Show show.Stats) reply x =
       let counted = counts x.1.0 x.0 x.1.1 x.1.2 in
-      (most, x.1.1, counted.0.reached, x.2 ∙ ap stats_reply counted.1)
+      (x.1.1, counted.0.reached, x.2 ∙ ap stats_reply counted.1)
   reply_to (decided.Show (show.History from)) reply x = x
   reply_to (decided.Show (show.Reservation f)) reply x =
       let reserved = reserves x.1.0 f x.0 x.1.1 x.1.2 in
-      (most, x.1.1, reserved.0.reached, x.2 ∙ ap reservation_reply reserved.1)
+      (x.1.1, reserved.0.reached, x.2 ∙ ap reservation_reply reserved.1)
 
   outcome_of : (shows : Option ℕ → H → Type 0) (head : Parts) (body : List ℕ) (given : Outcome H)
-      → ComesOf connection clock shows head body (Ok given) → IsOutcomeOf shows door (decision door head body) given
+      → ComesOf connection clock shows head body (Ok given) → IsOutcomeOf shows door most (decision door head body) given
   outcome_of shows head body (outcome.Reply reply) x =
-      subst (λ made. IsReplyTo door.config door.salt made reply) (decides head body x.0 x.1) (reply_to x.0 reply x.2)
+      subst (λ made. IsReplyTo door.config most door.salt made reply) (decides head body x.0 x.1) (reply_to x.0 reply x.2)
   outcome_of shows head body (outcome.History shown) x =
       (x.0, sym (decides head body (decided.Show (show.History x.0)) x.1), x.2)
 
@@ -102,7 +102,7 @@ module _ {R S D N K L B P E : Type 0} {service : Service.Ghosts S K L} {decider 
         → IsAnswerTo (api_of door.port) (declares_too_long head) made response
         → IsRefusal (api_of door.port) (declares_too_long head) refused.BrokenBody response
         ⊎ (IsRefusal (api_of door.port) (declares_too_long head) refused.OutOfMemory response
-        ⊎ IsDecided shows door yields has hosts head response)
+        ⊎ IsDecided shows door most yields has hosts head response)
     exchanged (Ok given) x answer =
         inr (inr (
           x.0,
@@ -113,7 +113,7 @@ module _ {R S D N K L B P E : Type 0} {service : Service.Ghosts S K L} {decider 
               head
               []
               (λ body. ComesOf connection clock shows head body (Ok given))
-              (λ body. IsOutcomeOf shows door (decision door head body) given)
+              (λ body. IsOutcomeOf shows door most (decision door head body) given)
               (λ body. outcome_of shows head body given)
               x.1,
           answer,
@@ -128,7 +128,7 @@ module _ {R S D N K L B P E : Type 0} {service : Service.Ghosts S K L} {decider 
         → MatchOption guard
         (IsRefusal (api_of door.port) (declares_too_long head) refused.BrokenBody response
         ⊎ (IsRefusal (api_of door.port) (declares_too_long head) refused.OutOfMemory response
-        ⊎ IsDecided shows door yields has hosts head response))
+        ⊎ IsDecided shows door most yields has hosts head response))
         (λ refusal. IsRefusal (api_of door.port) (declares_too_long head) refusal response)
     guarded (Some refusal) x = x
     guarded None (inl x) = inr (inl x)
@@ -136,7 +136,7 @@ module _ {R S D N K L B P E : Type 0} {service : Service.Ghosts S K L} {decider 
 
     pub at_door : (account : S) → arc_value connection.service ≡ account → port.api ≡ api_of door.port
         → arc_value port.hosts ≡ hosts → IsAnswer clock yields has port head response
-        → IsAnswerAt (ShowsFrom account) door yields has hosts head response
+        → IsAnswerAt (ShowsFrom account) door most yields has hosts head response
     at_door account same api listed x =
         let of_hosts : MatchOption (refusal_of hosts head) (IsRefusal port.api (declares_too_long head) refused.OutOfMemory response ⊎ Exchanged port.api)
         (λ refusal. IsRefusal port.api (declares_too_long head) refusal response)
@@ -149,5 +149,5 @@ module _ {R S D N K L B P E : Type 0} {service : Service.Ghosts S K L} {decider 
         = subst (λ a. MatchOption (refusal_of hosts head)
         (IsRefusal a (declares_too_long head) refused.OutOfMemory response ⊎ Exchanged a) (λ refusal. IsRefusal a (declares_too_long head) refusal response))
         api of_hosts in
-        subst (λ a. IsAnswerAt (ShowsFrom a) door yields has hosts head response) same
+        subst (λ a. IsAnswerAt (ShowsFrom a) door most yields has hosts head response) same
         (guarded (refusal_of hosts head) of_api)

@@ -1,4 +1,5 @@
 -- The answer to a request at a door of the service: at a port, in a configuration, with the salt of its identifiers.
+-- `most` is the limit of the account, the greatest number of entries of its history.
 use Rattle.std.specs.Prelude.{◌≡◌, ◌⊎◌, ℕ, List, [], Option, Result, MatchOption}
 use Rattle.account_book.specs.Reached.{IsReached}
 use Rattle.arn_ids.specs.declared.config.Config.{Config}
@@ -27,23 +28,23 @@ use Rattle.long_poll.specs.declared.outcome.Outcome.TheVariants as outcome
 use Rattle.request_guard.specs.Guarding.{refusal_of}
 use Rattle.request_guard.specs.declared.refusal.Refusal.TheVariants.{BrokenBody, OutOfMemory}
 
-module _ (config : Config) (salt : ℕ) where
+module _ (config : Config) (most salt : ℕ) where
   -- The reply to a decision: that of the call, or of why the call was not taken; the reply that was decided; or what is
   -- to be shown.
   abbrev pub IsReplyTo : Decision → Reply → Type 0
-  IsReplyTo (decided.Submit call) reply = (most : ℕ) × IsReplyAt config most salt call reply
+  IsReplyTo (decided.Submit call) reply = IsReplyAt config most salt call reply
   IsReplyTo (decided.Reply own) reply = reply ≡ own
   IsReplyTo (decided.Show shown.Stats) reply =
-      (most : ℕ) × (h : List Entry) × IsReached config most h × (reply ≡ stats_reply (stats config h))
+      (h : List Entry) × IsReached config most h × (reply ≡ stats_reply (stats config h))
   IsReplyTo (decided.Show (shown.History from)) reply = ⊥
   IsReplyTo (decided.Show (shown.Reservation f)) reply =
-      (most : ℕ) × (h : List Entry) × IsReached config most h × (reply ≡ reservation_reply (reservation config h f))
+      (h : List Entry) × IsReached config most h × (reply ≡ reservation_reply (reservation config h f))
 
 -- In what follows, `shows` says which bodies show the account's history from which ticket on.
-module _ {H : Type 0} (shows : Option ℕ → H → Type 0) (door : Served) where
+module _ {H : Type 0} (shows : Option ℕ → H → Type 0) (door : Served) (most : ℕ) where
   -- The outcome of a decision: a reply, or the history if that is to be shown.
   abbrev pub IsOutcomeOf : Decision → Outcome H → Type 0
-  IsOutcomeOf made (outcome.Reply reply) = IsReplyTo door.config door.salt made reply
+  IsOutcomeOf made (outcome.Reply reply) = IsReplyTo door.config most door.salt made reply
   IsOutcomeOf made (outcome.History body) =
       (from : Option ℕ) × (made ≡ decided.Show (shown.History from)) × shows from body
 

@@ -18,9 +18,10 @@ use Rattle.long_poll.specs.declared.history_body.HistoryBody.{HistoryBody}
 -- The bodies of responses and those of requests yield frames, and the data of a frame has bytes.
 module _ {R S N K L B P X E : Type 0}
     (sends : Either (Full (List ℕ)) (HistoryBody R (Account S OneShotBell) K L) → Runs (Result (Frame P) X))
-    (yields : B → Runs (Result (Frame P) E)) (has : P → List ℕ → Type 0) (common : Common S N) (door : Served) where
+    (yields : B → Runs (Result (Frame P) E)) (has : P → List ℕ → Type 0) (common : Common S N)
+    (door : Served) (most : ℕ) where
   -- A connection at this door came to this. If it ended by itself, each response that was written to it answers its
-  -- request: as this door does, with the account and the hosts that the threads have in common.
+  -- request: as this door does within this limit, with the account and the hosts that the threads have in common.
   abbrev pub IsAttended : {A F : Type 0} → Result (Option (Result A Error)) F → Type 0
   IsAttended came = IfOk came (λ ended. IfSome ended (Written sends has
-      (IsAnswerAt (ShowsFrom (arc_value common.account)) door yields has (arc_value common.hosts))))
+      (IsAnswerAt (ShowsFrom (arc_value common.account)) door most yields has (arc_value common.hosts))))

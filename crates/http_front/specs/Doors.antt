@@ -5,7 +5,7 @@ use Rattle.arn_ids.specs.declared.config.Config.{Config}
 use Rattle.http_routes.specs.Decisions.{Served}
 use Rattle.http_routes.specs.declared.side.Port.{Port}
 use Rattle.http_routes.specs.declared.side.Port.TheVariants.{Account, Environment}
-use Rattle.http_front.specs.declared.entrance.Gate.{Gate}
+use Rattle.http_front.specs.declared.gate.Gate.{Gate}
 
 -- The decider at the door of a port.
 abbrev pub door : Config → ℕ → Port → Served

@@ -1,8 +1,10 @@
 //! What the connection of a newcomer needs to be served, and what is known of it outside its
 //! thread.
 
+ghost use Rattle.std.specs.Prelude.{◌≡◌, IfOk};
+
 use crate::attendant::{Newcomer, Visit};
-use crate::door::Door;
+use crate::gate::Arrival;
 use account_lock::Identity;
 use connection_places::Running;
 use http_connection::{PortKind, Pulse, Signals};
@@ -16,7 +18,9 @@ fn newcomer(
     alloc: Global,
     socket: TcpStream,
     kind: PortKind,
-) -> Result<(Newcomer, Running), AllocError> {
+) -> Result<(Newcomer, Running), AllocError>
+    ensures { IfOk result (λ made. made.0.socket ≡ socket) }
+{
     let pulse = Arc::new(alloc, Pulse::new()).map_err(AllocError::from)?;
     let noted = Arc::try_clone(&pulse)?;
     let (ender, signals) = Signals::open(alloc)?;
@@ -28,13 +32,16 @@ fn newcomer(
     Ok((newcomer, Running::new(ender, noted, kind)))
 }
 
-/// Returns a connection to serve at a port, and what is known of it outside its thread.
+/// Returns the connection of an arrival, to serve at its door, and what is known of it outside its
+/// thread.
 pub(crate) fn admit<S: Identity>(
     alloc: Global,
-    socket: TcpStream,
-    door: &Door<S>,
-) -> Result<(Visit<S>, Running), AllocError> {
-    let door = door.share()?;
-    let (newcomer, running) = newcomer(alloc, socket, door.kind())?;
+    arrival: Arrival<S>,
+) -> Result<(Visit<S>, Running), AllocError>
+    ensures { IfOk result (λ made. (made.0.door ≡ arrival.door) × (made.0.newcomer.socket ≡ arrival.socket)) }
+{
+    let kind = arrival.kind();
+    let (socket, door) = arrival.into_parts();
+    let (newcomer, running) = newcomer(alloc, socket, kind)?;
     Ok((Visit { newcomer, door }, running))
 }

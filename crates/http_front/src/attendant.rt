@@ -191,7 +191,8 @@ impl<R: Machine, S: Identity + Drop, N: Clock + Drop, K: Keep> Attendant<R, S, N
     /// If the event loop cannot serve another connection.
     fn attend(&self, tools: &mut Tools<S>, visit: Visit<S>) -> io::Result<Option<hyper::Result<()>>>
         ensures { IsAttended ⟦<Either<Full<Bytes>, HistoryBody<R, Account<S, OneShotBell>, K, S>> as Body>⟧.yields
-            ⟦<Incoming<Wire> as Body>⟧.yields ⟦<Bytes as Into<Bytes>>⟧.converts self.now.common visit.door result }
+            ⟦<Incoming<Wire> as Body>⟧.yields ⟦<Bytes as Into<Bytes>>⟧.converts
+            self.now.common visit.door S.most result }
     {
         let open = Arc::new(self.rt.alloc(), OpenPoll::new()).map_err(AllocError::from)?;
         let ended = self.serve(tools, visit, &open);
@@ -210,7 +211,8 @@ impl<R: Machine, S: Identity + Drop, N: Clock + Drop, K: Keep> Attendant<R, S, N
         open: &Arc<OpenPoll>,
     ) -> io::Result<Option<hyper::Result<()>>>
         ensures { IsAttended ⟦<Either<Full<Bytes>, HistoryBody<R, Account<S, OneShotBell>, K, S>> as Body>⟧.yields
-            ⟦<Incoming<Wire> as Body>⟧.yields ⟦<Bytes as Into<Bytes>>⟧.converts self.now.common visit.door result }
+            ⟦<Incoming<Wire> as Body>⟧.yields ⟦<Bytes as Into<Bytes>>⟧.converts
+            self.now.common visit.door S.most result }
     {
         let Visit { newcomer, door } = visit;
         let kind = door.kind();

@@ -9,6 +9,7 @@ ghost use Rattle.http_front.specs.Ports.{ports_of, environment_ports, number_of}
 ghost use Rattle.http_front.specs.Doors.{door, doors, doors_of};
 
 use crate::door::Door;
+use crate::gate::Gate;
 use crate::host_fault::at_socket;
 use crate::{HostFault, Port};
 use account_lock::Identity;
@@ -23,15 +24,6 @@ use std::time::Duration;
 
 /// The most events that one wait reports.
 const MOST_EVENTS: usize = 256;
-
-/// A port that is listened on, with its door, and whether newcomers may wait at it. A port reports
-/// newcomers once, so this is kept until no newcomer is found at the port.
-#[derive(Drop)]
-pub(crate) struct Gate<S: Identity> {
-    pub(crate) listener: TcpListener,
-    pub(crate) door: Door<S>,
-    pub(crate) is_waited_at: bool,
-}
 
 /// The ports of a host: the account's, and one of each environment. The token of each is its index.
 #[derive(Drop)]
@@ -82,12 +74,7 @@ impl<S: Identity> Entrance<S> {
     {
         let listener = self.bind(net, number)?;
         let door = Door::new(port, Arc::try_clone(config)?, salt);
-        let gate = Gate {
-            listener,
-            door,
-            is_waited_at: false,
-        };
-        match self.gates.push(gate) {
+        match self.gates.push(Gate::new(listener, door)) {
             Ok(()) => Ok(()),
             Err(_refused) => Err(HostFault::OutOfMemory),
         }

@@ -11,6 +11,7 @@ mod common;
 mod door;
 mod entrance;
 mod front;
+mod gate;
 mod host;
 mod host_fault;
 mod notices;

@@ -6,8 +6,8 @@ ghost use Rattle.http_front.specs.declared.host_fault.HostFault.TheVariants.{Sti
 use crate::admission::admit;
 use crate::attendant::{Attendant, Visit};
 use crate::common::Common;
-use crate::door::Door;
-use crate::entrance::{Entrance, Gate};
+use crate::entrance::Entrance;
+use crate::gate::{Arrival, Gate};
 use crate::ticker::Ticker;
 use crate::{HostFault, Hosted, Notices};
 use account_lock::{Account, Identity};
@@ -17,7 +17,6 @@ use long_poll::{Clock, OneShotBell};
 use mio::Poll;
 use request_guard::Hosts;
 use std::alloc::AllocError;
-use std::net::TcpStream;
 use std::sync::atomic::Ordering::SeqCst;
 use std::sync::{Arc, Wait};
 use std::thread::Threads;
@@ -48,11 +47,15 @@ const LOOKS: u32 = 100;
 /// How many milliseconds pass between two of these checks.
 const BETWEEN_LOOKS: u64 = 5;
 
-/// Returns whether accepting failed because of the newcomer itself, which has left again, or
-/// because the call was interrupted: other newcomers may still wait. (POSIX, accept: ECONNABORTED,
-/// EINTR)
-fn is_of_newcomer(kind: io::ErrorKind) -> bool {
-    kind == io::ErrorKind::ConnectionAborted || kind == io::ErrorKind::Interrupted
+/// Returns whether accepting failed because of the newcomer itself, which has left again or was
+/// closed for want of memory, or because the call was interrupted: other newcomers may still wait.
+/// (POSIX, accept: ECONNABORTED, EINTR. An `OutOfMemory` of the system has an error number.)
+fn is_of_newcomer(fault: &io::Error) -> bool {
+    match fault.kind() {
+        io::ErrorKind::ConnectionAborted | io::ErrorKind::Interrupted => true,
+        io::ErrorKind::OutOfMemory => fault.raw_os_error().is_none(),
+        _ => false,
+    }
 }
 
 /// Takes connections in, serves each on a thread of its own, and ends them. It has what the threads
@@ -121,7 +124,7 @@ impl<R: Machine, S: Identity + Drop, N: Drop, K: Keep> Reception<R, S, N, K> {
     /// meanwhile.
     fn turn_away(&mut self, gate: &Gate<S>) {
         self.spare = None;
-        let _ = gate.listener.accept();
+        gate.turn_away();
         self.spare = Poll::new(&self.rt).ok();
         thread::sleep(&self.rt, Duration::from_millis(PAUSE));
         self.slots.reap(&self.rt);
@@ -304,8 +307,8 @@ impl<
 
     /// Begins a connection at a place. Returns whether it has begun; it has not if an allocation or
     /// its thread fails.
-    fn begin(&mut self, at: usize, socket: TcpStream, door: &Door<S>) -> bool {
-        let Ok((visit, running)) = admit(self.rt.alloc(), socket, door) else {
+    fn begin(&mut self, at: usize, arrival: Arrival<S>) -> bool {
+        let Ok((visit, running)) = admit(self.rt.alloc(), arrival) else {
             return false;
         };
         let is_begun = self.hand_over(at, visit);
@@ -316,12 +319,12 @@ impl<
     }
 
     /// Takes a newcomer in, or closes its connection if there is no place or thread for it.
-    fn take_in(&mut self, socket: TcpStream, door: &Door<S>) {
+    fn take_in(&mut self, arrival: Arrival<S>) {
         self.slots.reap(&self.rt);
-        let Some(at) = self.place(door.kind()) else {
+        let Some(at) = self.place(arrival.kind()) else {
             return;
         };
-        if !self.begin(at, socket, door) {
+        if !self.begin(at, arrival) {
             self.slots.give_back(at);
         }
     }
@@ -330,10 +333,10 @@ impl<
     /// wait.
     fn take_in_some(&mut self, gate: &Gate<S>) -> bool {
         for _ in 0..MOST_IN_A_TURN {
-            match gate.listener.accept() {
-                Ok((socket, _)) => self.take_in(TcpStream::from(socket), &gate.door),
+            match gate.accept() {
+                Ok(arrival) => self.take_in(arrival),
                 Err(fault) if fault.kind() == io::ErrorKind::WouldBlock => return false,
-                Err(fault) if is_of_newcomer(fault.kind()) => {}
+                Err(fault) if is_of_newcomer(&fault) => {}
                 Err(_) => self.turn_away(gate),
             }
         }

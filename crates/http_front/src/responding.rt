@@ -92,6 +92,9 @@ where
 
     ghost can_poll = { λ r. IfSome r.exchange (λ e. ⟦<Exchange<R, S, D, N, B, K, L> as Future>⟧.can_poll e.value) };
 
+    ghost needs = { λ r source. IsSomeAnd r.exchange (λ e.
+        ⟦<Exchange<R, S, D, N, B, K, L> as Future>⟧.needs e.value source) };
+
     ghost gives = { λ r answer. IfOk answer (λ response. MatchOption r.refusal
         (IsSomeAnd r.exchange (λ exchange. (made : _)
         × ⟦<Exchange<R, S, D, N, B, K, L> as Future>⟧.gives exchange.value made

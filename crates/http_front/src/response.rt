@@ -1,30 +1,30 @@
 //! Responses of a connection, made from the answers to requests.
 
-ghost use Rattle.std.specs.Prelude.{◌≡◌, IfOk, OnOk};
+ghost use Rattle.std.specs.Prelude.{◌≡◌, [], IfOk, OnOk};
 ghost use Rattle.http.specs.Response.{body_of};
 ghost use Rattle.http_front.specs.Responses.{fields, said_closing, HasHead, IsResponseTo};
 
 use crate::ResponseFault;
 use bytes::Bytes;
 use http::response::Parts;
-use http::{Response, StatusCode};
+use http::{Response, StatusCode, Version};
 use http_body_util::{Either, Full};
 use http_header::{HeaderMap, HeaderValue};
 use lambda_wire::{Headers, Reply};
 use long_poll::{Outcome, history_headers};
 use std::alloc::{AllocError, Global};
 
-/// Returns the header fields of a reply, in their order.
-fn header_map(alloc: Global, headers: Headers) -> Result<HeaderMap, AllocError>
-    ensures { IfOk result (λ map. map ≡ fields headers) }
+/// Adds the header fields of a reply, in their order, to a map that has none.
+fn push_fields(map: &mut HeaderMap, headers: Headers) -> Result<(), AllocError>
+    requires empty { map.old ≡ [] }
+    ensures { OnOk result (map.new ≡ fields headers) }
 {
-    let mut map = HeaderMap::new(alloc);
     for (name, value) in headers.into_vec() {
         if map.append(name, value).is_err() {
             return Err(AllocError);
         }
     }
-    Ok(map)
+    Ok(())
 }
 
 /// Adds the field that says that the connection ends after the response, if it does (RFC 9112,
@@ -56,11 +56,13 @@ fn with_head<B: Drop>(
     let Ok(status) = StatusCode::from_u16(status) else {
         return Err(ResponseFault::BadStatus);
     };
-    let mut headers = header_map(alloc, headers)?;
-    say_closing(is_last, &mut headers)?;
-    let mut parts = Parts::new(alloc);
-    parts.status = status;
-    parts.headers = headers;
+    let mut parts = Parts {
+        status,
+        version: Version::HTTP_11,
+        headers: HeaderMap::new(alloc),
+    };
+    push_fields(&mut parts.headers, headers)?;
+    say_closing(is_last, &mut parts.headers)?;
     Ok(Response::from_parts(parts, body))
 }
 
