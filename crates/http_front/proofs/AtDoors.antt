@@ -54,8 +54,9 @@ module _ {R S D N K L B P E : Type 0} {service : Service.Ghosts S K L} {decider 
     {keep : Keep.Ghosts K} (clock : Clock.Ghosts N) (yields : B → Runs (Result (Frame P) E))
     (has : P → List ℕ → Type 0) (port : Front R S D N K L service decider keep) (door : Served)
     (most : ℕ)
-    (replies : (call : Call) (reply : Reply) → IsReply (arc_value port.connection) clock (decided.Submit call) reply
-    → IsReplyAt door.config most door.salt call reply)
+    (replies : (call : Call) (reply : Reply) (token : List Entry)
+    → IsReply (arc_value port.connection) clock (decided.Submit call) reply token
+    → IsReplyAt door.config most door.salt call reply token)
     (counts : (seen : List Entry) (stats : Counted) (then : List Entry)
     → service.counts (arc_value (arc_value port.connection).service) seen stats then
     → Counts door.config most seen stats then)
@@ -71,22 +72,23 @@ module _ {R S D N K L B P E : Type 0} {service : Service.Ghosts S K L} {decider 
   abbrev H : Type 0
   H = HistoryBody R S K L
 
-  reply_to : (made : Decision) (reply : Reply) → IsReply connection clock made reply
-      → IsReplyTo door.config most door.salt made reply
-  reply_to (decided.Submit call) reply x = replies call reply x
-  reply_to (decided.Reply own) reply x = x
-  reply_to (decided.Show show.Stats) reply x =
-      let counted = counts x.1.0 x.0 x.1.1 x.1.2 in
-      (x.1.1, counted.0.reached, x.2 ∙ ap stats_reply counted.1)
-  reply_to (decided.Show (show.History from)) reply x = x
-  reply_to (decided.Show (show.Reservation f)) reply x =
-      let reserved = reserves x.1.0 f x.0 x.1.1 x.1.2 in
-      (x.1.1, reserved.0.reached, x.2 ∙ ap reservation_reply reserved.1)
+  reply_to : (made : Decision) (reply : Reply) (token : List Entry) → IsReply connection clock made reply token
+      → IsReplyTo door.config most door.salt made reply token
+  reply_to (decided.Submit call) reply token x = replies call reply token x
+  reply_to (decided.Reply own) reply token x = x
+  reply_to (decided.Show show.Stats) reply token x =
+      let counted = counts x.1.0 x.0 token x.1.1 in
+      (counted.0.reached, x.2 ∙ ap stats_reply counted.1)
+  reply_to (decided.Show (show.History from)) reply token x = x
+  reply_to (decided.Show (show.Reservation f)) reply token x =
+      let reserved = reserves x.1.0 f x.0 token x.1.1 in
+      (reserved.0.reached, x.2 ∙ ap reservation_reply reserved.1)
 
-  outcome_of : (shows : Option ℕ → H → Type 0) (head : Parts) (body : List ℕ) (given : Outcome H)
-      → ComesOf connection clock shows head body (Ok given) → IsOutcomeOf shows door most (decision door head body) given
-  outcome_of shows head body (outcome.Reply reply) x =
-      subst (λ made. IsReplyTo door.config most door.salt made reply) (decides head body x.0 x.1) (reply_to x.0 reply x.2)
+  outcome_of : (shows : Option ℕ → H → Type 0) (head : Parts) (body : List ℕ) (given : Outcome H L)
+      → ComesOf connection clock shows head body (Ok given) → IsOutcomeOf L shows door most (decision door head body) given
+  outcome_of shows head body (outcome.Reply reply token) x =
+      subst (λ made. IsReplyTo door.config most door.salt made reply token) (decides head body x.0 x.1)
+      (reply_to x.0 reply token x.2)
   outcome_of shows head body (outcome.History shown) x =
       (x.0, sym (decides head body (decided.Show (show.History x.0)) x.1), x.2)
 
@@ -96,13 +98,13 @@ module _ {R S D N K L B P E : Type 0} {service : Service.Ghosts S K L} {decider 
 
     abbrev Exchanged : Api → Type 0
     Exchanged api =
-        (made : Result (Outcome H) ExchangeFault) × ComesTo clock yields has port head made × IsAnswerTo api (declares_too_long head) made response
+        (made : Result (Outcome H L) ExchangeFault) × ComesTo clock yields has port head made × IsAnswerTo api (declares_too_long head) made response
 
-    exchanged : (made : Result (Outcome H) ExchangeFault) → ComesTo clock yields has port head made
+    exchanged : (made : Result (Outcome H L) ExchangeFault) → ComesTo clock yields has port head made
         → IsAnswerTo (api_of door.port) (declares_too_long head) made response
         → IsRefusal (api_of door.port) (declares_too_long head) refused.BrokenBody response
         ⊎ (IsRefusal (api_of door.port) (declares_too_long head) refused.OutOfMemory response
-        ⊎ IsDecided shows door most yields has hosts head response)
+        ⊎ IsDecided L shows door most yields has hosts head response)
     exchanged (Ok given) x answer =
         inr (inr (
           x.0,
@@ -113,7 +115,7 @@ module _ {R S D N K L B P E : Type 0} {service : Service.Ghosts S K L} {decider 
               head
               []
               (λ body. ComesOf connection clock shows head body (Ok given))
-              (λ body. IsOutcomeOf shows door most (decision door head body) given)
+              (λ body. IsOutcomeOf L shows door most (decision door head body) given)
               (λ body. outcome_of shows head body given)
               x.1,
           answer,
@@ -128,7 +130,7 @@ module _ {R S D N K L B P E : Type 0} {service : Service.Ghosts S K L} {decider 
         → MatchOption guard
         (IsRefusal (api_of door.port) (declares_too_long head) refused.BrokenBody response
         ⊎ (IsRefusal (api_of door.port) (declares_too_long head) refused.OutOfMemory response
-        ⊎ IsDecided shows door most yields has hosts head response))
+        ⊎ IsDecided L shows door most yields has hosts head response))
         (λ refusal. IsRefusal (api_of door.port) (declares_too_long head) refusal response)
     guarded (Some refusal) x = x
     guarded None (inl x) = inr (inl x)
@@ -136,7 +138,7 @@ module _ {R S D N K L B P E : Type 0} {service : Service.Ghosts S K L} {decider 
 
     pub at_door : (account : S) → arc_value connection.service ≡ account → port.api ≡ api_of door.port
         → arc_value port.hosts ≡ hosts → IsAnswer clock yields has port head response
-        → IsAnswerAt (ShowsFrom account) door most yields has hosts head response
+        → IsAnswerAt L (ShowsFrom account) door most yields has hosts head response
     at_door account same api listed x =
         let of_hosts : MatchOption (refusal_of hosts head) (IsRefusal port.api (declares_too_long head) refused.OutOfMemory response ⊎ Exchanged port.api)
         (λ refusal. IsRefusal port.api (declares_too_long head) refusal response)
@@ -149,5 +151,5 @@ module _ {R S D N K L B P E : Type 0} {service : Service.Ghosts S K L} {decider 
         = subst (λ a. MatchOption (refusal_of hosts head)
         (IsRefusal a (declares_too_long head) refused.OutOfMemory response ⊎ Exchanged a) (λ refusal. IsRefusal a (declares_too_long head) refusal response))
         api of_hosts in
-        subst (λ a. IsAnswerAt (ShowsFrom a) door most yields has hosts head response) same
+        subst (λ a. IsAnswerAt L (ShowsFrom a) door most yields has hosts head response) same
         (guarded (refusal_of hosts head) of_api)

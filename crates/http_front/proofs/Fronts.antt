@@ -47,11 +47,11 @@ module _ {R S D N K L B P E : Type 0} {service : Service.Ghosts S K L} {decider 
 
   abbrev Answers : Api × Bool → Type 0
   Answers how =
-      (made : Result (Outcome (HistoryBody R S K L)) ExchangeFault) × ComesTo clock yields has port head made
+      (made : Result (Outcome (HistoryBody R S K L) L) ExchangeFault) × ComesTo clock yields has port head made
       × IsAnswerTo how.0 how.1 made response
 
   -- of an exchange that is the request's
-  of_exchange : (how : Api × Bool) (exchange : Ex) (made : Result (Outcome (HistoryBody R S K L)) ExchangeFault)
+  of_exchange : (how : Api × Bool) (exchange : Ex) (made : Result (Outcome (HistoryBody R S K L) L) ExchangeFault)
       → IsExchangeOf port head body exchange → Gives clock yields has exchange made → IsAnswerTo how.0 how.1 made response
       → Answers how
   of_exchange how exchange made is gives answer =
@@ -75,14 +75,14 @@ module _ {R S D N K L B P E : Type 0} {service : Service.Ghosts S K L} {decider 
       (MatchOption exchange (refusal ≡ Some OutOfMemory) (λ e. (refusal ≡ None) × IsExchangeOf port head body e.value))
       (λ r. (refusal ≡ Some r) × (exchange ≡ None))
       → MatchOption refusal
-      (IsSomeAnd exchange (λ e. (made : Result (Outcome (HistoryBody R S K L)) ExchangeFault)
+      (IsSomeAnd exchange (λ e. (made : Result (Outcome (HistoryBody R S K L) L) ExchangeFault)
       × Gives clock yields has e.value made × IsAnswerTo given_how.0 given_how.1 made response))
       (λ r. IsRefusal given_how.0 given_how.1 r response)
       → MatchOption guard (IsRefusal how.0 how.1 OutOfMemory response ⊎ Answers how) (λ r. IsRefusal how.0 how.1 r response)
   answer_of (Some r) how given_how refusal exchange same took gave =
       subst (λ (a : Api × Bool). IsRefusal a.0 a.1 r response) same
       (subst (λ (o : Option Refusal). MatchOption o
-      (IsSomeAnd exchange (λ e. (made : Result (Outcome (HistoryBody R S K L)) ExchangeFault)
+      (IsSomeAnd exchange (λ e. (made : Result (Outcome (HistoryBody R S K L) L) ExchangeFault)
       × Gives clock yields has e.value made × IsAnswerTo given_how.0 given_how.1 made response))
       (λ r. IsRefusal given_how.0 given_how.1 r response)) took.0 gave)
   answer_of None how given_how refusal None same took gave =
@@ -90,7 +90,7 @@ module _ {R S D N K L B P E : Type 0} {service : Service.Ghosts S K L} {decider 
       (subst (λ (o : Option Refusal). MatchOption o ⊥ (λ r. IsRefusal given_how.0 given_how.1 r response)) took gave))
   answer_of None how given_how refusal (Some exchange) same took gave =
       let given = subst (λ (o : Option Refusal). MatchOption o
-      ((made : Result (Outcome (HistoryBody R S K L)) ExchangeFault)
+      ((made : Result (Outcome (HistoryBody R S K L) L) ExchangeFault)
       × Gives clock yields has exchange.value made × IsAnswerTo given_how.0 given_how.1 made response)
       (λ r. IsRefusal given_how.0 given_how.1 r response)) took.0 gave in
       inr (subst Answers same (of_exchange given_how exchange.value given.0 took.1 given.1 given.2))
@@ -102,7 +102,7 @@ module _ {R S D N K L B P E : Type 0} {service : Service.Ghosts S K L} {decider 
   abbrev Given : Responding R S D N B K L service decider keep
       → Result (Response (Either (Full (List ℕ)) (HistoryBody R S K L))) X → Type 0
   Given future answer = IfOk answer (λ response. MatchOption future.refusal
-      (IsSomeAnd future.exchange (λ exchange. (made : Result (Outcome (HistoryBody R S K L)) ExchangeFault)
+      (IsSomeAnd future.exchange (λ exchange. (made : Result (Outcome (HistoryBody R S K L) L) ExchangeFault)
       × Gives clock yields has exchange.value made × IsAnswerTo future.api future.is_unread made response))
       (λ refusal. IsRefusal future.api future.is_unread refusal response))
 

@@ -30,21 +30,20 @@ use Rattle.request_guard.specs.declared.refusal.Refusal.TheVariants.{BrokenBody,
 
 module _ (config : Config) (most salt : ℕ) where
   -- The reply to a decision: that of the call, or of why the call was not taken; the reply that was decided; or what is
-  -- to be shown.
-  abbrev pub IsReplyTo : Decision → Reply → Type 0
-  IsReplyTo (decided.Submit call) reply = IsReplyAt config most salt call reply
-  IsReplyTo (decided.Reply own) reply = reply ≡ own
-  IsReplyTo (decided.Show shown.Stats) reply =
-      (h : List Entry) × IsReached config most h × (reply ≡ stats_reply (stats config h))
-  IsReplyTo (decided.Show (shown.History from)) reply = ⊥
-  IsReplyTo (decided.Show (shown.Reservation f)) reply =
-      (h : List Entry) × IsReached config most h × (reply ≡ reservation_reply (reservation config h f))
+  -- to be shown. The history is the one that it is of, if it is of one.
+  abbrev pub IsReplyTo : Decision → Reply → List Entry → Type 0
+  IsReplyTo (decided.Submit call) reply h = IsReplyAt config most salt call reply h
+  IsReplyTo (decided.Reply own) reply h = reply ≡ own
+  IsReplyTo (decided.Show shown.Stats) reply h = IsReached config most h × (reply ≡ stats_reply (stats config h))
+  IsReplyTo (decided.Show (shown.History from)) reply h = ⊥
+  IsReplyTo (decided.Show (shown.Reservation f)) reply h =
+      IsReached config most h × (reply ≡ reservation_reply (reservation config h f))
 
 -- In what follows, `shows` says which bodies show the account's history from which ticket on.
-module _ {H : Type 0} (shows : Option ℕ → H → Type 0) (door : Served) (most : ℕ) where
+module _ {H : Type 0} (L : Type 0) (shows : Option ℕ → H → Type 0) (door : Served) (most : ℕ) where
   -- The outcome of a decision: a reply, or the history if that is to be shown.
-  abbrev pub IsOutcomeOf : Decision → Outcome H → Type 0
-  IsOutcomeOf made (outcome.Reply reply) = IsReplyTo door.config most door.salt made reply
+  abbrev pub IsOutcomeOf : Decision → Outcome H L → Type 0
+  IsOutcomeOf made (outcome.Reply reply token) = IsReplyTo door.config most door.salt made reply token
   IsOutcomeOf made (outcome.History body) =
       (from : Option ℕ) × (made ≡ decided.Show (shown.History from)) × shows from body
 
@@ -54,7 +53,7 @@ module _ {H : Type 0} (shows : Option ℕ → H → Type 0) (door : Served) (mos
     -- The response is that to the decision, at the door, on a request with this head and the body that came.
     abbrev pub IsDecided : Response (Either (Full (List ℕ)) H) → Type 0
     IsDecided response =
-        (came : B) × (given : Outcome H)
+        (came : B) × (given : Outcome H L)
         × IsOfBody has (yields came) head [] (λ body. IsOutcomeOf (decision door head body) given)
         × IsResponseTo (declares_too_long head) given response
 

@@ -24,4 +24,4 @@ module _ {R S N K L B P X E : Type 0}
   -- request: as this door does within this limit, with the account and the hosts that the threads have in common.
   abbrev pub IsAttended : {A F : Type 0} → Result (Option (Result A Error)) F → Type 0
   IsAttended came = IfOk came (λ ended. IfSome ended (Written sends has
-      (IsAnswerAt (ShowsFrom (arc_value common.account)) door most yields has (arc_value common.hosts))))
+      (IsAnswerAt L (ShowsFrom (arc_value common.account)) door most yields has (arc_value common.hosts))))

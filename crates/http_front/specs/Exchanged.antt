@@ -27,7 +27,7 @@ module _ {R S D N K L B P E : Type 0} {service : Service.Ghosts S K L} {decider 
     {keep : Keep.Ghosts K} (clock : Clock.Ghosts N) (yields : B → Runs (Result (Frame P) E))
     (has : P → List ℕ → Type 0) (port : Front R S D N K L service decider keep) (head : Parts) where
   -- What an exchange of a request with this head, and some body, may come to on the port's connection.
-  abbrev pub ComesTo : Result (Outcome (HistoryBody R S K L)) ExchangeFault → Type 0
+  abbrev pub ComesTo : Result (Outcome (HistoryBody R S K L) L) ExchangeFault → Type 0
   ComesTo made =
       (came : B) × Exchanges (arc_value port.connection) clock
       (ShowsFrom (arc_value (arc_value port.connection).service)) has (yields came) head [] made
@@ -37,6 +37,6 @@ module _ {R S D N K L B P E : Type 0} {service : Service.Ghosts S K L} {decider 
   abbrev pub IsAnswer : Response (Either (Full (List ℕ)) (HistoryBody R S K L)) → Type 0
   IsAnswer response = MatchOption (refusal_of (arc_value port.hosts) head)
       (IsRefusal port.api (declares_too_long head) OutOfMemory response
-      ⊎ ((made : Result (Outcome (HistoryBody R S K L)) ExchangeFault) × ComesTo made
+      ⊎ ((made : Result (Outcome (HistoryBody R S K L) L) ExchangeFault) × ComesTo made
       × IsAnswerTo port.api (declares_too_long head) made response))
       (λ refusal. IsRefusal port.api (declares_too_long head) refusal response)

@@ -1,4 +1,4 @@
--- The response as which an outcome is sent.
+-- The response that carries an outcome.
 use Rattle.std.specs.Prelude.{◌≡◌, ℕ, Bool, true, false, ◌||◌, List, [], ◌==◌, if◌then◌else◌, length, fold, codes}
 use Rattle.std.specs.Prelude.{Option, Some, None, Result, Ok, Err}
 use Rattle.http.specs.Response.{head_of, body_of}
@@ -9,6 +9,7 @@ use Rattle.http_body_util.specs.declared.either.Either.TheVariants.{Left, Right}
 use Rattle.http_body_util.specs.declared.full.Full.{Full}
 use Rattle.http_header.specs.FieldValue.{FieldValue, plain_value}
 use Rattle.http_header.specs.HeaderMap.{Entries, append}
+use Rattle.lambda_wire.specs.declared.reply.Reply.{Reply as Replied}
 use Rattle.long_poll.specs.Views.{history_headers}
 use Rattle.long_poll.specs.declared.fault.ExchangeFault.{ExchangeFault}
 use Rattle.long_poll.specs.declared.fault.ExchangeFault.TheVariants as fault
@@ -44,12 +45,16 @@ abbrev pub IsWhole : {H : Type 0} → List ℕ → Either (Full (List ℕ)) H �
 IsWhole bytes (Left full) = full.buf ≡ whole bytes
 IsWhole bytes (Right body) = ⊥
 
--- A response is that of an outcome, and the connection's last or not. That of a reply has its status, its header fields
--- and no other, and its bytes. That of a history has status 200 and the headers of a text, and shows the history as its
--- body.
-abbrev pub IsResponseTo : {H : Type 0} → Bool → Outcome H → Response (Either (Full (List ℕ)) H) → Type 0
-IsResponseTo is_last (Reply reply) response =
+-- A response is that of a reply, and the connection's last or not: it has its status, its header fields and no other,
+-- and its bytes.
+abbrev pub IsResponseOf : {H : Type 0} → Bool → Replied → Response (Either (Full (List ℕ)) H) → Type 0
+IsResponseOf is_last reply response =
     HasHead is_last reply.status reply.headers response × IsWhole reply.body (body_of response)
+
+-- A response is that of an outcome, and the connection's last or not: that of its reply; or, if it is a history, one
+-- with status 200 and the headers of a text, which shows the history as its body.
+abbrev pub IsResponseTo : {H L : Type 0} → Bool → Outcome H L → Response (Either (Full (List ℕ)) H) → Type 0
+IsResponseTo is_last (Reply reply token) response = IsResponseOf is_last reply response
 IsResponseTo is_last (History body) response =
     HasHead is_last 200 history_headers response × (body_of response ≡ Right body)
 
@@ -57,11 +62,11 @@ IsResponseTo is_last (History body) response =
 -- unread, or if the refusal itself ends the connection.
 abbrev pub IsRefusal : {H : Type 0} → Api → Bool → Refusal → Response (Either (Full (List ℕ)) H) → Type 0
 IsRefusal api is_unread refusal response =
-    IsResponseTo (is_unread || closes refusal) (Reply (refusal_reply api refusal)) response
+    IsResponseOf (is_unread || closes refusal) (refusal_reply api refusal) response
 
 -- A response is that of an exchange's result, whose body was left unread or not: 400 for a body that failed, 500 if an
 -- allocation failed. There is none for a lost bell.
-abbrev pub IsAnswerTo : {H : Type 0} → Api → Bool → Result (Outcome H) ExchangeFault
+abbrev pub IsAnswerTo : {H L : Type 0} → Api → Bool → Result (Outcome H L) ExchangeFault
     → Response (Either (Full (List ℕ)) H) → Type 0
 IsAnswerTo api is_unread (Ok outcome) response = IsResponseTo is_unread outcome response
 IsAnswerTo api is_unread (Err fault.BodyFailed) response = IsRefusal api is_unread BrokenBody response

@@ -4,7 +4,7 @@ ghost use Rattle.std.specs.Prelude.{◌≡◌, IfOk, Some, None};
 ghost use Rattle.http_front.specs.Responses.{IsAnswerTo, IsRefusal};
 
 use crate::ResponseFault;
-use crate::response::response_to;
+use crate::response::{reply_response, response_to};
 use bytes::Bytes;
 use decisions::Decide;
 use futures::Future;
@@ -125,20 +125,16 @@ fn refused<H: Drop>(
     ensures { IfOk result (IsRefusal api is_unread refusal) }
 {
     let is_last = is_unread || refusal.closes();
-    response_to(
-        alloc,
-        is_last,
-        Outcome::Reply(refusal_reply(alloc, api, refusal)?),
-    )
+    reply_response(alloc, is_last, refusal_reply(alloc, api, refusal)?)
 }
 
 /// Makes the response to an exchange's result. If its body or an allocation failed, the allocations
 /// for this response may still succeed; a bell is never lost.
-fn answer_to<H: Drop>(
+fn answer_to<H: Drop, L: Ledgers>(
     alloc: Global,
     api: Api,
     is_unread: bool,
-    made: Result<Outcome<H>, ExchangeFault>,
+    made: Result<Outcome<H, L>, ExchangeFault>,
 ) -> Result<Response<Either<Full<Bytes>, H>>, ResponseFault>
     ensures { IfOk result (IsAnswerTo api is_unread made) }
 {

@@ -2,7 +2,7 @@
 
 ghost use Rattle.std.specs.Prelude.{◌≡◌, [], IfOk, OnOk};
 ghost use Rattle.http.specs.Response.{body_of};
-ghost use Rattle.http_front.specs.Responses.{fields, said_closing, HasHead, IsResponseTo};
+ghost use Rattle.http_front.specs.Responses.{fields, said_closing, HasHead, IsResponseOf, IsResponseTo};
 
 use crate::ResponseFault;
 use bytes::Bytes;
@@ -13,6 +13,7 @@ use http_header::{HeaderMap, HeaderValue};
 use lambda_wire::{Headers, Reply};
 use long_poll::{Outcome, history_headers};
 use std::alloc::{AllocError, Global};
+use usage_ledger::Ledgers;
 
 /// Adds the header fields of a reply, in their order, to a map that has none.
 fn push_fields(map: &mut HeaderMap, headers: Headers) -> Result<(), AllocError>
@@ -66,43 +67,53 @@ fn with_head<B: Drop>(
     Ok(Response::from_parts(parts, body))
 }
 
-/// Returns the response as which an outcome is sent; it is the connection's last or not. The
-/// response of a reply has its status, its header fields, and its body in one piece, which is not
-/// copied. The response of a history is a text, which is streamed.
+/// Returns the response that carries a reply; it is the connection's last or not. It has the
+/// reply's status, its header fields, and its body in one piece, which is not copied.
 ///
 /// # Errors
-/// `BadStatus` if the reply's status does not have three digits, otherwise `OutOfMemory`; the
-/// outcome is then dropped.
-pub(crate) fn response_to<H: Drop>(
+/// `BadStatus` if the reply's status does not have three digits, otherwise `OutOfMemory`; the reply
+/// is then dropped.
+pub(crate) fn reply_response<H: Drop>(
     alloc: Global,
     is_last: bool,
-    outcome: Outcome<H>,
+    reply: Reply,
+) -> Result<Response<Either<Full<Bytes>, H>>, ResponseFault>
+    ensures { IfOk result (IsResponseOf is_last reply) }
+{
+    let Reply {
+        status,
+        headers,
+        body,
+    } = reply;
+    with_head(
+        alloc,
+        is_last,
+        status,
+        headers,
+        Either::Left(Full::new(body)),
+    )
+}
+
+/// Returns the response that carries an outcome; it is the connection's last or not. It is that of
+/// the reply; or, if the outcome is a history, a text, which is streamed.
+///
+/// # Errors
+/// As [`reply_response`]; the outcome is then dropped.
+pub(crate) fn response_to<H: Drop, L: Ledgers>(
+    alloc: Global,
+    is_last: bool,
+    outcome: Outcome<H, L>,
 ) -> Result<Response<Either<Full<Bytes>, H>>, ResponseFault>
     ensures { IfOk result (IsResponseTo is_last outcome) }
 {
     match outcome {
-        Outcome::Reply(reply) => {
-            let Reply {
-                status,
-                headers,
-                body,
-            } = reply;
-            with_head(
-                alloc,
-                is_last,
-                status,
-                headers,
-                Either::Left(Full::new(body)),
-            )
-        }
-        Outcome::History(body) => {
-            with_head(
-                alloc,
-                is_last,
-                200,
-                history_headers(alloc)?,
-                Either::Right(body),
-            )
-        }
+        Outcome::Reply(reply, _token) => reply_response(alloc, is_last, reply),
+        Outcome::History(body) => with_head(
+            alloc,
+            is_last,
+            200,
+            history_headers(alloc)?,
+            Either::Right(body),
+        ),
     }
 }

@@ -17,9 +17,9 @@ returns g c =
     let decider : arc_value (arc_value front.connection).decider ≡ door = search rules in
     of_each c.serve_by.result c.serve_by.ensures (λ outcome written. weakened _ _ _ _
     (λ head response x. at_door _ _ _ front door g.S.Identity.most
-    (λ call reply r. subst (λ s. IsReplyAt door.config g.S.Identity.most s call reply) salted
-    (subst (λ k. IsReplyAt k g.S.Identity.most g.S.Identity.salt call reply) configured
-    ((rw c.deref-2.ensures at c.replies.ensures) call reply r)))
+    (λ call reply token r. subst (λ s. IsReplyAt door.config g.S.Identity.most s call reply token) salted
+    (subst (λ k. IsReplyAt k g.S.Identity.most g.S.Identity.salt call reply token) configured
+    ((rw c.deref-2.ensures at c.replies.ensures) call reply token r)))
     (λ seen stats then r. subst (λ k. Counts k g.S.Identity.most seen stats then) configured r)
     (λ seen f count then r. subst (λ k. Reserves k g.S.Identity.most seen f count then) configured r)
     (λ head body made d. subst (λ side. made ≡ decision side head body) decider d)
