@@ -31,7 +31,9 @@ pub fn open_book(alloc: Global, line: &[u8]) -> Result<Book, ReplayFault>
     let config = Arc::new(alloc, config).map_err(AllocError::from)?;
     match Book::open(alloc, config, setup.salt, setup.max_entries) {
         Ok(book) => Ok(book),
-        Err(OpenFault::EntriesOutOfRange) => Err(ReplayFault::Config(ConfigFault::EntriesOutOfRange)),
+        Err(OpenFault::EntriesOutOfRange) => Err(ReplayFault::Config(
+            ConfigFault::EntriesOutOfRange,
+        )),
         Err(OpenFault::OutOfMemory) => Err(ReplayFault::OutOfMemory),
     }
 }
