@@ -91,6 +91,28 @@ fn serve_counted<R: Machine + Log, S: Identity + Drop + Send + Sync + 'static>(
     settled(served?)
 }
 
+/// Does the same, but returns the line alone. (A caller can name the ledgers only if no type of the
+/// result does.)
+fn serve_plan<R: Machine + Log, S: Identity + Drop + Send + Sync + 'static>(
+    rt: R,
+    plan: Plan,
+    patience: u32,
+    hosts: Hosts,
+    blanks: Blanks,
+) -> Result<ClosingLine, ServeFault>
+    requires configured { arc_value plan.config ≡ S.config }
+    requires salted { plan.salt ≡ S.salt }
+    requires limited { plan.max_entries ≡ S.most }
+    requires named { blanks ≡ S.names }
+    ensures { IfOk result (λ line. (tally : Tallied)
+        × IsClosing (arc_value plan.config) line.counts (⟦<ClosingLine as Display>⟧.output line) tally) }
+{
+    match serve_counted::<R, S>(rt, plan, patience, hosts, blanks) {
+        Ok(counted) => Ok(counted.line),
+        Err(fault) => Err(fault),
+    }
+}
+
 /// Names the configuration, the salt, the limit, the ledgers and the history, serves the plan, and
 /// returns the line with the account's counts.
 fn serve_by_brand<R: Machine + Log>(
@@ -103,10 +125,7 @@ fn serve_by_brand<R: Machine + Log>(
         × IsClosing (arc_value plan.config) line.counts (⟦<ClosingLine as Display>⟧.output line) tally) }
 {
     let blanks = Blanks::new(rt.alloc()).map_err(|_fault| ServeFault::OutOfMemory)?;
-    match serve_counted::<R, Brand>(rt, plan, patience, hosts, blanks) {
-        Ok(counted) => Ok(counted.line),
-        Err(fault) => Err(fault),
-    }
+    serve_plan::<R, Brand>(rt, plan, patience, hosts, blanks)
 }
 
 /// Serves the configuration in a file until it is stopped, settles, and writes the account's counts
