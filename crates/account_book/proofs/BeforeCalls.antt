@@ -17,7 +17,7 @@ use Rattle.deadlines.specs.Meets.{deadlines}
 use Rattle.placement.specs.Meets.{places}
 use Rattle.account_book.specs.declared.fleet.Fleet.TheInside.{Inside}
 use Rattle.account_book.specs.declared.site.Site.{Site}
-use Rattle.account_book.specs.Fleets.{IsFleet, IsOwned, deadline_at, place_at, flown}
+use Rattle.account_book.specs.Fleets.{IsFleet, IsOwned, deadline_at, site_place, flown}
 use Rattle.account_book.proofs.FleetMeets.{sites_length, deadlines_are, places_are, numbers_flown, count_length}
 
 -- one number more
@@ -44,7 +44,7 @@ nobody config e = omega arith
 pub fleet_opened : (f : Inside) (config : Config) → first_fault config ≡ None → f.sites.items ≡ sites config [] → f.due ≡ deadlines config [] → f.places ≡ places config [] → f.pool ≡ numbers config [] → f.widest ≡ 0 → IsFleet f
 fleet_opened f config sound is due place pool none = record {
   due = due ∙ sym (deadlines_are config []) ∙ ap (map deadline_at) (sym is);
-  places = place ∙ sym (places_are config []) ∙ ap (map place_at) (sym is);
+  places = place ∙ sym (places_are config []) ∙ ap (map site_place) (sym is);
   pool = pool ∙ numbers_flown config [] tt ∙ ap₂ flown (sym is) (sym pool);
   owned = rw (is, many) (All-map (IsOwned (length config.functions)) (site config []) (environments config) own);
   narrow = rw (is, none) (All-map (λ (s : Site). length s.environment.stand.members ≤ 0) (site config []) (environments config) (λ i d lt. nobody config (get_or (environments config) i d)));

@@ -13,7 +13,7 @@ use Rattle.call_model.specs.Next.{IsLegal, due, due_at, deadline_of, in_order, b
 use Rattle.call_model.specs.Next.{first}
 use Rattle.call_model.proofs.NextLegal.{due_after_expiry, expiries_on}
 use Rattle.call_types.specs.Within.{IsEnv}
-use Rattle.account_book.specs.Room.{IsRoom, first_or_0}
+use Rattle.account_book.specs.Room.{IsRoom, first_or_zero}
 use Rattle.account_book.specs.Pages.{Pages}
 
 -- every environment that is due is one that there is
@@ -76,7 +76,7 @@ pub record IsExpiring (m : ℕ) (first now : Pages) (first_rooms rooms : List (L
 
 -- one environment more has expired
 pub expires_one : (m : ℕ) (first now after : Pages) (all rooms rest : List (List (ℕ × Answer) × ℕ)) → IsExpiring m first now all rooms → suc (length rest) ≡ length rooms → All (IsRoom first.widest) rest
-    → after ≡ record now { history = entered now.config now.history m (Expire (first_or_0 (due now.config now.history m))); room = now.room - 1 } → IsLegal after.config after.history → IsExpiring m first after all rest
+    → after ≡ record now { history = entered now.config now.history m (Expire (first_or_zero (due now.config now.history m))); room = now.room - 1 } → IsLegal after.config after.history → IsExpiring m first after all rest
 expires_one m first now after all rooms rest k longer empty became legal = go (due now.config now.history m) refl
   where
     go : (es : List ℕ) → due now.config now.history m ≡ es → IsExpiring m first after all rest

@@ -8,10 +8,10 @@ use Rattle.arn_ids.specs.Environments.{environments, function_of, count_from, ow
 use Rattle.call_model.proofs.Basics.{map_map, none-some}
 use Rattle.call_types.specs.declared.answer.Phase.{Phase}
 use Rattle.call_types.specs.declared.call.Entry.{Entry}
-use Rattle.call_model.specs.Laws.{is_taken, has_come}
+use Rattle.call_model.specs.Laws.{is_taken}
 use Rattle.call_model.specs.Life.{phase, seen}
 use Rattle.call_model.specs.Limits.{in_flight, by_limits, reservation}
-use Rattle.call_model.specs.Next.{IsLegal, due, due_at, deadline_of, by_deadline, first}
+use Rattle.call_model.specs.Next.{IsLegal, due, due_at, has_come, deadline_of, by_deadline, first}
 use Rattle.call_model.proofs.Deadlines.{by_deadline_length}
 use Rattle.call_model.proofs.Flight.{flight}
 use Rattle.concurrency_pool.specs.declared.pool.Usage.{Usage}
@@ -25,7 +25,7 @@ use Rattle.placement.specs.Meets.{places}
 use Rattle.placement.specs.Places.{place_among}
 use Rattle.placement.proofs.Lowest.{place_is}
 use Rattle.account_book.specs.declared.site.Site.{Site}
-use Rattle.account_book.specs.Fleets.{serves_function, flown_from, flown, deadline_at, place_at, is_due}
+use Rattle.account_book.specs.Fleets.{serves_function, flown_from, flown, deadline_at, site_place, is_site_due}
 use Rattle.account_book.specs.Taking.{site, sites}
 
 pub count_length : (a n : ℕ) → length (count_from a n) ≡ n
@@ -39,9 +39,9 @@ pub deadlines_are : (config : Config) (h : List Entry) → map deadline_at (site
 unfolding seen
 deadlines_are config h = sym (map_map deadline_at (site config h) (environments config))
 
-pub places_are : (config : Config) (h : List Entry) → map place_at (sites config h) ≡ places config h
+pub places_are : (config : Config) (h : List Entry) → map site_place (sites config h) ≡ places config h
 unfolding seen
-places_are config h = sym (map_map place_at (site config h) (environments config))
+places_are config h = sym (map_map site_place (site config h) (environments config))
 
 -- counts over the environments are counts over the sites
 count_sites : (p : ℕ → Bool) (q : Site → Bool) (g : ℕ → Site) → ((e : ℕ) → q (g e) ≡ p e) → (es : List ℕ) → count_by q (map g es) ≡ count_by p es
@@ -79,9 +79,9 @@ pub first_due_is : (config : Config) (h : List Entry) (m : ℕ) → first_due m 
 first_due_is config h m = ap (first_due m) (deadlines_are config h) ∙ first_is config h m
 
 -- how many deadlines have come
-come_length : (m e : ℕ) (sites : List Site) → length (come m e (map deadline_at sites)) ≡ count_by (is_due m) sites
+come_length : (m e : ℕ) (sites : List Site) → length (come m e (map deadline_at sites)) ≡ count_by (is_site_due m) sites
 come_length m e [] = refl
-come_length m e (s ∷ ss) = go (deadline_at s) (come_length m (suc e) ss) ∙ sym (sum_by-cons (λ x. cond (is_due m x) 1 0) s ss)
+come_length m e (s ∷ ss) = go (deadline_at s) (come_length m (suc e) ss) ∙ sym (sum_by-cons (λ x. cond (is_site_due m x) 1 0) s ss)
   where
     rest : List (ℕ × ℕ)
     rest = come m (suc e) (map deadline_at ss)
@@ -90,15 +90,15 @@ come_length m e (s ∷ ss) = go (deadline_at s) (come_length m (suc e) ss) ∙ s
     tested d true = omega arith
     tested d false = omega arith
 
-    go : (o : Option ℕ) → length rest ≡ count_by (is_due m) ss → length (cons_option (due_at m e o) rest) ≡ cond (has_come m o) 1 0 + count_by (is_due m) ss
+    go : (o : Option ℕ) → length rest ≡ count_by (is_site_due m) ss → length (cons_option (due_at m e o) rest) ≡ cond (has_come m o) 1 0 + count_by (is_site_due m) ss
     go None ih = rw (sym ih) (omega arith)
     go (Some d) ih = rw (sym ih) (tested d (nat_le d m))
 
-pub due_count : (m : ℕ) (sites : List Site) → length (due_among m 1 (map deadline_at sites)) ≡ count_by (is_due m) sites
+pub due_count : (m : ℕ) (sites : List Site) → length (due_among m 1 (map deadline_at sites)) ≡ count_by (is_site_due m) sites
 due_count m sites = by_deadline_length (come m 1 (map deadline_at sites)) ∙ come_length m 1 sites
 
 -- none is due where there is no first
-pub none_due : (m : ℕ) (sites : List Site) → first_due m (map deadline_at sites) ≡ None → count_by (is_due m) sites ≡ 0
+pub none_due : (m : ℕ) (sites : List Site) → first_due m (map deadline_at sites) ≡ None → count_by (is_site_due m) sites ≡ 0
 unfolding first_due
 none_due m sites q = sym (due_count m sites) ∙ empty (due_among m 1 (map deadline_at sites)) q
   where
@@ -110,7 +110,7 @@ come_is : (m : ℕ) (P : ℕ → Phase) (g : ℕ → Site) → ((e : ℕ) → de
 come_is m P g same a zero = refl
 come_is m P g same a (suc n) = ap₂ (λ (o : Option ℕ) rest. cons_option (due_at m a o) rest) (same a) (come_is m P g same (suc a) n)
 
-pub due_count_is : (config : Config) (h : List Entry) (m : ℕ) → count_by (is_due m) (sites config h) ≡ length (due config h m)
+pub due_count_is : (config : Config) (h : List Entry) (m : ℕ) → count_by (is_site_due m) (sites config h) ≡ length (due config h m)
 unfolding due seen
 due_count_is config h m =
     sym (due_count m (sites config h))
@@ -118,5 +118,5 @@ due_count_is config h m =
     ∙ sym (length-map (by_deadline (filter_map (λ e. due_at m e (deadline_of (phase config h e))) (environments config))) (λ (a : ℕ × ℕ). a.1))
 
 -- whether an Invoke is admitted, and where
-pub limits_are : (config : Config) (h : List Entry) (f : ℕ) → 1 ≤ f → f ≤ length config.functions → by_limits config h f (reservation config h f) ≡ by_throttle (throttle (numbers config h) f) (place_among (map place_at (sites config h)) f)
+pub limits_are : (config : Config) (h : List Entry) (f : ℕ) → 1 ≤ f → f ≤ length config.functions → by_limits config h f (reservation config h f) ≡ by_throttle (throttle (numbers config h) f) (place_among (map site_place (sites config h)) f)
 limits_are config h f low high = pool.verdict_is config h f low high ∙ ap (by_throttle (throttle (numbers config h) f)) (sym (ap (λ ps. place_among ps f) (places_are config h) ∙ place_is config h f))

@@ -17,7 +17,7 @@ use Rattle.placement.specs.Places as placement
 use Rattle.placement.proofs.Numbered.{place_is_at}
 use Rattle.account_book.specs.declared.fleet.Fleet.TheInside.{Inside}
 use Rattle.account_book.specs.declared.site.Site.{Site}
-use Rattle.account_book.specs.Fleets.{no_site, site_at, serves_function, flown_from, flown, deadline_at, place_at, IsOwned, IsFleet}
+use Rattle.account_book.specs.Fleets.{no_site, site_at, serves_function, flown_from, flown, deadline_at, site_place, IsOwned, IsFleet}
 use Rattle.account_book.proofs.Flown.{flown_change}
 
 -- the environment with a number is the one at its index
@@ -130,7 +130,7 @@ change_pool before after i now old k c =
 pub change_kept : (before after : Inside) (i : ℕ) (now old : Site) → IsFleet before → IsChange before after i now old → IsFleet after
 change_kept before after i now old k c = record {
   due = rw (c.sites, c.due, k.due) (sym (map-set deadline_at before.sites.items i now));
-  places = rw (c.sites, c.places, sym here) (ap (λ (ps : List Place). set ps i (place_at now)) k.places ∙ sym (map-set place_at before.sites.items i now));
+  places = rw (c.sites, c.places, sym here) (ap (λ (ps : List Place). set ps i (site_place now)) k.places ∙ sym (map-set site_place before.sites.items i now));
   pool = pool ∙ again;
   owned = rw (c.sites, as_many) (All-set (IsOwned (length before.pool.functions)) before.sites.items i now own k.owned);
   narrow = rw c.sites (All-set (λ site. length site.environment.stand.members ≤ after.widest) before.sites.items i now c.narrow (wider before.sites.items k.narrow));
@@ -158,11 +158,11 @@ change_kept before after i now old k c = record {
     wider sites all = λ j d lt. omega (arith, all j d lt, c.widest)
 
     placed : i + 1 ≤ length before.places
-    placed = rw (k.places, length-map before.sites.items place_at) (omega (arith, c.within))
+    placed = rw (k.places, length-map before.sites.items site_place) (omega (arith, c.within))
 
-    here : place_at now ≡ record (placement.place_at before.places (i + 1)) { class = class_of now.environment.stand.phase }
+    here : site_place now ≡ record (placement.place_at before.places (i + 1)) { class = class_of now.environment.stand.phase }
     here = ap (λ (f : ℕ). let p : Place = record { function = f; class = class_of now.environment.stand.phase } in p)
-        (c.function ∙ sym (ap (λ (p : Place). p.function) (place_is_at before.places (i + 1) placement.no_place (omega arith) placed ∙ index ∙ get_or-map place_at before.sites.items i no_site placement.no_place c.within ∙ ap place_at c.was)))
+        (c.function ∙ sym (ap (λ (p : Place). p.function) (place_is_at before.places (i + 1) placement.no_place (omega arith) placed ∙ index ∙ get_or-map site_place before.sites.items i no_site placement.no_place c.within ∙ ap site_place c.was)))
       where
-        index : get_or before.places (i + 1 - 1) placement.no_place ≡ get_or (map place_at before.sites.items) i placement.no_place
+        index : get_or before.places (i + 1 - 1) placement.no_place ≡ get_or (map site_place before.sites.items) i placement.no_place
         index = let e : i + 1 - 1 ≡ i = omega arith in ap (λ (n : ℕ). get_or before.places n placement.no_place) e ∙ ap (λ (ps : List Place). get_or ps i placement.no_place) k.places

@@ -6,8 +6,8 @@ use Rattle.arn_ids.specs.Limits.{most_environments, most_extensions}
 use Rattle.call_types.specs.declared.answer.Answer.{Answer}
 use Rattle.call_types.specs.declared.call.Call.{Call}
 use Rattle.environment_step.specs.After.{Step, put}
-use Rattle.call_model.specs.Laws.{is_taken, has_come}
-use Rattle.call_model.specs.Next.{deadline_of}
+use Rattle.call_model.specs.Laws.{is_taken}
+use Rattle.call_model.specs.Next.{deadline_of, has_come}
 use Rattle.concurrency_pool.specs.Numbers.{Numbers}
 use Rattle.concurrency_pool.specs.declared.pool.Usage.{Usage}
 use Rattle.env_phase.specs.Taking.{taken, given, unused}
@@ -31,18 +31,18 @@ site_at sites e = numbered no_site sites e
 
 -- What a call brings to an environment: its ticket, its moment, and of the requests (the count of Invokes of each
 -- function) the count of the environment's function.
-abbrev pub step_at : ℕ → ℕ → List ℕ → Site → Step
-step_at ticket now requests site = record { ticket = ticket; now = now; count = numbered 0 requests site.function }
+abbrev pub site_step : ℕ → ℕ → List ℕ → Site → Step
+site_step ticket now requests site = record { ticket = ticket; now = now; count = numbered 0 requests site.function }
 
 -- An environment after a call.
 abbrev pub moved : ℕ → ℕ → List ℕ → Call → Site → Site
 moved ticket now requests call site = record site {
-  environment = taken site.environment (step_at ticket now requests site) call;
+  environment = taken site.environment (site_step ticket now requests site) call;
 }
 
 -- The answers that a call gives at an environment.
 abbrev pub moves_at : ℕ → ℕ → List ℕ → Call → Site → List (ℕ × Answer)
-moves_at ticket now requests call site = given site.environment (step_at ticket now requests site) call
+moves_at ticket now requests call site = given site.environment (site_step ticket now requests site) call
 
 -- An environment after a call that arrives.
 abbrev pub moved_by : Arrival → Site → Site
@@ -82,16 +82,16 @@ abbrev pub deadline_at : Site → Option ℕ
 deadline_at site = deadline_of site.environment.stand.phase
 
 -- Whether the deadline of an environment has come at a moment.
-abbrev pub is_due : ℕ → Site → Bool
-is_due now site = has_come now (deadline_at site)
+abbrev pub is_site_due : ℕ → Site → Bool
+is_site_due now site = has_come now (deadline_at site)
 
 -- The environment's counts of events and of registrations are below 2^52, so that there is room for more.
 abbrev pub IsFew : Site → Type 0
 IsFew site = (site.environment.stand.events < 2 ^ 52) × (site.environment.stand.registrations < 2 ^ 52)
 
 -- An environment's function, and what its phase means for the placement of the function's next invocation.
-abbrev pub place_at : Site → Place
-place_at site = record { function = site.function; class = class_of site.environment.stand.phase }
+abbrev pub site_place : Site → Place
+site_place site = record { function = site.function; class = class_of site.environment.stand.phase }
 
 -- An environment of a function with a number from 1 to `n`.
 abbrev pub IsOwned : ℕ → Site → Type 0
@@ -106,7 +106,7 @@ crew f = record { sites = f.sites.items; pool = f.pool; widest = f.widest }
 -- them.
 pub record IsFleet (f : Inside) : Type 0 where
   pub due : f.due ≡ map deadline_at f.sites.items
-  pub places : f.places ≡ map place_at f.sites.items
+  pub places : f.places ≡ map site_place f.sites.items
   pub pool : f.pool ≡ flown f.sites.items f.pool
   pub owned : All (IsOwned (length f.pool.functions)) f.sites.items
   pub narrow : All (λ site. length site.environment.stand.members ≤ f.widest) f.sites.items

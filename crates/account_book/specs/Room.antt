@@ -1,5 +1,5 @@
 -- The room that a call and its expiries need in the journal.
-use Rattle.std.specs.Prelude.{◌≡◌, ℕ, ◌+◌, ◌*◌, ◌≤◌, if◌then◌else◌, List, [], ◌∷◌, length}
+use Rattle.std.specs.Prelude.{◌≡◌, ℕ, ◌+◌, ◌*◌, ◌≤◌, if◌then◌else◌, List, [], length, unwrap_or}
 use Rattle.arn_ids.specs.declared.config.Config.{Config}
 use Rattle.call_types.specs.declared.answer.Answer.{Answer}
 use Rattle.call_types.specs.declared.call.Call.{Call}
@@ -7,6 +7,7 @@ use Rattle.call_types.specs.declared.call.Entry.{Entry}
 use Rattle.call_types.specs.Within.{IsEnv}
 use Rattle.call_model.specs.History.{is_stop}
 use Rattle.call_model.specs.Life.{stand}
+use Rattle.call_model.specs.Next.{first}
 use Rattle.account_book.specs.Answering.{most_of_one}
 
 -- The number of entries that there must be room for before a call: for a Stop, its own and an expiry of each
@@ -23,6 +24,5 @@ abbrev pub IsNarrow : Config → List Entry → ℕ → Type 0
 IsNarrow config h widest = (e : ℕ) → IsEnv config e → length (stand config h e).members ≤ widest
 
 -- The first number of a list, or 0 if the list is empty.
-abbrev pub first_or_0 : List ℕ → ℕ
-first_or_0 [] = 0
-first_or_0 (x ∷ xs) = x
+abbrev pub first_or_zero : List ℕ → ℕ
+first_or_zero xs = unwrap_or (first xs) 0

@@ -16,8 +16,8 @@ ghost use Rattle.placement.specs.Places.{place_among};
 ghost use Rattle.account_book.specs.Answering.{most_of_one};
 ghost use Rattle.account_book.specs.Taking.{sites as sites_in};
 ghost use Rattle.env_phase.specs.Taking.{registered_name, IsShort, is_off, has_answered};
-ghost use Rattle.account_book.specs.Fleets.{site_at, moved_by, moves_by, put_all, merged, flown, deadline_at, place_at};
-ghost use Rattle.account_book.specs.Fleets.{is_due, IsFew};
+ghost use Rattle.account_book.specs.Fleets.{site_at, moved_by, moves_by, put_all, merged, flown, deadline_at, site_place};
+ghost use Rattle.account_book.specs.Fleets.{is_site_due, IsFew};
 ghost use Rattle.account_book.specs.Premature.{in_way};
 
 use crate::opening::open_sites;
@@ -142,7 +142,7 @@ impl Fleet {
 
     /// How many environments are due.
     pub fn count_due(&self, now: u64) -> usize
-        ensures value { result ≡ count_by (is_due now) self.now.sites }
+        ensures value { result ≡ count_by (is_site_due now) self.now.sites }
         ensures few { result ≤ most_environments }
     {
         if self.due.first_due(now).is_none() {
@@ -165,9 +165,9 @@ impl Fleet {
         requires there { function ≤ length self.now.pool.functions }
         ensures { MatchResult result
             (λ e. by_throttle (throttle self.now.pool function)
-            (place_among (map place_at self.now.sites) function) ≡ Admits e)
+            (place_among (map site_place self.now.sites) function) ≡ Admits e)
             (λ reason. by_throttle (throttle self.now.pool function)
-            (place_among (map place_at self.now.sites) function) ≡ Refuses reason) }
+            (place_among (map site_place self.now.sites) function) ≡ Refuses reason) }
     {
         self.pool.may_admit(function)?;
         self.places.choose(function).ok_or(Throttle::Environments)
@@ -283,7 +283,7 @@ impl Fleet {
 
 /// How many environments are due.
 fn count_due(sites: &[Site], now: u64) -> usize
-    ensures value { result ≡ count_by (is_due now) sites.now }
+    ensures value { result ≡ count_by (is_site_due now) sites.now }
     ensures few { result ≤ length sites.now }
 {
     let mut count = 0;

@@ -19,7 +19,7 @@ ghost use Rattle.env_phase.specs.Taking.{registered_name, is_off};
 ghost use Rattle.call_model.specs.CallCounts.{call_counts};
 ghost use Rattle.call_types.specs.Within.{IsWithin};
 ghost use Rattle.account_book.specs.Answering.{most_answers};
-ghost use Rattle.account_book.specs.Room.{first_or_0, IsRoom, IsNarrow};
+ghost use Rattle.account_book.specs.Room.{first_or_zero, IsRoom, IsNarrow};
 ghost use Rattle.account_book.specs.Premature.{awaits};
 ghost use Rattle.account_book.specs.Reaches.{book_answer};
 ghost use Rattle.account_book.specs.Taking.{IsKnown, AllKnown};
@@ -391,7 +391,7 @@ impl Journal {
         ensures expired { self.new
             ≡ record self.old {
               history = entered self.old.config self.old.history moment
-                  (Expire (first_or_0 (due self.old.config self.old.history moment)));
+                  (Expire (first_or_zero (due self.old.config self.old.history moment)));
               room = self.old.room - 1;
             } }
         ensures legal { IsLegal self.new.config self.new.history }

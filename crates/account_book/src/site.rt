@@ -2,7 +2,7 @@
 
 ghost use Rattle.std.specs.Prelude.{◌≡◌, ◌+◌, ◌<◌, ◌≤◌, ◌^◌, length};
 ghost use Rattle.env_phase.specs.Taking.{step_of, taken, given, registered_name, IsShort};
-ghost use Rattle.account_book.specs.Fleets.{put_all, is_due, IsFew};
+ghost use Rattle.account_book.specs.Fleets.{put_all, is_site_due, IsFew};
 
 use crate::room::Roomy;
 use arn_ids::FnNo;
@@ -22,7 +22,7 @@ pub struct Site {
 impl Site {
     /// Whether its deadline has come.
     pub fn is_due(&self, now: u64) -> bool
-        ensures { result ≡ is_due now self.now }
+        ensures { result ≡ is_site_due now self.now }
     {
         match self.environment.deadline() {
             None => false,

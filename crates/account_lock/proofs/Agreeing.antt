@@ -17,7 +17,7 @@ use Rattle.call_model.specs.Next.{IsLegal}
 use Rattle.call_model.proofs.Once.{fresh}
 use Rattle.call_model.proofs.PastLemmas.{call_at}
 use Rattle.usage_ledger.specs.Tallies.{Tallied}
-use Rattle.account_lock.specs.Gathered.{times, receipts_of, calls_of}
+use Rattle.account_lock.specs.Gathered.{occurrences, receipts_of, calls_of}
 use Rattle.account_lock.specs.Failing.{FirstFailure, lesser}
 use Rattle.account_lock.specs.Settlement.{made, head_at, Agree, Rises, HasReceipt, CallsAgree}
 use Rattle.account_lock.proofs.FirstFailures.{same, both}
@@ -61,7 +61,7 @@ head_past h t is = go (nat_lt t (length h)) refl
     go false lt = let le : length h ≤ t = grind (arith, nat_tests) in sym (no_head h t le)
 
 -- where nothing is wanted, nothing stands
-none_stands : {X : Type 0} (wanted : ℕ → Option X) (pairs : List (ℕ × X)) (t : ℕ) → wanted t ≡ None → Agree wanted pairs t → times t pairs ≡ 0
+none_stands : {X : Type 0} (wanted : ℕ → Option X) (pairs : List (ℕ × X)) (t : ℕ) → wanted t ≡ None → Agree wanted pairs t → occurrences t pairs ≡ 0
 none_stands wanted [] t none agree = refl
 none_stands {X = X} wanted (pair ∷ pairs) t none agree =
     sum_by-cons (λ (p : ℕ × X). cond (p.0 == t) 1 0) pair pairs
@@ -70,7 +70,7 @@ none_stands {X = X} wanted (pair ∷ pairs) t none agree =
     here : pair.0 ≡ t → wanted t ≡ Some pair.1
     here = All-head (λ (p : ℕ × X). p.0 ≡ t → wanted t ≡ Some p.1) pair pairs agree
 
-    go : (b : Bool) → (pair.0 == t) ≡ b → times t pairs ≡ 0 → cond b 1 0 + times t pairs ≡ 0
+    go : (b : Bool) → (pair.0 == t) ≡ b → occurrences t pairs ≡ 0 → cond b 1 0 + occurrences t pairs ≡ 0
     go true e rest = let w = here (same_true pair.0 t e) in cc
     go false e rest = omega (arith, rest)
 
@@ -78,7 +78,7 @@ none_stands {X = X} wanted (pair ∷ pairs) t none agree =
 none_stand : (wanted : ℕ → Option Head) (tallies : List Tallied) (t : ℕ) → wanted t ≡ None → All (λ tally. Agree wanted tally.held.kept.calls t) tallies → calls_of t tallies ≡ 0
 none_stand wanted [] t none agree = refl
 none_stand wanted (tally ∷ tallies) t none agree =
-    sum_by-cons (λ (x : Tallied). times t x.held.kept.calls) tally tallies
+    sum_by-cons (λ (x : Tallied). occurrences t x.held.kept.calls) tally tallies
     ∙ omega (arith, none_stands wanted tally.held.kept.calls t none (All-head (λ (x : Tallied). Agree wanted x.held.kept.calls t) tally tallies agree), none_stand wanted tallies t none (All-tail (λ (x : Tallied). Agree wanted x.held.kept.calls t) tally tallies agree))
 
 -- what four searches look for

@@ -10,7 +10,7 @@ use Rattle.call_types.specs.declared.call.Entry.{Entry}
 use Rattle.usage_ledger.specs.Keeping.{Kept, nothing}
 use Rattle.usage_ledger.specs.Tallies.{Tallied}
 use Rattle.call_model.specs.History.{answer_of}
-use Rattle.account_lock.specs.Gathered.{keeps_nothing, calls_of, times}
+use Rattle.account_lock.specs.Gathered.{keeps_nothing, calls_of, occurrences}
 use Rattle.account_lock.specs.Settlement.{Agree, Rises, head_at, IsKept}
 
 none_of : {X : Type 0} (xs : List X) → (length xs == 0) ≡ true → xs ≡ []
@@ -35,9 +35,9 @@ each_keeps P p (tally ∷ tallies) e =
 no_calls : (t : ℕ) (tallies : List Tallied) → list_all keeps_nothing tallies ≡ true → calls_of t tallies ≤ 0
 no_calls t [] e = omega arith
 no_calls t (tally ∷ tallies) e =
-    let here : times t tally.held.kept.calls ≤ 0 = subst (λ (kept : Kept). times t kept.calls ≤ 0) (keeps_none tally (and_left _ (list_all keeps_nothing tallies) e)) (omega arith) in
+    let here : occurrences t tally.held.kept.calls ≤ 0 = subst (λ (kept : Kept). occurrences t kept.calls ≤ 0) (keeps_none tally (and_left _ (list_all keeps_nothing tallies) e)) (omega arith) in
     let rest = no_calls t tallies (and_right (keeps_nothing tally) _ e) in
-    omega (arith, here, rest, sum_by-cons (λ (x : Tallied). times t x.held.kept.calls) tally tallies)
+    omega (arith, here, rest, sum_by-cons (λ (x : Tallied). occurrences t x.held.kept.calls) tally tallies)
 
 pub nothing_is_right : (h : List Entry) (tallies : List Tallied) → list_all keeps_nothing tallies ≡ true → IsKept false h tallies
 nothing_is_right h tallies e = record {

@@ -4,7 +4,7 @@ use Rattle.std.specs.Prelude.{nat_lt}
 use Rattle.std.proofs.lemmas.Bool.Decides.{nat_tests}
 use Rattle.std.proofs.lemmas.List.{take_more}
 use Rattle.std.proofs.lemmas.List.Sums.{sum_by_push}
-use Rattle.account_lock.specs.Gathered.{times}
+use Rattle.account_lock.specs.Gathered.{occurrences}
 use Rattle.account_lock.specs.Failing.{FirstFailure, lesser}
 use Rattle.account_lock.specs.Settlement.{Rises}
 use Rattle.account_lock.proofs.FirstFailures.{same, both}
@@ -26,20 +26,20 @@ elsewhere : (a t : ℕ) (b : Bool) → (a == t) ≡ b → a ≢ t → ◌≡◌ 
 elsewhere a t true e other = grind (arith, nat_tests)
 elsewhere a t false e other = refl
 
-times-push : {X : Type 0} (t : ℕ) (pairs : List (ℕ × X)) (pair : ℕ × X) → times t (pairs ++ pair ∷ []) ≡ times t pairs + cond (pair.0 == t) 1 0
-times-push {X = X} t pairs pair = sum_by_push (λ (p : ℕ × X). cond (p.0 == t) 1 0) pairs pair
+occurrences-push : {X : Type 0} (t : ℕ) (pairs : List (ℕ × X)) (pair : ℕ × X) → occurrences t (pairs ++ pair ∷ []) ≡ occurrences t pairs + cond (pair.0 == t) 1 0
+occurrences-push {X = X} t pairs pair = sum_by_push (λ (p : ℕ × X). cond (p.0 == t) 1 0) pairs pair
 
 -- one ticket more, which stands behind the others
 rises-push : {X : Type 0} (pairs : List (ℕ × X)) (pair : ℕ × X) (t : ℕ) → Rises pairs t → (pair.0 ≡ t → highest pairs ≤ t) → Rises (pairs ++ pair ∷ []) t
 rises-push [] pair t r last = ((λ lt. refl), tt)
 rises-push (x ∷ pairs) pair t r last = (
-  (λ lt. let never : pair.0 ≢ t = (λ e. let l = last e in absurd (omega arith)) in omega (arith, times-push t pairs pair, r.0 lt, elsewhere pair.0 t (pair.0 == t) refl never)),
+  (λ lt. let never : pair.0 ≢ t = (λ e. let l = last e in absurd (omega arith)) in omega (arith, occurrences-push t pairs pair, r.0 lt, elsewhere pair.0 t (pair.0 == t) refl never)),
   rises-push pairs pair t r.1 (λ e. let l = last e in omega arith),
 )
 
 rises-token : {X : Type 0} (pairs : List (ℕ × X)) (pair : ℕ × X) (t : ℕ) → Rises (pairs ++ pair ∷ []) t → Rises pairs t
 rises-token [] pair t r = tt
-rises-token (x ∷ pairs) pair t r = ((λ lt. omega (arith, r.0 lt, times-push t pairs pair)), rises-token pairs pair t r.1)
+rises-token (x ∷ pairs) pair t r = ((λ lt. omega (arith, r.0 lt, occurrences-push t pairs pair)), rises-token pairs pair t r.1)
 
 is_last : {X : Type 0} (pairs : List (ℕ × X)) (pair : ℕ × X) (t : ℕ) → Rises (pairs ++ pair ∷ []) t → pair.0 ≡ t → highest pairs ≤ t
 is_last [] pair t r e = omega arith
@@ -48,7 +48,7 @@ is_last (x ∷ pairs) pair t r e = step (nat_lt t x.0) refl (is_last pairs pair 
     step : (b : Bool) → nat_lt t x.0 ≡ b → highest pairs ≤ t → max x.0 (highest pairs) ≤ t
     step true lt rest =
         let below : t < x.0 = grind (arith, nat_tests) in
-        absurd (omega (arith, r.0 below, times-push t pairs pair, at_itself pair.0 t (pair.0 == t) refl e))
+        absurd (omega (arith, r.0 below, occurrences-push t pairs pair, at_itself pair.0 t (pair.0 == t) refl e))
     step false lt rest = let above : x.0 ≤ t = grind (arith, nat_tests) in omega arith
 
 -- one step of a search for a ticket behind a greater one

@@ -71,8 +71,8 @@ abbrev pub rests : Booked → Bool
 rests book = at_rest book.config book.history
 
 -- Whether a call would be premature in a book at a moment.
-abbrev pub comes_early : Booked → ℕ → Call → Bool
-comes_early book now call = premature book.config book.history now call
+abbrev pub is_premature : Booked → ℕ → Call → Bool
+is_premature book now call = premature book.config book.history now call
 
 -- The desk after a call that was taken with this ticket and this bell.
 abbrev pub after_step : {B : Type 0} → Opened B → ℕ → Call → ℕ → Option B → Opened B

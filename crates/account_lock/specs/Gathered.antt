@@ -18,20 +18,20 @@ counts_in tallies = counts
     (sum_by (λ tally. tally.held.counts.failed) tallies)
 
 -- How often a ticket occurs in a list of pairs.
-abbrev pub times : {X : Type 0} → ℕ → List (ℕ × X) → ℕ
-times t pairs = count_by (λ pair. pair.0 == t) pairs
+abbrev pub occurrences : {X : Type 0} → ℕ → List (ℕ × X) → ℕ
+occurrences t pairs = count_by (λ pair. pair.0 == t) pairs
 
 -- How often a ticket occurs in this part of what the tallies keep.
-abbrev pub times_in : {X : Type 0} → (Kept → List (ℕ × X)) → ℕ → List Tallied → ℕ
-times_in part t tallies = sum_by (λ tally. times t (part tally.held.kept)) tallies
+abbrev pub occurrences_in : {X : Type 0} → (Kept → List (ℕ × X)) → ℕ → List Tallied → ℕ
+occurrences_in part t tallies = sum_by (λ tally. occurrences t (part tally.held.kept)) tallies
 
 -- How many receipts of a ticket the tallies keep.
 abbrev pub receipts_of : ℕ → List Tallied → ℕ
-receipts_of = times_in (λ kept. kept.receipts)
+receipts_of = occurrences_in (λ kept. kept.receipts)
 
 -- How many calls with a ticket the tallies keep.
 abbrev pub calls_of : ℕ → List Tallied → ℕ
-calls_of = times_in (λ kept. kept.calls)
+calls_of = occurrences_in (λ kept. kept.calls)
 
 -- Whether a tally keeps neither receipts nor calls.
 abbrev pub keeps_nothing : Tallied → Bool

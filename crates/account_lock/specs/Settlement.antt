@@ -9,7 +9,7 @@ use Rattle.call_model.specs.History.{answer_of, answered, call_of, is_expiry}
 use Rattle.usage_ledger.specs.Keeping.{Kept}
 use Rattle.usage_ledger.specs.Tallies.{Tallied}
 use Rattle.account_lock.specs.Counting.{counts_of}
-use Rattle.account_lock.specs.Gathered.{parts_in, counts_in, times, receipts_of, calls_of}
+use Rattle.account_lock.specs.Gathered.{parts_in, counts_in, occurrences, receipts_of, calls_of}
 use Rattle.account_lock.specs.Failing.{FailsFirstAt}
 use Rattle.account_lock.specs.declared.fault.SettleFault.{SettleFault}
 use Rattle.account_lock.specs.declared.fault.SettleFault.TheVariants.{TallyMissing, OutOfMemory}
@@ -35,7 +35,7 @@ AllAgree wanted part tallies t = All (λ tally. Agree wanted (part tally.held.ke
 -- In the list, the ticket does not follow a greater one.
 abbrev pub Rises : {X : Type 0} → List (ℕ × X) → ℕ → Type 0
 Rises [] t = Unit {0}
-Rises (pair ∷ pairs) t = (t < pair.0 → times t pairs ≡ 0) × Rises pairs t
+Rises (pair ∷ pairs) t = (t < pair.0 → occurrences t pairs ≡ 0) × Rises pairs t
 
 -- If no join made the tally, the ticket does not follow a greater one in what it keeps.
 abbrev pub RisesUnjoined : Tallied → ℕ → Type 0

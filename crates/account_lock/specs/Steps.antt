@@ -8,7 +8,7 @@ use Rattle.call_types.specs.Heads.{head_of}
 use Rattle.usage_ledger.specs.Keeping.{Kept, Steps}
 use Rattle.usage_ledger.specs.Tallies.{Held}
 use Rattle.account_lock.specs.Bells.{given}
-use Rattle.account_lock.specs.Desks.{Opened, added_to, after_step, comes_early, handed_out, held_after, is_full}
+use Rattle.account_lock.specs.Desks.{Opened, added_to, after_step, is_premature, handed_out, held_after, is_full}
 use Rattle.account_lock.specs.declared.desk.Refused.{Refused as TheRefused}
 use Rattle.account_lock.specs.declared.desk.Step.{Step}
 use Rattle.account_lock.specs.declared.offering.Declined.{Declined}
@@ -39,6 +39,6 @@ IsRefusal desk call bell back =
 -- premature, and was refused.
 abbrev pub IsHandedBack : {B : Type 0} → Opened B → ℕ → Call → Option B → Declined B → Type 0
 IsHandedBack desk now call bell (Premature other back) =
-    (other ≡ call) × (back ≡ bell) × (comes_early desk.book now call ≡ true)
+    (other ≡ call) × (back ≡ bell) × (is_premature desk.book now call ≡ true)
 IsHandedBack desk now call bell (Refused back) =
-    IsRefusal desk call bell back × (comes_early desk.book now call ≡ false)
+    IsRefusal desk call bell back × (is_premature desk.book now call ≡ false)

@@ -5,7 +5,7 @@ ghost use Rattle.std.specs.Prelude.{min, vec_len};
 ghost use Rattle.call_types.specs.declared.call.Entry.{Entry};
 ghost use Rattle.usage_ledger.specs.Keeping.{Kept};
 ghost use Rattle.account_lock.specs.Failing.{FirstFailure};
-ghost use Rattle.account_lock.specs.Gathered.{times_in};
+ghost use Rattle.account_lock.specs.Gathered.{occurrences_in};
 ghost use Rattle.account_lock.specs.Marking.{marked, HasMark};
 ghost use Rattle.account_lock.specs.Settlement.{Agree, AllAgree};
 
@@ -81,8 +81,8 @@ pub(crate) fn mark_claims<C: Claim, K: Keep, L: Ledgers>(
     requires { (t : ℕ) → marked t marks.old.items ≡ 0 }
     ensures len { vec_len marks.new ≡ vec_len marks.old }
     ensures marks { (t : ℕ) → t < vec_len marks.old →
-        marked t marks.new.items ≡ min 1 (times_in C.part t tallies.now) }
-    ensures twice { FirstFailure (λ t. t < vec_len marks.old → times_in C.part t tallies.now ≤ 1) result }
+        marked t marks.new.items ≡ min 1 (occurrences_in C.part t tallies.now) }
+    ensures twice { FirstFailure (λ t. t < vec_len marks.old → occurrences_in C.part t tallies.now ≤ 1) result }
 {
     let mut twice = None;
     for tally in tallies {

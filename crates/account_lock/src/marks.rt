@@ -1,7 +1,7 @@
 //! A mark for each ticket of a history, set if the tallies keep something of it.
 
 ghost use Rattle.std.specs.Prelude.{◌≡◌, ℕ, ◌+◌, ◌<◌, ◌≤◌, min, vec_len, IfOk};
-ghost use Rattle.account_lock.specs.Gathered.{times};
+ghost use Rattle.account_lock.specs.Gathered.{occurrences};
 ghost use Rattle.account_lock.specs.Failing.{FirstFailure};
 ghost use Rattle.account_lock.specs.Marking.{marked, is_at};
 
@@ -43,9 +43,9 @@ fn mark(marks: &mut Vec<bool>, ticket: Ticket) -> Option<Ticket>
 pub(crate) fn mark_pairs<X>(marks: &mut Vec<bool>, pairs: &[(Ticket, X)]) -> Option<Ticket>
     ensures len { vec_len marks.new ≡ vec_len marks.old }
     ensures marks { (t : ℕ) → t < vec_len marks.old →
-        marked t marks.new.items ≡ min 1 (marked t marks.old.items + times t pairs.now) }
+        marked t marks.new.items ≡ min 1 (marked t marks.old.items + occurrences t pairs.now) }
     ensures twice { FirstFailure (λ t. t < vec_len marks.old →
-        marked t marks.old.items + times t pairs.now ≤ 1) result }
+        marked t marks.old.items + occurrences t pairs.now ≤ 1) result }
 {
     let mut twice = None;
     for pair in pairs {

@@ -2,7 +2,7 @@
 
 ghost use Rattle.std.specs.Prelude.{◌≡◌, ◌<◌, ◌^◌, false, IfOk, IfErr, OnErr};
 ghost use Rattle.call_types.specs.Within.{IsWithin};
-ghost use Rattle.account_lock.specs.Desks.{comes_early};
+ghost use Rattle.account_lock.specs.Desks.{is_premature};
 ghost use Rattle.account_lock.specs.Steps.{IsHandedBack, IsStep};
 
 use crate::{Bell, Desk, Refused, Step};
@@ -42,7 +42,7 @@ impl<B: Bell, L: Ledgers> Desk<B, L> {
         requires within { IsWithin self.old.book.config call }
         ensures taken { IfOk result (λ step. IsStep K.notes K.makes
             self.old tally.old.held now call bell step self.new tally.new.held
-            × (comes_early self.old.book now call ≡ false)) }
+            × (is_premature self.old.book now call ≡ false)) }
         ensures declined { IfErr result (λ back. IsHandedBack self.old now call bell back) }
         ensures same { OnErr result ((self.new ≡ self.old) × (tally.new.held ≡ tally.old.held)) }
     {

@@ -1,5 +1,5 @@
 -- How many entries a call adds.
-use Rattle.std.proofs.Common.{◌≡◌, ℕ, suc, ◌+◌, ◌≤◌, Bool, true, false, List, [], ◌∷◌, length, filter_map, Option, Some, None, refl, ap, ◌∙◌, arith, if◌then◌else◌, length-append, nat_lt, ◌*◌}
+use Rattle.std.proofs.Common.{◌≡◌, ℕ, suc, ◌+◌, ◌≤◌, false, List, [], ◌∷◌, length, filter_map, Option, Some, None, refl, ap, ◌∙◌, arith, length-append, nat_lt, ◌*◌}
 use Rattle.std.proofs.lemmas.List.{length-map}
 use Rattle.std.specs.List.{cons_option}
 use Rattle.call_types.specs.declared.call.Call.{Call}

@@ -4,7 +4,7 @@ use Rattle.call_types.specs.declared.call.Entry.{Entry}
 use Rattle.arn_ids.specs.declared.config.Config.{Config}
 use Rattle.call_model.specs.History.{answer_in, pending, with_tickets, is_invoke_of, stopped}
 use Rattle.call_model.specs.Life.{phase}
-use Rattle.call_model.specs.Limits.{charged, busy_at, is_busy_with, in_flight, place, place_for, verdict, AfterStop, Refuses, admitted_to, by_limits, where_placed, reservation, reserves, remainder, or_zero, unreserved_in_flight}
+use Rattle.call_model.specs.Limits.{is_charged_at, busy_at, is_busy_with, in_flight, place, place_for, verdict, AfterStop, Refuses, admitted_to, by_limits, where_placed, reservation, reserves, remainder, or_zero, unreserved_in_flight}
 use Rattle.call_model.specs.Next.{IsLegal, Follows}
 use Rattle.call_model.proofs.Once.{pending_cons}
 use Rattle.call_model.proofs.AtHand.{from_entry, busy_at_hand, at_hand_is}
@@ -22,7 +22,7 @@ use Rattle.call_model.specs.Laws.{admits, is_reserve, re_reserved}
 use Rattle.call_model.proofs.Charges.{IsIn, AreIn, entries_in}
 
 -- what is charged after an entry was charged before it, the entry's own Invoke aside
-pub charged_before : (config : Config) (h : List Entry) (entry : Entry) (t : ℕ) (x : Entry) → IsLegal config h → Follows config h entry → t < length h → charged config (entry ∷ h) t x.place ≡ true → charged config h t x.place ≡ true
+pub charged_before : (config : Config) (h : List Entry) (entry : Entry) (t : ℕ) (x : Entry) → IsLegal config h → Follows config h entry → t < length h → is_charged_at config (entry ∷ h) t x.place ≡ true → is_charged_at config h t x.place ≡ true
 charged_before config h entry t x l f lt c = go x.place c
   where
     was_pending : (b a : Bool) → (b && a) ≡ true → b ≡ true
@@ -68,15 +68,15 @@ flight_step config h entry d l w =
     rw (count_cons in_new (length h, entry) (with_tickets h)) (add (head (is_invoke_of d entry.call) (is_some entry.place) _) (count_below h in_new in_old kept (with_tickets h) (entries_in h)))
   where
     in_new : ℕ × Entry → Bool
-    in_new taken = is_invoke_of d taken.1.call && charged config (entry ∷ h) taken.0 taken.1.place
+    in_new taken = is_invoke_of d taken.1.call && is_charged_at config (entry ∷ h) taken.0 taken.1.place
 
     in_old : ℕ × Entry → Bool
-    in_old taken = is_invoke_of d taken.1.call && charged config h taken.0 taken.1.place
+    in_old taken = is_invoke_of d taken.1.call && is_charged_at config h taken.0 taken.1.place
 
     kept : (x : ℕ × Entry) → IsIn h x → in_new x ≡ true → in_old x ≡ true
     kept x i q = both (is_invoke_of d x.1.call) q
       where
-        both : (b : Bool) → (b && charged config (entry ∷ h) x.0 x.1.place) ≡ true → (b && charged config h x.0 x.1.place) ≡ true
+        both : (b : Bool) → (b && is_charged_at config (entry ∷ h) x.0 x.1.place) ≡ true → (b && is_charged_at config h x.0 x.1.place) ≡ true
         both true k = charged_before config h entry x.0 x.1 l w i.0 k
         both false k = k
 

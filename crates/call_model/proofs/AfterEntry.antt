@@ -1,5 +1,5 @@
 -- What one more entry changes of what a history says of its tickets.
-use Rattle.std.proofs.Common.{◌≡◌, ℕ, ◌+◌, ◌<◌, Bool, cond, List, [], ◌∷◌, ◌++◌, length, Option, Some, None, sym, refl, ap, ◌∙◌, arith, ◌≢◌, is_some, is_none, not, ◌&&◌, count_by}
+use Rattle.std.proofs.Common.{◌≡◌, ℕ, ◌+◌, ◌<◌, Bool, cond, List, [], ◌∷◌, ◌++◌, length, Option, Some, None, refl, arith, is_some, is_none, not, ◌&&◌, count_by}
 use Rattle.std.proofs.lemmas.List.Sums.{sum_by-cons, sum_by-append}
 use Rattle.call_types.specs.declared.answer.Answer.{Answer}
 use Rattle.call_types.specs.declared.call.Entry.{Entry}
@@ -7,8 +7,8 @@ use Rattle.arn_ids.specs.declared.config.Config.{Config}
 use Rattle.call_model.specs.History.{answer_in, answer_of, or_else, pending, call_of, place_of, is_expiry, is_invoke_of, requests}
 use Rattle.call_model.specs.Next.{IsLegal}
 use Rattle.call_model.proofs.Pairs.{eqb-other}
-use Rattle.call_model.proofs.Once.{fresh, silent}
-use Rattle.call_model.proofs.Basics.{eqb-self, some-none, count_cons, and_false}
+use Rattle.call_model.proofs.Once.{fresh}
+use Rattle.call_model.proofs.Basics.{eqb-self, count_cons}
 use Rattle.call_model.specs.Counts.{calls, admitted, answers_that}
 
 -- The new ticket's call is the entry's,

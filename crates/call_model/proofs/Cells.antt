@@ -13,7 +13,7 @@ use Rattle.call_types.specs.declared.call.Call.TheVariants.{Invoke, RuntimeNext,
 use Rattle.call_model.specs.History.{is_stop}
 use Rattle.call_model.specs.Generation.{Member, hears_end, has_count}
 use Rattle.call_model.specs.Stand.{Stand, is_known, is_number}
-use Rattle.call_model.specs.Table.{Cell, row, by_phase, ext_row, only, refused, next_in_closing, container, unknown, output, too_large, error, fails, init_times_out, times_out, spins_down, stops, tells_stopped, state, not_idle, nothing, accepted, registers, bad_id, if_named, table, own_answer, closes, to_waiting}
+use Rattle.call_model.specs.Table.{Cell, row, by_phase, extension_row, only, refused, next_in_closing, refused_container, unknown, gets_output, too_large, gets_error, fails, init_times_out, times_out, spins_down, stops, tells_stopped, refused_state, not_idle, nothing, accepted, registers, bad_id, if_named, table, own_answer, closes, to_waiting}
 
 -- What holds in each phase of the cell that a row has for it holds of the row.
 pub in_row : {A : Type 0} (Q : Phase → A → Type 0) (s : Stand) (a b c d e f : A) → ((k u : Option ℕ) → Q (Starting k u) a) → Q Idle b → ((p k : ℕ) → Q (Busy p k) c) → ((p k : ℕ) → Q (Busy p k) d) → ((r : Reason) (k : ℕ) (u : Option ℕ) → Q (Closing r k u) e) → Q Off f
@@ -40,9 +40,9 @@ of_either Q true x y q r = q
 of_either Q false x y q r = r
 
 -- what holds of each cell of an extension's row
-pub of_ext_row : (Q : Cell → Type 0) (s : Stand) (x : ℕ) (a b c d e : Cell) → Q a → Q b → Q c → Q d → Q e → Q unknown → Q container → Q (ext_row s x a b c d e)
-of_ext_row Q s x a b c d e qa qb qc qd qe apart off =
-    of_either Q (is_known s x) _ _ (of_row Q s a b c d e container qa qb qc qd qe off) (of_row Q s unknown unknown unknown unknown unknown container apart apart apart apart apart off)
+pub of_extension_row : (Q : Cell → Type 0) (s : Stand) (x : ℕ) (a b c d e : Cell) → Q a → Q b → Q c → Q d → Q e → Q unknown → Q refused_container → Q (extension_row s x a b c d e)
+of_extension_row Q s x a b c d e qa qb qc qd qe apart off =
+    of_either Q (is_known s x) _ _ (of_row Q s a b c d e refused_container qa qb qc qd qe off) (of_row Q s unknown unknown unknown unknown unknown refused_container apart apart apart apart apart off)
 
 -- What holds of each kind of cell, in the phases that may have it, holds of the table; a Stop is a case of its own.
 pub record AreCells (Q : Phase → Cell → Type 0) (s : Stand) : Type 0 where
@@ -51,9 +51,9 @@ pub record AreCells (Q : Phase → Cell → Type 0) (s : Stand) : Type 0 where
   pub refuses : (kind : Rejection) (P : Phase) → Q P (only (refused kind))
   pub registers : (P : Phase) → Q P (only (Some (Registered (suc s.registrations))))
   pub tells : (reason : Reason) (until : ℕ) (P : Phase) → Q P (only (Some (Ending reason until 0)))
-  pub output : (p d : ℕ) → Q (Busy p d) output
+  pub output : (p d : ℕ) → Q (Busy p d) gets_output
   pub too_large : (p d : ℕ) → Q (Busy p d) too_large
-  pub error : (p d : ℕ) → Q (Busy p d) error
+  pub error : (p d : ℕ) → Q (Busy p d) gets_error
   pub fails : (P : Phase) → Q P fails
   pub init_times_out : (d bound : Option ℕ) → Q (Starting d bound) init_times_out
   pub times_out : (p d : ℕ) → Q (Busy p d) times_out
@@ -62,10 +62,10 @@ pub record AreCells (Q : Phase → Cell → Type 0) (s : Stand) : Type 0 where
 pub in_table : (Q : Phase → Cell → Type 0) (s : Stand) → AreCells Q s → (call : Call) → (is_stop call ≡ true → Q s.phase (table s Stop)) → Q s.phase (table s call)
 in_table Q s k call stop = go call stop
   where
-    st : (P : Phase) → Q P state
+    st : (P : Phase) → Q P refused_state
     st P = k.refuses State P
 
-    off : (P : Phase) → Q P container
+    off : (P : Phase) → Q P refused_container
     off P = k.refuses Container P
 
     busy : (P : Phase) → Q P not_idle
@@ -77,7 +77,7 @@ in_table Q s k call stop = go call stop
     any_row : (a b c d e f : Cell) → ((P : Phase) → Q P a) → ((P : Phase) → Q P b) → ((P : Phase) → Q P c) → ((P : Phase) → Q P d) → ((P : Phase) → Q P e) → ((P : Phase) → Q P f) → Q s.phase (row s a b c d e f)
     any_row a b c d e f qa qb qc qd qe qf = open_row a b c d e f qa qb (λ p n. qc (Busy p n)) qd qe qf
 
-    report : (id : ℕ) (cell : Cell) → ((p d : ℕ) → Q (Busy p d) cell) → Q s.phase (row s state state (if_named s id cell) state state container)
+    report : (id : ℕ) (cell : Cell) → ((p d : ℕ) → Q (Busy p d) cell) → Q s.phase (row s refused_state refused_state (if_named s id cell) refused_state refused_state refused_container)
     report id cell q = open_row _ _ _ _ _ _ st st (λ p d. of_either (Q (Busy p d)) (is_number s.request id) cell bad_id (q p d) (k.refuses BadId (Busy p d))) st st off
 
     register_one : (used full : Bool) (P : Phase) → Q P (only (Some (if used then Refused NameInUse else if full then Refused TooMany else Registered (suc s.registrations))))
@@ -94,9 +94,9 @@ in_table Q s k call stop = go call stop
     tell_one None now P = off P
     tell_one (Some x) now P = off P
 
-    ext : (x : ℕ) (a b c d e : Cell) → ((P : Phase) → Q P a) → ((P : Phase) → Q P b) → ((P : Phase) → Q P c) → ((P : Phase) → Q P d) → ((P : Phase) → Q P e) → Q s.phase (ext_row s x a b c d e)
+    ext : (x : ℕ) (a b c d e : Cell) → ((P : Phase) → Q P a) → ((P : Phase) → Q P b) → ((P : Phase) → Q P c) → ((P : Phase) → Q P d) → ((P : Phase) → Q P e) → Q s.phase (extension_row s x a b c d e)
     ext x a b c d e qa qb qc qd qe =
-        of_either (Q s.phase) (is_known s x) _ _ (any_row a b c d e container qa qb qc qd qe off) (any_row _ _ _ _ _ _ (k.refuses Unknown) (k.refuses Unknown) (k.refuses Unknown) (k.refuses Unknown) (k.refuses Unknown) off)
+        of_either (Q s.phase) (is_known s x) _ _ (any_row a b c d e refused_container qa qb qc qd qe off) (any_row _ _ _ _ _ _ (k.refuses Unknown) (k.refuses Unknown) (k.refuses Unknown) (k.refuses Unknown) (k.refuses Unknown) off)
 
     go : (call : Call) → (is_stop call ≡ true → Q s.phase (table s Stop)) → Q s.phase (table s call)
     go (RuntimeNext e) stop = any_row _ _ _ _ _ _ k.waits k.waits st k.waits off off
@@ -172,7 +172,7 @@ next_closes s e = of_row (λ (cell : Cell). cell.close ≡ None) s _ _ _ _ _ _ r
 
 pub ext_next_closes : (s : Stand) (e x : ℕ) → closes s (ExtNext e x) ≡ None
 unfolding closes
-ext_next_closes s e x = of_ext_row (λ (cell : Cell). cell.close ≡ None) s x _ _ _ _ _ refl refl refl refl refl refl refl
+ext_next_closes s e x = of_extension_row (λ (cell : Cell). cell.close ≡ None) s x _ _ _ _ _ refl refl refl refl refl refl refl
 
 -- a Stop is answered elsewhere
 pub stop_own : (s : Stand) → own_answer s Stop ≡ None

@@ -6,7 +6,7 @@ use Rattle.arn_ids.specs.declared.config.Config.{Config}
 use Rattle.call_model.specs.History.{pending, with_tickets, call_of, place_of}
 use Rattle.call_model.specs.Stand.{at_hand, is_number}
 use Rattle.call_model.specs.Life.{phase}
-use Rattle.call_model.specs.Limits.{charged, busy_at, is_busy_with}
+use Rattle.call_model.specs.Limits.{is_charged_at, busy_at, is_busy_with}
 use Rattle.call_model.specs.Next.{IsLegal}
 use Rattle.call_model.proofs.Pairs.{eqb-other}
 use Rattle.call_model.proofs.AtHand.{held, busy_at_hand, at_hand_is}
@@ -69,8 +69,8 @@ or_true true = refl
 or_true false = refl
 
 -- A charged invocation of e is the one that e has at hand.
-pub charged_here : (config : Config) (h : List Entry) (e : ℕ) (x : ℕ × Entry) → IsLegal config h → IsIn h x → (is_number x.1.place e && charged config h x.0 x.1.place) ≡ is_number (at_hand (phase config h e)) x.0
-charged_here config h e x l i = both_ways (is_number x.1.place e && charged config h x.0 x.1.place) (is_number (at_hand (phase config h e)) x.0) there back
+pub charged_here : (config : Config) (h : List Entry) (e : ℕ) (x : ℕ × Entry) → IsLegal config h → IsIn h x → (is_number x.1.place e && is_charged_at config h x.0 x.1.place) ≡ is_number (at_hand (phase config h e)) x.0
+charged_here config h e x l i = both_ways (is_number x.1.place e && is_charged_at config h x.0 x.1.place) (is_number (at_hand (phase config h e)) x.0) there back
   where
     t : ℕ
     t = x.0
@@ -86,10 +86,10 @@ charged_here config h e x l i = both_ways (is_number x.1.place e && charged conf
     in_place : (o : Option ℕ) → o ≡ Some e → (is_some o && (pending h t || busy_at config h o t)) ≡ true → (pending h t || is_busy_with (phase config h e) t) ≡ true
     in_place o q = subst (λ (o : Option ℕ). (is_some o && (pending h t || busy_at config h o t)) ≡ true → (pending h t || is_busy_with (phase config h e) t) ≡ true) (sym q) (λ r. r)
 
-    there : (is_number x.1.place e && charged config h x.0 x.1.place) ≡ true → is_number (at_hand (phase config h e)) x.0 ≡ true
+    there : (is_number x.1.place e && is_charged_at config h x.0 x.1.place) ≡ true → is_number (at_hand (phase config h e)) x.0 ≡ true
     there q =
-        let k : is_number x.1.place e ≡ true = and_left (is_number x.1.place e) (charged config h x.0 x.1.place) q in
-        to_number (hand (pending h t) (is_busy_with (phase config h e) t) refl refl (in_place x.1.place (number_some x.1.place e k) (and_right (is_number x.1.place e) (charged config h x.0 x.1.place) q)) (ap (λ (o : Option ℕ). is_number o e) i.2 ∙ k))
+        let k : is_number x.1.place e ≡ true = and_left (is_number x.1.place e) (is_charged_at config h x.0 x.1.place) q in
+        to_number (hand (pending h t) (is_busy_with (phase config h e) t) refl refl (in_place x.1.place (number_some x.1.place e k) (and_right (is_number x.1.place e) (is_charged_at config h x.0 x.1.place) q)) (ap (λ (o : Option ℕ). is_number o e) i.2 ∙ k))
 
     out_place : (o : Option ℕ) → o ≡ Some e → (pending h t || is_busy_with (phase config h e) t) ≡ true → (is_number o e && (is_some o && (pending h t || busy_at config h o t))) ≡ true
     out_place o q = subst (λ (o : Option ℕ). (pending h t || is_busy_with (phase config h e) t) ≡ true → (is_number o e && (is_some o && (pending h t || busy_at config h o t))) ≡ true) (sym q) (λ r. rw (eqb-self e) r)
@@ -100,15 +100,15 @@ charged_here config h e x l i = both_ways (is_number x.1.place e && charged conf
       | inr b ↦ rw (bound_waits config h e t l b) refl
     ]
 
-    back : is_number (at_hand (phase config h e)) x.0 ≡ true → (is_number x.1.place e && charged config h x.0 x.1.place) ≡ true
+    back : is_number (at_hand (phase config h e)) x.0 ≡ true → (is_number x.1.place e && is_charged_at config h x.0 x.1.place) ≡ true
     back q =
         let a : at_hand (phase config h e) ≡ Some t = number_some (at_hand (phase config h e)) t q in
         out_place x.1.place (sym i.2 ∙ number_some (place_of h t) e ((held config h e t l a).placed)) (waits a)
 
 -- One charged invocation is placed in an environment that has one at hand, and else none.
-pub charged_count : (config : Config) (h : List Entry) (e : ℕ) → IsLegal config h → count_by (λ x. is_number x.1.place e && charged config h x.0 x.1.place) (with_tickets h) ≡ cond (is_some (at_hand (phase config h e))) 1 0
+pub charged_count : (config : Config) (h : List Entry) (e : ℕ) → IsLegal config h → count_by (λ x. is_number x.1.place e && is_charged_at config h x.0 x.1.place) (with_tickets h) ≡ cond (is_some (at_hand (phase config h e))) 1 0
 charged_count config h e l =
-    count_same h (λ x. is_number x.1.place e && charged config h x.0 x.1.place) (λ x. is_number (at_hand (phase config h e)) x.0) (λ x i. charged_here config h e x l i) (with_tickets h) (entries_in h)
+    count_same h (λ x. is_number x.1.place e && is_charged_at config h x.0 x.1.place) (λ x. is_number (at_hand (phase config h e)) x.0) (λ x i. charged_here config h e x l i) (with_tickets h) (entries_in h)
     ∙ go (at_hand (phase config h e)) refl
   where
     below : (p n : ℕ) → p < n → nat_lt p n ≡ true

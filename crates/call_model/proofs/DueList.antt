@@ -7,8 +7,8 @@ use Rattle.arn_ids.specs.declared.config.Config.{Config}
 use Rattle.arn_ids.specs.Environments.{environments, count_from, owners}
 use Rattle.call_model.specs.Stand.{is_number}
 use Rattle.call_model.specs.Life.{phase}
-use Rattle.call_model.specs.Laws.{has_come, is_due, with_number, deadlines_of, comes_before, are_in_order}
-use Rattle.call_model.specs.Next.{due, due_at, deadline_of, in_order, by_deadline}
+use Rattle.call_model.specs.Laws.{is_due, deadlines_of, comes_before, are_in_order}
+use Rattle.call_model.specs.Next.{due, due_at, has_come, with_number, deadline_of, in_order, by_deadline}
 use Rattle.call_model.proofs.Deadlines.{count_deadline, list_all_order, list_all_deadline}
 use Rattle.call_model.proofs.Basics.{count_cons, count_map, counted_once, eqb-self, number_some, and_left, and_right}
 

@@ -12,7 +12,7 @@ use Rattle.call_model.specs.History.{with_tickets, is_invoke_of, call_of, place_
 use Rattle.call_model.specs.Stand.{at_hand, is_number, is_idle}
 use Rattle.call_model.specs.Life.{phase}
 use Rattle.call_types.specs.Calls.{is_invoke}
-use Rattle.call_model.specs.Limits.{charged, in_flight, place, place_for, lowest, is_free_starting, is_free_closing, verdict, Verdict, AfterStop, Refuses, Admits, admitted_to}
+use Rattle.call_model.specs.Limits.{is_charged_at, in_flight, place, place_for, lowest, is_free_starting, is_free_closing, verdict, Verdict, AfterStop, Refuses, Admits, admitted_to}
 use Rattle.call_model.specs.Answers.{first_answer, own_first, verdict_answer}
 use Rattle.call_model.specs.Next.{IsLegal, Follows}
 use Rattle.call_model.proofs.OwnTickets.{placed_function, admits_place}
@@ -95,24 +95,24 @@ serves config h f e = (function_of config e == f) && is_some (at_hand (phase con
 
 -- a charged invocation of f
 abbrev in_f : Config → List Entry → ℕ → ℕ × Entry → Bool
-in_f config h f x = is_invoke_of f x.1.call && charged config h x.0 x.1.place
+in_f config h f x = is_invoke_of f x.1.call && is_charged_at config h x.0 x.1.place
 
 -- those of one environment
 here_count : (config : Config) (h : List Entry) (f e : ℕ) → IsLegal config h → count_by (λ x. is_number x.1.place e && in_f config h f x) (with_tickets h) ≡ cond (serves config h f e) 1 0
-here_count config h f e l = count_same h (λ x. is_number x.1.place e && in_f config h f x) (λ x. (function_of config e == f) && (is_number x.1.place e && charged config h x.0 x.1.place)) each (with_tickets h) (entries_in h) ∙ go (function_of config e == f)
+here_count config h f e l = count_same h (λ x. is_number x.1.place e && in_f config h f x) (λ x. (function_of config e == f) && (is_number x.1.place e && is_charged_at config h x.0 x.1.place)) each (with_tickets h) (entries_in h) ∙ go (function_of config e == f)
   where
-    each : (x : ℕ × Entry) → IsIn h x → (is_number x.1.place e && in_f config h f x) ≡ ((function_of config e == f) && (is_number x.1.place e && charged config h x.0 x.1.place))
+    each : (x : ℕ × Entry) → IsIn h x → (is_number x.1.place e && in_f config h f x) ≡ ((function_of config e == f) && (is_number x.1.place e && is_charged_at config h x.0 x.1.place))
     each x i = by_place (is_number x.1.place e) refl
       where
         none : (b : Bool) → false ≡ (b && false)
         none true = refl
         none false = refl
 
-        by_place : (b : Bool) → is_number x.1.place e ≡ b → (b && in_f config h f x) ≡ ((function_of config e == f) && (b && charged config h x.0 x.1.place))
+        by_place : (b : Bool) → is_number x.1.place e ≡ b → (b && in_f config h f x) ≡ ((function_of config e == f) && (b && is_charged_at config h x.0 x.1.place))
         by_place false q = none (function_of config e == f)
-        by_place true q = ap (λ (b : Bool). b && charged config h x.0 x.1.place) (ap (is_invoke_of f) (sym i.1) ∙ placed_of config h x.0 e f l (i.2 ∙ number_some x.1.place e q))
+        by_place true q = ap (λ (b : Bool). b && is_charged_at config h x.0 x.1.place) (ap (is_invoke_of f) (sym i.1) ∙ placed_of config h x.0 e f l (i.2 ∙ number_some x.1.place e q))
 
-    go : (b : Bool) → count_by (λ x. b && (is_number x.1.place e && charged config h x.0 x.1.place)) (with_tickets h) ≡ cond (b && is_some (at_hand (phase config h e))) 1 0
+    go : (b : Bool) → count_by (λ x. b && (is_number x.1.place e && is_charged_at config h x.0 x.1.place)) (with_tickets h) ≡ cond (b && is_some (at_hand (phase config h e))) 1 0
     go true = charged_count config h e l
     go false = count_none (with_tickets h)
 

@@ -28,7 +28,7 @@ use Rattle.call_model.proofs.OwnAnswers.{first_fit, first_of}
 use Rattle.call_model.proofs.OwnHistory.{others_silent}
 use Rattle.call_model.proofs.OwnStands.{same_fit}
 use Rattle.call_model.specs.Next.{IsLegal}
-use Rattle.call_model.specs.Own.{own, own_ticket, is_own}
+use Rattle.call_model.specs.Own.{own_ticket, is_own}
 use Rattle.call_model.proofs.Once.{fresh}
 use Rattle.call_model.proofs.OwnTickets.{own_home, own_old}
 use Rattle.call_model.proofs.Basics.{eqb-self, some-none}

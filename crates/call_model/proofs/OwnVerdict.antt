@@ -9,7 +9,7 @@ use Rattle.arn_ids.specs.declared.config.Config.{Config}
 use Rattle.arn_ids.specs.Environments.{function_of}
 use Rattle.call_model.specs.History.{answer_in, pending, stopped, is_invoke_of, with_tickets, or_else}
 use Rattle.call_model.specs.Life.{phase}
-use Rattle.call_model.specs.Limits.{place, lowest, is_free_starting, is_free_closing, verdict, AfterStop, Refuses, by_limits, where_placed, reservation, reserves, reserved_by, in_flight, charged, busy_at, is_busy_with}
+use Rattle.call_model.specs.Limits.{place, lowest, is_free_starting, is_free_closing, verdict, AfterStop, Refuses, by_limits, where_placed, reservation, reserves, reserved_by, in_flight, is_charged_at, busy_at, is_busy_with}
 use Rattle.call_types.specs.declared.answer.Throttle.TheVariants.{Function as ByFunction}
 use Rattle.call_model.specs.Isolation.{IsUnnamed}
 use Rattle.call_model.specs.Stand.{is_idle}
@@ -45,7 +45,7 @@ own_next_place config h f l = λ i. or_else (own_lowest config h f is_idle l i) 
 
 -- what is charged of an older part s of the history
 flight_part : (config : Config) (h s : List Entry) (f : ℕ) → IsLegal config h → IsLegal config s → ((t : ℕ) → t < length s → own_ticket config h f t ≡ own_ticket config s f t)
-    → count_by (λ taken. is_invoke_of f taken.1.call && charged config (own config h f) taken.0 taken.1.place) (with_tickets (own config s f)) ≡ count_by (λ taken. is_invoke_of f taken.1.call && charged config h taken.0 taken.1.place) (with_tickets s)
+    → count_by (λ taken. is_invoke_of f taken.1.call && is_charged_at config (own config h f) taken.0 taken.1.place) (with_tickets (own config s f)) ≡ count_by (λ taken. is_invoke_of f taken.1.call && is_charged_at config h taken.0 taken.1.place) (with_tickets s)
 unfolding own
 flight_part config h [] f l m a = refl
 flight_part config h (entry ∷ s) f l m a =
@@ -54,7 +54,7 @@ flight_part config h (entry ∷ s) f l m a =
     ∙ sym (count_cons (counts h) (length s, entry) (with_tickets s))
   where
     counts : List Entry → ℕ × Entry → Bool
-    counts k taken = is_invoke_of f taken.1.call && charged config k taken.0 taken.1.place
+    counts k taken = is_invoke_of f taken.1.call && is_charged_at config k taken.0 taken.1.place
 
     older : (t : ℕ) → t < length s → own_ticket config h f t ≡ own_ticket config s f t
     older t lt = a t (omega (arith, lt)) ∙ rw (eqb-other t (length s) (omega (arith, lt))) refl
@@ -69,7 +69,7 @@ flight_part config h (entry ∷ s) f l m a =
     head : (b : Bool) → is_own config s f entry.call ≡ b → counts (own config h f) (length (own config s f), own_entry b config s f entry) ≡ counts h (length s, entry)
     head true w = ap (λ (n : ℕ). is_invoke_of f entry.call && (is_some entry.place && (pending (own config h f) n || busy_at config (own config h f) entry.place n))) (own_length config s f)
         ∙ (λ i. is_invoke_of f entry.call && (is_some entry.place && (own_pending config h f (length s) l (mine w) i || busy w entry.place refl i)))
-    head false w = sym (ap (λ (b : Bool). b && charged config h (length s) entry.place) (invoke_own config s f entry.call w))
+    head false w = sym (ap (λ (b : Bool). b && is_charged_at config h (length s) entry.place) (invoke_own config s f entry.call w))
 
 -- the function has as many in flight alone
 pub own_in_flight : (config : Config) (h : List Entry) (f : ℕ) → IsLegal config h → in_flight config (own config h f) f ≡ in_flight config h f

@@ -7,10 +7,10 @@ use Rattle.call_types.specs.declared.call.Call.{Call}
 use Rattle.call_types.specs.declared.call.Call.TheVariants.{RuntimeNext, ExtNext, Invoke}
 use Rattle.call_types.specs.declared.call.Entry.{Entry}
 use Rattle.arn_ids.specs.declared.config.Config.{Config}
-use Rattle.call_model.specs.History.{answer_in, or_else, pending, call_of}
+use Rattle.call_model.specs.History.{answer_in, or_else, pending, call_of, poll_env}
 use Rattle.call_model.specs.Generation.{Actor, TheExtension, last_next, Generation, Extension, extensions, as_registered, member, has_count, Member, hears_end, TheRuntime, asks, reports_exit, members}
 use Rattle.call_model.specs.Stand.{Stand, is_known, RuntimePoll, ExtensionPoll, is_number, role}
-use Rattle.call_model.specs.Table.{own_answer, Cell, next_in_closing, row, told_once, container, unknown, parks as parks_cell, closes}
+use Rattle.call_model.specs.Table.{own_answer, Cell, next_in_closing, row, told_once, refused_container, unknown, parks as parks_cell, closes}
 use Rattle.call_model.specs.Life.{life, phase, stand, concerns, names, seen, Lifecycle}
 use Rattle.call_model.specs.Limits.{place_for}
 use Rattle.call_model.specs.Answers.{first_answer, first_entry, second_answer, home, own_first}
@@ -24,7 +24,7 @@ use Rattle.call_types.specs.declared.answer.Rejection.TheVariants.{Container}
 use Rattle.call_types.specs.declared.answer.Reason.{Reason}
 use Rattle.call_types.specs.declared.answer.Phase.TheVariants.{Closing}
 use Rattle.call_model.specs.Polls.{at_close, replaced, by_role}
-use Rattle.call_model.specs.Laws.{is_open, poll_of}
+use Rattle.call_model.specs.Laws.{is_open}
 use Rattle.call_model.proofs.Once.{answers_at, pending_cons, none_given}
 use Rattle.call_model.proofs.Scans.{generation_below, last_below}
 use Rattle.call_model.proofs.Elsewhere.{life_elsewhere}
@@ -33,6 +33,24 @@ use Rattle.std.proofs.lemmas.Option.{same_Some}
 use Rattle.call_model.proofs.ParkedRoles.{is_member, parked_is, extension_role}
 use Rattle.call_model.proofs.NextsHome.{next_home}
 use Rattle.call_model.proofs.OpenStays.{open_step}
+
+-- the environment and the actor of a Next
+abbrev pub poll_of : Call → Option (ℕ × Actor)
+poll_of (RuntimeNext e) = Some (e, TheRuntime)
+poll_of (ExtNext e x) = Some (e, TheExtension x)
+poll_of _ = None
+
+pub some_actor : (call : Call) (e : ℕ) → poll_env call ≡ Some e → (actor : Actor) × (poll_of call ≡ Some (e, actor))
+some_actor (RuntimeNext d) e p = (TheRuntime, ap (λ (n : ℕ). Some (n, TheRuntime)) (same_Some d e p))
+some_actor (ExtNext d y) e p = (TheExtension y, ap (λ (n : ℕ). Some (n, TheExtension y)) (same_Some d e p))
+some_actor call e p = absurd (some-none (sym p))
+
+pub polled_by : (call : Call) (e : ℕ) (actor : Actor) → poll_env call ≡ Some e → asks actor call ≡ true → poll_of call ≡ Some (e, actor)
+polled_by (RuntimeNext d) e TheRuntime p a = ap (λ (n : ℕ). Some (n, TheRuntime)) (same_Some d e p)
+polled_by (RuntimeNext d) e (TheExtension x) p a = absurd (true≢false (sym a))
+polled_by (ExtNext d y) e TheRuntime p a = absurd (true≢false (sym a))
+polled_by (ExtNext d y) e (TheExtension x) p a = ap (λ (n : ℕ). Some (n, TheExtension y)) (same_Some d e p) ∙ ap (λ (n : ℕ). Some (e, TheExtension n)) (eqb-true y x a)
+polled_by call e actor p a = absurd (some-none (sym p))
 
 -- a pending Next of an actor
 pub record IsStanding (config : Config) (h : List Entry) (e t : ℕ) (actor : Actor) : Type 0 where
@@ -70,7 +88,7 @@ extension_parks s e x q = go (is_known s x) refl q
     closing None P r = some-none r
     closing (Some y) P r = some-none r
 
-    go : (b : Bool) → is_known s x ≡ b → (if b then row s parks_cell parks_cell parks_cell parks_cell (told_once s x) container else row s unknown unknown unknown unknown unknown container).own ≡ None → (is_open s.phase ≡ true) × (is_known s x ≡ true)
+    go : (b : Bool) → is_known s x ≡ b → (if b then row s parks_cell parks_cell parks_cell parks_cell (told_once s x) refused_container else row s unknown unknown unknown unknown unknown refused_container).own ≡ None → (is_open s.phase ≡ true) × (is_known s x ≡ true)
     go true k r = (
       in_row (λ P (cell : Cell). cell.own ≡ None → is_open P ≡ true) s _ _ _ _ _ _ (λ d b w. refl) (λ w. refl) (λ p d w. refl) (λ p d w. refl) (λ reason until b w. absurd (closing (find (has_count x) s.members) s.phase w)) (λ w. absurd (some-none w)) r,
       k,

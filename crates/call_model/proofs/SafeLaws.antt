@@ -2,16 +2,16 @@
 use Rattle.std.proofs.Common.{◌≡◌, ℕ, true, false, List, Some, sym, refl, ◌∙◌, true≢false}
 use Rattle.call_types.specs.declared.call.Entry.{Entry}
 use Rattle.arn_ids.specs.declared.config.Config.{Config}
-use Rattle.call_model.specs.History.{pending, place_of, call_of}
-use Rattle.call_model.specs.Generation.{Actor}
+use Rattle.call_model.specs.History.{pending, place_of, call_of, poll_env}
+use Rattle.call_model.specs.Generation.{Actor, asks}
 use Rattle.call_model.specs.Stand.{at_hand, bound_of, is_number}
 use Rattle.call_model.specs.Life.{phase}
-use Rattle.call_model.specs.Laws.{lives, poll_of, is_open}
+use Rattle.call_model.specs.Laws.{lives, is_open}
 use Rattle.call_model.specs.Next.{IsLegal}
 use Rattle.call_model.proofs.AtHand.{held}
 use Rattle.call_model.proofs.BoundWaits.{bound_waits}
 use Rattle.call_model.proofs.Lives as L
-use Rattle.call_model.proofs.ParkedNexts.{standing}
+use Rattle.call_model.proofs.ParkedNexts.{standing, one_standing, poll_of, some_actor, polled_by}
 use Rattle.call_model.proofs.Basics.{eqb-self, and_right, number_some}
 use Rattle.std.proofs.lemmas.Option.{same_Some}
 
@@ -34,5 +34,11 @@ pub bound_nowhere : (config : Config) (h : List Entry) (p e : ℕ) → IsLegal c
 bound_nowhere config h p e l w q = true≢false (sym (bound_waits config h e p l q) ∙ w)
 
 -- parked polls
-pub stands_open : (config : Config) (h : List Entry) (e t : ℕ) (actor : Actor) → IsLegal config h → poll_of (call_of h t) ≡ Some (e, actor) → pending h t ≡ true → is_open (phase config h e) ≡ true
-stands_open config h e t actor l q w = (standing config h e t actor l q w).opened
+pub stands_open : (config : Config) (h : List Entry) (e t : ℕ) → IsLegal config h → poll_env (call_of h t) ≡ Some e → pending h t ≡ true → is_open (phase config h e) ≡ true
+stands_open config h e t l q w =
+    let who : (actor : Actor) × (poll_of (call_of h t) ≡ Some (e, actor)) = some_actor (call_of h t) e q in
+    (standing config h e t who.0 l who.1 w).opened
+
+pub stands_alone : (config : Config) (h : List Entry) (e t u : ℕ) (actor : Actor) → IsLegal config h → poll_env (call_of h t) ≡ Some e → asks actor (call_of h t) ≡ true → pending h t ≡ true
+    → poll_env (call_of h u) ≡ Some e → asks actor (call_of h u) ≡ true → pending h u ≡ true → t ≡ u
+stands_alone config h e t u actor l p a w q b v = one_standing config h e t u actor l (polled_by (call_of h t) e actor p a) w (polled_by (call_of h u) e actor q b) v

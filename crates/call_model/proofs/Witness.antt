@@ -4,7 +4,7 @@ use Rattle.call_types.specs.declared.answer.Throttle.TheVariants.{Environments a
 use Rattle.call_types.specs.declared.call.Call.TheVariants.{Reserve, RuntimeNext, Response}
 use Rattle.call_types.specs.declared.call.Entry.{Entry}
 use Rattle.arn_ids.specs.declared.config.Config.{Config}
-use Rattle.call_model.specs.Next.{run, next, added, due, IsLegal}
+use Rattle.call_model.specs.Next.{next, added, due, IsLegal}
 use Rattle.call_model.specs.Answers.{answers, first_answers, own_first, first_answer, second_answer, answer_to}
 use Rattle.call_model.specs.Life.{seen, after, lived, life}
 use Rattle.call_model.specs.Stand.{role}
@@ -13,7 +13,7 @@ use Rattle.call_model.specs.Generation.{members}
 use Rattle.call_model.specs.Limits.{verdict, Refuses, in_flight, reservation, place, unreserved_in_flight, remainder}
 use Rattle.call_model.specs.Laws.{deliveries, times, charged_in}
 use Rattle.call_model.specs.Isolation.{IsUnnamed}
-use Rattle.call_model.specs.Sample.{function, account, one, reserved_two, invoke}
+use Rattle.call_model.specs.Sample.{function, account, one, reserved_two, invoke, run}
 
 -- a configuration with a reservation above its environments: without its premise never_crowded is false
 crowded : Config

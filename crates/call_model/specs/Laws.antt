@@ -1,27 +1,26 @@
 -- Definitions used by the laws of legal histories.
-use Rattle.std.specs.Prelude.{ℕ, Bool, true, false, ◌&&◌, ◌||◌, if◌then◌else◌, ◌+◌, ◌==◌, nat_le, nat_lt, nat_eq, List}
-use Rattle.std.specs.Prelude.{[], ◌∷◌, Option, Some, None, option_map, count_by, filter_map, is_some}
+use Rattle.std.specs.Prelude.{ℕ, Bool, true, false, ◌&&◌, ◌||◌, if◌then◌else◌, ◌+◌, ◌==◌, nat_lt, nat_eq, List}
+use Rattle.std.specs.Prelude.{[], ◌∷◌, Option, Some, None, count_by, filter_map, is_some}
 use Rattle.std.specs.List.{list_any, list_all}
 use Rattle.call_types.specs.declared.call.Call.{Call}
-use Rattle.call_types.specs.declared.call.Call.TheVariants.{Reserve, RuntimeNext, ExtNext}
+use Rattle.call_types.specs.declared.call.Call.TheVariants.{Reserve}
 use Rattle.call_types.specs.declared.call.Entry.{Entry}
 use Rattle.call_types.specs.declared.answer.Answer.{Answer}
 use Rattle.call_types.specs.declared.answer.Answer.TheVariants.{Delivered, Output, OutputTooLarge, TimedOut}
 use Rattle.call_types.specs.declared.answer.Phase.{Phase}
 use Rattle.call_types.specs.declared.answer.Phase.TheVariants.{Starting, Idle, Busy}
-use Rattle.call_model.specs.Generation.{Actor, TheRuntime, TheExtension}
 use Rattle.arn_ids.specs.declared.config.Config.{Config}
 use Rattle.arn_ids.specs.Environments.{environments}
 use Rattle.call_model.specs.History.{with_tickets, is_invoke_of, pending}
 use Rattle.call_model.specs.Life.{phase}
 use Rattle.call_model.specs.Stand.{at_hand, is_number}
-use Rattle.call_model.specs.Limits.{charged}
-use Rattle.call_model.specs.Next.{deadline_of}
+use Rattle.call_model.specs.Limits.{is_charged_at}
+use Rattle.call_model.specs.Next.{deadline_of, has_come, with_number}
 
 -- The number of charged invocations that are placed in environment e.
 abbrev pub charged_in : Config → List Entry → ℕ → ℕ
 charged_in config h e =
-    count_by (λ taken. is_number taken.1.place e && charged config h taken.0 taken.1.place) (with_tickets h)
+    count_by (λ taken. is_number taken.1.place e && is_charged_at config h taken.0 taken.1.place) (with_tickets h)
 
 -- Whether an environment in this phase is taken: it is Busy, or an invocation is bound to it.
 abbrev pub is_taken : Phase → Bool
@@ -68,12 +67,6 @@ is_outcome OutputTooLarge = true
 is_outcome TimedOut = true
 is_outcome _ = false
 
--- The environment and the actor of a Next; `None` for any other call.
-abbrev pub poll_of : Call → Option (ℕ × Actor)
-poll_of (RuntimeNext e) = Some (e, TheRuntime)
-poll_of (ExtNext e x) = Some (e, TheExtension x)
-poll_of _ = None
-
 -- Whether a phase is one in which a Next may be parked: Starting, Idle or Busy.
 abbrev pub is_open : Phase → Bool
 is_open (Starting deadline bound) = true
@@ -91,18 +84,9 @@ abbrev pub times : List Entry → ℕ → ℕ
 times [] t = 0
 times (entry ∷ h) t = count_by (λ a. a.0 == t) entry.answers + times h t
 
--- Whether a deadline has come at moment m; false if there is no deadline.
-abbrev pub has_come : ℕ → Option ℕ → Bool
-has_come m None = false
-has_come m (Some d) = nat_le d m
-
 -- Whether environment e is due at moment m: the configuration has it, and its phase has a deadline that has come.
 abbrev pub is_due : Config → List Entry → ℕ → ℕ → Bool
 is_due config h m e = list_any (λ d. e == d) (environments config) && has_come m (deadline_of (phase config h e))
-
--- A deadline with the number of its environment, if there is a deadline.
-abbrev pub with_number : ℕ → Option ℕ → Option (ℕ × ℕ)
-with_number e deadline = option_map (λ d. (d, e)) deadline
 
 -- The deadlines of a list of environments, each with its environment's number. Those without a deadline are left out.
 abbrev pub deadlines_of : Config → List Entry → List ℕ → List (ℕ × ℕ)

@@ -31,18 +31,18 @@ busy_at config h (Some e) t = is_busy_with (phase config h e) t
 
 -- Whether an invocation with this ticket and place is charged: from its admission until its Busy ends, even if it was
 -- answered and its extensions still work, or until it is answered without having been delivered.
-abbrev pub charged : Config → List Entry → ℕ → Option ℕ → Bool
-charged config h t place = is_some place && (pending h t || busy_at config h place t)
+abbrev pub is_charged_at : Config → List Entry → ℕ → Option ℕ → Bool
+is_charged_at config h t place = is_some place && (pending h t || busy_at config h place t)
 
 -- Whether the invocation with ticket t is charged.
 abbrev pub is_charged : Config → List Entry → ℕ → Bool
-is_charged config h t = charged config h t (place_of h t)
+is_charged config h t = is_charged_at config h t (place_of h t)
 
 -- The number of invocations of a function that are in flight: its charged Invokes.
 -- (concurrency: the requests that it is serving)
 unfoldable pub in_flight : Config → List Entry → ℕ → ℕ
 in_flight config h f =
-    count_by (λ taken. is_invoke_of f taken.1.call && charged config h taken.0 taken.1.place) (with_tickets h)
+    count_by (λ taken. is_invoke_of f taken.1.call && is_charged_at config h taken.0 taken.1.place) (with_tickets h)
 
 -- Whether a call sets or removes the reservation of function f.
 -- (Lambda API: PutFunctionConcurrency, DeleteFunctionConcurrency)

@@ -1,10 +1,9 @@
--- Which environments are due, which histories are legal, the next history, and a whole run.
-use Rattle.std.specs.Prelude.{◌≡◌, ℕ, ◌≤◌, max, if◌then◌else◌, nat_le, List, [], ◌∷◌, ◌++◌, length, map, Option, Some}
-use Rattle.std.specs.Prelude.{None, filter_map}
+-- Which environments are due, which histories are legal, and the next history.
+use Rattle.std.specs.Prelude.{◌≡◌, ℕ, ◌≤◌, max, Bool, false, if◌then◌else◌, nat_le, List, [], ◌∷◌, ◌++◌, map, Option}
+use Rattle.std.specs.Prelude.{Some, None, option_map, filter_map}
 use Rattle.call_types.specs.declared.call.Call.{Call}
 use Rattle.call_types.specs.declared.call.Call.TheVariants.{Expire}
 use Rattle.call_types.specs.declared.call.Entry.{Entry}
-use Rattle.call_types.specs.declared.answer.Answer.{Answer}
 use Rattle.call_types.specs.declared.answer.Phase.{Phase}
 use Rattle.call_types.specs.declared.answer.Phase.TheVariants.{Starting, Busy, Closing}
 use Rattle.arn_ids.specs.declared.config.Config.{Config}
@@ -21,10 +20,18 @@ deadline_of (Busy p d) = Some d
 deadline_of (Closing reason until bound) = Some until
 deadline_of _ = None
 
--- The pair (deadline, e) of an environment e, if it has a deadline that has come at moment m.
+-- Whether a deadline has come at moment m; false if there is no deadline.
+abbrev pub has_come : ℕ → Option ℕ → Bool
+has_come m None = false
+has_come m (Some d) = nat_le d m
+
+-- A deadline with the number of its environment, if there is a deadline.
+abbrev pub with_number : ℕ → Option ℕ → Option (ℕ × ℕ)
+with_number e deadline = option_map (λ d. (d, e)) deadline
+
+-- The deadline of environment e with its number, if it has come at moment m.
 abbrev pub due_at : ℕ → ℕ → Option ℕ → Option (ℕ × ℕ)
-due_at m e None = None
-due_at m e (Some d) = if nat_le d m then Some (d, e) else None
+due_at m e deadline = if has_come m deadline then with_number e deadline else None
 
 -- Inserts a pair (deadline, number) into a list that is ordered by deadline and has only greater numbers. Of equal
 -- deadlines, the lower number comes first.
@@ -127,13 +134,3 @@ added config h now call = added_at config h (moment_at h now) call
 -- The next history: the history after a call that is made at `now`.
 unfoldable pub next : Config → List Entry → ℕ → Call → List Entry
 next config h now call = added config h now call ++ h
-
--- A run: the history after a list of calls, which are made one after the other, each at its moment.
-unfoldable pub run : Config → List Entry → List (ℕ × Call) → List Entry
-run config h [] = h
-run config h (c ∷ calls) = run config (next config h c.0 c.1) calls
-
--- The answers of a history in the order in which they were given, each as (entry, ticket, answer).
-abbrev pub lines : List Entry → List (ℕ × ℕ × Answer)
-lines [] = []
-lines (entry ∷ h) = lines h ++ map (λ a. (length h, a.0, a.1)) entry.answers

@@ -8,7 +8,7 @@ use Rattle.call_types.specs.declared.answer.Rejection.TheVariants.{Container}
 use Rattle.call_types.specs.declared.answer.Throttle.TheVariants.{Function as ByFunction, Account as ByAccount}
 use Rattle.arn_ids.specs.declared.config.Config.{Config}
 use Rattle.arn_ids.specs.declared.config.Function.{Function}
-use Rattle.call_model.specs.Next.{run, lines, next, added, due}
+use Rattle.call_model.specs.Next.{next, added, due}
 use Rattle.call_model.specs.Answers.{answers, first_answers, own_first, first_answer, second_answer, answer_to}
 use Rattle.call_model.specs.Life.{seen, after, lived, life}
 use Rattle.call_model.specs.Stand.{role}
@@ -16,7 +16,7 @@ use Rattle.call_model.specs.Table.{own_answer, closes, kept, to_waiting}
 use Rattle.call_model.specs.Generation.{members}
 use Rattle.call_model.specs.Limits.{verdict, Verdict, Admits, Refuses, in_flight, reservation, place}
 use Rattle.call_model.specs.Own.{own}
-use Rattle.call_model.specs.Sample.{function, account, plain, reserved_one, invoke, response, outcome}
+use Rattle.call_model.specs.Sample.{function, account, plain, reserved_one, invoke, response, run, lines, outcome}
 
 -- An account with two functions of one environment each: the first is unreserved and has a timeout of 1 s, the second
 -- has a reservation of 1.

@@ -1,5 +1,5 @@
 -- The configurations and the calls of the worked histories, and what is read off a run.
-use Rattle.std.specs.Prelude.{ℕ, Bool, false, if◌then◌else◌, List, [], ◌∷◌, map, Option, Some, None}
+use Rattle.std.specs.Prelude.{ℕ, Bool, false, if◌then◌else◌, List, [], ◌∷◌, ◌++◌, length, map, Option, Some, None}
 use Rattle.call_types.specs.declared.call.Call.{Call}
 use Rattle.call_types.specs.declared.call.Call.TheVariants.{Invoke, Response, Register}
 use Rattle.call_types.specs.declared.answer.Answer.{Answer}
@@ -10,7 +10,7 @@ use Rattle.arn_ids.specs.declared.config.Function.{Function}
 use Rattle.arn_ids.specs.declared.config.Slot.{Slot}
 use Rattle.arn_ids.specs.Environments.{count_from}
 use Rattle.call_model.specs.History.{requests, upto}
-use Rattle.call_model.specs.Next.{run, lines, next, added, due}
+use Rattle.call_model.specs.Next.{next, added, due}
 use Rattle.call_model.specs.Answers.{answers, first_answers, own_first, first_answer, second_answer, answer_to}
 use Rattle.call_model.specs.Life.{seen, after, lived, life, phase as phase_of}
 use Rattle.call_model.specs.Stand.{role}
@@ -89,6 +89,16 @@ response e id = Response e id []
 -- A Register at environment e: whether the extension registers for INVOKE, and whether it does for SHUTDOWN.
 abbrev pub registers : ℕ → List ℕ → Bool → Bool → Call
 registers e name invoke shutdown = Register e name invoke shutdown false
+
+-- A run: the history after a list of calls, which are made one after the other, each at its moment.
+unfoldable pub run : Config → List Entry → List (ℕ × Call) → List Entry
+run config h [] = h
+run config h (c ∷ calls) = run config (next config h c.0 c.1) calls
+
+-- The answers of a history in the order in which they were given, each as (entry, ticket, answer).
+abbrev pub lines : List Entry → List (ℕ × ℕ × Answer)
+lines [] = []
+lines (entry ∷ h) = lines h ++ map (λ a. (length h, a.0, a.1)) entry.answers
 
 -- The answers that a list of calls gives, each call with its moment. Each answer is shown as (entry, ticket, answer).
 unfoldable pub outcome : Config → List (ℕ × Call) → List (ℕ × ℕ × Answer)

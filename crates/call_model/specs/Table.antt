@@ -3,6 +3,7 @@
 use Rattle.std.specs.Prelude.{ℕ, suc, ◌+◌, Bool, true, false, not, ◌&&◌, if◌then◌else◌, nat_le, List, length, Option}
 use Rattle.std.specs.Prelude.{Some, None, is_some, bytes_eq}
 use Rattle.std.specs.List.{list_any, find}
+use Rattle.arn_ids.specs.Limits.{most_extensions}
 use Rattle.call_types.specs.declared.call.Call.{Call}
 use Rattle.call_types.specs.declared.call.Call.TheVariants.{Invoke, RuntimeNext, Response, ResponseTooLarge, Failure}
 use Rattle.call_types.specs.declared.call.Call.TheVariants.{InitFailure, Register, ExtNext, ExtInitFailure}
@@ -66,12 +67,12 @@ abbrev pub accepted : Cell
 accepted = only (Some Accepted)
 
 -- The call is refused, because the phase does not allow it.
-abbrev pub state : Cell
-state = only (refused State)
+abbrev pub refused_state : Cell
+refused_state = only (refused State)
 
 -- The call is refused, because the environment is closing or off.
-abbrev pub container : Cell
-container = only (refused Container)
+abbrev pub refused_container : Cell
+refused_container = only (refused Container)
 
 -- The spindown is refused, because the environment is not idle.
 abbrev pub not_idle : Cell
@@ -86,16 +87,16 @@ abbrev pub unknown : Cell
 unknown = only (refused Unknown)
 
 -- The response is accepted, and the waiting call gets it as its output.
-abbrev pub output : Cell
-output = record { own = Some Accepted; waiting = λ ticket. Some (Output ticket); close = None }
+abbrev pub gets_output : Cell
+gets_output = record { own = Some Accepted; waiting = λ ticket. Some (Output ticket); close = None }
 
 -- The response is refused as too large, and the waiting call is answered that its output was too large.
 abbrev pub too_large : Cell
 too_large = record { own = refused TooLarge; waiting = λ ticket. Some OutputTooLarge; close = None }
 
 -- The failure is accepted, and the waiting call gets it as an error.
-abbrev pub error : Cell
-error = record { own = Some Accepted; waiting = λ ticket. Some (Error ticket); close = None }
+abbrev pub gets_error : Cell
+gets_error = record { own = Some Accepted; waiting = λ ticket. Some (Error ticket); close = None }
 
 -- The failure is accepted, the waiting call gets it as an error, and the environment closes.
 abbrev pub fails : Cell
@@ -127,12 +128,12 @@ tells_stopped = record { own = None; waiting = λ ticket. Some Stopped; close = 
 abbrev pub if_named : Stand → ℕ → Cell → Cell
 if_named s id cell = if is_number s.request id then cell else bad_id
 
--- The answer to a Register: it is refused if its name is in use, otherwise if there are ten extensions already.
+-- The answer to a Register: it is refused if its name is in use, otherwise if there are as many extensions as there may be.
 -- (Extensions API: Register)
 abbrev pub register : Stand → List ℕ → Answer
 register s name =
     if list_any (λ x. bytes_eq name x.extension.name) s.members then Refused NameInUse
-    else if nat_le 10 (length s.members) then Refused TooMany
+    else if nat_le most_extensions (length s.members) then Refused TooMany
     else Registered (suc s.registrations)
 
 -- The cell of a Register in Starting.
@@ -159,25 +160,31 @@ told_once s x = only (told_in_closing s x)
 
 -- The row of a call by an extension. An extension that is not registered in the present generation is unknown; in Off
 -- no extension is registered, and the call is refused because the environment is off.
-abbrev pub ext_row : Stand → ℕ → Cell → Cell → Cell → Cell → Cell → Cell
-ext_row s x starting idle unanswered answered closing =
+abbrev pub extension_row : Stand → ℕ → Cell → Cell → Cell → Cell → Cell → Cell
+extension_row s x starting idle unanswered answered closing =
     if is_known s x
-    then row s starting idle unanswered answered closing container
-    else row s unknown unknown unknown unknown unknown container
+    then row s starting idle unanswered answered closing refused_container
+    else row s unknown unknown unknown unknown unknown refused_container
+
+-- The row of a report on the open invocation, with the given cell while that invocation waits for its answer.
+abbrev pub report_row : Stand → ℕ → Cell → Cell
+report_row s id cell =
+    row s refused_state refused_state (if_named s id cell) refused_state refused_state refused_container
 
 -- The table: a row for each call. In every phase a second Stop and a call without a row give no answer here and close
 -- nothing.
 -- The columns: Starting, Idle, Busy with its invocation unanswered, Busy with it answered, Closing, Off.
 abbrev pub table : Stand → Call → Cell
-table s (RuntimeNext e) = row s parks parks state parks container container
-table s (Response e id body) = row s state state (if_named s id output) state state container
-table s (ResponseTooLarge e id) = row s state state (if_named s id too_large) state state container
-table s (Failure e id body) = row s state state (if_named s id error) state state container
-table s (InitFailure e body) = row s fails state state state state container
-table s (Register e name invoke shutdown account) = row s (registers s name) state state state state container
-table s (ExtNext e x) = ext_row s x parks parks parks parks (told_once s x)
-table s (ExtInitFailure e x body) = ext_row s x fails state state state state
-table s (ExtExitFailure e x body) = ext_row s x fails fails fails fails accepted
+table s (RuntimeNext e) = row s parks parks refused_state parks refused_container refused_container
+table s (Response e id body) = report_row s id gets_output
+table s (ResponseTooLarge e id) = report_row s id too_large
+table s (Failure e id body) = report_row s id gets_error
+table s (InitFailure e body) = row s fails refused_state refused_state refused_state refused_state refused_container
+table s (Register e name invoke shutdown account) =
+    row s (registers s name) refused_state refused_state refused_state refused_state refused_container
+table s (ExtNext e x) = extension_row s x parks parks parks parks (told_once s x)
+table s (ExtInitFailure e x body) = extension_row s x fails refused_state refused_state refused_state refused_state
+table s (ExtExitFailure e x body) = extension_row s x fails fails fails fails accepted
 table s (Spindown e) = row s not_idle spins_down not_idle not_idle not_idle not_idle
 table s (Expire e) = row s init_times_out nothing times_out times_out nothing nothing
 table s Stop = if s.stopped then nothing else row s stops stops stops stops tells_stopped tells_stopped

@@ -8,15 +8,15 @@ ghost use Rattle.call_types.specs.declared.answer.Answer.{Answer};
 ghost use Rattle.arn_ids.specs.declared.config.Config.{Config};
 ghost use Rattle.arn_ids.specs.Environments.{function_of, environments};
 ghost use Rattle.call_model.specs.History.{pending, place_of, call_of, answer_in, answer_of, is_expiry, is_invoke_of};
-ghost use Rattle.call_model.specs.History.{requests, upto};
+ghost use Rattle.call_model.specs.History.{requests, upto, poll_env};
 ghost use Rattle.call_model.specs.CallCounts.{call_counts};
-ghost use Rattle.call_model.specs.Generation.{Actor};
+ghost use Rattle.call_model.specs.Generation.{Actor, asks};
 ghost use Rattle.call_model.specs.Life.{phase, stand};
 ghost use Rattle.call_model.specs.Stand.{bound_of};
 ghost use Rattle.call_model.specs.Own.{own, own_ticket};
 ghost use Rattle.call_model.specs.Isolation.{named};
 ghost use Rattle.call_model.specs.Limits.{reservation, remainder, in_flight, unreserved_in_flight};
-ghost use Rattle.call_model.specs.Laws.{lives, times, deliveries, is_outcome, poll_of, is_open, admits, re_reserved};
+ghost use Rattle.call_model.specs.Laws.{lives, times, deliveries, is_outcome, is_open, admits, re_reserved};
 ghost use Rattle.call_model.specs.Laws.{charged_in, is_taken, is_due, deadlines_of, are_in_order, ended_by};
 ghost use Rattle.call_model.specs.Next.{IsLegal, next, due, last_moment, expiries_at};
 
@@ -50,12 +50,12 @@ pub fn safe()
     ensures delivered_before { (config : Config) (h : List Entry) (entry : Entry) (p : ℕ) (a : Answer)
         → IsLegal config (entry ∷ h) → answer_in entry.answers p ≡ Some a → is_outcome a ≡ true → 1 ≤ deliveries h p }
     // A Next is parked only at an environment that is Starting, Idle or Busy.
-    ensures next_stands_open { (config : Config) (h : List Entry) (e t : ℕ) (actor : Actor) → IsLegal config h
-        → poll_of (call_of h t) ≡ Some (e, actor) → pending h t ≡ true → is_open (phase config h e) ≡ true }
+    ensures next_stands_open { (config : Config) (h : List Entry) (e t : ℕ) → IsLegal config h
+        → poll_env (call_of h t) ≡ Some e → pending h t ≡ true → is_open (phase config h e) ≡ true }
     // At an environment, the runtime and each extension have at most one parked Next each.
     ensures next_stands_alone { (config : Config) (h : List Entry) (e t u : ℕ) (actor : Actor) → IsLegal config h
-        → poll_of (call_of h t) ≡ Some (e, actor) → pending h t ≡ true → poll_of (call_of h u) ≡ Some (e, actor)
-        → pending h u ≡ true → t ≡ u }
+        → poll_env (call_of h t) ≡ Some e → asks actor (call_of h t) ≡ true → pending h t ≡ true
+        → poll_env (call_of h u) ≡ Some e → asks actor (call_of h u) ≡ true → pending h u ≡ true → t ≡ u }
 {}
 
 /// What is due: the environments whose deadline has come, in the order in which they expire.

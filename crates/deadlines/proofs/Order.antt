@@ -5,9 +5,9 @@ use Rattle.std.proofs.lemmas.Bool.Decides.{nat_tests}
 use Rattle.arn_ids.specs.declared.config.Config.{Config}
 use Rattle.arn_ids.specs.Environments.{environments, count_from, owners}
 use Rattle.call_types.specs.declared.call.Entry.{Entry}
-use Rattle.call_model.specs.Laws.{comes_before, with_number}
+use Rattle.call_model.specs.Laws.{comes_before}
 use Rattle.call_model.specs.Life.{phase, life}
-use Rattle.call_model.specs.Next.{due, due_at, deadline_of, in_order, by_deadline, first}
+use Rattle.call_model.specs.Next.{due, due_at, with_number, deadline_of, in_order, by_deadline, first}
 use Rattle.deadlines.specs.Due.{come, due_among, first_due}
 use Rattle.deadlines.specs.Tree.{sooner, first_of}
 use Rattle.deadlines.specs.Meets.{deadlines}

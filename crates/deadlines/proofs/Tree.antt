@@ -4,7 +4,7 @@ use Rattle.std.proofs.lemmas.Bool.{cases_eq}
 use Rattle.std.proofs.lemmas.Bool.Decides.{nat_tests}
 use Rattle.std.proofs.lemmas.Nat.{div-add-mod', mod_below}
 use Rattle.std.proofs.lemmas.List.{get_or-set_same, get_or-set_other}
-use Rattle.call_model.specs.Laws.{with_number}
+use Rattle.call_model.specs.Next.{with_number}
 use Rattle.deadlines.specs.Tree.{sooner, first_of, first_below, IsNode, IsMended, IsMendedBut}
 
 -- ---- of two, and of more

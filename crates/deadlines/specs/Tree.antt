@@ -2,7 +2,8 @@
 -- one for each environment, are numbered after the inner nodes.
 use Rattle.std.specs.Prelude.{◌≡◌, ◌≢◌, ℕ, suc, ◌+◌, ◌-◌, ◌*◌, ◌/◌, ◌<◌, ◌≤◌, nat_lt, if◌then◌else◌, List, [], ◌∷◌}
 use Rattle.std.specs.Prelude.{length, get_or, Option, Some, None}
-use Rattle.call_model.specs.Laws.{comes_before, with_number}
+use Rattle.call_model.specs.Laws.{comes_before}
+use Rattle.call_model.specs.Next.{with_number}
 
 -- The one of two environments that comes first, each given as its deadline and its number, or the only one.
 abbrev pub sooner : Option (ℕ × ℕ) → Option (ℕ × ℕ) → Option (ℕ × ℕ)

@@ -5,17 +5,17 @@ use Rattle.call_types.specs.declared.answer.Phase.{Phase}
 use Rattle.call_types.specs.declared.call.Call.{Call}
 use Rattle.call_model.specs.Generation.{Member, TheRuntime}
 use Rattle.call_model.specs.Stand.{Stand, RuntimePoll, ExtensionPoll, at_hand}
-use Rattle.environment_step.specs.After.{Fixed, Known, Step, cell_at, first_moves, first_stand, give, give_each, member_first, over_now, request_of, runtime_first, poll_gets as polls_get}
+use Rattle.environment_step.specs.After.{Fixed, Known, Step, cell_at, first_moves, first_stand, give, give_each, member_first, over_now, request_of, runtime_first, poll_gets}
 use Rattle.call_model.specs.Table.{to_waiting}
 use Rattle.extension_set.specs.declared.turn.Turn.{Turn}
-use Rattle.extension_set.specs.Turns.{poll_gets, member_after, next_after}
+use Rattle.extension_set.specs.Turns.{poll_gets_by_turn, member_after, next_after}
 use Rattle.env_phase.specs.First.{turn_of, polled, answers, joined, request_kept}
 
-extension_same : (step : Step) (s : Stand) (call : Call) (x : Member) (o : Option ℕ) → poll_gets (turn_of step s call) call (ExtensionPoll x) o ≡ polls_get step s call (ExtensionPoll x) o
+extension_same : (step : Step) (s : Stand) (call : Call) (x : Member) (o : Option ℕ) → poll_gets_by_turn (turn_of step s call) call (ExtensionPoll x) o ≡ poll_gets step s call (ExtensionPoll x) o
 extension_same step s call x None = refl
 extension_same step s call x (Some u) = refl
 
-runtime_same : (step : Step) (s : Stand) (call : Call) (o : Option ℕ) → poll_gets (turn_of step s call) call RuntimePoll o ≡ polls_get step s call RuntimePoll o
+runtime_same : (step : Step) (s : Stand) (call : Call) (o : Option ℕ) → poll_gets_by_turn (turn_of step s call) call RuntimePoll o ≡ poll_gets step s call RuntimePoll o
 runtime_same step s call None = refl
 runtime_same step s call (Some u) = refl
 
@@ -27,9 +27,9 @@ members_same step s call [] = refl
 members_same step s call (x ∷ xs) = ap₂ ◌∷◌ (member_same step s call x) (members_same step s call xs)
 
 each_same : (step : Step) (s : Stand) (call : Call) (xs : List Member) (moves : List (ℕ × Answer))
-    → give_each (λ x. poll_gets (turn_of step s call) call (ExtensionPoll x) x.next) xs moves ≡ give_each (λ x. polls_get step s call (ExtensionPoll x) x.next) xs moves
+    → give_each (λ x. poll_gets_by_turn (turn_of step s call) call (ExtensionPoll x) x.next) xs moves ≡ give_each (λ x. poll_gets step s call (ExtensionPoll x) x.next) xs moves
 each_same step s call [] moves = refl
-each_same step s call (x ∷ xs) moves = rw (extension_same step s call x x.next) (ap (give x.next (polls_get step s call (ExtensionPoll x) x.next)) (each_same step s call xs moves))
+each_same step s call (x ∷ xs) moves = rw (extension_same step s call x x.next) (ap (give x.next (poll_gets step s call (ExtensionPoll x) x.next)) (each_same step s call xs moves))
 
 next_same : (step : Step) (s : Stand) (call : Call) → next_after TheRuntime (turn_of step s call) call RuntimePoll s.runtime ≡ runtime_first step s call
 next_same step s call = rw (runtime_same step s call s.runtime) refl

@@ -10,7 +10,7 @@ use Rattle.call_types.specs.declared.call.Call.{Call}
 use Rattle.call_types.specs.declared.call.Call.TheVariants.{Register}
 use Rattle.call_model.specs.Generation.{Member, as_registered}
 use Rattle.call_model.specs.Stand.{Stand}
-use Rattle.call_model.specs.Table.{own_answer, by_phase, registers, state, container}
+use Rattle.call_model.specs.Table.{own_answer, by_phase, registers, refused_state, refused_container}
 use Rattle.environment_step.specs.After.{Step}
 use Rattle.extension_set.specs.declared.register_fault.RegisterFault.TheVariants.{NameInUse, TooMany}
 use Rattle.extension_set.specs.declared.turn.Turn.{Turn}
@@ -34,12 +34,12 @@ by_verdict xs e name invoke shutdown account n false true q = tt
 by_verdict xs e name invoke shutdown account n false false q = q
 
 by_row : (s : Stand) (xs : List Member) (e : ℕ) (name : List ℕ) (invoke shutdown account : Bool) → admits xs name ≡ admits s.members name → (P : Phase)
-    → IsWelcome xs (as_registered (Register e name invoke shutdown account) ((by_phase (registers s name) state state state state container s P).own))
+    → IsWelcome xs (as_registered (Register e name invoke shutdown account) ((by_phase (registers s name) refused_state refused_state refused_state refused_state refused_container s P).own))
 by_row s xs e name invoke shutdown account q (Starting d bound) = by_verdict xs e name invoke shutdown account (suc s.registrations) (list_any (λ x. bytes_eq name x.extension.name) s.members) (nat_le 10 (length s.members)) q
 by_row s xs e name invoke shutdown account q Idle = tt
 by_row s xs e name invoke shutdown account q (Busy p d) = go (is_some s.request)
   where
-    go : (b : Bool) → IsWelcome xs (as_registered (Register e name invoke shutdown account) (if b then state else state).own)
+    go : (b : Bool) → IsWelcome xs (as_registered (Register e name invoke shutdown account) (if b then refused_state else refused_state).own)
     go true = tt
     go false = tt
 by_row s xs e name invoke shutdown account q (Closing reason until bound) = tt

@@ -8,7 +8,7 @@ use Rattle.call_model.specs.Table.{own_answer, closes, is_registered}
 use Rattle.environment_step.specs.After.{Step, fresh_members, give, give_each, waiting_call}
 use Rattle.extension_set.specs.declared.turn.Turn.{Turn}
 use Rattle.extension_set.specs.Registering.{admits}
-use Rattle.extension_set.specs.Turns.{poll_gets, next_after, member_after}
+use Rattle.extension_set.specs.Turns.{poll_gets_by_turn, next_after, member_after}
 
 -- What a call results in at an environment in this state.
 abbrev pub turn_of : Step → Stand → Call → Turn
@@ -25,8 +25,8 @@ polled turn call s = record s {
 abbrev pub answers : Turn → Option Answer → Call → Stand → List (ℕ × Answer)
 answers turn caller call s =
     give (Some turn.ticket) turn.own
-    (give_each (λ x. poll_gets turn call (ExtensionPoll x) x.next) s.members
-    (give s.runtime (poll_gets turn call RuntimePoll s.runtime)
+    (give_each (λ x. poll_gets_by_turn turn call (ExtensionPoll x) x.next) s.members
+    (give s.runtime (poll_gets_by_turn turn call RuntimePoll s.runtime)
     (give (waiting_call s) caller [])))
 
 -- The request count of the invocation at hand after a call: that of the call itself if it is an Invoke that is placed

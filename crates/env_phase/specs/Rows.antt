@@ -17,9 +17,9 @@ report_answers s id answer =
 
 -- The row of a call by an extension. In every phase but Off it is `Unknown` if the extension is not registered in the
 -- present generation.
-abbrev pub ext_answers : Stand → ℕ → Option Answer → Option Answer → Option Answer → Option Answer → Option Answer
+abbrev pub extension_answers : Stand → ℕ → Option Answer → Option Answer → Option Answer → Option Answer → Option Answer
     → Option Answer
-ext_answers s x starting idle unanswered answered closing =
+extension_answers s x starting idle unanswered answered closing =
     if is_known s x
     then row s starting idle unanswered answered closing (refused Container)
     else row s (refused Unknown) (refused Unknown) (refused Unknown) (refused Unknown) (refused Unknown)

@@ -6,6 +6,7 @@ mod first;
 mod table;
 
 ghost use Rattle.std.specs.Prelude.{◌≡◌, ◌+◌, ◌*◌, ◌<◌, ◌≤◌, ◌^◌, length, [], IfOk};
+ghost use Rattle.arn_ids.specs.Limits.{most_extensions};
 ghost use Rattle.call_model.specs.Laws.{is_taken};
 ghost use Rattle.call_model.specs.Next.{deadline_of};
 ghost use Rattle.call_model.specs.Stand.{bound_of};
@@ -44,6 +45,7 @@ pub struct Environment {
 
 impl Model for Environment {
     ghost use Rattle.std.specs.Prelude.{◌<◌, ◌≤◌, ◌^◌, length};
+    ghost use Rattle.arn_ids.specs.Limits.{most_extensions};
     ghost use Rattle.environment_step.specs.After.{Known};
 
     ghost Value = { Known };
@@ -61,7 +63,7 @@ impl Model for Environment {
       };
     } };
 
-    ghost invariant = { λ a. (a.timeout < 2 ^ 32) × (length a.extensions ≤ 10) };
+    ghost invariant = { λ a. (a.timeout < 2 ^ 32) × (length a.extensions ≤ most_extensions) };
 }
 
 /// Copies the names.
@@ -114,7 +116,7 @@ impl Environment {
         // Busy begins), one to the waiting call and one to the call itself: 24. In a state that a history leads to
         // there are at most 13 (`laws::meets`).
         ensures answers { length moves.new ≤ 2 * length self.old.stand.members + 4 }
-        ensures members { length self.new.stand.members ≤ 10 }
+        ensures members { length self.new.stand.members ≤ most_extensions }
         ensures events { self.new.stand.events ≤ self.old.stand.events + 24 }
         ensures registrations { self.new.stand.registrations ≤ self.old.stand.registrations + 1 }
     {
@@ -131,8 +133,8 @@ impl Environment {
         requires short { IsShort (registered_name call.now) }
         ensures stand { self.new ≡ taken self.old (step_of step) call.now }
         ensures given { moves.new ≡ given self.old (step_of step) call.now }
-        ensures ten_before { length self.old.stand.members ≤ 10 }
-        ensures ten_after { length self.new.stand.members ≤ 10 }
+        ensures ten_before { length self.old.stand.members ≤ most_extensions }
+        ensures ten_after { length self.new.stand.members ≤ most_extensions }
     {
         let before = self.phase;
         let expires = self.expires(call);
@@ -165,7 +167,7 @@ impl Environment {
     /// How many extensions are registered in the present generation, at most ten.
     pub fn members(&self) -> usize
         ensures count { result ≡ length self.now.stand.members }
-        ensures few { result ≤ 10 }
+        ensures few { result ≤ most_extensions }
     {
         self.extensions.len()
     }

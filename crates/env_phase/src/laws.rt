@@ -3,6 +3,7 @@
 ghost use Rattle.std.specs.Prelude.{◌≡◌, ◌+◌, ◌*◌, ◌≤◌, ℕ, true, List, [], ◌∷◌, length, not, ◌&&◌};
 ghost use Rattle.arn_ids.specs.declared.config.Config.{Config};
 ghost use Rattle.arn_ids.specs.Environments.{owners, function_of, function_at};
+ghost use Rattle.arn_ids.specs.Limits.{most_extensions};
 ghost use Rattle.call_types.specs.declared.call.Entry.{Entry};
 ghost use Rattle.call_model.specs.Laws.{ended_by};
 ghost use Rattle.call_model.specs.History.{place_of};
@@ -39,7 +40,7 @@ pub fn meets()
         → length (answers_there h entry e) ≤ length (stand config h e).members + 3 }
     // there are ten extensions at most,
     ensures ten { (config : Config) (h : List Entry) (e : ℕ) → IsLegal config h
-        → length (stand config h e).members ≤ 10 }
+        → length (stand config h e).members ≤ most_extensions }
     // and so 13 answers.
     ensures few { (config : Config) (h : List Entry) (entry : Entry) (e : ℕ) → IsLegal config (entry ∷ h)
         → length (answers_there h entry e) ≤ 13 }

@@ -14,7 +14,7 @@ use Rattle.call_model.specs.History.{answer_in, with_tickets, or_else}
 use Rattle.call_types.specs.Calls.{env_of}
 use Rattle.call_model.specs.Generation.{Generation, Extension, extensions, as_registered, members, TheExtension, Member, asks, member, is_ending, is_accepted, reports_exit, answer_to_next, told, asked_again, exited, has_count}
 use Rattle.call_model.specs.Stand.{Stand, is_number, is_known}
-use Rattle.call_model.specs.Table.{is_registered, own_answer, Cell, ext_row}
+use Rattle.call_model.specs.Table.{is_registered, own_answer, Cell, extension_row}
 use Rattle.call_model.specs.Life.{life, lived, after, stand, seen, concerns, names, registrations, ends_here}
 use Rattle.call_model.specs.Answers.{first_answer, second_answer, first_entry, own_first, own_at}
 use Rattle.call_model.specs.Next.{IsLegal, Follows, IsTimely}
@@ -146,7 +146,7 @@ unfolding seen members
 unknown config h e n l lt = none_known h (life config h e).generation n (suc (registrations h e)) (extensions (life config h e).generation) (counts_fall config h e l) (omega (arith, lt))
 
 -- an unknown extension is refused
-unknown_row : (s : Stand) (n : ℕ) (a b c d e : Cell) → is_known s n ≡ false → (k : Rejection) × ((ext_row s n a b c d e).own ≡ Some (Refused k))
+unknown_row : (s : Stand) (n : ℕ) (a b c d e : Cell) → is_known s n ≡ false → (k : Rejection) × ((extension_row s n a b c d e).own ≡ Some (Refused k))
 unknown_row s n a b c d e u = rw u (of_row (λ (cell : Cell). (k : Rejection) × (cell.own ≡ Some (Refused k))) s _ _ _ _ _ _ (Unknown, refl) (Unknown, refl) (Unknown, refl) (Unknown, refl) (Unknown, refl) (Container, refl))
 
 unknown_next : (s : Stand) (e n : ℕ) → is_known s n ≡ false → (k : Rejection) × (own_answer s (ExtNext e n) ≡ Some (Refused k))

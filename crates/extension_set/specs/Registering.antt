@@ -2,6 +2,7 @@
 use Rattle.std.specs.Prelude.{ℕ, Bool, false, not, ◌&&◌, if◌then◌else◌, nat_le, List, length, Option, Some, None}
 use Rattle.std.specs.Prelude.{Result, Ok, Err, bytes_eq}
 use Rattle.std.specs.List.{list_any}
+use Rattle.arn_ids.specs.Limits.{most_extensions}
 use Rattle.call_model.specs.Generation.{Member, Extension, hears_end}
 use Rattle.extension_set.specs.declared.register_fault.RegisterFault.{RegisterFault}
 use Rattle.extension_set.specs.declared.register_fault.RegisterFault.TheVariants.{NameInUse, TooMany}
@@ -11,7 +12,7 @@ use Rattle.extension_set.specs.declared.register_fault.RegisterFault.TheVariants
 abbrev pub admits : List Member → List ℕ → Result Unit RegisterFault
 admits xs name =
     if list_any (λ x. bytes_eq name x.extension.name) xs then Err NameInUse
-    else if nat_le 10 (length xs) then Err TooMany
+    else if nat_le most_extensions (length xs) then Err TooMany
     else Ok tt
 
 -- The member for an extension that was just registered.

@@ -10,29 +10,29 @@ use Rattle.environment_step.specs.After.{left, asked_now}
 use Rattle.extension_set.specs.declared.turn.Turn.{Turn}
 
 -- The answer to an actor's parked Next with ticket `u`, if there is one.
-abbrev pub poll_gets : Turn → Call → Role → Option ℕ → Option Answer
-poll_gets turn call role None = None
-poll_gets turn call role (Some u) = or_else (at_close turn.now turn.closes call role) (replaced u call role)
+abbrev pub poll_gets_by_turn : Turn → Call → Role → Option ℕ → Option Answer
+poll_gets_by_turn turn call role None = None
+poll_gets_by_turn turn call role (Some u) = or_else (at_close turn.now turn.closes call role) (replaced u call role)
 
 -- The answer to an actor's last Next, which may be the call itself.
-abbrev pub actor_gets : Actor → Turn → Call → Role → Option ℕ → Option Answer
-actor_gets actor turn call role next = if asks actor call then turn.own else poll_gets turn call role next
+abbrev pub actor_gets_by_turn : Actor → Turn → Call → Role → Option ℕ → Option Answer
+actor_gets_by_turn actor turn call role next = if asks actor call then turn.own else poll_gets_by_turn turn call role next
 
 -- The ticket of the actor's parked Next after the call.
 abbrev pub next_after : Actor → Turn → Call → Role → Option ℕ → Option ℕ
 next_after actor turn call role next =
-    left (actor_gets actor turn call role next) (asked_now actor call turn.ticket next)
+    left (actor_gets_by_turn actor turn call role next) (asked_now actor call turn.ticket next)
 
 -- The answer to an extension's last Next, which may be the call itself.
-abbrev pub member_gets : Turn → Call → Member → Option Answer
-member_gets turn call x = actor_gets (TheExtension x.extension.count) turn call (ExtensionPoll x) x.next
+abbrev pub member_gets_by_turn : Turn → Call → Member → Option Answer
+member_gets_by_turn turn call x = actor_gets_by_turn (TheExtension x.extension.count) turn call (ExtensionPoll x) x.next
 
 -- An extension after the call.
 abbrev pub member_after : Turn → Call → Member → Member
 member_after turn call x = record {
   extension = x.extension;
   next = next_after (TheExtension x.extension.count) turn call (ExtensionPoll x) x.next;
-  told = x.told || is_ending (member_gets turn call x);
+  told = x.told || is_ending (member_gets_by_turn turn call x);
   again = x.again || (x.told && asks (TheExtension x.extension.count) call);
   exited = (reports_exit x.extension.count call && is_accepted turn.own) || x.exited;
 }

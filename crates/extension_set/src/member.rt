@@ -6,7 +6,7 @@ ghost use Rattle.call_model.specs.Polls.{at_close, delivered, replaced};
 ghost use Rattle.call_model.specs.Stand.{ExtensionPoll};
 ghost use Rattle.environment_step.specs.After.{give, left, member_second};
 ghost use Rattle.extension_set.specs.Registering.{owes_end, registered};
-ghost use Rattle.extension_set.specs.Turns.{poll_gets, member_after};
+ghost use Rattle.extension_set.specs.Turns.{poll_gets_by_turn, member_after};
 
 use crate::name::Name;
 use crate::turn::CLOSING_LIMIT;
@@ -196,7 +196,7 @@ impl Member {
     /// Returns the answer that a call gives to its parked Next, if it has one.
     fn poll_gets(&self, turn: Turn, call: &Call) -> Option<Answer>
         requires { turn.now < 2 ^ 53 }
-        ensures { result ≡ poll_gets turn call.now (ExtensionPoll self.now) self.now.next }
+        ensures { result ≡ poll_gets_by_turn turn call.now (ExtensionPoll self.now) self.now.next }
     {
         match (self.next, turn.closes) {
             (None, _) => None,
@@ -211,7 +211,7 @@ impl Member {
         requires room { length moves.old < 32 }
         ensures after { self.new ≡ member_after turn call.now self.old }
         ensures given { moves.new
-            ≡ give self.old.next (poll_gets turn call.now (ExtensionPoll self.old) self.old.next) moves.old }
+            ≡ give self.old.next (poll_gets_by_turn turn call.now (ExtensionPoll self.old) self.old.next) moves.old }
     {
         let older = self.poll_gets(turn, call);
         moves.give(self.next, older);

@@ -2,23 +2,21 @@
 
 ghost use Rattle.std.specs.Prelude.{◌≡◌, ◌+◌, ◌<◌, ◌≤◌, ◌^◌, ◌∷◌, length, [], map, Some, count_by, IfOk, OnOk, OnErr};
 ghost use Rattle.std.specs.List.{list_any, find};
+ghost use Rattle.arn_ids.specs.Limits.{most_extensions};
 ghost use Rattle.call_model.specs.Generation.{has_count, awaited, missing};
 ghost use Rattle.call_model.specs.Polls.{delivered};
 ghost use Rattle.call_model.specs.Stand.{ExtensionPoll};
 ghost use Rattle.environment_step.specs.After.{give_each, member_second};
 ghost use Rattle.extension_set.specs.Names.{lacks};
 ghost use Rattle.extension_set.specs.Registering.{admits, owes_end, registered};
-ghost use Rattle.extension_set.specs.Turns.{member_after, poll_gets};
+ghost use Rattle.extension_set.specs.Turns.{member_after, poll_gets_by_turn};
 
 use crate::member::Member;
 use crate::{Moves, RegisterFault, Turn};
-use arn_ids::Text;
+use arn_ids::{MOST_EXTENSIONS, Text};
 use call_model::{Call, Ticket};
 use std::alloc::{AllocError, Global};
 use std::marker::Model;
-
-/// The greatest number of extensions that an environment may have (Lambda quotas).
-const MOST: usize = 10;
 
 /// The extensions of one generation, seen as a list with the newest first.
 #[derive(Drop)]
@@ -29,13 +27,14 @@ pub struct ExtensionSet {
 
 impl Model for ExtensionSet {
     ghost use Rattle.std.specs.Prelude.{List, reverse, ◌≤◌, vec_len, vec_capacity};
+    ghost use Rattle.arn_ids.specs.Limits.{most_extensions};
     ghost use Rattle.call_model.specs.Generation.{Member as TheMember};
 
     ghost Value = { List TheMember };
 
     ghost view = { λ s. reverse s.members.items };
 
-    ghost invariant = { λ s. (vec_len s.members ≤ 10) × (10 ≤ vec_capacity s.members) };
+    ghost invariant = { λ s. (vec_len s.members ≤ most_extensions) × (most_extensions ≤ vec_capacity s.members) };
 }
 
 impl ExtensionSet {
@@ -45,14 +44,14 @@ impl ExtensionSet {
         ensures { IfOk result (λ s. s ≡ []) }
     {
         Ok(ExtensionSet {
-            members: Vec::with_capacity(alloc, MOST)?,
+            members: Vec::with_capacity(alloc, MOST_EXTENSIONS)?,
         })
     }
 
     /// Returns the number of extensions, at most ten.
     pub fn len(&self) -> usize
         ensures count { result ≡ length self.now }
-        ensures few { length self.now ≤ 10 }
+        ensures few { length self.now ≤ most_extensions }
     {
         self.members.len()
     }
@@ -63,7 +62,7 @@ impl ExtensionSet {
     {
         if !self.lacks(name) {
             Err(RegisterFault::NameInUse)
-        } else if self.members.len() >= MOST {
+        } else if self.members.len() >= MOST_EXTENSIONS {
             Err(RegisterFault::TooMany)
         } else {
             Ok(())
@@ -189,7 +188,7 @@ impl ExtensionSet {
         requires room { length self.old + length moves.old < 32 }
         ensures after { self.new ≡ map (member_after turn call.now) self.old }
         ensures given { moves.new
-            ≡ give_each (λ x. poll_gets turn call.now (ExtensionPoll x) x.next) self.old moves.old }
+            ≡ give_each (λ x. poll_gets_by_turn turn call.now (ExtensionPoll x) x.next) self.old moves.old }
         ensures few { length moves.new ≤ length self.old + length moves.old }
     {
         for member in self.members.iter_mut() {

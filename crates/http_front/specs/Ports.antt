@@ -1,6 +1,7 @@
 -- The ports of a configuration.
 use Rattle.std.specs.Prelude.{ℕ, ◌+◌, ◌*◌, ◌-◌, ◌^◌, min, max, List, length, get_or, flat_map, map}
 use Rattle.arn_ids.specs.Environments.{owners}
+use Rattle.arn_ids.specs.Limits.{most_extensions}
 use Rattle.arn_ids.specs.declared.config.Config.{Config}
 use Rattle.arn_ids.specs.declared.config.Slot.{Slot}
 use Rattle.http_routes.specs.declared.side.Port.{Port}
@@ -15,10 +16,10 @@ abbrev pub kind_of : Port → PortKind
 kind_of Account = limits.Account
 kind_of (Environment e) = limits.Environment
 
--- The greatest number of connections at once: one for each poll of all environments, each with its runtime and ten
--- extensions, and 64 for callers; at least 1,024. (A configuration has up to 256 environments.)
+-- The greatest number of connections at once: one for each poll of all environments, each with its runtime and the
+-- most extensions, and 64 for callers; at least 1,024. (A configuration has up to 256 environments.)
 abbrev pub places_for : Config → ℕ
-places_for config = max 1024 (min (11 * length (owners config) + 64) (2 ^ 32 - 1))
+places_for config = max 1024 (min ((most_extensions + 1) * length (owners config) + 64) (2 ^ 32 - 1))
 
 -- The ports of environments.
 abbrev pub ports_of : List Slot → List ℕ

@@ -7,13 +7,13 @@ ghost use Rattle.http_front.specs.Hosts.{IsFaultOf};
 ghost use Rattle.http_front.specs.Ports.{places_for};
 
 use crate::HostFault;
-use arn_ids::Checked;
+use arn_ids::{Checked, MOST_EXTENSIONS};
 use lambda_wire::Setup;
 use std::alloc::{AllocError, Global};
 use std::sync::Arc;
 
-/// The most polls that an environment has open at once: those of its runtime and of ten extensions.
-const POLLS_OF_ONE: u32 = 11;
+/// The most polls that an environment has open at once: those of its runtime and of its extensions.
+const POLLS_OF_ONE: u32 = MOST_EXTENSIONS as u32 + 1;
 
 /// The number of places for callers, in addition to those for all polls.
 const FOR_CALLERS: u32 = 64;
@@ -64,7 +64,7 @@ impl Plan {
     }
 
     /// Returns the greatest number of connections at once: one for each poll of all environments,
-    /// each with its runtime and ten extensions, and 64 for callers; at least 1,024.
+    /// each with its runtime and the most extensions, and 64 for callers; at least 1,024.
     pub fn places(&self) -> u32
         ensures { result ≡ places_for (arc_value self.now.config) }
     {

@@ -1,7 +1,5 @@
 //! The thread that lets time pass in the account.
 
-ghost use Rattle.std.specs.Prelude.{◌<◌, ◌^◌};
-
 use crate::Notices;
 use crate::common::Common;
 use account_book::{Life, Refusal};
@@ -9,7 +7,7 @@ use account_lock::{Account, Identity};
 use arn_ids::GREATEST_MOMENT;
 use call_model::Call;
 use http_connection::Machine;
-use long_poll::{Clock, OneShotBell};
+use long_poll::{Clock, OneShotBell, moment};
 use std::alloc::AllocError;
 use std::sync::atomic::AtomicBool;
 use std::sync::atomic::Ordering::SeqCst;
@@ -21,13 +19,6 @@ use usage_ledger::{Keep, Tally, Token};
 
 /// How many milliseconds pass between two checks for something due.
 const BEAT: u64 = 50;
-
-/// Returns the moment of a call that is submitted now: the reading of the clock, at most 2^53 - 1.
-pub(crate) fn moment<N: Clock>(clock: &N) -> u64
-    ensures { result < 2 ^ 53 }
-{
-    clock.now().min(GREATEST_MOMENT)
-}
 
 /// The greatest lag behind the time of day, in milliseconds, at which the clock is not set forward.
 const MOST_LAG: u64 = 1_000;

@@ -10,7 +10,7 @@ use Rattle.headline.specs.Headline.{Headline}
 -- The counts are those of a history of the configuration, for which the headline holds. The tally has counted what that
 -- history counts. It has all parts of the account's four ledgers, so no other tally has a share of what the threads
 -- counted.
-pub record IsSettled (config : Config) (counts : Stats) (tally : Tallied) : Type 0 where
+pub record IsTallied (config : Config) (counts : Stats) (tally : Tallied) : Type 0 where
   pub history : List Entry
   pub headline : Headline config history counts
   pub parts : tally.held.parts ≡ 2 ^ 32
@@ -24,4 +24,4 @@ closing_line counts =
 
 -- The counts are those of a settled end with this tally, and the text is their line.
 abbrev pub IsClosing : Config → Stats → Option (List ℕ) → Tallied → Type 0
-IsClosing config counts text tally = IsSettled config counts tally × (text ≡ Some (closing_line counts))
+IsClosing config counts text tally = IsTallied config counts tally × (text ≡ Some (closing_line counts))

@@ -1,6 +1,6 @@
 //! The clock that gives the moments of calls.
 
-ghost use Rattle.std.specs.Prelude.{◌≡◌, ℕ};
+ghost use Rattle.std.specs.Prelude.{◌≡◌, ◌<◌, ◌^◌, ℕ};
 ghost use Rattle.long_poll.specs.Moments.{moment_of};
 
 use arn_ids::GREATEST_MOMENT;
@@ -28,8 +28,9 @@ pub trait Clock {
 }
 
 /// Returns the moment of a call that is submitted now: the clock's reading, at most 2^53 - 1.
-pub(crate) fn moment<N: Clock>(clock: &N) -> u64
-    ensures { (reading : ℕ) × N.reads clock.now reading × (result ≡ moment_of reading) }
+pub fn moment<N: Clock>(clock: &N) -> u64
+    ensures read { (reading : ℕ) × N.reads clock.now reading × (result ≡ moment_of reading) }
+    ensures few { result < 2 ^ 53 }
 {
     clock.now().min(GREATEST_MOMENT)
 }

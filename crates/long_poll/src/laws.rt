@@ -43,8 +43,8 @@ pub fn one_history()
     replies_stay();
 }
 
-/// What two exchanges over an account gave to their calls, on whichever connections and threads, are replies of its
-/// one history: the tokens of their outcomes agree (`Account::agree`).
+/// What two exchanges over an account gave to calls that were taken, on whichever connections and threads, are replies
+/// of its one history: the tokens of their outcomes agree (`Account::agree`).
 pub fn of_one_history<S: Identity>(
     account: &Account<S, OneShotBell>,
     token: &mut Token<S>,

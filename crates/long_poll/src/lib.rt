@@ -21,7 +21,7 @@ mod service;
 mod views;
 
 pub use bell::{Heard, OneShotBell};
-pub use clock::Clock;
+pub use clock::{Clock, moment};
 pub use connection::Connection;
 pub use exchange::Exchange;
 pub use fault::ExchangeFault;

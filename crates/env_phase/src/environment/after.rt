@@ -1,6 +1,7 @@
 //! What follows every entry: the phase, the answers to parked Nexts, and the events.
 
 ghost use Rattle.std.specs.Prelude.{◌≡◌, ◌+◌, ◌<◌, ◌≤◌, ◌^◌, length, Some, None, map};
+ghost use Rattle.arn_ids.specs.Limits.{most_extensions};
 ghost use Rattle.call_types.specs.declared.answer.Answer.TheVariants.{Delivered};
 ghost use Rattle.call_model.specs.Generation.{ready};
 ghost use Rattle.call_model.specs.Polls.{begun, delivered};
@@ -130,7 +131,7 @@ impl Environment {
               stand = finished self.old.fixed now expires before self.old.stand moves.old;
             } }
         ensures given { moves.new ≡ finished_moves self.old.fixed now expires before self.old.stand moves.old }
-        ensures ten { length self.new.stand.members ≤ 10 }
+        ensures ten { length self.new.stand.members ≤ most_extensions }
     {
         let events = self.events;
         self.turn(now, expires, before, moves);
@@ -141,7 +142,7 @@ impl Environment {
     /// Notes how many events extensions were sent.
     fn count_events(&mut self, events: u64)
         ensures stand { self.new ≡ record { fixed = self.old.fixed; stand = with_events events self.old.stand } }
-        ensures ten { length self.new.stand.members ≤ 10 }
+        ensures ten { length self.new.stand.members ≤ most_extensions }
     {
         self.events = events;
     }

@@ -5,7 +5,7 @@
 
 ghost use Rattle.std.specs.Prelude.{◌≡◌, ◌<◌, ◌^◌, Some};
 ghost use Rattle.call_model.specs.Table.{own_answer, row, register, told_in_closing, is_registered};
-ghost use Rattle.env_phase.specs.Rows.{ext_answers, named_answer, report_answers};
+ghost use Rattle.env_phase.specs.Rows.{extension_answers, named_answer, report_answers};
 
 use super::Environment;
 use arn_ids::Text;
@@ -106,7 +106,7 @@ impl Environment {
         answered: Option<Answer>,
         closing: Option<Answer>,
     ) -> Option<Answer>
-        ensures { result ≡ ext_answers self.now.stand ext starting idle unanswered answered closing }
+        ensures { result ≡ extension_answers self.now.stand ext starting idle unanswered answered closing }
     {
         if self.knows(ext) {
             self.row(starting, idle, unanswered, answered, closing, CONTAINER)

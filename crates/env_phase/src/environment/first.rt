@@ -5,7 +5,7 @@ ghost use Rattle.call_model.specs.Generation.{TheRuntime, as_registered};
 ghost use Rattle.call_model.specs.Stand.{at_hand, RuntimePoll};
 ghost use Rattle.environment_step.specs.After.{first_stand, first_moves, over_now};
 ghost use Rattle.call_model.specs.Polls.{replaced};
-ghost use Rattle.extension_set.specs.Turns.{next_after, poll_gets};
+ghost use Rattle.extension_set.specs.Turns.{next_after, poll_gets_by_turn};
 ghost use Rattle.env_phase.specs.First.{polled, answers, joined, request_kept, IsWelcome};
 ghost use Rattle.env_phase.specs.Taking.{registered_name, IsShort, step_of};
 
@@ -112,7 +112,7 @@ impl Environment {
 
     /// The answer to the runtime's parked Next, if there is one. (Runtime API: Next invocation)
     fn runtime_gets(&self, turn: Turn, call: &Call) -> Option<Answer>
-        ensures { result ≡ poll_gets turn call.now RuntimePoll self.now.stand.runtime }
+        ensures { result ≡ poll_gets_by_turn turn call.now RuntimePoll self.now.stand.runtime }
     {
         match (self.runtime, turn.closes) {
             (None, _) => None,

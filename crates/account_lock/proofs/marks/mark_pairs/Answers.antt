@@ -2,7 +2,7 @@ use Rattle.std.proofs.Common.{◌≡◌, ℕ, ◌+◌, ◌<◌, ◌≤◌, ◌==
 use Rattle.std.proofs.lemmas.List.{take_all}
 use Rattle.std.proofs.lemmas.List.Sums.{sum_by_more}
 use Rattle.account_lock.specs.Failing.{FirstFailure}
-use Rattle.account_lock.specs.Gathered.{times}
+use Rattle.account_lock.specs.Gathered.{occurrences}
 use Rattle.account_lock.specs.Marking.{marked, is_at}
 use Rattle.account_lock.proofs.FirstFailures.{counted_more, marked_more}
 use Rattle.account_lock.proofs.marks.mark_pairs.Goals as goal
@@ -14,8 +14,8 @@ loop-pair-preserved g c =
     let pair = c.pair-item.result in
     let inv = c.loop-pair.invariant in
     let was = λ (t : ℕ). marked t c.args.marks.now.items in
-    let sum = λ (t : ℕ). was t + times t (take i pairs) in
-    let next = λ (t : ℕ). was t + times t (take (i + 1) pairs) in
+    let sum = λ (t : ℕ). was t + occurrences t (take i pairs) in
+    let next = λ (t : ℕ). was t + occurrences t (take (i + 1) pairs) in
     let now = λ (t : ℕ). marked t c.loop-pair.marks.items in
     let more = λ (t : ℕ). is_at t pair.0 in
     let here : (t : ℕ) → cond ((get_or pairs i pair).0 == t) 1 0 ≡ is_at t pair.0 = λ t. ap (λ (p : ℕ × g.row.X.Denot). cond (p.0 == t) 1 0) (sym c.pair-item.is) in
@@ -29,5 +29,5 @@ loop-pair-preserved g c =
 
 pub returns-clause-twice : goal.returns-clause-twice
 returns-clause-twice g c =
-    subst (λ (xs : List (ℕ × g.row.X.Denot)). FirstFailure (λ t. t < vec_len c.args.marks.now → marked t c.args.marks.now.items + times t xs ≤ 1) c.loop-pair.twice)
+    subst (λ (xs : List (ℕ × g.row.X.Denot)). FirstFailure (λ t. t < vec_len c.args.marks.now → marked t c.args.marks.now.items + occurrences t xs ≤ 1) c.loop-pair.twice)
     (take_all c.loop-pair.pair-index c.args.pairs.now c.loop-pair-test.false) c.loop-pair.invariant.twice

@@ -2,8 +2,7 @@ use Rattle.call_model.proofs.NextLegal.{legal_next}
 use Rattle.call_model.proofs.Once.{once, fresh}
 use Rattle.call_model.proofs.DeliveredOnce as D
 use Rattle.call_model.proofs.OutcomeDelivered.{outcome_delivered}
-use Rattle.call_model.proofs.ParkedNexts.{one_standing}
-use Rattle.call_model.proofs.SafeLaws.{lives_there, lives_only_there, stands_open}
+use Rattle.call_model.proofs.SafeLaws.{lives_there, lives_only_there, stands_open, stands_alone}
 use Rattle.call_model.proofs.SafeLaws as H
 use Rattle.call_model.proofs.laws.safe.Goals as goal
 
@@ -19,5 +18,5 @@ returns c = record {
   delivered_once = D.delivered_once;
   delivered_before = outcome_delivered;
   next_stands_open = stands_open;
-  next_stands_alone = one_standing;
+  next_stands_alone = stands_alone;
 }

@@ -14,7 +14,7 @@ admitted xs name free few = rw (unused (list_any (λ x. bytes_eq name x.extensio
     unused true e = cc
     unused false e = refl
 
-pub returns-else-len-ge-MOST : goal.returns-else-len-ge-MOST
-returns-else-len-ge-MOST c =
+pub returns-else-len-ge-MOST_EXTENSIONS : goal.returns-else-len-ge-MOST_EXTENSIONS
+returns-else-len-ge-MOST_EXTENSIONS c =
     let few : length c.args.self.now < 10 = rw (← c.self.view_is, length-reverse) (omega arith) in
     admitted c.args.self.now c.args.name.now (sym c.if-not-lacks.ensures) few

@@ -3,7 +3,7 @@ use Rattle.long_poll.proofs.connection.Connection.submit_at_reading.Goals as goa
 
 pub returns-in-Ok : goal.returns-in-Ok
 returns-in-Ok g c =
-    let at = rw c.deref-2.ensures at c.moment-now.ensures in (
+    let at = rw c.deref-2.ensures at c.moment-now.ensures.read in (
       record {
         reading = at.0;
         read = at.1;
@@ -19,7 +19,7 @@ returns-in-Ok g c =
 
 pub returns : goal.returns
 returns g c =
-    let at = rw c.deref-2.ensures at c.moment-now.ensures in (
+    let at = rw c.deref-2.ensures at c.moment-now.ensures.read in (
       record {
         reading = at.0;
         read = at.1;
