@@ -1,7 +1,7 @@
 -- Which new connections get a place, and which connection makes room for one.
 use Rattle.std.specs.Prelude.{ℕ, ◌+◌, Bool, true, false, nat_lt, if◌then◌else◌, fold, Option, Some, None, List}
-use Rattle.http_connection.specs.declared.limits.PortKind.{PortKind}
-use Rattle.http_connection.specs.declared.limits.PortKind.TheVariants.{Account, Environment}
+use Rattle.connection_state.specs.declared.limits.PortKind.{PortKind}
+use Rattle.connection_state.specs.declared.limits.PortKind.TheVariants.{Account, Environment}
 use Rattle.connection_places.specs.Looks.{is_of_environment, spare_looks, reserve_of, better}
 use Rattle.connection_places.specs.declared.running.Running.{Running}
 use Rattle.connection_places.specs.declared.slots.Slot.{Slot}

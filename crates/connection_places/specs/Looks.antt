@@ -1,11 +1,11 @@
 -- What is seen of connections, which are looked at once a second, and what follows from it.
 use Rattle.std.specs.Prelude.{ℕ, ◌+◌, ◌-◌, ◌/◌, ◌^◌, ◌==◌, min, Bool, true, false, ◌&&◌, nat_lt, if◌then◌else◌, Option}
 use Rattle.std.specs.Prelude.{Some, None}
-use Rattle.http_connection.specs.Pulses.{is_unserved, is_between, is_same, is_in_stage_of}
-use Rattle.http_connection.specs.Limits.{has_outstayed}
-use Rattle.http_connection.specs.declared.pulse.Told.{Told}
-use Rattle.http_connection.specs.declared.limits.PortKind.{PortKind}
-use Rattle.http_connection.specs.declared.limits.PortKind.TheVariants.{Account, Environment}
+use Rattle.connection_state.specs.Pulses.{is_unserved, is_between, is_same, is_in_stage_of}
+use Rattle.connection_state.specs.Limits.{has_outstayed}
+use Rattle.connection_state.specs.declared.pulse.Told.{Told}
+use Rattle.connection_state.specs.declared.limits.PortKind.{PortKind}
+use Rattle.connection_state.specs.declared.limits.PortKind.TheVariants.{Account, Environment}
 use Rattle.connection_places.specs.declared.observation.Observation.{Observation}
 
 -- What is seen of a connection that has just come in.

@@ -6,7 +6,7 @@ ghost use Rattle.connection_places.specs.Looks as spec;
 
 use crate::running::Running;
 use crate::slots::Slot;
-use http_connection::PortKind;
+use connection_state::PortKind;
 
 /// The place of a connection that may make room, and for how many looks it has been without a
 /// complete request.

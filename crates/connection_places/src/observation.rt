@@ -3,7 +3,7 @@
 ghost use Rattle.std.specs.Prelude.{◌≡◌};
 ghost use Rattle.connection_places.specs.Looks as spec;
 
-use http_connection::{PortKind, Told, has_outstayed};
+use connection_state::{PortKind, Told, has_outstayed};
 
 /// What was seen of a connection at the last look, and for how many looks it has been so.
 #[derive(Clone, Copy, Drop)]

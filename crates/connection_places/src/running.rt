@@ -1,7 +1,7 @@
 //! What is known of an open connection outside its thread.
 
 use crate::observation::Observation;
-use http_connection::{Ender, PortKind, Pulse, Signal};
+use connection_state::{Ender, PortKind, Pulse, Signal};
 use std::sync::Arc;
 
 /// The sender of a connection's signals, and what is seen of the connection.

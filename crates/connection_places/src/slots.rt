@@ -7,7 +7,7 @@ use crate::choice::{admits, best_of, reserve_of};
 use crate::mailbox::Mailbox;
 use crate::post::{End, Ended, Post, Worker};
 use crate::running::Running;
-use http_connection::PortKind;
+use connection_state::PortKind;
 use std::alloc::{AllocError, Global};
 use std::marker::Model;
 use std::sync::{Arc, Mutex, Wait};

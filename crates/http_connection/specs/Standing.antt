@@ -1,8 +1,8 @@
 -- The state of a connection: how its reads and its service change it, and what it waits for.
 use Rattle.std.specs.Prelude.{ℕ, ◌+◌, ◌-◌, ◌^◌, ◌%◌, ◌==◌, min, true, false, ◌||◌, if◌then◌else◌}
-use Rattle.http_connection.specs.declared.pulse.Awaited.{Awaited}
-use Rattle.http_connection.specs.declared.pulse.Awaited.TheVariants.{Answer, First, Head, Body, Taking, Next, End}
-use Rattle.http_connection.specs.declared.pulse.Told.{Told}
+use Rattle.connection_state.specs.declared.pulse.Awaited.{Awaited}
+use Rattle.connection_state.specs.declared.pulse.Awaited.TheVariants.{Answer, First, Head, Body, Taking, Next, End}
+use Rattle.connection_state.specs.declared.pulse.Told.{Told}
 use Rattle.http_connection.specs.declared.stand.Stand.{Stand}
 
 -- The state before the first byte.

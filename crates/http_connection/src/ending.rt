@@ -5,9 +5,8 @@ ghost use Rattle.futures.specs.Poll.{IfReady, OnPending};
 ghost use Rattle.futures.specs.Task.{IsArmed, Keeps};
 
 use crate::park::Park;
-use crate::pulse::Pulse;
-use crate::signals::{Signal, Signals};
 use crate::wire::Wire;
+use connection_state::{Pulse, Signal, Signals};
 use futures::Future;
 use futures::task::{Context, Poll};
 use hyper::server::graceful::GracefulConnection;

@@ -5,13 +5,11 @@ ghost use Rattle.hyper.specs.ServerDispatch.{GivesBodies};
 ghost use Rattle.http_connection.specs.Written.{Gave, Written};
 
 use crate::ending::{Ending, Watched};
-use crate::limits::PortKind;
 use crate::noting::{Noting, Pace};
 use crate::park::Park;
-use crate::pulse::Pulse;
-use crate::signals::Signals;
 use crate::wire::Wire;
 use bytes::Bytes;
+use connection_state::{PortKind, Pulse, Signals};
 use http::{Request, Response};
 use http_body::Body;
 use hyper::body::Incoming;

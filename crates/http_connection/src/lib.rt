@@ -5,20 +5,14 @@
 mod ending;
 mod event_loop;
 mod input;
-mod limits;
 mod machine;
 mod noting;
 mod park;
-mod pulse;
-mod signals;
 mod socket;
 mod stand;
 mod wire;
 
 pub use event_loop::EventLoop;
-pub use limits::{PortKind, has_outstayed};
 pub use machine::Machine;
 pub use park::Park;
-pub use pulse::{Awaited, Pulse, Told};
-pub use signals::{Ender, Signal, Signals};
 pub use wire::Wire;

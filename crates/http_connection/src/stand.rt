@@ -3,7 +3,7 @@
 ghost use Rattle.std.specs.Prelude.{◌≡◌};
 ghost use Rattle.http_connection.specs.Standing as spec;
 
-use crate::pulse::{Awaited, Told};
+use connection_state::{Awaited, Told};
 
 /// The state of a connection.
 #[derive(Clone, Copy, Drop)]

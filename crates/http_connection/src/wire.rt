@@ -4,8 +4,8 @@ ghost use Rattle.std.specs.Prelude.{⊤};
 ghost use Rattle.futures.specs.Poll.{OnPending};
 ghost use Rattle.futures.specs.Task.{IsArmed, Keeps};
 
-use crate::pulse::Pulse;
 use crate::socket::Socket;
+use connection_state::Pulse;
 use futures::task::{Context, Poll};
 use std::alloc::{AllocError, Global};
 use std::cell::RefCell;

@@ -8,8 +8,8 @@ use Rattle.http_routes.specs.declared.side.Port.{Port}
 use Rattle.http_routes.specs.declared.side.Port.TheVariants.{Account, Environment}
 use Rattle.request_guard.specs.declared.refusal.Api.{Api}
 use Rattle.request_guard.specs.declared.refusal.Api.TheVariants.{Lambda, Runtime}
-use Rattle.http_connection.specs.declared.limits.PortKind.{PortKind}
-use Rattle.http_connection.specs.declared.limits.PortKind.TheVariants as limits
+use Rattle.connection_state.specs.declared.limits.PortKind.{PortKind}
+use Rattle.connection_state.specs.declared.limits.PortKind.TheVariants as limits
 
 -- The kind of a port, which sets the limits of its connections.
 abbrev pub kind_of : Port → PortKind

@@ -7,7 +7,7 @@ use crate::attendant::{Newcomer, Visit};
 use crate::gate::Arrival;
 use account_lock::Identity;
 use connection_places::Running;
-use http_connection::{PortKind, Pulse, Signals};
+use connection_state::{PortKind, Pulse, Signals};
 use std::alloc::{AllocError, Global};
 use std::net::TcpStream;
 use std::sync::Arc;

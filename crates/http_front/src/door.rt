@@ -9,7 +9,7 @@ ghost use Rattle.http_front.specs.Ports.{kind_of};
 use crate::{Port, Side};
 use account_lock::Identity;
 use arn_ids::Checked;
-use http_connection::PortKind;
+use connection_state::PortKind;
 use request_guard::Api;
 use std::alloc::{AllocError, Global};
 use std::marker::{Model, PhantomData};

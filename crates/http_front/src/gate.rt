@@ -5,7 +5,7 @@ ghost use Rattle.http_front.specs.Ports.{kind_of};
 
 use crate::door::Door;
 use account_lock::Identity;
-use http_connection::PortKind;
+use connection_state::PortKind;
 use mio::net::TcpListener;
 use std::io;
 use std::net::TcpStream;

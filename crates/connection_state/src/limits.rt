@@ -1,7 +1,7 @@
 //! How long a connection may stay open.
 
 ghost use Rattle.std.specs.Prelude.{◌≡◌};
-ghost use Rattle.http_connection.specs.Limits as spec;
+ghost use Rattle.connection_state.specs.Limits as spec;
 
 use crate::pulse::{Awaited, Told};
 

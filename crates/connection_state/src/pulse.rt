@@ -2,9 +2,9 @@
 //! reads it.
 
 ghost use Rattle.std.specs.Prelude.{◌≡◌, ◌<◌, ◌^◌};
-ghost use Rattle.http_connection.specs.Pulses.{number_of, told_of, stage_of, is_unserved, is_between};
-ghost use Rattle.http_connection.specs.Pulses.{is_same, is_in_stage_of};
-ghost use Rattle.http_connection.specs.declared.pulse.Told.{Told};
+ghost use Rattle.connection_state.specs.Pulses.{number_of, told_of, stage_of, is_unserved, is_between};
+ghost use Rattle.connection_state.specs.Pulses.{is_same, is_in_stage_of};
+ghost use Rattle.connection_state.specs.declared.pulse.Told.{Told};
 
 use std::sync::atomic::AtomicU64;
 use std::sync::atomic::Ordering::SeqCst;
@@ -158,7 +158,7 @@ impl Pulse {
     }
 
     /// Publishes the connection's state.
-    pub(crate) fn tell(&self, told: Told) {
+    pub fn tell(&self, told: Told) {
         self.told.store(told.number(), SeqCst);
     }
 

@@ -1,10 +1,10 @@
 -- How long a connection may stay open. All limits are in seconds.
 use Rattle.std.specs.Prelude.{ℕ, ◌+◌, ◌*◌, ◌/◌, Bool, false, ◌||◌, nat_le, Option, Some, None}
-use Rattle.http_connection.specs.declared.pulse.Awaited.{Awaited}
-use Rattle.http_connection.specs.declared.pulse.Awaited.TheVariants.{Answer, First, Head, Body, Taking, Next, End}
-use Rattle.http_connection.specs.declared.pulse.Told.{Told}
-use Rattle.http_connection.specs.declared.limits.PortKind.{PortKind}
-use Rattle.http_connection.specs.declared.limits.PortKind.TheVariants.{Account, Environment}
+use Rattle.connection_state.specs.declared.pulse.Awaited.{Awaited}
+use Rattle.connection_state.specs.declared.pulse.Awaited.TheVariants.{Answer, First, Head, Body, Taking, Next, End}
+use Rattle.connection_state.specs.declared.pulse.Told.{Told}
+use Rattle.connection_state.specs.declared.limits.PortKind.{PortKind}
+use Rattle.connection_state.specs.declared.limits.PortKind.TheVariants.{Account, Environment}
 
 -- How many seconds a connection may be idle between two requests. At an environment's port this is far above the 900
 -- that a handler may take, since its runtime keeps the connection of its Next open meanwhile.

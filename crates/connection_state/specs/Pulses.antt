@@ -1,8 +1,8 @@
 -- The state that a connection publishes, as one number.
 use Rattle.std.specs.Prelude.{ℕ, ◌+◌, ◌*◌, ◌^◌, Bool, true, false, ◌&&◌, ◌==◌}
-use Rattle.http_connection.specs.declared.pulse.Awaited.{Awaited}
-use Rattle.http_connection.specs.declared.pulse.Awaited.TheVariants.{Answer, First, Head, Body, Taking, Next, End}
-use Rattle.http_connection.specs.declared.pulse.Told.{Told}
+use Rattle.connection_state.specs.declared.pulse.Awaited.{Awaited}
+use Rattle.connection_state.specs.declared.pulse.Awaited.TheVariants.{Answer, First, Head, Body, Taking, Next, End}
+use Rattle.connection_state.specs.declared.pulse.Told.{Told}
 
 -- The number that stands for what a connection waits for.
 abbrev pub number_of : Awaited → ℕ

@@ -46,7 +46,7 @@ impl Signals {
 
     /// Receives the next signal, or `None` once the sender was dropped. Others may follow a signal,
     /// so the connection is then polled again.
-    pub(crate) fn poll_next(&mut self, cx: &mut Context<'_>) -> Poll<Option<Signal>>
+    pub fn poll_next(&mut self, cx: &mut Context<'_>) -> Poll<Option<Signal>>
         ensures registered { OnPending result (IsArmed cx.new) }
         ensures kept { Keeps cx.old cx.new }
     {
