@@ -20,7 +20,7 @@ SHAPES = ([], ["replay"], ["path"], ["--version"])
 
 def start(program, words):
     """Becomes the program."""
-    # A connection takes five descriptors.
+    # A connection takes three descriptors.
     hard = resource.getrlimit(resource.RLIMIT_NOFILE)[1]
     resource.setrlimit(resource.RLIMIT_NOFILE, (hard, hard))
     os.environ.pop("LAMBDA_LOCAL_PROGRAM", None)

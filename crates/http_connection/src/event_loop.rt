@@ -16,6 +16,7 @@ use hyper::body::Incoming;
 use hyper::server::conn::http1::Builder;
 use hyper::server::graceful::GracefulConnection;
 use hyper::service::Service;
+use socket_loop::SocketLoop;
 use std::alloc::AllocGlobal;
 use std::hash::RandomState;
 use std::io;
@@ -23,13 +24,12 @@ use std::net::{Net, TcpStream};
 use std::random::RandomSource;
 use std::sync::{Arc, Wait};
 use std::time::Clock;
-use tokio::runtime::LocalRuntime;
 
-/// The reactor of a thread, and the settings of connections. A thread opens it once and serves all
-/// its connections with it, since opening it takes more system calls than a short connection.
+/// The event loop of a thread, and the settings of connections. A thread opens it once and serves
+/// all its connections with it, since opening it takes more system calls than a short connection.
 #[derive(Drop)]
 pub struct EventLoop {
-    runtime: LocalRuntime,
+    socket_loop: SocketLoop,
     http: Builder,
 }
 
@@ -48,13 +48,13 @@ impl EventLoop {
     ///
     /// # Errors
     /// If an allocation fails, or the machine refuses a descriptor or its randomness.
-    pub fn open<R: Clock + Net + RandomSource + AllocGlobal>(rt: &R) -> io::Result<EventLoop> {
+    pub fn open<R: Net + RandomSource + AllocGlobal>(rt: &R) -> io::Result<EventLoop> {
         let keys = RandomState::new(rt)?;
-        let runtime = LocalRuntime::new(rt)?;
+        let socket_loop = SocketLoop::open(rt)?;
         let mut http = Builder::new(rt.alloc(), keys);
         // After a half-close, for example by `nc -N`, the caller still gets its answer.
         http.half_close(true);
-        Ok(EventLoop { runtime, http })
+        Ok(EventLoop { socket_loop, http })
     }
 
     /// Serves the requests of a connection at a port of this kind, one after the other, until the
@@ -64,7 +64,7 @@ impl EventLoop {
     ///
     /// # Errors
     /// If the socket cannot be watched, or an allocation fails: nothing was then read from it. Also
-    /// if the reactor fails.
+    /// if the machine refuses the wait for events.
     pub fn serve<R, V, B, O>(
         &mut self,
         rt: &R,
@@ -76,7 +76,7 @@ impl EventLoop {
         pulse: Arc<Pulse>,
     ) -> io::Result<Option<hyper::Result<()>>>
     where
-        R: Wait + Clock + RandomSource + AllocGlobal + Copy + Drop,
+        R: Wait + Clock + AllocGlobal + Copy + Drop,
         V: Service<Request<Incoming<Wire>>, Response = Response<B>>,
         V::Error: Into<anyhow::Error>,
         B: Body,
@@ -108,14 +108,13 @@ impl EventLoop {
     /// Watches a socket at a port of this kind, and returns its holders. Polls at an environment's
     /// port are kept to a pace.
     fn ends<R: AllocGlobal + Copy>(
-        &self,
+        &mut self,
         rt: &R,
         socket: TcpStream,
         kind: PortKind,
     ) -> io::Result<Ends<R>> {
         socket.set_nodelay(true)?;
-        let time = self.runtime.handle().time().clone()?;
-        let stream = tokio::net::TcpStream::from_std(socket, self.runtime.handle().reactor())?;
+        let stream = self.socket_loop.watch(rt, socket)?;
         let wire = Wire::new(rt.alloc(), stream)?;
         let noting = wire.share()?;
         let peer = wire.share()?;
@@ -125,7 +124,6 @@ impl EventLoop {
             peer,
             pace: Pace {
                 rt: *rt,
-                time,
                 is_kept: matches!(kind, PortKind::Environment),
             },
         })
@@ -143,13 +141,13 @@ impl EventLoop {
         pulse: Arc<Pulse>,
     ) -> io::Result<Option<hyper::Result<()>>>
     where
-        R: Wait + Clock + RandomSource + AllocGlobal,
+        R: Wait,
         C: GracefulConnection<Output = hyper::Result<()>>,
         O: Park,
         requires { C.can_poll ending.value.conn }
         ensures { IfOk result (λ ended. IfSome ended (C.gives ending.value.conn)) }
     {
-        self.runtime
+        self.socket_loop
             .block_on(rt, Watched::new(ending, peer, open, pulse))
     }
 }

@@ -1,37 +1,31 @@
 //! A service over a wire, which notes there that a request is taken up, or its response is ready.
 
 use crate::wire::Wire;
+use futures::Future;
 use futures::task::{Context, Poll};
-use futures::{Future, ready};
 use http::{Method, Request, Response};
 use hyper::service::Service;
-use std::alloc::AllocGlobal;
+use std::sync::Wait;
+use std::thread;
 use std::time::{Clock, Duration};
-use tokio::time::{Handle, Sleep};
 
 /// How many milliseconds the next request waits after a poll that was refused.
 const PAUSE: u64 = 10;
 
-/// The timer of a connection, and whether it has to wait after one of its polls was refused. A
-/// poller that asks again at once, and is refused again, is answered at most a hundred times a
-/// second.
+/// Whether a connection has to wait after one of its polls was refused. A poller that asks again at
+/// once, and is refused again, is answered at most a hundred times a second.
 #[derive(Drop)]
 pub(crate) struct Pace<R> {
     pub(crate) rt: R,
-    pub(crate) time: Handle,
     pub(crate) is_kept: bool,
 }
 
-impl<R: Clock + AllocGlobal> Pace<R> {
-    /// Begins a pause, or returns `None` if an allocation fails. (Not inlined, since it is rare, and
-    /// every request would take steps for it.)
+impl<R: Wait + Clock> Pace<R> {
+    /// Waits for the pause, during which the connection's thread sleeps. (Not inlined, since it is
+    /// rare, and every request would take steps for it.)
     #[inline(never)]
-    fn pause(&self) -> Option<Box<Sleep>> {
-        let sleep = self
-            .time
-            .sleep(&self.rt, Duration::from_millis(PAUSE))
-            .ok()?;
-        Box::new(self.rt.alloc(), sleep).ok()
+    fn pause(&self) {
+        thread::sleep(&self.rt, Duration::from_millis(PAUSE));
     }
 }
 
@@ -43,23 +37,10 @@ pub(crate) struct Noting<V, R> {
     pub(crate) pace: Pace<R>,
 }
 
-impl<V, R: Clock + AllocGlobal> Noting<V, R> {
-    /// Begins the pause before the next request, if the last one was a poll that was refused.
-    fn pause(&self) -> Option<Box<Sleep>> {
-        if self.wire.takes_refusal() {
-            self.pace.pause()
-        } else {
-            None
-        }
-    }
-}
-
 /// The future of a response. It notes at the wire that the response is ready.
 #[derive(Drop)]
 pub(crate) struct Noted<F> {
     future: F,
-    // `None` once it is over. On the heap, since it is rare, and each request's future is moved.
-    pause: Option<Box<Sleep>>,
     // `None` only if a wire had more than 2^63 holders.
     wire: Option<Wire>,
     // Whether its request is a poll whose refusal is noted.
@@ -70,7 +51,7 @@ impl<
     I: Drop,
     B: Drop,
     V: Service<Request<I>, Response = Response<B>>,
-    R: Clock + AllocGlobal + Drop,
+    R: Wait + Clock + Drop,
 > Service<Request<I>> for Noting<V, R> {
     type Response = Response<B>;
 
@@ -84,10 +65,12 @@ impl<
 
     fn call(&self, request: Request<I>) -> Noted<V::Future> {
         self.wire.take_up();
+        if self.wire.takes_refusal() {
+            self.pace.pause();
+        }
         let is_poll = self.pace.is_kept && *request.method() == Method::GET;
         Noted {
             future: self.service.call(request),
-            pause: self.pause(),
             wire: self.wire.share().ok(),
             is_poll,
         }
@@ -112,23 +95,15 @@ fn is_refusal<B, E>(output: &Result<Response<B>, E>) -> bool {
 }
 
 impl<B: Drop, E: Drop, F: Future<Output = Result<Response<B>, E>>> Future for Noted<F> {
-    ghost use Rattle.std.specs.Prelude.{◌≡◌, MatchOption};
-    ghost use Rattle.tokio.specs.Timers.{sleep_source};
-
     type Output = Result<Response<B>, E>;
 
     ghost can_poll = { λ noted. F.can_poll noted.future };
 
-    ghost needs = { λ noted s. MatchOption noted.pause (F.needs noted.future s)
-        (λ pause. s ≡ sleep_source pause.value) };
+    ghost needs = { λ noted. F.needs noted.future };
 
     ghost gives = { λ noted. F.gives noted.future };
 
     fn poll(&mut self, cx: &mut Context<'_>) -> Poll<Result<Response<B>, E>> {
-        if let Some(pause) = &mut self.pause {
-            let _ = ready!(pause.poll(cx));
-            self.pause = None;
-        }
         match self.future.poll(cx) {
             Poll::Pending => Poll::Pending,
             Poll::Ready(output) => {

@@ -7,23 +7,23 @@ ghost use Rattle.futures.specs.Task.{IsArmed, Keeps};
 use crate::socket::Socket;
 use connection_state::Pulse;
 use futures::task::{Context, Poll};
+use socket_loop::Stream;
 use std::alloc::{AllocError, Global};
 use std::cell::RefCell;
 use std::rc::Rc;
 use std::{io, mem};
 use tokio::io::{AsyncRead, AsyncWrite};
-use tokio::net::TcpStream;
 
 /// A holder of a connection's socket. The holders are the connection itself, its service, the
 /// pending responses, and the watch for the peer's end.
 #[derive(Drop)]
 pub struct Wire {
-    socket: Rc<RefCell<Socket<TcpStream>>>,
+    socket: Rc<RefCell<Socket<Stream>>>,
 }
 
 impl Wire {
     /// Makes the first holder of a socket. It fails only if an allocation fails.
-    pub(crate) fn new(alloc: Global, stream: TcpStream) -> io::Result<Wire> {
+    pub(crate) fn new(alloc: Global, stream: Stream) -> io::Result<Wire> {
         let socket = Rc::new(alloc, RefCell::new(Socket::new(alloc, stream)))?;
         Ok(Wire { socket })
     }

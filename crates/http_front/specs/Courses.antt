@@ -20,7 +20,8 @@ module _ {R S D N B K L : Type 0} {service : Service.Ghosts S K L} {decider : De
   IsExchangeOf exchange =
       (arc_value exchange.connection ≡ arc_value port.connection)
       × (exchange.stage ≡ Collecting head
-      (record { alloc = (arc_value port.connection).alloc; body = body; held = [] }))
+      (record { alloc = (arc_value port.connection).alloc; body = body; held = [] })
+      (declares_too_long head))
 
   -- What becomes of a request. If its head is refused, it has that refusal and no exchange, so it never becomes a call.
   -- Any other request has an exchange, or is refused because an allocation fails. Both are answered in the form of the

@@ -2,6 +2,7 @@
 
 ghost use Rattle.std.specs.Prelude.{◌≡◌, IfSome};
 ghost use Rattle.http_front.specs.Courses.{IsExchangeOf, Takes};
+ghost use Rattle.long_poll.specs.Lengths as lengths;
 
 use crate::ResponseFault;
 use crate::responding::Responding;
@@ -59,18 +60,25 @@ impl<
         }
     }
 
-    /// Makes the exchange of a request with this head and body, on the heap: it is large, and
-    /// `hyper` moves the response that holds it several times. Returns `None` if an allocation
-    /// fails.
-    fn exchange<B: Body>(&self, parts: Parts, body: B) -> Option<Box<Exchange<R, S, D, N, B, K, L>>>
+    /// Makes the exchange of a request with this head and body, of which the head declares that it
+    /// is too long, or not. The exchange is on the heap: it is large, and `hyper` moves the response
+    /// that holds it several times. Returns `None` if an allocation fails.
+    fn exchange<B: Body>(
+        &self,
+        parts: Parts,
+        body: B,
+        is_too_long: bool,
+    ) -> Option<Box<Exchange<R, S, D, N, B, K, L>>>
     where
         B::Data: Into<Bytes>,
+        requires { is_too_long ≡ lengths.declares_too_long parts }
         ensures { IfSome result (λ exchange. IsExchangeOf self.now parts body exchange.value) }
     {
         let Ok(connection) = Arc::try_clone(&self.connection) else {
             return None;
         };
-        match Box::new(self.alloc, Exchange::new(connection, parts, body)) {
+        let exchange = Exchange::new(connection, parts, body, is_too_long);
+        match Box::new(self.alloc, exchange) {
             Ok(exchange) => Some(exchange),
             Err(_refused) => None,
         }
@@ -89,7 +97,7 @@ impl<
         if let Some(refusal) = self.hosts.refusal(&parts) {
             return Responding::refused(self.alloc, self.api, is_unread, refusal);
         }
-        match self.exchange(parts, body) {
+        match self.exchange(parts, body, is_unread) {
             Some(exchange) => Responding::exchanging(self.alloc, self.api, is_unread, exchange),
             None => Responding::refused(self.alloc, self.api, is_unread, Refusal::OutOfMemory),
         }

@@ -1,5 +1,7 @@
 -- What an exchange gives, from where it stands.
 use Rattle.std.proofs.lemmas.List.{length-replicate}
+use Rattle.std.specs.Global.{Global}
+use Rattle.std.specs.declared.boxed.Box.{Box}
 use Rattle.std.proofs.Common.{◌≡◌, ℕ, suc, ◌<◌, List, length, replicate, Option, Result, Ok, Err, IfOk, MatchResult, inl, inr, arith}
 use Rattle.call_types.specs.declared.call.Call.{Call}
 use Rattle.call_types.specs.declared.call.Entry.{Entry}
@@ -105,15 +107,15 @@ module _ {R S D N K L : Type 0} {service : Service.Ghosts S K L} {decider : Deci
         → StartsFrom connection clock yields reads stage (Ok (Parked ticket heard seen))
         → (r : Result (Outcome H L) ExchangeFault) → Awaits (shown connection seen) ticket r
         → GivesFrom connection clock yields reads shows stage r
-    gives_answer (Collecting parts collecting) ticket heard seen h (Ok (outcome.Reply reply token)) rendered =
+    gives_answer (Collecting parts collecting declared) ticket heard seen h (Ok (outcome.Reply reply token)) rendered =
         of_body reads (yields collecting.body) parts collecting.held _ _
         (λ body b. (decision.Submit b.0, b.1, inl (ticket, seen, b.2.0, rendered))) h
-    gives_answer (Collecting parts collecting) ticket heard seen h (Ok (outcome.History body)) rendered = absurd rendered
-    gives_answer (Collecting parts collecting) ticket heard seen h (Err BellLost) rendered =
+    gives_answer (Collecting parts collecting declared) ticket heard seen h (Ok (outcome.History body)) rendered = absurd rendered
+    gives_answer (Collecting parts collecting declared) ticket heard seen h (Err BellLost) rendered =
         of_body reads (yields collecting.body) parts collecting.held _ _
         (λ body b. (b.0, b.1, (ticket, heard, seen, b.2, rendered))) h
-    gives_answer (Collecting parts collecting) ticket heard seen h (Err OutOfMemory) rendered = tt
-    gives_answer (Collecting parts collecting) ticket heard seen h (Err BodyFailed) rendered = absurd rendered.1
+    gives_answer (Collecting parts collecting declared) ticket heard seen h (Err OutOfMemory) rendered = tt
+    gives_answer (Collecting parts collecting declared) ticket heard seen h (Err BodyFailed) rendered = absurd rendered.1
     gives_answer (Holding held) ticket heard seen h (Ok (outcome.Reply reply token)) rendered = inl (ticket, seen, h.0, rendered)
     gives_answer (Holding held) ticket heard seen h (Ok (outcome.History body)) rendered = absurd rendered
     gives_answer (Holding held) ticket heard seen h (Err BellLost) rendered = (ticket, heard, seen, h, rendered)
@@ -126,7 +128,7 @@ module _ {R S D N K L : Type 0} {service : Service.Ghosts S K L} {decider : Deci
     pub gives_reply : (stage : Stage B L) (reply : Reply) (token : List Entry)
         → StartsFrom connection clock yields reads stage (Ok (Replied reply token))
         → GivesFrom connection clock yields reads shows stage (Ok (outcome.Reply reply token))
-    gives_reply (Collecting parts collecting) reply token h = h
+    gives_reply (Collecting parts collecting declared) reply token h = h
     gives_reply (Holding held) reply token h = inr h
     gives_reply Submitting reply token h = absurd h
     gives_reply (Waiting t heard before) reply token h = absurd h
@@ -135,9 +137,9 @@ module _ {R S D N K L : Type 0} {service : Service.Ghosts S K L} {decider : Deci
     pub gives_fault : (stage : Stage B L) (fault : ExchangeFault)
         → StartsFrom connection clock yields reads stage (Err fault)
         → GivesFrom connection clock yields reads shows stage (Err fault)
-    gives_fault (Collecting parts collecting) BodyFailed h = h
-    gives_fault (Collecting parts collecting) OutOfMemory h = tt
-    gives_fault (Collecting parts collecting) BellLost h = absurd h
+    gives_fault (Collecting parts collecting declared) BodyFailed h = h
+    gives_fault (Collecting parts collecting declared) OutOfMemory h = tt
+    gives_fault (Collecting parts collecting declared) BellLost h = absurd h
     gives_fault (Holding held) BodyFailed h = absurd h
     gives_fault (Holding held) OutOfMemory h = tt
     gives_fault (Holding held) BellLost h = absurd h
@@ -145,27 +147,27 @@ module _ {R S D N K L : Type 0} {service : Service.Ghosts S K L} {decider : Deci
     gives_fault (Waiting t heard token) fault h = absurd h
 
     -- its call is held back, and this came of it in the end
-    pub gives_held : (stage : Stage B L) (held : Dozing)
+    pub gives_held : (stage : Stage B L) (held : Box Dozing Global)
         → StartsFrom connection clock yields reads stage (Ok (Dozes held))
-        → (r : Result (Outcome H L) ExchangeFault) → ComesOfCall connection clock held.call r
+        → (r : Result (Outcome H L) ExchangeFault) → ComesOfCall connection clock held.value.call r
         → GivesFrom connection clock yields reads shows stage r
-    gives_held (Collecting parts collecting) held h (Ok (outcome.Reply reply token)) came =
+    gives_held (Collecting parts collecting declared) held h (Ok (outcome.Reply reply token)) came =
         of_body reads (yields collecting.body) parts collecting.held _ _
-        (λ body b. (decision.Submit held.call, b.0, came)) h
-    gives_held (Collecting parts collecting) held h (Ok (outcome.History body)) came = absurd came
-    gives_held (Collecting parts collecting) held h (Err BellLost) came =
-        of_body reads (yields collecting.body) parts collecting.held _ _ (λ body b. (held.call, b.0, came)) h
-    gives_held (Collecting parts collecting) held h (Err OutOfMemory) came = tt
-    gives_held (Collecting parts collecting) held h (Err BodyFailed) came = absurd came
+        (λ body b. (decision.Submit held.value.call, b.0, came)) h
+    gives_held (Collecting parts collecting declared) held h (Ok (outcome.History body)) came = absurd came
+    gives_held (Collecting parts collecting declared) held h (Err BellLost) came =
+        of_body reads (yields collecting.body) parts collecting.held _ _ (λ body b. (held.value.call, b.0, came)) h
+    gives_held (Collecting parts collecting declared) held h (Err OutOfMemory) came = tt
+    gives_held (Collecting parts collecting declared) held h (Err BodyFailed) came = absurd came
     gives_held (Holding before) held h r came = rw (← h.0) came
     gives_held Submitting held h r came = absurd h
     gives_held (Waiting t heard token) held h r came = absurd h
 
   module _ {B P E : Type 0} (yields : B → Runs (Result (Frame P) E)) (reads : P → List ℕ → Type 0) where
     -- a call that is held back can be submitted
-    pub holds_held : (stage : Stage B L) (held : Dozing)
-        → StartsFrom connection clock yields reads stage (Ok (Dozes held)) → IsHeld connection held
-    holds_held (Collecting parts collecting) held h =
+    pub holds_held : (stage : Stage B L) (held : Box Dozing Global)
+        → StartsFrom connection clock yields reads stage (Ok (Dozes held)) → IsHeld connection held.value
+    holds_held (Collecting parts collecting declared) held h =
         whatever_body reads (yields collecting.body) parts collecting.held _ (λ body b. b.1) h
     holds_held (Holding before) held h = h.1
     holds_held Submitting held h = absurd h
@@ -178,10 +180,10 @@ module _ {R S D N K L : Type 0} {service : Service.Ghosts S K L} {decider : Deci
         → (r : Result (Outcome (HistoryBody R S K L) L) ExchangeFault)
         → MatchResult r (IsHistoryOf s from) (λ fault. fault ≡ OutOfMemory)
         → GivesFrom connection clock yields reads (ShowsFrom s) stage r
-    gives_history (Collecting parts collecting) from h (Ok (outcome.Reply reply token)) is = absurd is
-    gives_history (Collecting parts collecting) from h (Ok (outcome.History body)) is =
+    gives_history (Collecting parts collecting declared) from h (Ok (outcome.Reply reply token)) is = absurd is
+    gives_history (Collecting parts collecting declared) from h (Ok (outcome.History body)) is =
         of_body reads (yields collecting.body) parts collecting.held _ _ (λ body b. (from, b, is)) h
-    gives_history (Collecting parts collecting) from h (Err fault) is = rw is tt
+    gives_history (Collecting parts collecting declared) from h (Err fault) is = rw is tt
     gives_history (Holding held) from h r is = absurd h
     gives_history Submitting from h r is = absurd h
     gives_history (Waiting t heard token) from h r is = absurd h

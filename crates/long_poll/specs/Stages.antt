@@ -1,9 +1,11 @@
 -- The stages of an exchange, and what it may return from each.
-use Rattle.std.specs.Prelude.{◌≡◌, ℕ, List, Option, Result, Ok, Err}
+use Rattle.std.specs.Prelude.{◌≡◌, ℕ, Bool, List, Option, Result, Ok, Err}
 use Rattle.futures.specs.Runs.{Runs}
+use Rattle.http.specs.declared.request.Parts.{Parts}
 use Rattle.http_body.specs.declared.frame.Frame.{Frame}
 use Rattle.long_poll.specs.Bodies.{Fails}
 use Rattle.long_poll.specs.Exchanges.{Exchanges, IsOfBody, ComesOfCall, IsBegun, HasBegun, Awaits, shown}
+use Rattle.long_poll.specs.Lengths.{declares_too_long}
 use Rattle.long_poll.specs.Ringing.{hears_at}
 use Rattle.long_poll.specs.declared.clock.Clock as Clock
 use Rattle.long_poll.specs.declared.connection.Begun.{Begun}
@@ -18,38 +20,44 @@ use Rattle.long_poll.specs.declared.outcome.Outcome.{Outcome}
 use Rattle.long_poll.specs.declared.service.Service as Service
 use Rattle.usage_ledger.specs.declared.keep.Keep as Keep
 
+-- What holds while the body is collected: it can be polled, and whether the head declares that it is too long is known.
+abbrev pub IsCollecting : {B : Type 0} → (B → Type 0) → Parts → B → Bool → Type 0
+IsCollecting can_poll parts body declared = can_poll body × (declared ≡ declares_too_long parts)
+
 -- The body is being collected and can be polled, or the call is held back.
 abbrev pub IsStarting : {B L : Type 0} → (Dozing → Type 0) → (B → Type 0) → Stage B L → Type 0
-IsStarting is_held can_poll (Collecting parts collecting) = can_poll collecting.body
-IsStarting is_held can_poll (Holding held) = is_held held
+IsStarting is_held can_poll (Collecting parts collecting declared) =
+    IsCollecting can_poll parts collecting.body declared
+IsStarting is_held can_poll (Holding held) = is_held held.value
 IsStarting is_held can_poll Submitting = ⊥
 IsStarting is_held can_poll (Waiting ticket heard token) = ⊥
 
 -- The call is held back.
 abbrev pub IsHolding : {B L : Type 0} → (Dozing → Type 0) → Stage B L → Type 0
-IsHolding is_held (Collecting parts collecting) = ⊥
-IsHolding is_held (Holding held) = is_held held
+IsHolding is_held (Collecting parts collecting declared) = ⊥
+IsHolding is_held (Holding held) = is_held held.value
 IsHolding is_held Submitting = ⊥
 IsHolding is_held (Waiting ticket heard token) = ⊥
 
 -- The answer is awaited.
 abbrev pub IsWaiting : {B L : Type 0} → Stage B L → Type 0
-IsWaiting (Collecting parts collecting) = ⊥
+IsWaiting (Collecting parts collecting declared) = ⊥
 IsWaiting (Holding held) = ⊥
 IsWaiting Submitting = ⊥
 IsWaiting (Waiting ticket heard token) = Unit {0}
 
 -- The exchange can be polled.
 abbrev pub CanGoOn : {B L : Type 0} → (Dozing → Type 0) → (B → Type 0) → Stage B L → Type 0
-CanGoOn is_held can_poll (Collecting parts collecting) = can_poll collecting.body
-CanGoOn is_held can_poll (Holding held) = is_held held
+CanGoOn is_held can_poll (Collecting parts collecting declared) =
+    IsCollecting can_poll parts collecting.body declared
+CanGoOn is_held can_poll (Holding held) = is_held held.value
 CanGoOn is_held can_poll Submitting = ⊥
 CanGoOn is_held can_poll (Waiting ticket heard token) = Unit {0}
 
 -- The sources that the exchange waits for: those of its body, or that of its bell. While its call is held back, it
 -- waits for none and asks to be polled again.
 abbrev pub WaitsFor : {B L : Type 0} → (B → ℕ → Type 0) → Stage B L → ℕ → Type 0
-WaitsFor needs (Collecting parts collecting) source = needs collecting.body source
+WaitsFor needs (Collecting parts collecting declared) source = needs collecting.body source
 WaitsFor needs (Holding held) source = ⊥
 WaitsFor needs Submitting source = ⊥
 WaitsFor needs (Waiting ticket heard token) source = source ≡ hears_at heard
@@ -61,20 +69,20 @@ module _ {R S D N K L : Type 0} {service : Service.Ghosts S K L} {decider : Deci
   -- What the exchange may return; `shows` says which bodies show the history, whole or from a ticket on.
   abbrev pub GivesFrom : {H : Type 0} → (Option ℕ → H → Type 0) → Stage B L → Result (Outcome H L) ExchangeFault
       → Type 0
-  GivesFrom shows (Collecting parts collecting) =
+  GivesFrom shows (Collecting parts collecting declared) =
       Exchanges connection clock shows reads (yields collecting.body) parts collecting.held
-  GivesFrom shows (Holding held) = ComesOfCall connection clock held.call
+  GivesFrom shows (Holding held) = ComesOfCall connection clock held.value.call
   GivesFrom shows Submitting = λ r. ⊥
   GivesFrom shows (Waiting ticket heard token) = Awaits (shown connection token) ticket
 
   -- How far the request has come once its body was collected, or once its call was tried again.
   abbrev pub StartsFrom : Stage B L → Result (Begun L) ExchangeFault → Type 0
-  StartsFrom (Collecting parts collecting) (Ok begun) =
+  StartsFrom (Collecting parts collecting declared) (Ok begun) =
       IsOfBody reads (yields collecting.body) parts collecting.held (λ body. HasBegun connection clock parts body begun)
-  StartsFrom (Collecting parts collecting) (Err BodyFailed) = Fails (yields collecting.body)
-  StartsFrom (Collecting parts collecting) (Err OutOfMemory) = Unit {0}
-  StartsFrom (Collecting parts collecting) (Err BellLost) = ⊥
-  StartsFrom (Holding held) (Ok begun) = IsBegun connection clock held.call begun
+  StartsFrom (Collecting parts collecting declared) (Err BodyFailed) = Fails (yields collecting.body)
+  StartsFrom (Collecting parts collecting declared) (Err OutOfMemory) = Unit {0}
+  StartsFrom (Collecting parts collecting declared) (Err BellLost) = ⊥
+  StartsFrom (Holding held) (Ok begun) = IsBegun connection clock held.value.call begun
   StartsFrom (Holding held) (Err BodyFailed) = ⊥
   StartsFrom (Holding held) (Err OutOfMemory) = Unit {0}
   StartsFrom (Holding held) (Err BellLost) = ⊥

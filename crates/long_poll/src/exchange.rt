@@ -4,6 +4,7 @@ ghost use Rattle.std.specs.Prelude.{◌≡◌, [], MatchResult};
 ghost use Rattle.std.specs.Arc.{arc_value};
 ghost use Rattle.futures.specs.Task.{Covers, Keeps};
 ghost use Rattle.futures.specs.Poll.{IfReady, OnPending};
+ghost use Rattle.long_poll.specs.Lengths.{declares_too_long};
 ghost use Rattle.long_poll.specs.Outcomes.{IsHistoryOf};
 ghost use Rattle.long_poll.specs.Pending.{KeepsTo};
 ghost use Rattle.long_poll.specs.declared.exchange.Stage.TheVariants as stage;
@@ -12,7 +13,6 @@ ghost use Rattle.long_poll.specs.declared.fault.ExchangeFault.TheVariants.{OutOf
 use crate::collecting::Collecting;
 use crate::connection::{Begun, Connection, Dozing};
 use crate::history_body::HistoryBody;
-use crate::lengths::declares_too_long;
 use crate::{Clock, ExchangeFault, Heard, Outcome, Service};
 use bytes::Bytes;
 use call_model::Ticket;
@@ -29,13 +29,14 @@ use usage_ledger::{Keep, Ledgers, Token};
 /// The stage of an exchange.
 #[derive(Drop)]
 enum Stage<B, L: Ledgers> {
-    /// The body is being collected.
+    /// The body is being collected. It is known whether the head declares that it is too long.
     Collecting {
         parts: Parts,
         body: Collecting<B>,
+        is_too_long: bool,
     },
     /// The call is premature and held back: each poll tries it once, and sleeps for a pause if it still is.
-    Holding(Dozing),
+    Holding(Box<Dozing>),
     /// The call that was held back is being tried, within one poll.
     Submitting,
     /// The call was submitted, and its answer is awaited. The token has seen the history up to the call.
@@ -69,20 +70,27 @@ where
     ghost use Rattle.long_poll.specs.Stages.{IsStarting, IsHolding, IsWaiting, WaitsFor};
     ghost use Rattle.long_poll.specs.Standing.{Holds, Starts};
 
-    /// Begins the exchange of a request with this head and this body. It takes no memory.
+    /// Begins the exchange of a request with this head and this body, of which the head declares that it is too
+    /// long, or not ([`declares_too_long`](crate::declares_too_long)). It takes no memory.
     pub fn new(
         connection: Arc<Connection<R, S, D, N, K, L>>,
         parts: Parts,
         body: B,
+        is_too_long: bool,
     ) -> Exchange<R, S, D, N, B, K, L>
+        requires { is_too_long ≡ declares_too_long parts }
         ensures connection { result.connection ≡ connection }
         ensures stage { result.stage ≡ stage.Collecting parts
-            (record { alloc = (arc_value connection).alloc; body = body; held = [] }) }
+            (record { alloc = (arc_value connection).alloc; body = body; held = [] }) is_too_long }
     {
         let body = Collecting::new(connection.alloc(), body);
         Exchange {
             connection,
-            stage: Stage::Collecting { parts, body },
+            stage: Stage::Collecting {
+                parts,
+                body,
+                is_too_long,
+            },
         }
     }
 
@@ -93,7 +101,7 @@ where
         ensures connection { self.new.connection ≡ self.old.connection }
     {
         match mem::replace(&mut self.stage, Stage::Submitting) {
-            Stage::Holding(held) => self.connection.submit_held(held),
+            Stage::Holding(held) => self.connection.submit_held(Box::into_inner(held)),
             _ => unreachable!(),
         }
     }
@@ -113,10 +121,12 @@ where
         match &mut self.stage {
             Stage::Waiting { .. } | Stage::Submitting => unreachable!(),
             Stage::Holding(_) => Poll::Ready(self.look_again()),
-            Stage::Collecting { parts, .. } if declares_too_long(parts) => {
-                Poll::Ready(self.connection.begin_too_long(parts))
-            }
-            Stage::Collecting { parts, body } => match body.poll(cx) {
+            Stage::Collecting {
+                parts,
+                is_too_long: true,
+                ..
+            } => Poll::Ready(self.connection.begin_too_long(parts)),
+            Stage::Collecting { parts, body, .. } => match body.poll(cx) {
                 Poll::Pending => Poll::Pending,
                 Poll::Ready(Err(fault)) => Poll::Ready(Err(fault)),
                 Poll::Ready(Ok(bytes)) => Poll::Ready(self.connection.begin(parts, &bytes)),

@@ -18,6 +18,7 @@ use http_body_util::BodyExt;
 use lambda_wire::Reply;
 use long_poll::{
     BellLost, Connection, Exchange, Heard, HistoryBody, OneShotBell, OpenPoll, Poll, Service,
+    declares_too_long,
 };
 use std::alloc::{AllocError, AllocGlobal, Global};
 use std::random::RandomSource;
@@ -162,8 +163,9 @@ impl<
         ensures { IfOk result (λ exchange. CanGoOn (Holds exchange) (λ _. ⊤) exchange.stage) }
     {
         let ask = ask_in(self.alloc, line, text)?;
+        let is_too_long = declares_too_long(&ask.parts);
         match self.connection(ask.at, open) {
-            Ok(connection) => Ok(Exchange::new(connection, ask.parts, ask.body)),
+            Ok(connection) => Ok(Exchange::new(connection, ask.parts, ask.body, is_too_long)),
             Err(_) => Err(CaseFault::Memory),
         }
     }

@@ -1,0 +1,127 @@
+//! The loop.
+
+ghost use Rattle.std.specs.Prelude.{IfOk};
+ghost use Rattle.futures.specs.Poll.{IfReady, OnPending};
+
+use crate::counter::open_counter;
+use crate::ready::Ready;
+use crate::stream::Stream;
+use futures::Future;
+use futures::task::{Doorbell, Poll, Solo};
+use mio::unix::SourceFd;
+use mio::{Events, Interest, Token};
+use std::alloc::AllocGlobal;
+use std::io;
+use std::net::{Net, TcpStream};
+use std::os::fd::AsRawFd;
+use std::random::RandomSource;
+use std::rc::Rc;
+use std::sync::Wait;
+use std::time::Duration;
+
+/// How many events one wait collects: the socket's and the counter's.
+const EVENTS: usize = 2;
+
+const OF_SOCKET: Token = Token(0);
+
+const OF_COUNTER: Token = Token(1);
+
+/// An event loop for one future over one socket. The future runs on the thread that calls
+/// `block_on`, which sleeps until the socket is ready or another thread wakes the future. There are
+/// no timers. It takes two descriptors and less than a KiB.
+#[derive(Drop)]
+pub struct SocketLoop {
+    poll: mio::Poll,
+    events: Events,
+    task: Solo,
+    // What is known of the socket that is watched.
+    ready: Rc<Ready>,
+}
+
+impl SocketLoop {
+    /// Opens a loop that watches no socket yet.
+    ///
+    /// # Errors
+    /// If an allocation fails, or the machine refuses a descriptor or its randomness.
+    pub fn open<R: Net + RandomSource + AllocGlobal>(rt: &R) -> io::Result<SocketLoop> {
+        let poll = mio::Poll::new(rt)?;
+        let counter = open_counter()?;
+        let number = counter.as_raw_fd();
+        poll.registry()
+            .register(&mut SourceFd(&number), OF_COUNTER, Interest::READABLE)?;
+        Ok(SocketLoop {
+            poll,
+            events: Events::with_capacity(rt.alloc(), EVENTS)?,
+            task: Solo::new(rt, Doorbell::from_event_fd(counter))?,
+            ready: Rc::new(rt.alloc(), Ready::new())?,
+        })
+    }
+
+    /// Watches a socket in place of the one before, and makes it a stream. A stream from before then
+    /// waits forever once it is not ready, so it has to be dropped first.
+    ///
+    /// # Errors
+    /// If an allocation fails, or the machine refuses to watch the socket, which is then closed. The
+    /// loop can be used as before.
+    pub fn watch<R: AllocGlobal>(&mut self, rt: &R, socket: TcpStream) -> io::Result<Stream> {
+        socket.set_nonblocking(true)?;
+        let mut socket = mio::net::TcpStream::from_std(socket);
+        let both = Interest::READABLE | Interest::WRITABLE;
+        self.poll.registry().register(&mut socket, OF_SOCKET, both)?;
+        let ready = Rc::new(rt.alloc(), Ready::new())?;
+        self.ready = ready.clone()?;
+        Ok(Stream::new(socket, ready))
+    }
+
+    /// Polls a future until it is ready, and returns what it gives.
+    ///
+    /// # Errors
+    /// If the machine refuses the wait for events. The future is then dropped.
+    pub fn block_on<R: Wait, F: Future>(&mut self, rt: &R, mut future: F) -> io::Result<F::Output>
+        requires { F.can_poll future }
+        ensures { IfOk result (F.gives future) }
+    {
+        for _ in rt.forever() {
+            if let Poll::Ready(output) = self.poll_once(&mut future) {
+                return Ok(output);
+            }
+            self.wait()?;
+        }
+        unreachable!()
+    }
+
+    /// Polls the future once. If it is ready, the loop's task is left woken for the next future.
+    fn poll_once<F: Future>(&self, future: &mut F) -> Poll<F::Output>
+        requires { F.can_poll future.old }
+        ensures value { IfReady result (F.gives future.old) }
+        ensures again { OnPending result (F.can_poll future.new) }
+        ensures same { OnPending result ((x : _) → F.gives future.new x → F.gives future.old x) }
+    {
+        let mut cx = self.task.begin();
+        let polled = future.poll(&mut cx);
+        if polled.is_ready() {
+            let _: Poll<()> = cx.yield_now();
+        }
+        cx.park();
+        polled
+    }
+
+    /// Sleeps until an event comes, or only collects those that are there if the future was woken
+    /// since its poll began.
+    fn wait(&mut self) -> io::Result<()> {
+        match self.task.sleep() {
+            Some(asleep) => {
+                let waited = self.poll.poll(&mut self.events, None);
+                asleep.end();
+                waited?;
+            }
+            None => self.poll.poll(&mut self.events, Some(Duration::ZERO))?,
+        }
+        for event in &self.events {
+            if event.token() == OF_SOCKET {
+                self.ready.note(event);
+            }
+        }
+        Ok(())
+    }
+}
