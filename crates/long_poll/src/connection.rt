@@ -76,9 +76,8 @@ pub(crate) struct Dozing {
 pub(crate) enum Begun<L: Ledgers> {
     /// It has its reply, with a token of the history that the reply is of.
     Replied(Reply, Token<L>),
-    /// Its call is premature and held back; a pause has passed. On the heap, since it is rare, and each
-    /// request's stage is moved.
-    Dozes(Box<Dozing>),
+    /// Its call is premature and held back; a pause has passed.
+    Dozes(Dozing),
     /// It asks for the history, from the entry of a ticket on or whole.
     AsksForHistory {
         from: Option<Ticket>,
@@ -255,8 +254,7 @@ impl<
     }
 
     /// Submits a call that was held back, with its bell, once it is no longer premature or the connection's
-    /// patience is used up. Otherwise a pause passes, during which no lock is held; if there is then no memory
-    /// to hold it back any longer, it is dropped. A Next is noted as open.
+    /// patience is used up. Otherwise a pause passes, during which no lock is held. A Next is noted as open.
     pub(crate) fn submit_held(&self, held: Dozing) -> Result<Begun<L>, ExchangeFault>
         requires { IsHeld self.now held }
         ensures ok { IfOk result (IsBegun self.now N.Clock held.call) }
@@ -276,17 +274,13 @@ impl<
             Attempt::HeldBack(call, bell) => {
                 let now = left.min(pause);
                 thread::sleep(&self.rt, Duration::from_micros(now));
-                let held = Dozing {
+                Ok(Begun::Dozes(Dozing {
                     call,
                     bell,
                     heard,
                     left: left - now,
                     pause: next_pause(pause),
-                };
-                match Box::new(self.alloc, held) {
-                    Ok(held) => Ok(Begun::Dozes(held)),
-                    Err(_refused) => Err(ExchangeFault::OutOfMemory),
-                }
+                }))
             }
             Attempt::Made(Err((refused, seen))) => {
                 let reply = refusal_reply(self.alloc, is_invoke, refused.refusal)?;
