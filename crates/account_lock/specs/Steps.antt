@@ -24,7 +24,7 @@ pub record IsStep {B : Type 0} (notes : Kept → ℕ → Answer → Kept → Typ
   pub room : is_full desk.book call ≡ false
   pub taken : after ≡ after_step desk now call step.ticket bell
   pub newest : step.ticket + 1 ≡ length after.book.history
-  pub rings : step.rings.items ≡ handed_out desk now call step.ticket bell
+  pub rings : step.rings ≡ handed_out desk now call step.ticket bell
   pub counts : held ≡ held_after (added_to desk.book now call) had held.kept
   pub keeps : (between : Kept) × Steps notes had.kept (given (added_to desk.book now call)) between
       × makes between step.ticket (head_of call) held.kept

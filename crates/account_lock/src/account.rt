@@ -79,9 +79,7 @@ fn ring_out<B: Bell>(step: Step<B>) -> Ticket
     ensures { result ≡ step.ticket }
 {
     let Step { ticket, rings } = step;
-    for bell in rings {
-        bell.ring();
-    }
+    rings.ring();
     ticket
 }
 

@@ -8,10 +8,10 @@ ghost use Rattle.account_lock.specs.Looks.{look_of};
 ghost use Rattle.account_lock.specs.Desks.{IsDesk, opened};
 ghost use Rattle.account_lock.specs.Steps.{IsRefusal, IsStep};
 
-use crate::Bell;
 use crate::bells::store;
 use crate::room::{make_room, most_given};
 use crate::serving::serve_step;
+use crate::{Bell, Rings};
 use account_book::{Book, Refusal};
 use call_model::{Answer, Call, Ticket};
 use std::alloc::Global;
@@ -45,7 +45,7 @@ pub struct Step<B> {
     /// The ticket of the call.
     pub ticket: Ticket,
     /// The bells of the tickets that were answered, in the order of the answers.
-    pub rings: Vec<B>,
+    pub rings: Rings<B>,
 }
 
 /// Why a call was refused, with its caller's bell.
@@ -65,17 +65,20 @@ pub struct Desk<B, L: Ledgers> {
     pub(crate) alloc: Global,
     pub(crate) book: Book,
     pub(crate) bells: Vec<(Ticket, B)>,
+    /// Where a step collects the bells that it hands out. Empty between steps; its memory stays.
+    pub(crate) rings: Vec<B>,
     pub(crate) totals: Totals<L>,
 }
 
 impl<B, L: Ledgers> Model for Desk<B, L> {
+    ghost use Rattle.std.specs.Prelude.{◌≡◌, []};
     ghost use Rattle.account_lock.specs.Desks.{Opened, IsDesk, opened};
 
     ghost Value = { Opened B };
 
     ghost view = { λ d. opened d.book d.bells.items d.totals };
 
-    ghost invariant = { λ d. IsDesk (opened d.book d.bells.items d.totals) };
+    ghost invariant = { λ d. IsDesk (opened d.book d.bells.items d.totals) × (d.rings.items ≡ []) };
 }
 
 impl<B: Bell, L: Ledgers> Desk<B, L> {
@@ -90,6 +93,7 @@ impl<B: Bell, L: Ledgers> Desk<B, L> {
             alloc,
             book,
             bells: Vec::new(alloc),
+            rings: Vec::new(alloc),
             totals,
         }
     }
@@ -125,7 +129,7 @@ impl<B: Bell, L: Ledgers> Desk<B, L> {
         // room.
         let expiries = self.book.count_due(now);
         let most = most_given(&self.book, expiries, &call);
-        let Ok(mut rings) = make_room(self.alloc, &mut self.bells, tally, most) else {
+        let Ok(()) = make_room(&mut self.bells, &mut self.rings, tally, most) else {
             return Err(Refused {
                 refusal: Refusal::OutOfMemory,
                 bell,
@@ -138,6 +142,7 @@ impl<B: Bell, L: Ledgers> Desk<B, L> {
         let Desk {
             book,
             bells,
+            rings,
             totals,
             ..
         } = self;
@@ -148,9 +153,12 @@ impl<B: Bell, L: Ledgers> Desk<B, L> {
             });
         };
         store(bells, ticket, bell);
-        serve_step(book, start, before, bells, &mut rings, totals, tally);
+        serve_step(book, start, before, bells, rings, totals, tally);
         tally.made(ticket, head);
-        Ok(Step { ticket, rings })
+        Ok(Step {
+            ticket,
+            rings: Rings::take_all(rings),
+        })
     }
 
     /// Returns the book, whose methods read the account.

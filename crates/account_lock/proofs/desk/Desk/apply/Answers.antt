@@ -19,13 +19,13 @@ serve_step-requires-clause-notes g c =
 pub serve_step-requires-clause-room : goal.serve_step-requires-clause-room
 serve_step-requires-clause-room g c =
     let few = behind c.self.inside.book c.take.new.self c.args.now c.args.call c.len-start.result c.in-Ok-take.ensures.step c.len-start.ensures.value in
-    omega (arith, ap length few, c.most_given-most.ensures c.args.now c.count_due-expiries.ensures.value, c.in-Ok.ensures.rings.1, ap length c.in-Ok.ensures.rings.0)
+    omega (arith, ap length few, c.most_given-most.ensures c.args.now c.count_due-expiries.ensures.value, c.in-Ok.ensures.rings, ap length (c.make_room.ensures.same.1 ∙ c.self.invariant.1))
 
 pub serve_step-requires-clause-rising : goal.serve_step-requires-clause-rising
 serve_step-requires-clause-rising g c =
     let old = c.self.inside in
     let all = c.store.ensures.items ∙ ap (λ bells. bells ++ own_bell c.in-Ok-take.ticket c.args.bell) c.make_room.ensures.same.0 in
-    rising_by old.book c.take.new.self c.args.now c.args.call c.in-Ok-take.ticket old.bells.items c.store.new.bells.items c.args.bell old.totals c.self.invariant c.in-Ok-take.ensures.step c.in-Ok-take.ensures.ticket all
+    rising_by old.book c.take.new.self c.args.now c.args.call c.in-Ok-take.ticket old.bells.items c.store.new.bells.items c.args.bell old.totals c.self.invariant.0 c.in-Ok-take.ensures.step c.in-Ok-take.ensures.ticket all
 
 pub serve_step-requires-clause-risen : goal.serve_step-requires-clause-risen
 serve_step-requires-clause-risen g c = risen_by c.self.inside.book c.take.new.self c.args.now c.args.call c.stats-before.result c.stats-before.ensures c.in-Ok-take.ensures.step
@@ -39,9 +39,12 @@ invariant_of-self-2 g c =
     let w = rw (← c.self.view_is) at c.requires.within in
     let rose = rise_by old.book c.take.new.self c.args.now c.args.call c.stats-before.result c.stats-before.ensures step w in
     let all = c.store.ensures.items ∙ ap (λ bells. bells ++ own_bell t c.args.bell) c.make_room.ensures.same.0 in
-    desk_kept old.book c.take.new.self c.args.now c.args.call t old.bells.items c.serve_step.new.bells.items c.args.bell old.totals c.serve_step.new.totals c.self.invariant w step c.in-Ok-take.ensures.ticket
+    let kept =
+    desk_kept old.book c.take.new.self c.args.now c.args.call t old.bells.items c.serve_step.new.bells.items c.args.bell old.totals c.serve_step.new.totals c.self.invariant.0 w step c.in-Ok-take.ensures.ticket
     (c.serve_step.ensures.bells ∙ (λ i. bells_after (new i) (all i)))
     (c.serve_step.ensures.totals ∙ ap (plus old.totals) rose)
+    in
+    (kept, c.take_all.ensures.none)
 
 pub returns-clause-taken : goal.returns-clause-taken
 returns-clause-taken g c =
@@ -54,8 +57,8 @@ returns-clause-taken g c =
     let all = c.store.ensures.items ∙ ap (λ bells. bells ++ own_bell t c.args.bell) c.make_room.ensures.same.0 in
     let left = c.serve_step.ensures.bells ∙ (λ i. bells_after (new i) (all i)) in
     let sums = c.serve_step.ensures.totals ∙ ap (plus old.totals) rose in
-    let none = c.in-Ok.ensures.rings.0 in
-    let was = c.make_room.ensures.same.1 in
+    let none = c.make_room.ensures.same.1 ∙ c.self.invariant.1 in
+    let was = c.make_room.ensures.same.2 in
     let k = c.made.new.self.held.kept in
     let answers = new ∙ ap (λ d. given (added_to d.book c.args.now c.args.call)) c.self.view_is in
     record {
@@ -63,7 +66,7 @@ returns-clause-taken g c =
       taken = (λ i. opened (step i) (left i) (sums i)) ∙ ap (λ d. after_step d c.args.now c.args.call t c.args.bell) c.self.view_is;
       newest = c.in-Ok-take.ensures.ticket;
       rings =
-          c.serve_step.ensures.rings ∙ (λ i. none i ++ rings_of (new i) (all i))
+          c.take_all.ensures.bells ∙ c.serve_step.ensures.rings ∙ (λ i. none i ++ rings_of (new i) (all i))
           ∙ ap (λ d. rings_of (given (added_to d.book c.args.now c.args.call)) (all_bells d t c.args.bell)) c.self.view_is;
       counts =
           c.made.ensures.same
