@@ -5,3 +5,4 @@ mod Within
 mod Allowed
 mod TooLong
 mod ParamRoutes
+mod PlainNames

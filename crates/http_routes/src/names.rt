@@ -1,13 +1,16 @@
 //! The function that a request to the Lambda API is about.
 
-ghost use Rattle.std.specs.Prelude.{◌≡◌, ◌==◌, option_map, IfOk};
+ghost use Rattle.std.specs.Prelude.{◌≡◌, ◌==◌, ◌||◌, if◌then◌else◌, false, ℕ, List, Option, Ok, option_map, is_some};
+ghost use Rattle.std.specs.Prelude.{IfOk, IfSome};
+ghost use Rattle.arn_ids.specs.Environments.{number_named};
 ghost use Rattle.arn_ids.specs.Grammar as grammar;
 ghost use Rattle.http_routes.specs.Names as spec;
 ghost use Rattle.http_routes.specs.Paths as paths;
 ghost use Rattle.http_routes.specs.Views.{text_of};
+ghost use Rattle.http_routes.specs.declared.names.Target.TheVariants.{Unknown};
 
 use crate::path::{name_of, qualifier_of};
-use arn_ids::{Checked, FnNo, FunctionName, NameFault, Named, is_qualifier};
+use arn_ids::{Checked, FnNo, FunctionName, NameFault, is_qualifier};
 use http::request::Parts;
 use std::alloc::{AllocError, Global};
 
@@ -50,20 +53,34 @@ fn is_none_or_latest(qualifier: Option<&str>) -> bool
     }
 }
 
-/// Returns the configured function of a name, at a version.
-fn at_version(config: &Checked, qualifier: Option<&str>, named: Named) -> Target
-    ensures { result ≡ spec.at_version config.now (option_map text_of qualifier.entry) named }
+/// Returns a function at a version, if there is such a function and such a version.
+fn at_version(qualifier: Option<&str>, function: Option<FnNo>, qualified: bool) -> Target
+    ensures { let version : Option (List ℕ) = option_map text_of qualifier.entry
+        in result ≡ if grammar.is_none_or grammar.is_latest version
+        then spec.numbered (qualified || is_some version) function else Unknown }
 {
     if !is_none_or_latest(qualifier) {
         return Target::Unknown;
     }
-    match config.function_named(named.name.as_str().as_bytes()) {
+    match function {
         Some(function) => Target::Function {
             function,
-            qualified: named.qualified || qualifier.is_some(),
+            qualified: qualified || qualifier.is_some(),
         },
         None => Target::Unknown,
     }
+}
+
+/// Returns the configured function of a name. The name is then plain: `FunctionName::parse` would
+/// give it back as it is.
+fn with_plain_name(config: &Checked, name: &str) -> Option<FnNo>
+    ensures found { result ≡ number_named config.now name.now }
+    ensures plain { IfSome result (λ _. grammar.named_in config.now.home name.now
+        ≡ Ok (record { name = name.now; qualified = false })) }
+{
+    // Each configured name is well formed, as this says.
+    let _functions = config.functions();
+    config.function_named(name.as_bytes())
 }
 
 /// Returns the function that a name stands for.
@@ -76,8 +93,16 @@ fn by_name(
     ensures { IfOk result (λ target. target
         ≡ spec.by_name config.now (option_map text_of qualifier.entry) (grammar.named_in config.now.home name.now)) }
 {
+    // Most requests write the plain name, which needs no copy.
+    let plain = with_plain_name(config, name);
+    if plain.is_some() {
+        return Ok(at_version(qualifier, plain, false));
+    }
     match FunctionName::parse(alloc, config.home(), name) {
-        Ok(named) => Ok(at_version(config, qualifier, named)),
+        Ok(named) => {
+            let function = config.function_named(named.name.as_str().as_bytes());
+            Ok(at_version(qualifier, function, named.qualified))
+        }
         Err(NameFault::Malformed) => Ok(Target::Malformed),
         Err(NameFault::ForeignAccount) => Ok(Target::Unknown),
         Err(NameFault::UnknownQualifier) => Ok(Target::Unknown),
