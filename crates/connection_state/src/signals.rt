@@ -7,6 +7,9 @@ use futures::Stream;
 use futures::channel::mpsc::{UnboundedReceiver, UnboundedSender, unbounded};
 use futures::task::{Context, Poll};
 use std::alloc::{AllocError, Global};
+use std::sync::Arc;
+use std::sync::atomic::AtomicBool;
+use std::sync::atomic::Ordering::SeqCst;
 
 /// A signal that ends a connection in some of its states.
 #[derive(Clone, Copy, Drop)]
@@ -18,21 +21,32 @@ pub enum Signal {
 }
 
 /// The sender of a connection's signals. The connection ends at once if it is dropped.
-#[derive(Drop)]
 pub struct Ender {
     sender: UnboundedSender<Signal>,
+    // Set before a signal is sent, and before the sender is dropped.
+    is_used: Arc<AtomicBool>,
+}
+
+impl Drop for Ender {
+    fn drop(self) {
+        let Ender { sender, is_used } = self;
+        is_used.store(true, SeqCst);
+        drop(sender);
+    }
 }
 
 /// The signals that a connection receives.
 #[derive(Drop)]
 pub struct Signals {
     receiver: UnboundedReceiver<Signal>,
+    is_used: Arc<AtomicBool>,
 }
 
 impl Ender {
     /// Sends a signal. Returns whether it was sent: it is not if the connection has ended, or an
     /// allocation fails.
     pub fn send(&self, signal: Signal) -> bool {
+        self.is_used.store(true, SeqCst);
         self.sender.unbounded_send(signal).is_ok()
     }
 }
@@ -40,8 +54,20 @@ impl Ender {
 impl Signals {
     /// Makes the signals of a connection, and their sender.
     pub fn open(alloc: Global) -> Result<(Ender, Signals), AllocError> {
+        let is_used = Arc::new(alloc, AtomicBool::new(false))?;
+        let for_sender = Arc::try_clone(&is_used)?;
         let (sender, receiver) = unbounded(alloc)?;
-        Ok((Ender { sender }, Signals { receiver }))
+        let ender = Ender {
+            sender,
+            is_used: for_sender,
+        };
+        Ok((ender, Signals { receiver, is_used }))
+    }
+
+    /// Returns whether the sender was used or dropped. If not, `poll_next` is pending. (It takes no
+    /// lock, so a connection asks this at each turn, once it has polled the signals.)
+    pub fn may_have_come(&self) -> bool {
+        self.is_used.load(SeqCst)
     }
 
     /// Receives the next signal, or `None` once the sender was dropped. Others may follow a signal,

@@ -18,6 +18,8 @@ use std::sync::Arc;
 pub(crate) struct Ending<C> {
     conn: C,
     signals: Signals,
+    // Whether the signals were polled, so that the first one wakes the connection.
+    is_listening: bool,
     // Whether the soft signal has come.
     is_soft: bool,
 }
@@ -36,6 +38,7 @@ impl<C: Drop> Ending<C> {
         let ending = Ending {
             conn,
             signals,
+            is_listening: false,
             is_soft: false,
         };
         Box::new(alloc, ending).map_err(AllocError::from)
@@ -60,13 +63,17 @@ impl<C> Ending<C> {
 impl<C: GracefulConnection<Output = hyper::Result<()>>> Ending<C> {
     /// Returns whether a signal ends the connection at once. It makes room if, by its socket, it
     /// served no request when its last turn ended. If the soft signal comes, it ends after the
-    /// exchange that has begun.
+    /// exchange that has begun. Few connections get a signal, so most turns do not poll for one.
     fn is_cut_off(&mut self, peer: &Wire, cx: &mut Context<'_>) -> bool
         requires { C.can_poll self.old.conn }
         ensures can_poll { C.can_poll self.new.conn }
         ensures same { (x : _) → C.gives self.new.conn x → C.gives self.old.conn x }
         ensures kept { Keeps cx.old cx.new }
     {
+        if self.is_listening && !self.signals.may_have_come() {
+            return false;
+        }
+        self.is_listening = true;
         match self.signals.poll_next(cx) {
             Poll::Pending => false,
             Poll::Ready(None) => true,

@@ -104,12 +104,10 @@ impl<B: Drop, E: Drop, F: Future<Output = Result<Response<B>, E>>> Future for No
     ghost gives = { λ noted. F.gives noted.future };
 
     fn poll(&mut self, cx: &mut Context<'_>) -> Poll<Result<Response<B>, E>> {
-        match self.future.poll(cx) {
-            Poll::Pending => Poll::Pending,
-            Poll::Ready(output) => {
-                self.note(is_refusal(&output));
-                Poll::Ready(output)
-            }
+        let polled = self.future.poll(cx);
+        if let Poll::Ready(output) = &polled {
+            self.note(is_refusal(output));
         }
+        polled
     }
 }

@@ -116,6 +116,7 @@ where
 }
 
 /// Makes the response to a refused request.
+#[inline(never)]
 fn refused<H: Drop>(
     alloc: Global,
     api: Api,
@@ -130,6 +131,7 @@ fn refused<H: Drop>(
 
 /// Makes the response to an exchange's result. If its body or an allocation failed, the allocations
 /// for this response may still succeed; a bell is never lost.
+#[inline(never)]
 fn answer_to<H: Drop, L: Ledgers>(
     alloc: Global,
     api: Api,

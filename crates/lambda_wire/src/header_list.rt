@@ -1,7 +1,7 @@
 //! The writer of the headers of a reply, one after the other.
 
-ghost use Rattle.std.specs.Prelude.{ℕ, ◌≡◌, List, [], ◌∷◌, ◌++◌, decimal, IfOk, IsTrue, MatchOption};
-ghost use Rattle.std.specs.Prelude.{option_map, unwrap_or, string_bytes};
+ghost use Rattle.std.specs.Prelude.{ℕ, ◌≡◌, List, [], ◌∷◌, ◌++◌, IfOk, IsTrue, MatchOption};
+ghost use Rattle.std.specs.Prelude.{option_map, unwrap_or};
 ghost use Rattle.http_header.specs.FieldName.{is_header_name};
 ghost use Rattle.http_header.specs.FieldValue.{FieldValue, plain_value, IsFieldValue, is_visible_text};
 ghost use Rattle.lambda_wire.specs.Headers as spec;
@@ -18,17 +18,6 @@ fn value(alloc: Global, text: &str) -> Result<HeaderValue, AllocError>
     ensures { IfOk result (λ v. v ≡ plain_value text.now) }
 {
     match Bytes::copy_from_slice(alloc, text.as_bytes()) {
-        Ok(bytes) => Ok(HeaderValue::from_known_valid(bytes)),
-        Err(_) => Err(AllocError),
-    }
-}
-
-/// A text that becomes a header's value, in the memory that it has.
-fn value_of(text: String) -> Result<HeaderValue, AllocError>
-    requires { IsFieldValue (string_bytes text) }
-    ensures { IfOk result (λ v. v ≡ plain_value (string_bytes text)) }
-{
-    match Bytes::from_string(text) {
         Ok(bytes) => Ok(HeaderValue::from_known_valid(bytes)),
         Err(_) => Err(AllocError),
     }
@@ -134,29 +123,14 @@ impl HeaderList {
         }
     }
 
-    /// Adds a header with a text, in the memory that it has.
-    pub(crate) fn string(self, name: &'static str, text: String) -> HeaderList
+    /// Adds a header with a text that is not copied.
+    pub(crate) fn shared(self, name: &'static str, text: Bytes) -> HeaderList
         requires name { IsTrue (is_header_name name.now) }
-        requires text { IsFieldValue (string_bytes text) }
+        requires text { IsFieldValue text }
         ensures { (before : List (List ℕ × FieldValue)) → Lists self before
-            → Lists result (before ++ spec.header name.now (string_bytes text) ∷ []) }
+            → Lists result (before ++ spec.header name.now text ∷ []) }
     {
-        match value_of(text) {
-            Ok(value) => self.header(name, value),
-            Err(_) => self.cut(),
-        }
-    }
-
-    /// Adds a header with a whole number.
-    pub(crate) fn number(self, name: &'static str, number: u64) -> HeaderList
-        requires { IsTrue (is_header_name name.now) }
-        ensures { (before : List (List ℕ × FieldValue)) → Lists self before
-            → Lists result (before ++ spec.header name.now (decimal number) ∷ []) }
-    {
-        match HeaderValue::from_u64(self.alloc, number) {
-            Ok(value) => self.header(name, value),
-            Err(_) => self.cut(),
-        }
+        self.header(name, HeaderValue::from_known_valid(text))
     }
 
     /// Adds the request identifier, if there is one.

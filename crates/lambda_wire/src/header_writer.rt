@@ -1,11 +1,12 @@
 //! The headers of replies.
 
-ghost use Rattle.std.specs.Prelude.{◌≡◌, IfOk, MatchOption, option_map, unwrap_or, string_bytes};
+ghost use Rattle.std.specs.Prelude.{◌≡◌, decimal, IfOk, MatchOption, option_map, unwrap_or, string_bytes};
 ghost use Rattle.http_header.specs.FieldValue.{IsFieldValue};
 ghost use Rattle.lambda_wire.specs.Headers as spec;
 
 use crate::header_list::HeaderList;
 use arn_ids::Row;
+use bytes::Bytes;
 use http_header::{HeaderName, HeaderValue};
 use std::alloc::{AllocError, Global};
 
@@ -24,9 +25,38 @@ pub fn json_headers(alloc: Global) -> Result<Headers, AllocError>
 /// The trace of an invocation whose caller gave none.
 pub const NO_TRACE: &str = "Root=1-00000000-000000000000000000000000;Sampled=0";
 
+/// The texts of a delivery's headers. They share one memory.
+#[derive(Drop)]
+struct DeliveryTexts {
+    request: Bytes,
+    deadline: Bytes,
+    arn: Bytes,
+}
+
+/// Puts the other texts of a delivery behind its ARN, and parts the whole.
+fn delivery_texts(request: &str, deadline: u64, arn: String) -> Result<DeliveryTexts, AllocError>
+    ensures request { IfOk result (λ texts. texts.request ≡ request.now) }
+    ensures deadline { IfOk result (λ texts. texts.deadline ≡ decimal deadline) }
+    ensures arn { IfOk result (λ texts. texts.arn ≡ string_bytes arn) }
+{
+    let mut text = arn;
+    let request_start = text.len();
+    text.push_str(request)?;
+    let deadline_start = text.len();
+    write!(text, "{deadline}")?;
+    let mut arn = Bytes::from_string(text)?;
+    let deadline = arn.split_off(deadline_start)?;
+    let request = arn.split_off(request_start)?;
+    Ok(DeliveryTexts {
+        request,
+        deadline,
+        arn,
+    })
+}
+
 /// The headers of a delivery: the request identifier, when the invocation times out, in
-/// milliseconds, the invoked ARN, whose memory it keeps, and the trace or its default
-/// (Runtime API, Next invocation).
+/// milliseconds, the invoked ARN, and the trace or its default (Runtime API, Next invocation). The
+/// first three are put into the memory of the ARN.
 pub fn next_headers(
     alloc: Global,
     request: &str,
@@ -40,10 +70,11 @@ pub fn next_headers(
     ensures { IfOk result (λ h. h ≡ spec.next_headers request.now deadline (string_bytes arn)
         (unwrap_or (option_map (λ t. t.now) trace.entry) spec.no_trace)) }
 {
+    let texts = delivery_texts(request, deadline, arn)?;
     HeaderList::new(alloc, 5)
-        .text("lambda-runtime-aws-request-id", request)
-        .number("lambda-runtime-deadline-ms", deadline)
-        .string("lambda-runtime-invoked-function-arn", arn)
+        .shared("lambda-runtime-aws-request-id", texts.request)
+        .shared("lambda-runtime-deadline-ms", texts.deadline)
+        .shared("lambda-runtime-invoked-function-arn", texts.arn)
         .text_or("lambda-runtime-trace-id", trace, NO_TRACE)
         .done()
 }

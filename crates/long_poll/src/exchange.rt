@@ -67,7 +67,7 @@ impl<
 where
     B::Data: Into<Bytes>,
 {
-    ghost use Rattle.long_poll.specs.Stages.{IsStarting, IsHolding, IsWaiting, WaitsFor};
+    ghost use Rattle.long_poll.specs.Stages.{CanGoOn, IsStarting, IsHolding, IsWaiting, WaitsFor};
     ghost use Rattle.long_poll.specs.Standing.{Holds, Starts};
 
     /// Begins the exchange of a request with this head and this body, of which the head declares that it is too
@@ -183,6 +183,42 @@ where
             },
         }
     }
+
+    /// Goes on with an exchange whose answer is not awaited yet: with its start, and if its call was submitted
+    /// thereby, with its answer. (Not inlined, since the polls of an exchange that waits would clear the memory of
+    /// its results, too.)
+    #[inline(never)]
+    fn poll_begin(
+        &mut self,
+        cx: &mut Context<'_>,
+    ) -> Poll<Result<Outcome<HistoryBody<R, S, K, L>, L>, ExchangeFault>>
+        requires { IsStarting (Holds self.old) B.can_poll self.old.stage }
+        ensures value { IfReady result (⟦<Self as Future>⟧.gives self.old) }
+        ensures again { OnPending result (CanGoOn (Holds self.new) B.can_poll self.new.stage) }
+        ensures same { OnPending result (KeepsTo ⟦<Self as Future>⟧.gives self.old self.new) }
+        ensures registered { OnPending result (Covers cx.new (WaitsFor B.needs self.new.stage)) }
+        ensures kept { Keeps cx.old cx.new }
+    {
+        match ready!(self.poll_start(cx)) {
+            Err(fault) => Poll::Ready(Err(fault)),
+            Ok(Begun::Replied(reply, token)) => Poll::Ready(Ok(Outcome::Reply(reply, token))),
+            Ok(Begun::Dozes(held)) => {
+                self.stage = Stage::Holding(held);
+                cx.yield_now()
+            }
+            Ok(Begun::AsksForHistory { from }) => Poll::Ready(self.history(from)),
+            Ok(
+                Begun::Parked {
+                    ticket,
+                    heard,
+                    token,
+                },
+            ) => {
+                self.park(ticket, heard, token);
+                self.poll_answer(cx)
+            }
+        }
+    }
 }
 
 impl<
@@ -212,24 +248,6 @@ where
         if let Stage::Waiting { .. } = &self.stage {
             return self.poll_answer(cx);
         }
-        match ready!(self.poll_start(cx)) {
-            Err(fault) => Poll::Ready(Err(fault)),
-            Ok(Begun::Replied(reply, token)) => Poll::Ready(Ok(Outcome::Reply(reply, token))),
-            Ok(Begun::Dozes(held)) => {
-                self.stage = Stage::Holding(held);
-                cx.yield_now()
-            }
-            Ok(Begun::AsksForHistory { from }) => Poll::Ready(self.history(from)),
-            Ok(
-                Begun::Parked {
-                    ticket,
-                    heard,
-                    token,
-                },
-            ) => {
-                self.park(ticket, heard, token);
-                self.poll_answer(cx)
-            }
-        }
+        self.poll_begin(cx)
     }
 }

@@ -5,14 +5,14 @@ use Rattle.long_poll.specs.Outcomes.{ShowsFrom}
 use Rattle.long_poll.specs.Stages.{GivesFrom}
 use Rattle.futures.specs.Poll.{IfReady, OnPending}
 use Rattle.long_poll.proofs.Beginnings.{gives_answer, gives_fault, gives_reply, gives_history, gives_held, holds_held, while_pending, once_ready}
-use Rattle.long_poll.proofs.exchange.ExchangeFuture.poll.Goals as goal
+use Rattle.long_poll.proofs.exchange.Exchange.poll_begin.Goals as goal
 
 pub returns-in-Ok-Parked-clause-value : goal.returns-in-Ok-Parked-clause-value
 returns-in-Ok-Parked-clause-value g c =
     let shared = arc_value c.args.self.now.connection in
-    let came : IfReady c.poll_answer-in-Ok-Parked.result (GivesFrom (arc_value c.park.new.self.connection) g.N.Clock g.B.Body.yields g.B.Data.Into.converts (ShowsFrom (arc_value (arc_value c.park.new.self.connection).service)) c.park.new.self.stage) =
-    c.poll_answer-in-Ok-Parked.ensures.value in
-    once_ready c.poll_answer-in-Ok-Parked.result
+    let came : IfReady c.poll_answer.result (GivesFrom (arc_value c.park.new.self.connection) g.N.Clock g.B.Body.yields g.B.Data.Into.converts (ShowsFrom (arc_value (arc_value c.park.new.self.connection).service)) c.park.new.self.stage) =
+    c.poll_answer.ensures.value in
+    once_ready c.poll_answer.result
     (λ r h. gives_answer shared g.N.Clock g.B.Body.yields g.B.Data.Into.converts (ShowsFrom (arc_value shared.service))
     c.args.self.now.stage c.in-Ok-Parked.ticket c.in-Ok-Parked.heard c.in-Ok-Parked.token (search rules) r h)
     (rw (c.park.ensures.stage, c.park.ensures.connection, c.poll_start.ensures.connection) at came)
@@ -20,10 +20,10 @@ returns-in-Ok-Parked-clause-value g c =
 pub returns-in-Ok-Parked-clause-same : goal.returns-in-Ok-Parked-clause-same
 returns-in-Ok-Parked-clause-same g c =
     let shared = arc_value c.args.self.now.connection in
-    let later : OnPending c.poll_answer-in-Ok-Parked.result ((x : _) → GivesFrom (arc_value c.poll_answer-in-Ok-Parked.new.self.connection) g.N.Clock g.B.Body.yields g.B.Data.Into.converts (ShowsFrom (arc_value (arc_value c.poll_answer-in-Ok-Parked.new.self.connection).service)) c.poll_answer-in-Ok-Parked.new.self.stage x
+    let later : OnPending c.poll_answer.result ((x : _) → GivesFrom (arc_value c.poll_answer.new.self.connection) g.N.Clock g.B.Body.yields g.B.Data.Into.converts (ShowsFrom (arc_value (arc_value c.poll_answer.new.self.connection).service)) c.poll_answer.new.self.stage x
     → GivesFrom (arc_value c.park.new.self.connection) g.N.Clock g.B.Body.yields g.B.Data.Into.converts (ShowsFrom (arc_value (arc_value c.park.new.self.connection).service)) c.park.new.self.stage x) =
-    c.poll_answer-in-Ok-Parked.ensures.same in
-    while_pending c.poll_answer-in-Ok-Parked.result
+    c.poll_answer.ensures.same in
+    while_pending c.poll_answer.result
     (λ same x h. gives_answer shared g.N.Clock g.B.Body.yields g.B.Data.Into.converts (ShowsFrom (arc_value shared.service))
     c.args.self.now.stage c.in-Ok-Parked.ticket c.in-Ok-Parked.heard c.in-Ok-Parked.token (search rules) x (same x h))
     (rw (c.park.ensures.stage, c.park.ensures.connection, c.poll_start.ensures.connection) at later)
