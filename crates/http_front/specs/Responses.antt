@@ -1,5 +1,5 @@
 -- The response that carries an outcome.
-use Rattle.std.specs.Prelude.{◌≡◌, ℕ, Bool, true, false, ◌||◌, List, [], ◌==◌, if◌then◌else◌, length, fold, codes}
+use Rattle.std.specs.Prelude.{◌≡◌, ℕ, Bool, true, false, ◌||◌, List, [], ◌==◌, if◌then◌else◌, length, codes}
 use Rattle.std.specs.Prelude.{Option, Some, None, Result, Ok, Err}
 use Rattle.http.specs.Response.{head_of, body_of}
 use Rattle.http.specs.declared.response.Response.{Response}
@@ -9,6 +9,7 @@ use Rattle.http_body_util.specs.declared.either.Either.TheVariants.{Left, Right}
 use Rattle.http_body_util.specs.declared.full.Full.{Full}
 use Rattle.http_header.specs.FieldValue.{FieldValue, plain_value}
 use Rattle.http_header.specs.HeaderMap.{Entries, append}
+use Rattle.lambda_wire.specs.HeaderFields.{fields}
 use Rattle.lambda_wire.specs.declared.reply.Reply.{Reply as Replied}
 use Rattle.long_poll.specs.Views.{history_headers}
 use Rattle.long_poll.specs.declared.fault.ExchangeFault.{ExchangeFault}
@@ -19,10 +20,6 @@ use Rattle.request_guard.specs.Refusals.{closes, refusal_reply}
 use Rattle.request_guard.specs.declared.refusal.Api.{Api}
 use Rattle.request_guard.specs.declared.refusal.Refusal.{Refusal}
 use Rattle.request_guard.specs.declared.refusal.Refusal.TheVariants.{BrokenBody, OutOfMemory}
-
--- These header fields, in their order.
-abbrev pub fields : List (List ℕ × FieldValue) → Entries FieldValue
-fields headers = fold (λ map header. append map header.0 header.1) [] headers
 
 -- These header fields, and if the connection ends after the response, a last one that says so (RFC 9112, section 9.6).
 abbrev pub said_closing : Bool → Entries FieldValue → Entries FieldValue

@@ -279,7 +279,12 @@ impl<
             arc_value (arc_value connection).service ≡ arc_value self.now.common.account) }
         ensures decider { IfOk result (λ connection. (arc_value connection).decider ≡ decider) }
     {
-        let Common { account, clock, .. } = self.common.share()?;
+        let Common {
+            account,
+            clock,
+            maps,
+            ..
+        } = self.common.share()?;
         let tally = Arc::try_clone(&self.post.tally)?;
         let open = Arc::try_clone(open)?;
         let alloc = self.rt.alloc();
@@ -292,6 +297,7 @@ impl<
             tally,
             token,
             open,
+            maps,
             self.patience,
         );
         Arc::new(alloc, connection).map_err(AllocError::from)

@@ -4,6 +4,7 @@ ghost use Rattle.std.specs.Prelude.{◌≡◌, IfOk};
 ghost use Rattle.std.specs.Arc.{arc_value};
 
 use account_lock::{Account, Identity};
+use lambda_wire::HeaderMaps;
 use long_poll::OneShotBell;
 use request_guard::Hosts;
 use std::alloc::{AllocError, Global};
@@ -11,12 +12,14 @@ use std::sync::Arc;
 use std::sync::atomic::AtomicBool;
 
 /// What the threads of a host have in common: the account that is served, the clock, the hosts that
-/// are listed in addition to the local ones, and whether the service is over.
+/// are listed in addition to the local ones, the maps of the headers that most replies have, and
+/// whether the service is over.
 #[derive(Drop)]
 pub(crate) struct Common<S: Identity, N> {
     pub(crate) account: Arc<Account<S, OneShotBell>>,
     pub(crate) clock: Arc<N>,
     pub(crate) hosts: Arc<Hosts>,
+    pub(crate) maps: Arc<HeaderMaps>,
     pub(crate) is_over: Arc<AtomicBool>,
 }
 
@@ -34,11 +37,13 @@ impl<S: Identity + Drop, N: Drop> Common<S, N> {
         let account = Arc::new(alloc, account).map_err(AllocError::from)?;
         let clock = Arc::new(alloc, clock).map_err(AllocError::from)?;
         let hosts = Arc::new(alloc, hosts).map_err(AllocError::from)?;
+        let maps = Arc::new(alloc, HeaderMaps::open(alloc)?).map_err(AllocError::from)?;
         let is_over = Arc::new(alloc, AtomicBool::new(false)).map_err(AllocError::from)?;
         Ok(Common {
             account,
             clock,
             hosts,
+            maps,
             is_over,
         })
     }
@@ -51,11 +56,13 @@ impl<S: Identity + Drop, N: Drop> Common<S, N> {
         let account = Arc::try_clone(&self.account)?;
         let clock = Arc::try_clone(&self.clock)?;
         let hosts = Arc::try_clone(&self.hosts)?;
+        let maps = Arc::try_clone(&self.maps)?;
         let is_over = Arc::try_clone(&self.is_over)?;
         Ok(Common {
             account,
             clock,
             hosts,
+            maps,
             is_over,
         })
     }

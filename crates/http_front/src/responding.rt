@@ -12,6 +12,7 @@ use futures::task::{Context, Poll};
 use http::Response;
 use http_body::Body;
 use http_body_util::{Either, Full};
+use lambda_wire::HeaderMaps;
 use long_poll::{Clock, Exchange, ExchangeFault, HistoryBody, Outcome, Service};
 use request_guard::{Api, Refusal, refusal_reply};
 use std::alloc::Global;
@@ -110,7 +111,13 @@ where
         };
         match exchange.poll(cx) {
             Poll::Pending => Poll::Pending,
-            Poll::Ready(made) => Poll::Ready(answer_to(self.alloc, self.api, self.is_unread, made)),
+            Poll::Ready(made) => Poll::Ready(answer_to(
+                self.alloc,
+                exchange.maps(),
+                self.api,
+                self.is_unread,
+                made,
+            )),
         }
     }
 }
@@ -126,7 +133,7 @@ fn refused<H: Drop>(
     ensures { IfOk result (IsRefusal api is_unread refusal) }
 {
     let is_last = is_unread || refusal.closes();
-    reply_response(alloc, is_last, refusal_reply(alloc, api, refusal)?)
+    reply_response(alloc, None, is_last, refusal_reply(alloc, api, refusal)?)
 }
 
 /// Makes the response to an exchange's result. If its body or an allocation failed, the allocations
@@ -134,6 +141,7 @@ fn refused<H: Drop>(
 #[inline(never)]
 fn answer_to<H: Drop, L: Ledgers>(
     alloc: Global,
+    maps: &HeaderMaps,
     api: Api,
     is_unread: bool,
     made: Result<Outcome<H, L>, ExchangeFault>,
@@ -141,7 +149,7 @@ fn answer_to<H: Drop, L: Ledgers>(
     ensures { IfOk result (IsAnswerTo api is_unread made) }
 {
     match made {
-        Ok(outcome) => response_to(alloc, is_unread, outcome),
+        Ok(outcome) => response_to(alloc, maps, is_unread, outcome),
         Err(ExchangeFault::BodyFailed) => refused(alloc, api, is_unread, Refusal::BrokenBody),
         Err(ExchangeFault::OutOfMemory) => refused(alloc, api, is_unread, Refusal::OutOfMemory),
         Err(ExchangeFault::BellLost) => Err(ResponseFault::Exchange(ExchangeFault::BellLost)),

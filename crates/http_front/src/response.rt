@@ -1,8 +1,9 @@
 //! Responses of a connection, made from the answers to requests.
 
-ghost use Rattle.std.specs.Prelude.{◌≡◌, [], IfOk, OnOk};
+ghost use Rattle.std.specs.Prelude.{◌≡◌, IfOk, OnOk};
 ghost use Rattle.http.specs.Response.{body_of};
-ghost use Rattle.http_front.specs.Responses.{fields, said_closing, HasHead, IsResponseOf, IsResponseTo};
+ghost use Rattle.http_front.specs.Responses.{said_closing, HasHead, IsResponseOf, IsResponseTo};
+ghost use Rattle.lambda_wire.specs.HeaderFields.{fields};
 
 use crate::ResponseFault;
 use bytes::Bytes;
@@ -10,27 +11,28 @@ use http::response::Parts;
 use http::{Response, StatusCode, Version};
 use http_body_util::{Either, Full};
 use http_header::{HeaderMap, HeaderValue};
-use lambda_wire::{Headers, Reply};
+use lambda_wire::{HeaderMaps, Headers, Reply};
 use long_poll::{Outcome, history_headers};
 use std::alloc::{AllocError, Global};
 use usage_ledger::Ledgers;
 
-/// Adds the header fields of a reply, in their order, to a map that has none.
-fn push_fields(map: &mut HeaderMap, headers: Headers) -> Result<(), AllocError>
-    requires empty { map.old ≡ [] }
-    ensures { OnOk result (map.new ≡ fields headers) }
+/// Returns the header fields of a reply, in their order. Without the maps, which a request that is
+/// refused does not have, each is added by itself.
+fn map_of(
+    alloc: Global,
+    maps: Option<&HeaderMaps>,
+    headers: Headers,
+) -> Result<HeaderMap, AllocError>
+    ensures { IfOk result (λ map. map ≡ fields headers) }
 {
-    for (name, value) in headers.into_vec() {
-        if map.append(name, value).is_err() {
-            return Err(AllocError);
-        }
+    match maps {
+        Some(maps) => maps.map_of(alloc, headers),
+        None => headers.to_map(alloc),
     }
-    Ok(())
 }
 
 /// Adds the field that says that the connection ends after the response, if it does (RFC 9112,
-/// section 9.6). (The name is a text, so that the other `append`, of every reply's fields, is
-/// expanded where it is called.)
+/// section 9.6).
 fn say_closing(is_last: bool, map: &mut HeaderMap) -> Result<(), AllocError>
     ensures { OnOk result (map.new ≡ said_closing is_last map.old) }
 {
@@ -46,6 +48,7 @@ fn say_closing(is_last: bool, map: &mut HeaderMap) -> Result<(), AllocError>
 /// Returns the response with this status, these header fields and this body.
 fn with_head<B: Drop>(
     alloc: Global,
+    maps: Option<&HeaderMaps>,
     is_last: bool,
     status: u16,
     headers: Headers,
@@ -60,9 +63,8 @@ fn with_head<B: Drop>(
     let mut parts = Parts {
         status,
         version: Version::HTTP_11,
-        headers: HeaderMap::new(alloc),
+        headers: map_of(alloc, maps, headers)?,
     };
-    push_fields(&mut parts.headers, headers)?;
     say_closing(is_last, &mut parts.headers)?;
     Ok(Response::from_parts(parts, body))
 }
@@ -75,6 +77,7 @@ fn with_head<B: Drop>(
 /// is then dropped.
 pub(crate) fn reply_response<H: Drop>(
     alloc: Global,
+    maps: Option<&HeaderMaps>,
     is_last: bool,
     reply: Reply,
 ) -> Result<Response<Either<Full<Bytes>, H>>, ResponseFault>
@@ -87,6 +90,7 @@ pub(crate) fn reply_response<H: Drop>(
     } = reply;
     with_head(
         alloc,
+        maps,
         is_last,
         status,
         headers,
@@ -101,15 +105,17 @@ pub(crate) fn reply_response<H: Drop>(
 /// As [`reply_response`]; the outcome is then dropped.
 pub(crate) fn response_to<H: Drop, L: Ledgers>(
     alloc: Global,
+    maps: &HeaderMaps,
     is_last: bool,
     outcome: Outcome<H, L>,
 ) -> Result<Response<Either<Full<Bytes>, H>>, ResponseFault>
     ensures { IfOk result (IsResponseTo is_last outcome) }
 {
     match outcome {
-        Outcome::Reply(reply, _token) => reply_response(alloc, is_last, reply),
+        Outcome::Reply(reply, _token) => reply_response(alloc, Some(maps), is_last, reply),
         Outcome::History(body) => with_head(
             alloc,
+            Some(maps),
             is_last,
             200,
             history_headers(alloc)?,

@@ -1,7 +1,7 @@
 -- Replies that refuse a request before there is a call.
-use Rattle.std.specs.Prelude.{ℕ, List, [], ◌∷◌, ◌++◌, codes, Option, Some, None}
+use Rattle.std.specs.Prelude.{ℕ, List, codes, Option, Some, None}
 use Rattle.http_header.specs.FieldValue.{FieldValue}
-use Rattle.lambda_wire.specs.Headers.{json_headers}
+use Rattle.lambda_wire.specs.Headers.{method_headers}
 use Rattle.lambda_wire.specs.Replies.{fault_reply, invoke_fault_reply}
 use Rattle.lambda_wire.specs.declared.body_writer.InvokeFault.{InvokeFault}
 use Rattle.lambda_wire.specs.declared.body_writer.InvokeFault.TheVariants as fault
@@ -65,4 +65,4 @@ refused cause = reply_of (fault_of cause) (refusal_words cause)
 -- The reply if the route does not have the method. It lists those that the route has (RFC 9110, section 15.5.6).
 unfoldable pub wrong_method : FieldValue → Decision
 wrong_method methods = Reply (record (fault_reply 405 (codes "Method not allowed") (codes "MethodNotAllowed"))
-    { headers = json_headers ++ (codes "allow", methods) ∷ [] })
+    { headers = method_headers methods })

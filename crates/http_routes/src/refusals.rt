@@ -7,10 +7,9 @@ ghost use Rattle.http_header.specs.Token.{is_value_byte};
 ghost use Rattle.lambda_wire.specs.Replies as replies;
 ghost use Rattle.http_routes.specs.Refusals as spec;
 
-use arn_ids::Row;
 use decisions::Decision;
-use http_header::{HeaderName, HeaderValue};
-use lambda_wire::{InvokeFault, Reply, fault_reply, invoke_fault_reply};
+use http_header::HeaderValue;
+use lambda_wire::{InvokeFault, Reply, fault_reply, invoke_fault_reply, method_headers};
 use std::alloc::{AllocError, Global};
 
 /// Why a request is refused before there is a call.
@@ -149,16 +148,8 @@ pub(crate) fn refused(alloc: Global, cause: Cause) -> Result<Decision, AllocErro
 pub(crate) fn wrong_method(alloc: Global, methods: HeaderValue) -> Result<Decision, AllocError>
     ensures { IfOk result (λ d. d ≡ spec.wrong_method methods) }
 {
-    let Reply {
-        status,
-        headers,
-        body,
-    } = fault_reply(alloc, 405, "Method not allowed", "MethodNotAllowed")?;
-    let mut headers = headers.into_vec();
-    headers.push((HeaderName::from_static("allow"), methods))?;
     Ok(Decision::Reply(Reply {
-        status,
-        headers: Row::new(headers),
-        body,
+        headers: method_headers(alloc, methods)?,
+        ..fault_reply(alloc, 405, "Method not allowed", "MethodNotAllowed")?
     }))
 }

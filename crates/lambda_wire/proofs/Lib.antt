@@ -10,3 +10,4 @@ mod BodyTexts
 mod ObjectParts
 mod FieldValues
 mod JsonPartsLemmas
+mod FilledFields

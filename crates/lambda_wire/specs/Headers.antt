@@ -51,3 +51,11 @@ request_mark (Some request) = header (codes "x-amzn-requestid") request ∷ []
 -- The headers of a refusal by the Lambda API (Invoke: Errors).
 unfoldable pub error_headers : Option (List ℕ) → List ℕ → List (List ℕ × FieldValue)
 error_headers request kind = json_headers ++ header (codes "x-amzn-errortype") kind ∷ request_mark request
+
+-- The headers of a text.
+abbrev pub text_headers : List (List ℕ × FieldValue)
+text_headers = header (codes "content-type") (codes "text/plain") ∷ []
+
+-- The headers of a refusal that lists the methods of a route (RFC 9110, section 15.5.6).
+abbrev pub method_headers : FieldValue → List (List ℕ × FieldValue)
+method_headers methods = json_headers ++ (codes "allow", methods) ∷ []

@@ -9,4 +9,5 @@ pub mod Replies
 pub mod BodyValues
 pub mod JsonParts
 pub mod Objects
-pub mod HeaderLists
+pub mod HeaderSets
+pub mod HeaderFields

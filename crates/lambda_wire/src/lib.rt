@@ -5,7 +5,8 @@ mod body_writer;
 mod config_reader;
 mod config_writer;
 mod fault;
-mod header_list;
+mod header_map;
+mod header_set;
 mod header_writer;
 mod json_check;
 mod members;
@@ -22,9 +23,10 @@ pub use body_writer::{
 pub use config_reader::read_config;
 pub use config_writer::write_config;
 pub use fault::WireFault;
+pub use header_map::HeaderMaps;
 pub use header_writer::{
-    Headers, NO_TRACE, error_headers, event_headers, invoke_headers, json_headers, next_headers,
-    registered_headers,
+    Headers, NO_TRACE, error_headers, event_headers, invoke_headers, json_headers, method_headers,
+    next_headers, registered_headers, text_headers,
 };
 pub use payload_scratch::PayloadScratch;
 pub use reply::{Reply, fault_reply, invoke_fault_reply};

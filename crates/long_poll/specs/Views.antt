@@ -4,7 +4,7 @@ use Rattle.call_types.specs.declared.stats.Stats.{Stats}
 use Rattle.serde_json.specs.Data.{Data, number, unsigned, object, member, no_members}
 use Rattle.http_header.specs.FieldValue.{FieldValue}
 use Rattle.lambda_wire.specs.Bodies.{reservation_text}
-use Rattle.lambda_wire.specs.Headers.{header, json_headers}
+use Rattle.lambda_wire.specs.Headers.{json_headers, text_headers}
 use Rattle.lambda_wire.specs.declared.reply.Reply.{Reply}
 
 -- The counts of an account as a JSON value.
@@ -29,7 +29,7 @@ stats_reply stats = record { status = 200; headers = json_headers; body = stats_
 
 -- The headers of a history, which is text.
 abbrev pub history_headers : List (List ℕ × FieldValue)
-history_headers = header (codes "content-type") (codes "text/plain") ∷ []
+history_headers = text_headers
 
 -- The reply that shows a function's reservation (Lambda API, GetFunctionConcurrency).
 abbrev pub reservation_reply : Option ℕ → Reply

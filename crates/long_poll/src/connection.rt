@@ -22,7 +22,7 @@ use decisions::{Decide, Decision, Shown};
 use futures::future::Future;
 use futures::task::{Context, Poll};
 use http::request::Parts;
-use lambda_wire::{PayloadScratch, Reply};
+use lambda_wire::{HeaderMaps, PayloadScratch, Reply};
 use std::alloc::{AllocError, Global};
 use std::cell::Cell;
 use std::sync::{Arc, Mutex, Wait};
@@ -38,8 +38,9 @@ const FIRST_PAUSE: u64 = 50;
 const LONGEST_PAUSE: u64 = 8_000;
 
 /// What the exchanges of one connection share: the account and the decider of its requests, both of one
-/// configuration; a clock; the connection's tally and token; the note of its open Next; and its
-/// patience, which is how many milliseconds a premature call is held back at most.
+/// configuration; a clock; the connection's tally and token; the note of its open Next; the maps of the
+/// headers that most replies have; and its patience, which is how many milliseconds a premature call is
+/// held back at most.
 #[derive(Drop)]
 pub struct Connection<R, S: Service<K, L>, D: Decide, N, K: Keep, L: Ledgers> {
     rt: R,
@@ -49,6 +50,7 @@ pub struct Connection<R, S: Service<K, L>, D: Decide, N, K: Keep, L: Ledgers> {
     pub(crate) clock: Arc<N>,
     tally: Arc<Mutex<Tally<K, L>>>,
     open: Arc<OpenPoll>,
+    pub(crate) maps: Arc<HeaderMaps>,
     patience: u32,
     // The token, which has seen the history up to the earlier requests; none while a request has it.
     seen: Cell<Option<Token<L>>>,
@@ -137,6 +139,7 @@ impl<
         tally: Arc<Mutex<Tally<K, L>>>,
         token: Token<L>,
         open: Arc<OpenPoll>,
+        maps: Arc<HeaderMaps>,
         patience: u32,
     ) -> Connection<R, S, D, N, K, L>
         requires { S.serves (arc_value service) ≡ D.decides_for (arc_value decider) }
@@ -150,6 +153,7 @@ impl<
             clock,
             tally,
             open,
+            maps,
             patience,
             seen: Cell::new(Some(token)),
             scratch: Cell::new(PayloadScratch::new()),

@@ -22,6 +22,7 @@ use futures::ready;
 use futures::task::{Context, Poll};
 use http::request::Parts;
 use http_body::Body;
+use lambda_wire::HeaderMaps;
 use std::sync::{Arc, Wait};
 use std::{mem, time};
 use usage_ledger::{Keep, Ledgers, Token};
@@ -92,6 +93,11 @@ where
                 is_too_long,
             },
         }
+    }
+
+    /// Returns the maps of the headers that most replies have.
+    pub fn maps(&self) -> &HeaderMaps {
+        &self.connection.maps
     }
 
     /// Tries once more the call that is held back.

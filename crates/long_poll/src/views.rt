@@ -4,10 +4,8 @@ ghost use Rattle.std.specs.Prelude.{◌≡◌, IfOk};
 ghost use Rattle.serde_json.specs.View.{view};
 ghost use Rattle.long_poll.specs.Views as spec;
 
-use arn_ids::Row;
 use call_model::Stats;
-use http_header::{HeaderName, HeaderValue};
-use lambda_wire::{Headers, Reply, json_headers, write_reservation};
+use lambda_wire::{Headers, Reply, json_headers, text_headers, write_reservation};
 use serde_json::{Value, json};
 use std::alloc::{AllocError, Global};
 
@@ -43,12 +41,7 @@ pub fn stats_reply(alloc: Global, stats: Stats) -> Result<Reply, AllocError>
 pub fn history_headers(alloc: Global) -> Result<Headers, AllocError>
     ensures { IfOk result (λ headers. headers ≡ spec.history_headers) }
 {
-    let mut headers = Vec::with_capacity(alloc, 1)?;
-    headers.push((
-        HeaderName::from_static("content-type"),
-        HeaderValue::from_static("text/plain"),
-    ))?;
-    Ok(Row::new(headers))
+    text_headers(alloc)
 }
 
 /// Makes the reply that shows a function's reservation in force (Lambda API, GetFunctionConcurrency).

@@ -18,7 +18,11 @@ pub fn push_line(given: &mut Given, bytes: &[u8]) {
 
 /// Adds headers, one per line.
 pub fn push_headers(given: &mut Given, headers: &Headers) {
-    for (name, value) in headers.as_slice() {
+    let Ok(map) = headers.to_map(given.alloc()) else {
+        given.cut();
+        return;
+    };
+    for (name, value) in map.iter() {
         given.push(name.as_str());
         given.push(": ");
         push_line(given, value.as_bytes());

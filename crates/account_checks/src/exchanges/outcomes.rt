@@ -131,11 +131,15 @@ pub fn made_at_once<
 
 /// Adds the headers of a reply.
 fn push_headers(given: &mut Given, reply: &Reply) {
-    for header in reply.headers.as_slice() {
+    let Ok(map) = reply.headers.to_map(given.alloc()) else {
+        given.cut();
+        return;
+    };
+    for (name, value) in map.iter() {
         given.push("  ");
-        given.push(header.0.as_str());
+        given.push(name.as_str());
         given.push(": ");
-        given.push_bytes(header.1.as_bytes());
+        given.push_bytes(value.as_bytes());
         given.push("\n");
     }
 }

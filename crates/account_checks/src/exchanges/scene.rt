@@ -15,7 +15,7 @@ use account_lock::Identity;
 use call_model::Answer;
 use case_tables::{Case, CaseFault, Given, Part, value_of};
 use http_body_util::BodyExt;
-use lambda_wire::Reply;
+use lambda_wire::{HeaderMaps, Reply};
 use long_poll::{
     BellLost, Connection, Exchange, Heard, HistoryBody, OneShotBell, OpenPoll, Poll, Service,
     declares_too_long,
@@ -128,6 +128,7 @@ impl<
     ) -> Result<Arc<Connection<R, X, Rows<S>, At, KeepNone, S>>, AllocError> {
         let own = self.shared.again()?;
         let token = own.service.token(&self.rt);
+        let maps = arc_of(self.alloc, HeaderMaps::open(self.alloc)?)?;
         let connection = Connection::new(
             self.rt,
             self.alloc,
@@ -137,6 +138,7 @@ impl<
             own.tally,
             token,
             open,
+            maps,
             self.patience,
         );
         arc_of(self.alloc, connection)

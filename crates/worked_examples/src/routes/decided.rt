@@ -10,6 +10,7 @@ use call_model::{Answers, Call, Entry, Ticket};
 use case_tables::Given;
 use entry_blocks::Blocks;
 use http::request::Parts;
+use http_header::HeaderMap;
 use http_routes::{Decision, Shown};
 use lambda_wire::{PayloadScratch, Reply};
 use script::draft_entry;
@@ -87,16 +88,22 @@ fn push_call(config: &Checked, call: Call, body: &[u8], given: &mut Given) {
     }
 }
 
+/// Adds the error type of the Lambda API, if there is one.
+fn push_error_type(headers: &HeaderMap, given: &mut Given) {
+    if let Some(kind) = headers.get("x-amzn-errortype") {
+        given.push_bytes(kind.as_bytes());
+        given.push(" ");
+    }
+}
+
 /// Adds a refusal: its status, its error type in the Lambda API, and its body.
 fn push_refusal(reply: &Reply, given: &mut Given) {
     given.push("refuse ");
     given.print(&reply.status);
     given.push(" ");
-    for (name, value) in reply.headers.as_slice() {
-        if name.as_str() == "x-amzn-errortype" {
-            given.push_bytes(value.as_bytes());
-            given.push(" ");
-        }
+    match reply.headers.to_map(given.alloc()) {
+        Ok(map) => push_error_type(&map, given),
+        Err(_) => given.cut(),
     }
     given.push_bytes(reply.body.as_slice());
 }
