@@ -1,6 +1,7 @@
 -- What an exchange gives, from where it stands.
 use Rattle.std.proofs.lemmas.List.{length-replicate}
-use Rattle.std.proofs.Common.{◌≡◌, ℕ, suc, ◌<◌, List, length, replicate, Option, Result, Ok, Err, IfOk, MatchResult, inl, inr, arith}
+use Rattle.std.proofs.Common.{◌≡◌, ℕ, Box, suc, ◌<◌, List, length, replicate, Option, Result, Ok, Err, IfOk, MatchResult, inl, inr, arith}
+use Rattle.std.specs.declared.alloc.Global.{Global}
 use Rattle.call_types.specs.declared.call.Call.{Call}
 use Rattle.call_types.specs.declared.call.Entry.{Entry}
 use Rattle.futures.specs.Poll.{IfReady, OnPending}
@@ -145,16 +146,16 @@ module _ {R S D N K L : Type 0} {service : Service.Ghosts S K L} {decider : Deci
     gives_fault (Waiting t heard token) fault h = absurd h
 
     -- its call is held back, and this came of it in the end
-    pub gives_held : (stage : Stage B L) (held : Dozing)
+    pub gives_held : (stage : Stage B L) (held : Box Dozing Global)
         → StartsFrom connection clock yields reads stage (Ok (Dozes held))
-        → (r : Result (Outcome H L) ExchangeFault) → ComesOfCall connection clock held.call r
+        → (r : Result (Outcome H L) ExchangeFault) → ComesOfCall connection clock held.value.call r
         → GivesFrom connection clock yields reads shows stage r
     gives_held (Collecting parts collecting declared) held h (Ok (outcome.Reply reply token)) came =
         of_body reads (yields collecting.body) parts collecting.held _ _
-        (λ body b. (decision.Submit held.call, b.0, came)) h
+        (λ body b. (decision.Submit held.value.call, b.0, came)) h
     gives_held (Collecting parts collecting declared) held h (Ok (outcome.History body)) came = absurd came
     gives_held (Collecting parts collecting declared) held h (Err BellLost) came =
-        of_body reads (yields collecting.body) parts collecting.held _ _ (λ body b. (held.call, b.0, came)) h
+        of_body reads (yields collecting.body) parts collecting.held _ _ (λ body b. (held.value.call, b.0, came)) h
     gives_held (Collecting parts collecting declared) held h (Err OutOfMemory) came = tt
     gives_held (Collecting parts collecting declared) held h (Err BodyFailed) came = absurd came
     gives_held (Holding before) held h r came = rw (← h.0) came
@@ -163,8 +164,8 @@ module _ {R S D N K L : Type 0} {service : Service.Ghosts S K L} {decider : Deci
 
   module _ {B P E : Type 0} (yields : B → Runs (Result (Frame P) E)) (reads : P → List ℕ → Type 0) where
     -- a call that is held back can be submitted
-    pub holds_held : (stage : Stage B L) (held : Dozing)
-        → StartsFrom connection clock yields reads stage (Ok (Dozes held)) → IsHeld connection held
+    pub holds_held : (stage : Stage B L) (held : Box Dozing Global)
+        → StartsFrom connection clock yields reads stage (Ok (Dozes held)) → IsHeld connection held.value
     holds_held (Collecting parts collecting declared) held h =
         whatever_body reads (yields collecting.body) parts collecting.held _ (λ body b. b.1) h
     holds_held (Holding before) held h = h.1

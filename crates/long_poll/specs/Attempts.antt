@@ -21,7 +21,7 @@ IsPatient left (HeldBack call bell) = 0 < left
 -- If a call is held back again, less time is left for it than before.
 abbrev pub IsNearer : {L : Type 0} → ℕ → Begun L → Type 0
 IsNearer left (Replied reply token) = Unit {0}
-IsNearer left (Dozes held) = held.left < left
+IsNearer left (Dozes held) = held.value.left < left
 IsNearer left (AsksForHistory from) = Unit {0}
 IsNearer left (Parked ticket heard token) = Unit {0}
 

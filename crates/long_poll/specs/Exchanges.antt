@@ -158,7 +158,7 @@ module _ {R S D N K L : Type 0} {service : Service.Ghosts S K L} {decider : Deci
     -- call is held back.
     abbrev pub IsBegun : Call → Begun L → Type 0
     IsBegun call (Replied reply token) = IsRefusal call reply token
-    IsBegun call (Dozes held) = (held.call ≡ call) × IsHeld held
+    IsBegun call (Dozes held) = (held.value.call ≡ call) × IsHeld held.value
     IsBegun call (AsksForHistory from) = ⊥
     IsBegun call (Parked ticket heard token) = IsParked call ticket heard token
 
@@ -172,7 +172,7 @@ module _ {R S D N K L : Type 0} {service : Service.Ghosts S K L} {decider : Deci
     -- How far a request with this head and this body has come.
     abbrev pub HasBegun : Parts → List ℕ → Begun L → Type 0
     HasBegun head body (Replied reply token) = (made : Decision) × Decides head body made × IsReply made reply token
-    HasBegun head body (Dozes held) = Decides head body (decision.Submit held.call) × IsHeld held
+    HasBegun head body (Dozes held) = Decides head body (decision.Submit held.value.call) × IsHeld held.value
     HasBegun head body (AsksForHistory from) = Decides head body (decision.Show (History from))
     HasBegun head body (Parked ticket heard token) =
         (call : Call) × Decides head body (decision.Submit call) × IsParked call ticket heard token

@@ -28,14 +28,14 @@ IsCollecting can_poll parts body declared = can_poll body × (declared ≡ decla
 abbrev pub IsStarting : {B L : Type 0} → (Dozing → Type 0) → (B → Type 0) → Stage B L → Type 0
 IsStarting is_held can_poll (Collecting parts collecting declared) =
     IsCollecting can_poll parts collecting.body declared
-IsStarting is_held can_poll (Holding held) = is_held held
+IsStarting is_held can_poll (Holding held) = is_held held.value
 IsStarting is_held can_poll Submitting = ⊥
 IsStarting is_held can_poll (Waiting ticket heard token) = ⊥
 
 -- The call is held back.
 abbrev pub IsHolding : {B L : Type 0} → (Dozing → Type 0) → Stage B L → Type 0
 IsHolding is_held (Collecting parts collecting declared) = ⊥
-IsHolding is_held (Holding held) = is_held held
+IsHolding is_held (Holding held) = is_held held.value
 IsHolding is_held Submitting = ⊥
 IsHolding is_held (Waiting ticket heard token) = ⊥
 
@@ -50,7 +50,7 @@ IsWaiting (Waiting ticket heard token) = Unit {0}
 abbrev pub CanGoOn : {B L : Type 0} → (Dozing → Type 0) → (B → Type 0) → Stage B L → Type 0
 CanGoOn is_held can_poll (Collecting parts collecting declared) =
     IsCollecting can_poll parts collecting.body declared
-CanGoOn is_held can_poll (Holding held) = is_held held
+CanGoOn is_held can_poll (Holding held) = is_held held.value
 CanGoOn is_held can_poll Submitting = ⊥
 CanGoOn is_held can_poll (Waiting ticket heard token) = Unit {0}
 
@@ -71,7 +71,7 @@ module _ {R S D N K L : Type 0} {service : Service.Ghosts S K L} {decider : Deci
       → Type 0
   GivesFrom shows (Collecting parts collecting declared) =
       Exchanges connection clock shows reads (yields collecting.body) parts collecting.held
-  GivesFrom shows (Holding held) = ComesOfCall connection clock held.call
+  GivesFrom shows (Holding held) = ComesOfCall connection clock held.value.call
   GivesFrom shows Submitting = λ r. ⊥
   GivesFrom shows (Waiting ticket heard token) = Awaits (shown connection token) ticket
 
@@ -82,7 +82,7 @@ module _ {R S D N K L : Type 0} {service : Service.Ghosts S K L} {decider : Deci
   StartsFrom (Collecting parts collecting declared) (Err BodyFailed) = Fails (yields collecting.body)
   StartsFrom (Collecting parts collecting declared) (Err OutOfMemory) = Unit {0}
   StartsFrom (Collecting parts collecting declared) (Err BellLost) = ⊥
-  StartsFrom (Holding held) (Ok begun) = IsBegun connection clock held.call begun
+  StartsFrom (Holding held) (Ok begun) = IsBegun connection clock held.value.call begun
   StartsFrom (Holding held) (Err BodyFailed) = ⊥
   StartsFrom (Holding held) (Err OutOfMemory) = Unit {0}
   StartsFrom (Holding held) (Err BellLost) = ⊥

@@ -78,8 +78,9 @@ pub(crate) struct Dozing {
 pub(crate) enum Begun<L: Ledgers> {
     /// It has its reply, with a token of the history that the reply is of.
     Replied(Reply, Token<L>),
-    /// Its call is premature and held back; a pause has passed.
-    Dozes(Dozing),
+    /// Its call is premature and held back; a pause has passed. (On the heap, since few calls are, and
+    /// what is returned of the others would have its size.)
+    Dozes(Box<Dozing>),
     /// It asks for the history, from the entry of a ticket on or whole.
     AsksForHistory {
         from: Option<Ticket>,
@@ -278,13 +279,14 @@ impl<
             Attempt::HeldBack(call, bell) => {
                 let now = left.min(pause);
                 thread::sleep(&self.rt, Duration::from_micros(now));
-                Ok(Begun::Dozes(Dozing {
+                let held = Dozing {
                     call,
                     bell,
                     heard,
                     left: left - now,
                     pause: next_pause(pause),
-                }))
+                };
+                Ok(Begun::Dozes(Box::new(self.alloc, held).map_err(AllocError::from)?))
             }
             Attempt::Made(Err((refused, seen))) => {
                 let reply = refusal_reply(self.alloc, is_invoke, refused.refusal)?;

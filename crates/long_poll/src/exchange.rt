@@ -37,7 +37,7 @@ enum Stage<B, L: Ledgers> {
         is_too_long: bool,
     },
     /// The call is premature and held back: each poll tries it once, and sleeps for a pause if it still is.
-    Holding(Dozing),
+    Holding(Box<Dozing>),
     /// The call that was held back is being tried, within one poll.
     Submitting,
     /// The call was submitted, and its answer is awaited. The token has seen the history up to the call.
@@ -107,7 +107,7 @@ where
         ensures connection { self.new.connection ≡ self.old.connection }
     {
         match mem::replace(&mut self.stage, Stage::Submitting) {
-            Stage::Holding(held) => self.connection.submit_held(held),
+            Stage::Holding(held) => self.connection.submit_held(*held),
             _ => unreachable!(),
         }
     }

@@ -59,6 +59,6 @@ returns-in-Ok-Dozes-clause-same g c =
     let shared = arc_value c.args.self.now.connection in
     rw c.yield_now.ensures.pending
     (λ r h.
-    let came : ComesOfCall (arc_value c.poll_start.new.self.connection) g.N.Clock c.in-Ok-Dozes.held.call r = h in
+    let came : ComesOfCall (arc_value c.poll_start.new.self.connection) g.N.Clock c.in-Ok-Dozes.held.value.call r = h in
     gives_held shared g.N.Clock g.B.Body.yields g.B.Data.Into.converts (ShowsFrom (arc_value shared.service))
     c.args.self.now.stage c.in-Ok-Dozes.held (search rules) r (rw c.poll_start.ensures.connection at came))
