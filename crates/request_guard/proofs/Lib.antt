@@ -1,2 +1,2 @@
-mod PageFields
 mod Passed
+mod RareFields

@@ -14,10 +14,6 @@ are_some (value ∷ values) = true
 abbrev pub is_own_site : List ℕ → Bool
 is_own_site site = bytes_eq site (codes "none") || bytes_eq site (codes "same-origin")
 
--- Whether a field is one that a browser adds to a page's requests.
-abbrev pub is_of_page : List ℕ → Bool
-is_of_page name = bytes_eq name (codes "origin") || bytes_eq name (codes "sec-fetch-site")
-
 -- Whether a page sent the request: it has an `Origin`, of whatever value (RFC 6454, section 7), or a `Sec-Fetch-Site`
 -- that names another site (W3C, Fetch Metadata Request Headers).
 abbrev pub is_from_page : Parts → Bool

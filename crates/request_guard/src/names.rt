@@ -7,11 +7,11 @@ ghost use Rattle.request_guard.specs.Names as spec;
 ghost use Rattle.request_guard.specs.Views.{pieces_left};
 
 /// Returns whether a byte may occur in a registered name or an IPv4 address (RFC 3986, section
-/// 3.2.2).
+/// 3.2.2). Small letters come first, since most names consist of them.
 fn is_name_byte(byte: u8) -> bool
     ensures { result ≡ spec.is_name_byte byte }
 {
-    byte.is_ascii_alphanumeric() || b"-._~%!$&'()*+,;=".contains(&byte)
+    byte.is_ascii_lowercase() || byte.is_ascii_alphanumeric() || b"-._~%!$&'()*+,;=".contains(&byte)
 }
 
 /// Returns whether a byte may occur in an IPv6 address.

@@ -1,13 +1,12 @@
 //! What a browser says about a request that a web page sends.
 
 ghost use Rattle.std.specs.Prelude.{◌≡◌, codes};
-ghost use Rattle.std.specs.List.{list_all, list_any};
-ghost use Rattle.http.specs.HeaderMap.{get_all, keys};
+ghost use Rattle.std.specs.List.{list_all};
+ghost use Rattle.http.specs.HeaderMap.{get_all};
 ghost use Rattle.request_guard.specs.Pages as spec;
 
 use http::header;
 use http::request::Parts;
-use http_header::HeaderName;
 
 /// Returns whether a site says that the user's own action sent the request, such as a typed
 /// address, or a page of this service.
@@ -41,29 +40,9 @@ fn is_of_own_site(parts: &Parts) -> bool
         .all(|site| is_own_site(site.as_bytes()))
 }
 
-/// Returns whether a field is one that a browser adds to a page's requests.
-fn is_of_page(name: &HeaderName) -> bool
-    ensures { result ≡ spec.is_of_page name.now }
-{
-    let name = name.as_bytes();
-    name == b"origin".as_slice() || name == b"sec-fetch-site".as_slice()
-}
-
-/// Returns whether a request has such a field. (Few requests have one, and comparing all names
-/// costs less than finding one.)
-fn has_field_of_page(parts: &Parts) -> bool
-    ensures { result ≡ list_any spec.is_of_page (keys parts.now.headers) }
-{
-    parts.headers.keys().any(|name| is_of_page(name))
-}
-
 /// Returns whether a web page sent the request.
-#[tactic(auto, using(crate::proofs::PageFields::none_is_of_page))]
 pub(crate) fn is_from_page(parts: &Parts) -> bool
     ensures { result ≡ spec.is_from_page parts.now }
 {
-    if !has_field_of_page(parts) {
-        return false;
-    }
     has_origin(parts) || !is_of_own_site(parts)
 }
