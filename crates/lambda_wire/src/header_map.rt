@@ -170,10 +170,14 @@ fn template_of(alloc: Global, set: HeaderSet) -> Result<Template, AllocError>
 pub struct HeaderMaps {
     json: Template,
     delivery: Template,
+    event: Template,
     outcome: Template,
+    failure: Template,
     ghost json_is: { IsTemplate set.Json json },
     ghost delivery_is: { IsTemplate set.Delivery delivery },
+    ghost event_is: { IsTemplate set.Event event },
     ghost outcome_is: { IsTemplate set.Outcome outcome },
+    ghost failure_is: { IsTemplate set.Failure failure },
 }
 
 impl HeaderMaps {
@@ -182,7 +186,9 @@ impl HeaderMaps {
         Ok(HeaderMaps {
             json: template_of(alloc, HeaderSet::Json)?,
             delivery: template_of(alloc, HeaderSet::Delivery)?,
+            event: template_of(alloc, HeaderSet::Event)?,
             outcome: template_of(alloc, HeaderSet::Outcome)?,
+            failure: template_of(alloc, HeaderSet::Failure)?,
         })
     }
 
@@ -196,8 +202,14 @@ impl HeaderMaps {
         match set {
             HeaderSet::Json => self.json.copy_with(values),
             HeaderSet::Delivery => self.delivery.copy_with(values),
+            HeaderSet::Event => self.event.copy_with(values),
             HeaderSet::Outcome => self.outcome.copy_with(values),
-            _ => new_map(alloc, set, values),
+            HeaderSet::Failure => self.failure.copy_with(values),
+            HeaderSet::Text
+            | HeaderSet::Registration
+            | HeaderSet::Refusal
+            | HeaderSet::RequestRefusal
+            | HeaderSet::Methods => new_map(alloc, set, values),
         }
     }
 }
