@@ -54,6 +54,8 @@ impl EventLoop {
         let mut http = Builder::new(rt.alloc(), keys);
         // After a half-close, for example by `nc -N`, the caller still gets its answer.
         http.half_close(true);
+        // It has no clock, so it adds no `date`; otherwise it looks for one in each response.
+        http.auto_date_header(false);
         Ok(EventLoop { socket_loop, http })
     }
 
