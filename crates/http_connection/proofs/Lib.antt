@@ -1,2 +1,1 @@
 mod Inner
-mod Places

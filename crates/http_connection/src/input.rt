@@ -1,8 +1,8 @@
 //! The position in a connection's input: in a head, or in the body that a head declares.
 
-ghost use Rattle.std.specs.Prelude.{◌≤◌, ◌<◌, length};
+ghost use Rattle.std.specs.Prelude.{◌≤◌, ◌<◌, ◌+◌, length, IsTrue, IfSome};
 
-use memchr::memchr_iter;
+use memchr::{memchr, memchr_iter};
 
 /// The name of the field that declares a body's length, with its colon.
 const NAME: &[u8] = b"content-length:";
@@ -10,10 +10,56 @@ const NAME: &[u8] = b"content-length:";
 /// The same as most clients write it.
 const USUAL_NAME: &[u8] = b"Content-Length:";
 
-/// Returns whether these bytes are the name, in any case. Its usual forms come first, since they
-/// are compared as a whole.
-fn is_name(bytes: &[u8]) -> bool {
-    bytes == USUAL_NAME || bytes == NAME || bytes.eq_ignore_ascii_case(NAME)
+/// Returns the eight bytes from a place on, as one number.
+fn word(bytes: &[u8], at: usize) -> u64
+    requires { at + 8 ≤ length bytes.now }
+{
+    u64::from_le_bytes([
+        bytes[at],
+        bytes[at + 1],
+        bytes[at + 2],
+        bytes[at + 3],
+        bytes[at + 4],
+        bytes[at + 5],
+        bytes[at + 6],
+        bytes[at + 7],
+    ])
+}
+
+/// Returns whether the name is at a place, in any case. Its usual form is compared first, as two
+/// numbers that overlap.
+fn is_name_at(bytes: &[u8], at: usize) -> bool
+    requires { at ≤ length bytes.now }
+    ensures { IsTrue result → at + 15 ≤ length bytes.now }
+{
+    if bytes.len() - at < NAME.len() {
+        return false;
+    }
+    (word(bytes, at) == word(USUAL_NAME, 0) && word(bytes, at + 7) == word(USUAL_NAME, 7))
+        || bytes[at..at + NAME.len()].eq_ignore_ascii_case(NAME)
+}
+
+/// Returns a number with one more digit at its end. What is not a digit is skipped.
+fn with_digit(number: u64, byte: u8) -> u64 {
+    if !byte.is_ascii_digit() {
+        return number;
+    }
+    let digit = u64::from(byte - b'0');
+    if number < u64::MAX / 10 {
+        return number * 10 + digit;
+    }
+    number.saturating_mul(10).saturating_add(digit)
+}
+
+/// Returns the position of the first end of a line. (The iterator finds one that is near sooner
+/// than `memchr` does.)
+fn near_end(bytes: &[u8]) -> Option<usize>
+    ensures { IfSome result (λ end. end < length bytes.now) }
+{
+    match memchr_iter(b'\n', bytes).next() {
+        Some(end) => Some(end),
+        None => None,
+    }
 }
 
 /// How much of the present line is a field that declares a body's length.
@@ -65,16 +111,8 @@ impl Input {
                     _ => Line::Other,
                 };
             }
-            Line::Length => self.take_digit(byte),
+            Line::Length => self.length = with_digit(self.length, byte),
             Line::Other => {}
-        }
-    }
-
-    /// Takes a byte of a declared length. What is not a digit is skipped.
-    fn take_digit(&mut self, byte: u8) {
-        if byte.is_ascii_digit() {
-            let digit = u64::from(byte - b'0');
-            self.length = self.length.saturating_mul(10).saturating_add(digit);
         }
     }
 
@@ -105,45 +143,111 @@ impl Input {
         }
     }
 
-    /// Takes bytes of a line, without its end. If the whole name is there, it is compared at once.
+    /// Takes bytes of a line, without its end, that do not begin with the whole name: if they begin
+    /// the line and are as many, the line does not declare a length.
     fn take_bytes(&mut self, bytes: &[u8]) {
-        if !matches!(self.line, Line::Name(0)) || bytes.len() < NAME.len() {
-            self.take_each(bytes);
-            return;
-        }
-        self.is_empty = false;
-        let (name, value) = bytes.split_at(NAME.len());
-        if !is_name(name) {
+        if matches!(self.line, Line::Name(0)) && bytes.len() >= NAME.len() {
+            self.is_empty = false;
             self.line = Line::Other;
             return;
         }
-        self.line = Line::Length;
-        for byte in value {
-            self.take_digit(*byte);
-        }
+        self.take_each(bytes);
     }
 
-    /// Takes the rest of a line, without its end, and the end. Returns whether the line is empty,
-    /// and so ends a head. (Not inlined, since it is for few lines.)
+    /// Takes a line byte by byte, or what there is of it. Returns how many bytes that is, and
+    /// whether it is empty, and so ends a head. (Not inlined, since it is for few lines.)
     #[inline(never)]
-    fn take_rest(&mut self, bytes: &[u8]) -> bool {
-        self.take_bytes(bytes);
-        self.take_end()
+    fn take_slowly(&mut self, bytes: &[u8]) -> (usize, bool)
+        ensures bound { result.0 ≤ length bytes.now }
+        ensures some { 0 < length bytes.now → 0 < result.0 }
+    {
+        match memchr(b'\n', bytes) {
+            Some(end) => {
+                self.take_bytes(&bytes[..end]);
+                (end + 1, self.take_end())
+            }
+            None => {
+                self.take_bytes(bytes);
+                (bytes.len(), false)
+            }
+        }
     }
 
-    /// Does the same. The first byte of most lines says that they are not empty and do not declare
-    /// a length: nothing else of them is looked at.
-    fn take_line(&mut self, bytes: &[u8]) -> bool {
-        if !matches!(self.line, Line::Name(0)) {
-            return self.take_rest(bytes);
+    /// Takes the rest of a line of which a part was taken before, if there is one. Returns how many
+    /// bytes that is. (Since the line has begun, it is not empty.)
+    fn take_begun(&mut self, bytes: &[u8]) -> usize
+        ensures { result ≤ length bytes.now }
+    {
+        if matches!(self.line, Line::Name(0)) {
+            return 0;
         }
-        match bytes {
-            [] | [b'\r'] => self.take_end(),
-            [b'c' | b'C' | b'\r', ..] => self.take_rest(bytes),
-            _ => {
+        let (count, _) = self.take_slowly(bytes);
+        count
+    }
+
+    /// Takes a line that is not empty and does not declare a length, or what there is of it.
+    /// Returns the place after it.
+    fn take_other(&mut self, bytes: &[u8], at: usize) -> usize
+        requires { at < length bytes.now }
+        ensures bound { result ≤ length bytes.now }
+        ensures some { at < result }
+    {
+        match near_end(&bytes[at..]) {
+            Some(count) => {
                 self.is_empty = true;
-                false
+                at + count + 1
             }
+            None => {
+                self.take_bytes(&bytes[at..]);
+                bytes.len()
+            }
+        }
+    }
+
+    /// Takes the rest of a line from the place after the name of a declared length, or what there
+    /// is of it. Returns the place after it.
+    fn take_length(&mut self, bytes: &[u8], from: usize) -> usize
+        requires { from ≤ length bytes.now }
+        ensures bound { result ≤ length bytes.now }
+        ensures some { from ≤ result }
+    {
+        let mut length = self.length;
+        let mut at = from;
+        while at < bytes.len() {
+            let byte = bytes[at];
+            at += 1;
+            if byte.is_ascii_digit() {
+                length = with_digit(length, byte);
+            } else if byte == b'\n' {
+                self.length = length;
+                self.is_empty = true;
+                return at;
+            }
+        }
+        self.length = length;
+        self.is_empty = false;
+        self.line = Line::Length;
+        at
+    }
+
+    /// Takes the line at a place, or what there is of it. Returns the place after it, and whether
+    /// it is empty, and so ends a head.
+    fn take_line(&mut self, bytes: &[u8], at: usize) -> (usize, bool)
+        requires { at < length bytes.now }
+        ensures bound { result.0 ≤ length bytes.now }
+        ensures some { at < result.0 }
+    {
+        match bytes[at] {
+            b'\n' => (at + 1, self.take_end()),
+            b'\r' if at + 1 < bytes.len() && bytes[at + 1] == b'\n' => (at + 2, self.take_end()),
+            b'\r' => {
+                let (count, is_head_end) = self.take_slowly(&bytes[at..]);
+                (at + count, is_head_end)
+            }
+            b'c' | b'C' if is_name_at(bytes, at) => {
+                (self.take_length(bytes, at + NAME.len()), false)
+            }
+            _ => (self.take_other(bytes, at), false),
         }
     }
 
@@ -153,16 +257,15 @@ impl Input {
         ensures bound { result ≤ length bytes.now }
         ensures some { 0 < length bytes.now → 0 < result }
     {
-        let mut part = 0;
-        for end in memchr_iter(b'\n', bytes) {
-            let is_head_end = self.take_line(&bytes[part..end]);
-            part = end + 1;
+        let mut part = self.take_begun(bytes);
+        while part < bytes.len() {
+            let (next, is_head_end) = self.take_line(bytes, part);
+            part = next;
             if is_head_end {
                 return part;
             }
         }
-        self.take_bytes(&bytes[part..]);
-        bytes.len()
+        part
     }
 
     /// Returns how many of these bytes belong to the present body.
