@@ -30,6 +30,7 @@ insert_first (e ∷ m) name value h =
 -- a set's template with values has the fields of the set's headers with these values
 pub fields_filled : (of : HeaderSet) (values : List FieldValue)
     → filled (fields (template of)) (varying of) values ≡ fields (listed of values)
+fields_filled set.Empty values = refl
 fields_filled set.Json values = refl
 fields_filled set.Text values = refl
 fields_filled set.Delivery [] = refl

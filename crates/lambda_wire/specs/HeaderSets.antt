@@ -12,6 +12,7 @@ blank name = header name []
 
 -- The headers of a set, in the order in which they are written.
 abbrev pub template : HeaderSet → List (List ℕ × FieldValue)
+template set.Empty = []
 template set.Json = json_headers
 template set.Text = header (codes "content-type") (codes "text/plain") ∷ []
 template set.Delivery = json_headers
@@ -36,6 +37,7 @@ template set.Methods = json_headers ++ blank (codes "allow") ∷ []
 -- The names whose values differ from reply to reply, in the order in which the values are given. If fewer values are
 -- given, the other headers stay as the template has them.
 abbrev pub varying : HeaderSet → List (List ℕ)
+varying set.Empty = []
 varying set.Json = []
 varying set.Text = []
 varying set.Delivery = codes "lambda-runtime-aws-request-id"

@@ -70,6 +70,17 @@ fn fill(
 }
 
 impl Template {
+    /// Has no headers.
+    fn empty(alloc: Global) -> Template
+        ensures map { result.map ≡ [] }
+        ensures names { result.names.items ≡ [] }
+    {
+        Template {
+            map: HeaderMap::new(alloc),
+            names: Vec::new(alloc),
+        }
+    }
+
     /// Begins with `Content-Type`.
     fn of_type(alloc: Global, media_type: &'static str) -> Result<Template, AllocError>
         requires { IsTrue (is_visible_text media_type.now) }
@@ -146,12 +157,14 @@ fn outcome(json: Template) -> Result<Template, AllocError>
 fn template_of(alloc: Global, set: HeaderSet) -> Result<Template, AllocError>
     ensures { IfOk result (IsTemplate set) }
 {
-    if let HeaderSet::Text = set {
-        return Template::of_type(alloc, "text/plain");
+    match set {
+        HeaderSet::Empty => return Ok(Template::empty(alloc)),
+        HeaderSet::Text => return Template::of_type(alloc, "text/plain"),
+        _ => {}
     }
     let json = Template::of_type(alloc, "application/json")?;
     match set {
-        HeaderSet::Json | HeaderSet::Text => Ok(json),
+        HeaderSet::Empty | HeaderSet::Json | HeaderSet::Text => Ok(json),
         HeaderSet::Delivery => delivery(json),
         HeaderSet::Event => json.varying("lambda-extension-event-identifier", ""),
         HeaderSet::Registration => json.varying("lambda-extension-identifier", ""),
@@ -205,7 +218,8 @@ impl HeaderMaps {
             HeaderSet::Event => self.event.copy_with(values),
             HeaderSet::Outcome => self.outcome.copy_with(values),
             HeaderSet::Failure => self.failure.copy_with(values),
-            HeaderSet::Text
+            HeaderSet::Empty
+            | HeaderSet::Text
             | HeaderSet::Registration
             | HeaderSet::Refusal
             | HeaderSet::RequestRefusal

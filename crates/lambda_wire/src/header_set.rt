@@ -1,8 +1,10 @@
 //! The headers of replies, as sets of names. Most of a set's values are the same in each reply.
 
-/// Which headers a reply has. Each set begins with `Content-Type`.
+/// Which headers a reply has. Each set but the empty one begins with `Content-Type`.
 #[derive(Clone, Copy)]
 pub(crate) enum HeaderSet {
+    /// None, as a reply without a body has.
+    Empty,
     /// Those of every reply with a body of JSON.
     Json,
     /// Those of a text.

@@ -71,6 +71,16 @@ fn with_one(alloc: Global, set: HeaderSet, value: HeaderValue) -> Result<Headers
     Ok(Headers { set, values })
 }
 
+/// No headers, as a reply without a body has.
+pub fn no_headers(alloc: Global) -> Headers
+    ensures { result ≡ [] }
+{
+    Headers {
+        set: HeaderSet::Empty,
+        values: Vec::new(alloc),
+    }
+}
+
 /// The headers of every reply with a body: `Content-Type: application/json`.
 ///
 /// The only error of this and the other functions is lack of memory.

@@ -26,7 +26,7 @@ pub use fault::WireFault;
 pub use header_map::HeaderMaps;
 pub use header_writer::{
     Headers, NO_TRACE, error_headers, event_headers, invoke_headers, json_headers, method_headers,
-    next_headers, registered_headers, text_headers,
+    next_headers, no_headers, registered_headers, text_headers,
 };
 pub use payload_scratch::PayloadScratch;
 pub use reply::{Reply, fault_reply, invoke_fault_reply};

@@ -9,12 +9,12 @@ use crate::Gist;
 use crate::calls::shared_body;
 use crate::functions::timeout_s;
 use crate::words::request_text;
-use arn_ids::{Checked, Row};
+use arn_ids::Checked;
 use bytes::Bytes;
 use call_model::{Call, Throttle};
 use lambda_wire::{
-    InvokeFault, Reply, error_headers, invoke_headers, json_headers, status_body, write_fault,
-    write_invoke_fault, write_reservation, write_throttle,
+    InvokeFault, Reply, error_headers, invoke_headers, json_headers, no_headers, status_body,
+    write_fault, write_invoke_fault, write_reservation, write_throttle,
 };
 use std::alloc::{AllocError, Global};
 use uuid::Uuid;
@@ -176,7 +176,7 @@ pub(crate) fn unreserved(alloc: Global) -> Reply
 {
     Reply {
         status: 204,
-        headers: Row::new(Vec::new(alloc)),
+        headers: no_headers(alloc),
         body: Bytes::new(),
     }
 }
