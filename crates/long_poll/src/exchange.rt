@@ -107,7 +107,7 @@ where
         ensures connection { self.new.connection ≡ self.old.connection }
     {
         match mem::replace(&mut self.stage, Stage::Submitting) {
-            Stage::Holding(held) => self.connection.submit_held(*held),
+            Stage::Holding(held) => self.connection.submit_held(Box::into_inner(held)),
             _ => unreachable!(),
         }
     }
