@@ -23,6 +23,11 @@ pub(crate) struct Common<S: Identity, N> {
     pub(crate) is_over: Arc<AtomicBool>,
 }
 
+/// Makes the maps of the headers that most replies have. It fails only if an allocation fails.
+fn header_maps(alloc: Global) -> Result<Arc<HeaderMaps>, AllocError> {
+    Arc::new(alloc, HeaderMaps::open(alloc)?).map_err(AllocError::from)
+}
+
 impl<S: Identity + Drop, N: Drop> Common<S, N> {
     /// Makes it for this account, this clock and these hosts; the service is not over. It fails
     /// only if an allocation fails; the arguments are then dropped.
@@ -37,7 +42,7 @@ impl<S: Identity + Drop, N: Drop> Common<S, N> {
         let account = Arc::new(alloc, account).map_err(AllocError::from)?;
         let clock = Arc::new(alloc, clock).map_err(AllocError::from)?;
         let hosts = Arc::new(alloc, hosts).map_err(AllocError::from)?;
-        let maps = Arc::new(alloc, HeaderMaps::open(alloc)?).map_err(AllocError::from)?;
+        let maps = header_maps(alloc)?;
         let is_over = Arc::new(alloc, AtomicBool::new(false)).map_err(AllocError::from)?;
         Ok(Common {
             account,
