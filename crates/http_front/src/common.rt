@@ -23,9 +23,14 @@ pub(crate) struct Common<S: Identity, N> {
     pub(crate) is_over: Arc<AtomicBool>,
 }
 
-/// Makes the maps of the headers that most replies have. It fails only if an allocation fails.
-fn header_maps(alloc: Global) -> Result<Arc<HeaderMaps>, AllocError> {
-    Arc::new(alloc, HeaderMaps::open(alloc)?).map_err(AllocError::from)
+/// Shares a value. It fails only if an allocation fails; the value is then dropped.
+fn shared<T: Drop>(alloc: Global, value: T) -> Result<Arc<T>, AllocError>
+    ensures { IfOk result (λ it. arc_value it ≡ value) }
+{
+    match Arc::new(alloc, value) {
+        Ok(it) => Ok(it),
+        Err(_refused) => Err(AllocError),
+    }
 }
 
 impl<S: Identity + Drop, N: Drop> Common<S, N> {
@@ -39,11 +44,11 @@ impl<S: Identity + Drop, N: Drop> Common<S, N> {
     ) -> Result<Common<S, N>, AllocError>
         ensures { IfOk result (λ common. (arc_value common.account ≡ account) × (arc_value common.hosts ≡ hosts)) }
     {
-        let account = Arc::new(alloc, account).map_err(AllocError::from)?;
-        let clock = Arc::new(alloc, clock).map_err(AllocError::from)?;
-        let hosts = Arc::new(alloc, hosts).map_err(AllocError::from)?;
-        let maps = header_maps(alloc)?;
-        let is_over = Arc::new(alloc, AtomicBool::new(false)).map_err(AllocError::from)?;
+        let account = shared(alloc, account)?;
+        let clock = shared(alloc, clock)?;
+        let hosts = shared(alloc, hosts)?;
+        let maps = shared(alloc, HeaderMaps::open(alloc)?)?;
+        let is_over = shared(alloc, AtomicBool::new(false))?;
         Ok(Common {
             account,
             clock,
