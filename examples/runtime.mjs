@@ -9,7 +9,8 @@
 //
 // A handler is async, or calls back. What it throws is printed, and reported with its trace. An Init that fails is
 // reported too, and ends the runtime with status 1. It ends with 0 once its environment shuts down: start it again
-// then, as Lambda does.
+// then, as Lambda does. What the console gets is printed in Lambda's form: AWS_LAMBDA_LOG_FORMAT is Text or JSON, and
+// AWS_LAMBDA_LOG_LEVEL the lowest level that is printed.
 import { spawnSync } from "node:child_process";
 import fs from "node:fs";
 import http from "node:http";
@@ -73,7 +74,54 @@ async function post(kind, id, body, headers) {
   const { status, text } = await ask("POST", `invocation/${id}/${kind}`, body, headers);
   if (status === 500) process.exit(0); // the container error, as for a Next
   // 413, too large, or 403, too late: the environment goes on with the next invocation.
-  if (status !== 202) console.error(`runtime.mjs: the ${kind} to ${id} is refused: ${status} ${text}`);
+  if (status !== 202) tell(`runtime.mjs: the ${kind} to ${id} is refused: ${status} ${text}`);
+}
+
+// --- the log ---
+
+const LEVELS = ["TRACE", "DEBUG", "INFO", "WARN", "ERROR", "FATAL"];
+const LEVEL_OF = {
+  trace: "TRACE", debug: "DEBUG", log: "INFO", info: "INFO", warn: "WARN", error: "ERROR", fatal: "FATAL",
+};
+const LOGS_JSON = variable("AWS_LAMBDA_LOG_FORMAT", "").toUpperCase() === "JSON";
+// (with JSON, Lambda's default is INFO; an unknown level is none)
+const LOWEST = LEVELS.indexOf(variable("AWS_LAMBDA_LOG_LEVEL", LOGS_JSON ? "INFO" : "").toUpperCase());
+let requestId; // of the invocation that is being handled; before the first one, as Lambda has it, "undefined"
+
+function errorMembers(fault) {
+  const errorType = fault.constructor?.name ?? "UnknownError";
+  return { errorType, errorMessage: fault.message, stackTrace: String(fault.stack ?? "").split("\n") };
+}
+
+// Lambda's JSON of a line: one value stays a value, several are formatted, and the first error among them is told.
+function asJSON(level, values) {
+  const line = { timestamp: new Date().toISOString(), level, requestId };
+  if (values.length === 1) {
+    const withErrors = (_, value) => (value instanceof Error ? { ...errorMembers(value), ...value } : value);
+    try {
+      return JSON.stringify({ ...line, message: values[0] }, withErrors);
+    } catch {
+      return JSON.stringify({ ...line, message: util.format(values[0]) });
+    }
+  }
+  const fault = values.find((value) => value instanceof Error);
+  return JSON.stringify({ ...line, message: util.format(...values), ...(fault ? errorMembers(fault) : {}) });
+}
+
+// Before the handler's module is loaded.
+function patchConsole() {
+  for (const [name, level] of Object.entries(LEVEL_OF)) {
+    console[name] = (...values) => {
+      if (LEVELS.indexOf(level) < LOWEST) return;
+      const text = () => `${new Date().toISOString()}\t${requestId}\t${level}\t${util.format(...values)}`;
+      process.stdout.write(`${LOGS_JSON ? asJSON(level, values) : text()}\n`);
+    };
+  }
+}
+
+// What this program says itself.
+function tell(text) {
+  process.stderr.write(`${text}\n`);
 }
 
 // --- what went wrong ---
@@ -100,7 +148,8 @@ function printTrace(fault) {
     Reflect.set(each, "stack", (own < 0 ? lines : lines.slice(0, own)).join("\n"));
     each = each.cause;
   }
-  console.error(fault instanceof RuntimeFault ? fault.stack : fault);
+  if (LOGS_JSON) console.error(fault);
+  else tell(fault instanceof RuntimeFault ? fault.stack : util.format(fault));
 }
 
 // --- the handler ---
@@ -114,7 +163,7 @@ function isOfTypeModule(folder) {
   try {
     return JSON.parse(fs.readFileSync(file))?.type === "module";
   } catch (fault) {
-    console.error(`runtime.mjs: ${file} is not read, and .js counts as CommonJS: ${fault.message}`);
+    tell(`runtime.mjs: ${file} is not read, and .js counts as CommonJS: ${fault.message}`);
     return false;
   }
 }
@@ -224,6 +273,7 @@ function textOf(output) {
 
 async function invoke(handler, text, headers) {
   const id = headers["lambda-runtime-aws-request-id"];
+  requestId = id;
   let [kind, body, type, waits] = ["response", "", {}, false];
   const fail = (fault) => {
     printTrace(fault);
@@ -271,7 +321,7 @@ async function failInit(fault) {
 function tellUnreachable(fault) {
   if (hasAnswered) return process.exit(0); // the service has stopped
   const advice = "start the service first, and name its environment's port";
-  console.error(`runtime.mjs: no Runtime API at ${ADDRESS}: ${fault.message}: ${advice}`);
+  tell(`runtime.mjs: no Runtime API at ${ADDRESS}: ${fault.message}: ${advice}`);
   process.exit(1);
 }
 
@@ -285,6 +335,7 @@ function tellUsage(status) {
 if (words.includes("-h") || words.includes("--help")) tellUsage(0);
 if (words.length > 2 || (words.length === 2 && isAddress(words[0]) === isAddress(words[1]))) tellUsage(2);
 process.env.AWS_EXECUTION_ENV ||= `AWS_Lambda_nodejs${process.versions.node.split(".")[0]}.x`;
+patchConsole();
 const handler = HANDLER ? await load(HANDLER).catch(failInit) : greet;
 await serve(handler).catch(tellUnreachable);
 process.exit(0);

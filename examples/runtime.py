@@ -7,11 +7,14 @@ usage: examples/runtime.py [HANDLER] [ADDRESS]
   ADDRESS  the environment's, such as 127.0.0.1:9001 (default: AWS_LAMBDA_RUNTIME_API, else this one)
 
 What a handler raises is printed, and reported with its stack. An Init that fails is reported too, and ends the runtime
-with status 1. It ends with 0 once its environment shuts down: start it again then, as Lambda does."""
+with status 1. It ends with 0 once its environment shuts down: start it again then, as Lambda does. What the module
+`logging` gets is printed in Lambda's form: AWS_LAMBDA_LOG_FORMAT is Text or JSON, and AWS_LAMBDA_LOG_LEVEL is the level
+of the root logger."""
 import decimal
 import http.client
 import inspect
 import json
+import logging
 import os
 import re
 import sys
@@ -32,10 +35,11 @@ class RuntimeFault(Exception):
 
 
 class Environment:
-    """The Runtime API of one environment, over a connection that is kept."""
+    """The Runtime API of one environment, over a connection that is kept; `request` is the identifier of the invocation
+    that is being handled."""
 
     def __init__(self, address):
-        self.connection, self.has_answered = http.client.HTTPConnection(address), False
+        self.connection, self.has_answered, self.request = http.client.HTTPConnection(address), False, ""
 
     def ask(self, method, path, body=None, headers={}):
         for is_last in (False, True):
@@ -80,6 +84,77 @@ class Context:
     def log(self, text):
         sys.stdout.write(str(text))
 
+
+# ---- the log ---------------------------------------------------------------------------------------------------------
+
+TEXT_FORM = "[%(levelname)s]\t%(asctime)s.%(msecs)03dZ\t%(aws_request_id)s\t%(message)s"
+# What each record has: in JSON only what a call of the logger adds (`extra`) is a member beside those of Lambda.
+RECORD_MEMBERS = {*vars(logging.makeLogRecord({})), "aws_request_id", "message", "asctime", "taskName"}
+
+
+class JsonForm(logging.Formatter):
+    """Lambda's JSON of a record (Developer Guide, "Using structured JSON logs with Python")."""
+
+    def format(self, record):
+        raised, fault, trace = record.exc_info or (None, None, None)
+        told = {"timestamp": timestamp(record.created), "level": record.levelname, "message": record.getMessage(),
+                "logger": record.name,
+                "stackTrace": traceback.format_tb(trace) if trace else None,
+                "errorType": raised.__name__ if raised else None, "errorMessage": str(fault) if fault else None,
+                "requestId": record.aws_request_id or None,
+                "location": f"{record.pathname}:{record.funcName}:{record.lineno}" if raised else None}
+        told.update((name, value) for name, value in vars(record).items()
+                    if name not in RECORD_MEMBERS and name not in told)
+        return json.dumps({name: value for name, value in told.items() if value is not None}, default=str)
+
+
+class LogHandler(logging.Handler):
+    """The root logger's handler, as Lambda's runtime installs it: it prints to standard output, with the identifier of
+    the invocation. `request` returns that identifier, empty if there is none."""
+
+    def __init__(self, request, as_json=False):
+        super().__init__()
+        self.request = request
+        form = JsonForm() if as_json else logging.Formatter(TEXT_FORM, "%Y-%m-%dT%H:%M:%S")
+        form.converter = time.gmtime
+        self.setFormatter(form)
+        self.addFilter(self.identify)
+
+    def identify(self, record):
+        record.aws_request_id = self.request()
+        return True
+
+    def emit(self, record):
+        try:
+            sys.stdout.write(self.format(record) + "\n")
+        except Exception:
+            self.handleError(record)
+
+
+def timestamp(seconds):
+    return time.strftime("%Y-%m-%dT%H:%M:%SZ", time.gmtime(seconds))
+
+
+def logs_json():
+    return os.environ.get("AWS_LAMBDA_LOG_FORMAT", "").upper() == "JSON"
+
+
+def log_level():
+    """The level that the root logger gets; none if it keeps its own, WARNING. (With JSON, Lambda's default is INFO.)"""
+    name = os.environ.get("AWS_LAMBDA_LOG_LEVEL", "").upper() or ("INFO" if logs_json() else "")
+    level = logging.getLevelName({"TRACE": "DEBUG"}.get(name, name))
+    return level if isinstance(level, int) else None
+
+
+def set_up_logging(request):
+    """Before the handler's module is imported: so logging.basicConfig changes nothing there, as on Lambda."""
+    logger = logging.getLogger()
+    logger.addHandler(LogHandler(request, logs_json()))
+    if log_level() is not None:
+        logger.setLevel(log_level())
+
+
+# ---- the handler -----------------------------------------------------------------------------------------------------
 
 def greet(event, context):
     return {"greeting": f"Hello, {event.get('name', 'world')}!"}
@@ -128,7 +203,10 @@ def user_stack(fault):
     return frame
 
 
-def print_trace(fault):
+def print_trace(fault, report):
+    if logs_json():
+        print(json.dumps({"timestamp": timestamp(time.time()), "log_level": "ERROR", **report}), flush=True)
+        return
     cause = fault.__cause__ if isinstance(fault, RuntimeFault) else fault
     lines = traceback.format_exception(type(cause), cause, user_stack(cause)) if cause else []
     if isinstance(fault, RuntimeFault):
@@ -178,8 +256,8 @@ def outcome(handler, payload, headers):
     try:
         return "response", text_of(handler(read(payload), Context(headers))), {}
     except Exception as fault:
-        print_trace(fault)
         report = report_of(fault, headers["Lambda-Runtime-Aws-Request-Id"])
+        print_trace(fault, report)
         return "error", json.dumps(report), type_header(report)
 
 
@@ -196,6 +274,7 @@ def serve(environment, handler):
         os.environ.pop("_X_AMZN_TRACE_ID", None)
         if trace:
             os.environ["_X_AMZN_TRACE_ID"] = trace
+        environment.request = request
         kind, body, headers = outcome(handler, payload, headers)
         status, _, refusal = environment.ask("POST", f"invocation/{request}/{kind}", body, headers)
         if status == 500:  # the container error, as for a Next
@@ -209,11 +288,12 @@ def init(environment, name):
     """The handler; none if there is a fault in its module, which is reported."""
     sys.path[0] = os.environ.get("LAMBDA_TASK_ROOT") or os.getcwd()  # in place of this program's folder
     os.environ.setdefault("AWS_EXECUTION_ENV", "AWS_Lambda_python{}.{}".format(*sys.version_info))
+    set_up_logging(lambda: environment.request)
     try:
         return with_context(load(name) if name else greet)
     except Exception as fault:
-        print_trace(fault)
         report = report_of(fault)
+        print_trace(fault, report)
         environment.ask("POST", "init/error", json.dumps(report), type_header(report))
         return None
 

@@ -209,7 +209,9 @@ def wrong_uses():
             ({"timeuot": 5}, fails, "function f: unknown member timeuot, did you mean timeout?"),
             ({"zzz": 5}, fails,
              "function f: unknown member zzz; there are environments, extensions, handler, memory, ports, reserved, "
-             "timeout"),
+             "timeout, variables"),
+            ({"variables": ["A"]}, fails,
+             'function f: variables must be an object of texts, numbers, true or false, not ["A"]'),
             ({"environments": "2"}, fails, "function f: environments must be a whole number from 1 to 256, not \"2\""),
             ({"environments": 0}, fails, "function f: environments must be a whole number from 1 to 256, not 0"),
             ({"environments": 2, "ports": [0, 0]}, fails,
@@ -270,16 +272,22 @@ def folder_of(module, python):
         return ""
 
 
-def pytest_over(python, folder):
-    """The status and the output of pytest over the tests, and of how many it says what."""
-    # (boto3 is lent to a Python that has none, by this one)
-    lent = folder_of("boto3", sys.executable)
-    lent = [lent] if lent and not folder_of("boto3", python) else []
+def python_with_pytest():
+    """Returns a Python that has pytest; none if there is none."""
+    return next((python for python in (sys.executable, "/usr/bin/python3") if folder_of("pytest", python)), None)
+
+
+def pytest_over(python, folder, tests=TESTS, lent=None, **environ):
+    """The status and the output of pytest over the tests, and of how many it says what; the folder of a boto3 may be
+    lent."""
+    if lent is None:  # (to a Python that has none, by this one)
+        lent = folder_of("boto3", sys.executable)
+        lent = [lent] if lent and not folder_of("boto3", python) else []
     with open(os.path.join(folder, "test_user.py"), "w") as file:
-        file.write(TESTS)
+        file.write(tests)
     done = subprocess.run([python, "-m", "pytest", "-p", "lambda_local.pytest_plugin", "-p", "pytest_lambda_local",
                            "-p", "no:cacheprovider", "-rs", "--basetemp", os.path.join(folder, "kept"), folder],
-                          cwd=folder, env={**os.environ, "PYTHONPATH": os.pathsep.join([TOOLS, *lent])},
+                          cwd=folder, env={**os.environ, "PYTHONPATH": os.pathsep.join([TOOLS, *lent]), **environ},
                           stdin=subprocess.DEVNULL,
                           stdout=subprocess.PIPE, stderr=subprocess.STDOUT, text=True, timeout=300)
     counts = {word: int(number)
@@ -288,7 +296,7 @@ def pytest_over(python, folder):
 
 
 def under_pytest():
-    python = next((python for python in (sys.executable, "/usr/bin/python3") if folder_of("pytest", python)), None)
+    python = python_with_pytest()
     if python is None:
         return print("skip no Python here has pytest")
     with tempfile.TemporaryDirectory() as folder:

@@ -257,6 +257,63 @@ def python_inits():
             check(what + ": one report, and a caller is told", running.service.history().count("init-failure"), 1)
 
 
+# Its standard error is closed: what is printed goes to standard output, as Lambda's own does.
+PYTHON_LOG = '''import logging, os, sys
+sys.stderr = open(os.devnull, "w")
+logging.warning("at the import")
+logging.basicConfig(level=logging.DEBUG, format="changes nothing: %(message)s")
+logger = logging.getLogger()
+if os.environ.get("SET"):
+    logger.setLevel(os.environ["SET"])
+
+def handler(event, context):
+    logger.debug("debugged")
+    logger.info("order %s accepted", event["order"])
+    logging.getLogger("shop").warning("few are left", extra={"left": 3})
+    try:
+        {}["missing"]
+    except KeyError:
+        logger.exception("no price")
+    return context.aws_request_id
+'''
+TIME = r"\d{4}-\d\d-\d\dT\d\d:\d\d:\d\d"
+TRACEBACK = (r"Traceback \(most recent call last\):\n  File \"\S+app\.py\", line 14, in handler\n    \{\}\[\"missing\"\]\n"
+             r"(?:\s+[~^]+\n)?KeyError: 'missing'\n")
+
+
+def python_log():
+    """The lines of the module logging, as awslambdaric prints them."""
+    for name, variables, shown in (("without a level", {}, ()), ("at the level of the code", {"SET": "INFO"}, ("INFO",)),
+                                   ("AWS_LAMBDA_LOG_LEVEL", {"AWS_LAMBDA_LOG_LEVEL": "TRACE"}, ("DEBUG", "INFO")),
+                                   ("an unknown level", {"AWS_LAMBDA_LOG_LEVEL": "LOUD"}, ())):
+        with Running([*PYTHON, "app.handler"], {"app.py": PYTHON_LOG}, **variables) as running:
+            request = running.invoke({"order": 7})[1]
+            begun = lambda level: rf"\[{level}\]\t{TIME}\.\d\d\dZ\t{request}\t"  # noqa: E731
+            lines = {"DEBUG": begun("DEBUG") + "debugged\n", "INFO": begun("INFO") + "order 7 accepted\n"}
+            wanted = (rf"\[WARNING\]\t{TIME}\.\d\d\dZ\t\tat the import\n"
+                      + "".join(lines[level] for level in ("DEBUG", "INFO") if level in shown)
+                      + begun("WARNING") + "few are left\n" + begun("ERROR") + "no price\n" + TRACEBACK)
+            check(f"Python: logging, {name}", running.output() if not re.fullmatch(wanted, running.output()) else True)
+    with Running([*PYTHON, "app.handler"], {"app.py": PYTHON_LOG}, AWS_LAMBDA_LOG_FORMAT="JSON") as running:
+        request = running.invoke({"order": 7})[1]
+        lines = [json.loads(line) for line in running.output().splitlines()]
+        stack, location = lines[-1].pop("stackTrace"), lines[-1].pop("location")
+        check("Python: logging as JSON, each with its moment",
+              [bool(re.fullmatch(TIME + "Z", line.pop("timestamp"))) for line in lines], 4 * [True])
+        check("Python: logging as JSON", lines, [
+            {"level": "WARNING", "message": "at the import", "logger": "root"},
+            {"level": "INFO", "message": "order 7 accepted", "logger": "root", "requestId": request},
+            {"level": "WARNING", "message": "few are left", "logger": "shop", "requestId": request, "left": 3},
+            {"level": "ERROR", "message": "no price", "logger": "root", "requestId": request, "errorType": "KeyError",
+             "errorMessage": "'missing'"}])
+        check("Python: and where an exception is from", (len(stack), location.endswith("app.py:handler:16")), (1, True))
+    with Running([*PYTHON, "app.handler"], {"app.py": PYTHON_APP}, AWS_LAMBDA_LOG_FORMAT="JSON") as running:
+        told = running.invoke({"do": "key"})[1]
+        line = json.loads(running.output())
+        line.pop("timestamp")
+        check("Python: an error as JSON has its report", line, {"log_level": "ERROR", **told})
+
+
 def late(name, command, files):
     """A response that comes after the timeout is refused with 403; the same process serves on."""
     with Running(command, files, timeout=1) as running:
@@ -534,6 +591,50 @@ def node_inits():
                 check(what + ": its place", bool(re.search(r"/app\.m?js:2\n  return { a: ;\n +\^", printed)) or printed)
 
 
+NODE_LOG = """
+process.stderr.write = () => true;
+console.log("at the load");
+EXPORT handler = async (event, context) => {
+  console.debug("debugged");
+  console.log("order %d accepted", event.order, { left: 3 });
+  console.warn("two\\nlines");
+  console.error(new RangeError("no price"));
+  return context.awsRequestId;
+};
+"""
+
+
+def node_log():
+    """The lines of the console, as Lambda's Node runtime prints them (LogPatch.js of its interface client)."""
+    for kind, app in (("app.mjs", NODE_LOG.replace("EXPORT handler", "export const handler")),
+                      ("app.cjs", NODE_LOG.replace("EXPORT handler", "exports.handler"))):
+        for level, shown in (("", "DEBUG INFO"), ("INFO", "INFO"), ("WARN", "")):
+            with Running([*NODE, "app.handler"], {kind: app}, AWS_LAMBDA_LOG_LEVEL=level) as running:
+                request = running.invoke({"order": 7})[1]
+                line = lambda level, text, request=request: (  # noqa: E731
+                    rf"{TIME}\.\d\d\dZ\t{request}\t{level}\t{text}\n")
+                wanted = ((line("INFO", "at the load", "undefined") if "INFO" in shown else "")
+                          + (line("DEBUG", "debugged") if "DEBUG" in shown else "")
+                          + (line("INFO", r"order 7 accepted \{ left: 3 \}") if "INFO" in shown else "")
+                          + line("WARN", "two\nlines") + line("ERROR", r"RangeError: no price\n( +at .*\n)+ +at .*"))
+                check(f"Node: the console of {kind}, level {level or 'none'}",
+                      True if re.fullmatch(wanted, running.output()) else running.output())
+        with Running([*NODE, "app.handler"], {kind: app}, AWS_LAMBDA_LOG_FORMAT="JSON") as running:
+            request = running.invoke({"order": 7})[1]
+            lines = [json.loads(line) for line in running.output().splitlines()]
+            fault = lines[-1].pop("message")
+            check(f"Node: the console of {kind} as JSON, each with its moment",
+                  [bool(re.fullmatch(TIME + r"\.\d\d\dZ", line.pop("timestamp"))) for line in lines], 4 * [True])
+            check(f"Node: the console of {kind} as JSON", lines, [
+                {"level": "INFO", "message": "at the load"},
+                {"level": "INFO", "requestId": request, "message": "order 7 accepted { left: 3 }"},
+                {"level": "WARN", "requestId": request, "message": "two\nlines"},
+                {"level": "ERROR", "requestId": request}])
+            check(f"Node: an error of {kind} as JSON",
+                  (fault["errorType"], fault["errorMessage"], fault["stackTrace"][0]),
+                  ("RangeError", "no price", "RangeError: no price"))
+
+
 def node_edges():
     late("Node", [*NODE, "app.handler"], {"app.mjs": NODE_MODULE})
     ends("Node", NODE, {})
@@ -543,7 +644,7 @@ def node_edges():
 def node():
     if not shutil.which("node"):
         return print("skip Node is not here")
-    for part in (node_errors, node_context, node_handlers, node_callbacks, node_inits, node_edges):
+    for part in (node_errors, node_context, node_handlers, node_callbacks, node_inits, node_log, node_edges):
         part()
 
 
@@ -607,4 +708,4 @@ def shell():
 
 
 if __name__ == "__main__":
-    sys.exit(counted.run(python_errors, python_context, python_handlers, python_inits, python_edges, node, go, shell))
+    sys.exit(counted.run(python_errors, python_context, python_handlers, python_inits, python_log, python_edges, node, go, shell))

@@ -122,7 +122,7 @@ def credentials():
               ("us-west-2", "us-west-2"))
         check(f"{who} is led here",
               ("127.0.0.1" in values["AWS_ENDPOINT_URL_LAMBDA"], values.get("AWS_IGNORE_CONFIGURED_ENDPOINT_URLS")),
-              (True, None))
+              (True, "false"))
     check("true, numbers and texts are variables as in JSON", [seen[1].get(name) for name in "TNX"],
           ["true", "1.5", "x"])
     for who, values in zip(("the command", "the function"), variables_of(["--keep-credentials"], real)):

@@ -5,7 +5,8 @@
 
 A function has one environment, or as many as its member `environments` says: its handler then runs in as many threads.
 A handler takes the event, or the event and its context, as Lambda calls it; `context.headers` are those of the
-invocation. The process's environment variables stay as they are."""
+invocation. Until the end, the process has the variables of a function, dummy credentials and the service's address: a
+client of Lambda calls the service, and no client of boto3 reaches AWS. `keep_credentials=True` lets them."""
 import functools
 import http.client
 import inspect
@@ -22,13 +23,18 @@ import urllib.request
 
 from .configuration import OF_FUNCTION, Kind, is_whole, mistakes_of
 from .paths import ROOT
+from .sandbox import Sandbox
 from .service import RUNTIME, Service, program_path
+from .variables import OF_FUNCTION as VARIABLES
+from .variables import of_function, text_of
 
-OWN = {"environments": Kind(lambda value: is_whole(value, 257) and value > 0, "a whole number from 1 to 256"),
+OWN = {"variables": VARIABLES,
+       "environments": Kind(lambda value: is_whole(value, 257) and value > 0, "a whole number from 1 to 256"),
        "memory": Kind(lambda value: is_whole(value, 1 << 32), "a whole number of MB")}
 MEMBERS = {**{name: kind for name, kind in OF_FUNCTION.items() if name != "name"}, **OWN,
            "ports": Kind(lambda value: isinstance(value, list) and all(is_whole(port, 1 << 16) for port in value),
                          "a list of ports, 0 for a free one")}
+OPENER = urllib.request.build_opener(urllib.request.ProxyHandler({}))  # (the service is on this machine)
 FAULTS_KEPT = 100  # the newest of those that no invoke has asked for
 PAUSE = 0.02  # seconds, until an environment that was reset is asked again
 
@@ -67,6 +73,23 @@ def function_of(name, members, handler):
         raise ValueError(f"{where}: it has ports and environments: leave one of the two out")
     part = {member: value for member, value in members.items() if member not in OWN}
     return {"name": name, "ports": [0] * members.get("environments", 1), **part}, str(members.get("memory", 128))
+
+
+def variables_of(members):
+    """The variables of handlers that share one process: their own, and what a function alone reads about itself."""
+    found, owners = {}, {}
+    if len(members) == 1:
+        name, = members
+        found.update(of_function(name, members[name].get("memory", 128)))
+    for name, own in members.items():
+        for variable, value in own.get("variables", {}).items():
+            owner = owners.setdefault(variable, name)
+            if owner != name and found[variable] != text_of(value):
+                raise ValueError(f"function {name}: its variable {variable} is {text_of(value)!r}, and that of function "
+                                 f"{owner} is {found[variable]!r}: handlers share the variables of one process: give "
+                                 "both the same, or start each in a LambdaLocal of its own")
+            found[variable] = text_of(value)
+    return found
 
 
 def context_of(headers, memory):
@@ -140,6 +163,7 @@ class Runtime(threading.Thread):
     def outcome(self, payload, headers):
         """What an invocation comes to: "response" or "error", and the body to post."""
         request = headers["Lambda-Runtime-Aws-Request-Id"]
+        self.owner.sandbox.begin(request)
         try:
             event = json.loads(payload)
             output = self.handler(event, context_of(headers, self.memory)) if self.has_context else self.handler(event)
@@ -156,25 +180,28 @@ class Runtime(threading.Thread):
 
 
 class LambdaLocal:
-    """A service of these functions: `timeout`, `reserved`, `environments` .. of a function by `functions`."""
+    """A service of these functions: `timeout`, `reserved`, `environments`, `variables` .. of a function by `functions`.
+    `patches` is pytest's MonkeyPatch, or what makes the same changes and undoes them."""
 
-    service, endpoint_url, stopped, log = None, None, False, ""
+    service, sandbox, endpoint_url, stopped, log = None, None, None, False, ""
 
-    def __init__(self, functions=None, program=None, **handlers):
-        self.program, self.runtimes, self.faults = program, [], {}
+    def __init__(self, functions=None, program=None, patches=None, keep_credentials=False, **handlers):
+        self.program, self.patches, self.runtimes, self.faults = program, patches, [], {}
         if functions or handlers:
-            self.start(functions, **handlers)
+            self.start(functions, keep_credentials, **handlers)
 
-    def start(self, functions=None, **handlers):
+    def start(self, functions=None, keep_credentials=False, **handlers):
         if self.service:
             raise RuntimeError("it has been started: name all functions in one start(), or make another LambdaLocal()")
         members = {**dict.fromkeys(handlers, {}), **(functions or {})}
         if not members:
             raise ValueError("start() needs a function: start(NAME=handler)")
         parts = [function_of(name, member, handlers.get(name)) for name, member in members.items()]
+        variables = variables_of(members)
         configuration = {"account": "123456789012", "region": "us-east-1", "functions": [part for part, _ in parts]}
         self.service = Service(configuration, self.program or prepared(program_path()))
         self.endpoint_url = self.service.endpoint_url
+        self.sandbox = Sandbox(self.service, variables, keep_credentials, self.patches)
         for (_, memory), part in zip(parts, self.service.configuration["functions"]):
             if handler := handlers.get(part["name"]):
                 self.runtimes += [Runtime(self, port, handler, memory) for port in part["ports"]]
@@ -210,7 +237,7 @@ class LambdaLocal:
             request = urllib.request.Request(f"{self.endpoint_url}/2015-03-31/functions/{name}/invocations",
                                              json.dumps(event).encode(), method="POST")
             try:
-                with urllib.request.urlopen(request, timeout=1000) as answer:
+                with OPENER.open(request, timeout=1000) as answer:
                     body = json.loads(answer.read() or b"null")
                     if answer.headers.get("X-Amz-Function-Error"):
                         raise FunctionError(body) from self.faults.pop(answer.headers.get("x-amzn-RequestId"), None)
@@ -263,11 +290,13 @@ class LambdaLocal:
         except (OSError, http.client.HTTPException):
             self.stopped = True
             self.service.kill()
+            self.sandbox.close()
             raise AssertionError(f"the service has ended: {self.service.lines[-1:]}") from None
         self.stopped = True
         status, counts = self.service.stop()
         for runtime in self.runtimes:
             runtime.join(2)  # (a handler that hangs is a daemon, and is left)
+        self.sandbox.close()
         words = counts.split()
         told = [int(word) for word in words[1::2]]
         assert status == 0, f"the service ended with {status}: {self.service.lines[-1:]}"

@@ -1,4 +1,6 @@
 """Where the files are that come with the tools: in a checkout or a package of it, or installed by pip."""
+import functools
+import importlib.util
 import os
 import sys
 
@@ -10,6 +12,15 @@ def bundled(name):
     """The path of a file of `examples/`; none if it is not here."""
     folders = (os.path.join(PACKAGE, "examples"), os.path.join(ROOT, "examples"))
     return next((path for path in (os.path.join(folder, name) for folder in folders) if os.path.isfile(path)), None)
+
+
+@functools.lru_cache(maxsize=None)
+def bundled_module(name):
+    """A Python file of `examples/` as a module."""
+    specification = importlib.util.spec_from_file_location("lambda_local_" + name.partition(".")[0], bundled(name))
+    module = importlib.util.module_from_spec(specification)
+    specification.loader.exec_module(module)
+    return module
 
 
 def own_program():

@@ -5,10 +5,12 @@ that breakpoints, coverage and monkeypatches work.
         lambda_local.start(greet=lambda event: {"hello": event["name"]})
         assert lambda_local.invoke("greet", {"name": "Ada"}) == {"hello": "Ada"}
 
-`lambda_local_session` is one service for all tests of the session: start it in a session-wide fixture of your own. A
-handler's error is raised by `invoke` as FunctionError, from what the handler raised. The end stops the service and
-checks its counts, and that its history replays to itself. The report of a failed test has the history and its timeline,
-and names the files where both stand whole. The program is LAMBDA_LOCAL_PROGRAM, else the one that comes with the tools.
+`lambda_local_session` is one service for all tests of the session: start it in a session-wide fixture of your own. As
+long as a service runs, the process has the variables of a function, dummy credentials and the service's address, so
+that no handler reaches AWS by mistake; `start(keep_credentials=True, ..)` leaves the credentials. A handler's error is
+raised by `invoke` as FunctionError, from what the handler raised. The end stops the service and checks its counts, and
+that its history replays to itself. The report of a failed test has the history and its timeline, and names the files
+where both stand whole. The program is LAMBDA_LOCAL_PROGRAM, else the one that comes with the tools.
 `in_process.LambdaLocal` does without pytest."""
 import http.client
 import subprocess
@@ -28,9 +30,9 @@ if pytest:
     TITLE = "lambda_local history"
 
     @pytest.fixture
-    def lambda_local(request, tmp_path_factory):
+    def lambda_local(request, tmp_path_factory, monkeypatch):
         """A service of this test's own: `start` starts it."""
-        service = LambdaLocal()
+        service = LambdaLocal(patches=monkeypatch)
         request.node.lambda_local = (service, tmp_path_factory)
         yield service
         service.stop()

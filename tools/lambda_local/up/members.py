@@ -9,6 +9,8 @@ from ..front import settings
 from ..paths import bundled
 from ..service import Fault
 from ..usage import called
+from ..variables import OF_FUNCTION as VARIABLES
+from ..variables import text_of
 from .processes import program_of
 
 NAME = "lambda_local.up"  # under which tools/up registers
@@ -27,15 +29,11 @@ def is_extensions(value):
     return is_list_of(is_text)(value)
 
 
-def is_variables(value):
-    return isinstance(value, dict) and all(isinstance(text, (str, int, float)) for text in value.values())
-
-
 OWN = {
     "command": Kind(is_command, "a text, or a list of texts"),
     "runtime": Kind(lambda value: is_text(value) and value in RUNTIMES, '"python" or "node"'),
     "environments": Kind(lambda value: is_whole(value, 257) and value > 0, "a whole number from 1 to 256"),
-    "variables": Kind(is_variables, "an object of texts, numbers, true or false"),
+    "variables": VARIABLES,
     "directory": Kind(is_text, "a text: a folder"),
     "memory": Kind(lambda value: is_whole(value, 1 << 32), "a whole number of MB"),
     "watch": Kind(is_list_of(is_text), "a list of files and folders"),
@@ -51,11 +49,6 @@ def words_of(command, where):
         return shlex.split(command) if isinstance(command, str) else command
     except ValueError as fault:
         raise Fault(2, f"{where}: {shown(command)}: {fault}") from None
-
-
-def text_of(value):
-    """The text of a variable; true and false as JSON has them."""
-    return value if isinstance(value, str) else json.dumps(value)
 
 
 class Function:

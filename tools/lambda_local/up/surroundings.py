@@ -7,39 +7,22 @@ import threading
 import time
 
 from ..guard import GUARD
+from ..variables import of_callers, of_function
 
-# What a client would take in place of the dummies, or read to go elsewhere.
-LEFT_OUT = ("AWS_PROFILE", "AWS_DEFAULT_PROFILE", "AWS_SESSION_TOKEN", "AWS_SECURITY_TOKEN", "AWS_ROLE_ARN",
-            "AWS_WEB_IDENTITY_TOKEN_FILE",
-            "AWS_CONTAINER_CREDENTIALS_RELATIVE_URI", "AWS_CONTAINER_CREDENTIALS_FULL_URI")
-DUMMIES = {"AWS_ACCESS_KEY_ID": "local", "AWS_SECRET_ACCESS_KEY": "local"}
 # The first that read AWS_ENDPOINT_URL_LAMBDA; older ones call AWS itself.
 OLDEST_BOTO3 = (1, 28)
 OLDEST_AWS = {1: (1, 29), 2: (2, 13)}
 LONGEST_SECONDS = 10.0  # for a client to say its version
 
 
-def of_callers(service, keeps_credentials):
-    """Returns the variables of a command that calls functions: this process's own, and those that lead here."""
-    region = service.configuration["region"]
-    found = {name: value for name, value in os.environ.items() if name != "AWS_IGNORE_CONFIGURED_ENDPOINT_URLS"}
-    if not keeps_credentials:
-        found = {**{name: value for name, value in found.items() if name not in LEFT_OUT}, **DUMMIES}
-    return {**found, "AWS_REGION": region, "AWS_DEFAULT_REGION": region,
-            "AWS_ENDPOINT_URL_LAMBDA": service.endpoint_url}
-
-
 def of_environment(service, function, number, port, keeps_credentials):
-    """The variables of an environment's processes (Developer Guide, "Defined runtime environment variables")."""
+    """The variables of an environment's processes."""
     return {
         "TZ": ":UTC", "PYTHONUNBUFFERED": "1", **of_callers(service, keeps_credentials),
         **({} if keeps_credentials else {"AWS_SESSION_TOKEN": "local"}),
         "AWS_LAMBDA_RUNTIME_API": f"127.0.0.1:{port}",
         "_HANDLER": function.handler, "LAMBDA_TASK_ROOT": os.path.realpath(function.directory),
-        "AWS_LAMBDA_FUNCTION_NAME": function.name, "AWS_LAMBDA_FUNCTION_VERSION": "$LATEST",
-        "AWS_LAMBDA_FUNCTION_MEMORY_SIZE": str(function.memory), "AWS_LAMBDA_INITIALIZATION_TYPE": "on-demand",
-        "AWS_LAMBDA_LOG_GROUP_NAME": f"/aws/lambda/{function.name}",
-        "AWS_LAMBDA_LOG_STREAM_NAME": f"local/[$LATEST]{number}", **function.variables}
+        **of_function(function.name, function.memory, number), **function.variables}
 
 
 def written(version):
