@@ -69,7 +69,7 @@ def test_a_handler_invokes_itself_by_clients_of_now_and_of_before(lambda_local):
 
 def test_a_client_of_before(lambda_local):
     lambda_local.start(f=lambda event: STORE.list_objects(Bucket="bucket-of-no-one"))
-    with pytest.raises(FunctionError, match=r"ReachesAWS: not sent to AWS: GET https://\\S+\\.amazonaws\\.com/\\S*: mock it"):
+    with pytest.raises(FunctionError, match=r"not sent to AWS: GET https://\\S+\\.amazonaws\\.com/\\S*: mock it"):
         lambda_local.invoke("f")
 
 def test_another_service(lambda_local):

@@ -277,13 +277,15 @@ def handler(event, context):
     return context.aws_request_id
 '''
 TIME = r"\d{4}-\d\d-\d\dT\d\d:\d\d:\d\d"
-TRACEBACK = (r"Traceback \(most recent call last\):\n  File \"\S+app\.py\", line 14, in handler\n    \{\}\[\"missing\"\]\n"
+TRACEBACK = (r"Traceback \(most recent call last\):\n"
+             r"  File \"\S+app\.py\", line 14, in handler\n    \{\}\[\"missing\"\]\n"
              r"(?:\s+[~^]+\n)?KeyError: 'missing'\n")
 
 
 def python_log():
     """The lines of the module logging, as awslambdaric prints them."""
-    for name, variables, shown in (("without a level", {}, ()), ("at the level of the code", {"SET": "INFO"}, ("INFO",)),
+    for name, variables, shown in (("without a level", {}, ()),
+                                   ("at the level of the code", {"SET": "INFO"}, ("INFO",)),
                                    ("AWS_LAMBDA_LOG_LEVEL", {"AWS_LAMBDA_LOG_LEVEL": "TRACE"}, ("DEBUG", "INFO")),
                                    ("an unknown level", {"AWS_LAMBDA_LOG_LEVEL": "LOUD"}, ())):
         with Running([*PYTHON, "app.handler"], {"app.py": PYTHON_LOG}, **variables) as running:
@@ -708,4 +710,5 @@ def shell():
 
 
 if __name__ == "__main__":
-    sys.exit(counted.run(python_errors, python_context, python_handlers, python_inits, python_log, python_edges, node, go, shell))
+    sys.exit(counted.run(python_errors, python_context, python_handlers, python_inits, python_log, python_edges, node,
+                         go, shell))

@@ -85,9 +85,10 @@ def variables_of(members):
         for variable, value in own.get("variables", {}).items():
             owner = owners.setdefault(variable, name)
             if owner != name and found[variable] != text_of(value):
-                raise ValueError(f"function {name}: its variable {variable} is {text_of(value)!r}, and that of function "
-                                 f"{owner} is {found[variable]!r}: handlers share the variables of one process: give "
-                                 "both the same, or start each in a LambdaLocal of its own")
+                raise ValueError(
+                    f"function {name}: its variable {variable} is {text_of(value)!r}, and that of function {owner} is "
+                    f"{found[variable]!r}: handlers share the variables of one process: give both the same, or start "
+                    "each in a LambdaLocal of its own")
             found[variable] = text_of(value)
     return found
 

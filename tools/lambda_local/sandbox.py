@@ -68,8 +68,8 @@ class Sending:
             request.url = url._replace(scheme=here.scheme, netloc=here.netloc).geturl()
             request.headers["Host"] = here.netloc
             return self.session.send(request)
-        raise ReachesAWS(f"not sent to AWS: {request.method} {url._replace(query='').geturl()}: mock it, give its client "
-                         "an endpoint_url of this machine, or start(keep_credentials=True) to let handlers reach AWS")
+        raise ReachesAWS(f"not sent to AWS: {request.method} {url._replace(query='').geturl()}: mock it, give its "
+                         "client an endpoint_url of this machine, or start(keep_credentials=True) to let it through")
 
 
 class Sandbox:
