@@ -23,9 +23,10 @@ runtime or command is yours to start, at the address that is printed. docs/up.md
 
 Its own lines and those of the functions go to standard error. Exit statuses: the command's, else the service's
 (docs/formats.md); 2 for a fault in the arguments or in UP.json; 4 if something cannot be started; 5 if an environment
-does not become ready."""
+does not become ready; 70 if a fault in tools/up itself ends it."""
 import sys
 
+from ..outgoing import tell
 from ..service import Fault
 from ..usage import called, parser_of
 from .log import Log
@@ -104,5 +105,8 @@ def main():
         if log and log.form == "json":
             log("up", str(fault), level="error", status=fault.status)
         else:
-            print(f"up: {fault}", file=sys.stderr)
+            tell(f"up: {fault}")
         return fault.status
+    finally:
+        if log:
+            log.close()

@@ -12,7 +12,10 @@ import time
 from ..service import EXTENSION, RUNTIME, ask
 from .members import NAME
 from .processes import Process, reason_of
+from .reports import kind_in
+from .supervised import told
 
+FAULT = "Extension.Fault"  # how a fault of this tool itself is reported
 SHUTDOWN_SECONDS = 2.0  # an environment's, for its extensions
 SPARE = 0.1  # of them, for tools/up itself
 SOON = 1.0  # a runtime that ends within this many seconds of its start, without an invocation, ended early
@@ -22,7 +25,7 @@ class Environment(threading.Thread):
     def __init__(self, service, watch, function, number, port, variables, restarts, stopping, log):
         self.number, self.function, self.port, self.variables = number, function, port, variables
         self.service, self.watch, self.stopping, self.log = service, watch, stopping, log
-        super().__init__(name=watch.environment(number).name)
+        super().__init__(name=watch.environment(number).name, daemon=True)
         self.runtime, self.extensions = None, []  # processes; of extensions each with the name by which it registers
         self.generation, self.identifier = 0, None  # of tools/up in this generation
         self.restarts, self.hurry = restarts, threading.Event()
@@ -34,13 +37,28 @@ class Environment(threading.Thread):
 
     def run(self):
         try:
-            while not self.stopping.is_set() and self.one_generation():
+            while not self.stopping.is_set() and self.one_guarded_generation():
                 pass
         except (OSError, http.client.HTTPException) as fault:
             if self.service.process.poll() is None and not self.stopping.is_set():
                 self.say(f"lost the service: {fault}", level="error")
         finally:
             self.end(0)
+
+    def one_guarded_generation(self):
+        """Whether another one follows. A fault of this tool in one generation is reported, and the next is begun."""
+        try:
+            return self.one_generation()
+        except (OSError, http.client.HTTPException):
+            raise
+        except Exception as fault:
+            self.say(f"tools/up could not go on with this generation: {told(fault)}", level="error", kind="fault")
+            self.end(0)
+            if self.identifier is not None:
+                ask(self.port, "POST", EXTENSION + "exit/error", self.remember("tools/up failed", FAULT),
+                    {**self.me(), "Lambda-Extension-Function-Error-Type": FAULT})
+            self.restarts.note(True)
+            return True
 
     # ---- a generation ------------------------------------------------------------------------------------------------
 
@@ -258,9 +276,6 @@ class Environment(threading.Thread):
 
     def fail_init(self, report):
         """Reports a failed Init for the runtime, which its caller receives; prints no line."""
-        try:
-            kind = str(json.loads(report).get("errorType") or "Runtime.ExitError")
-        except (ValueError, AttributeError):
-            kind = "Runtime.ExitError"
+        kind = kind_in(report, "Runtime.ExitError")
         with self.watch.muted(self.number):
             ask(self.port, "POST", RUNTIME + "init/error", report, {"Lambda-Runtime-Function-Error-Type": kind})

@@ -5,7 +5,7 @@ from collections import Counter
 from ..history import EXPIRE
 from ..life import FAILURES, Closes, Ended, Throttled
 from .members import NAME
-from .reports import Report
+from .reports import Report, shortened
 
 REASONS = {"ReservedFunctionConcurrentInvocationLimitExceeded": "reserved concurrency",
            "ConcurrentInvocationLimitExceeded": "the account's concurrency",
@@ -62,7 +62,7 @@ class Lines:
             self.log(environment.name, f"Init {of}failed {report}", level="error", kind="init", **report.members,
                      **members)
             for line in report.lines:
-                self.log(environment.name, f"  {line}", level="error", kind="trace")
+                self.log(environment.name, f"  {shortened(line)}", level="error", kind="trace")
 
     @staticmethod
     def waited_for(environment, generation):

@@ -9,6 +9,7 @@ import time
 
 from ..guard import GUARD
 from .log import OUTPUT
+from .output import read_lines
 
 
 def program_of(word, directory):
@@ -33,8 +34,7 @@ class Process:
 
     def read(self):
         with self.child.stdout as stream:
-            for line in stream:
-                self.log(self.name, line.decode(errors="replace").rstrip("\r\n"), kind=OUTPUT)
+            read_lines(stream, lambda line: self.log(self.name, line, kind=OUTPUT))
 
     def ended(self, seconds=0.0):
         """Whether it ends within this many seconds."""

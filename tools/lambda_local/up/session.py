@@ -14,10 +14,12 @@ from .reload import Reload
 from .reports import Report
 from .restarts import Restarts
 from .run import Run
+from .supervised import BROKEN, Supervisor, told
 from .watch import Watch
 
 SAVED = "lambda_local.history.txt"
 NAMED = 8  # environments in one line
+LAST_SECONDS = 20.0  # for all threads at the end
 
 
 class Session:
@@ -25,6 +27,7 @@ class Session:
         self.options, self.log, self.service, self.command = options, log, None, None
         self.happened, self.stopping = threading.Event(), threading.Event()  # something to look at; all is to end
         self.signals, self.signal_number, self.kills_at = 0, 0, 2
+        self.supervisor = Supervisor(log, self.happened.set)
         salt = options.salt
         configuration, self.functions, front = load(options.up, options.debug, salt)
         self.front = Front(front, options.up, options.drain, log) if front else None
@@ -104,8 +107,8 @@ class Session:
             self.say(str(fault), level="error")
             status = fault.status
         finally:
-            served = self.finish(failed=status != 0)
-        return status or served
+            served = self.finish(failed=status != 0 or self.supervisor.is_broken)
+        return BROKEN if self.supervisor.is_broken else status or served
 
     # ---- ready -------------------------------------------------------------------------------------------------------
 
@@ -160,7 +163,8 @@ class Session:
             self.say("the command may take 10 s to end; Ctrl-C again ends it")
             self.command.interrupt(lambda: self.signals > 1)
         if not self.command.is_over():
-            self.say("ends the command" if self.signals else "the service has ended, and so the command is ended")
+            self.say("ends the command" if self.signals or self.supervisor.is_broken
+                     else "the service has ended, and so the command is ended")
             self.command.end()
         return self.command.status
 
@@ -175,29 +179,46 @@ class Session:
         except (OSError, http.client.HTTPException) as fault:
             self.say(f"the history could not be saved: {fault}", level="error")
 
+    def step(self, what, done, otherwise=None):
+        """What a step of the end gives. A fault in it is reported, and the next step is made."""
+        try:
+            return done()
+        except Exception as fault:
+            self.supervisor.is_broken = True
+            self.say(f"{what} failed: {told(fault)}", level="error", kind="fault")
+            return otherwise
+
     def finish(self, failed):
         """Stops the service and all processes in order; the service's status. The history is saved if that is asked, or
         the command failed."""
         if self.front:
-            self.front.drain(lambda: self.service.process.poll() is not None)
+            self.step("waiting for events", lambda: self.front.drain(lambda: self.service.process.poll() is not None))
         gone = self.service.process.poll() is not None
-        self.watch.refresh()
+        self.step("reading the history", self.watch.refresh)
         if (self.options.history or self.options.command and failed) and not gone:
-            self.save()
+            self.step("saving the history", self.save)
         self.stopping.set()
         for environment in self.environments:
             environment.hurry.set()
-        status, counts = self.service.stop()
+        status, counts = self.step("the stop", self.service.stop) or (4, "")
         if self.front:
-            self.front.end()
-        for thread in [*self.threads, self.clients]:
-            if thread.ident is not None:
-                thread.join()
-        self.watch.lines.tell_throttled(at_the_end=True)
+            self.step("the end of the front", self.front.end)
+        self.join()
+        self.step("counting", lambda: self.watch.lines.tell_throttled(at_the_end=True))
         if status == 0 and gone:
             self.say("the service was stopped by POST /_local/stop")
         elif gone or status:
             self.say(f"the service ended with status {status}: {' '.join(self.service.lines[-1:])}", level="error")
         if counts:
             self.say(counts, kind="counts")
+        self.service.kill()
         return status if status >= 0 else 4
+
+    def join(self):
+        """Waits for all threads: the guard ends what one leaves that does not end."""
+        end = time.monotonic() + LAST_SECONDS
+        for thread in [*self.threads, self.clients]:
+            if thread.ident is not None:
+                thread.join(max(0.0, end - time.monotonic()))
+                if thread.is_alive():
+                    self.say(f"the thread {thread.name} does not end, and is left", level="error", kind="fault")

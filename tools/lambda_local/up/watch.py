@@ -5,9 +5,20 @@ import threading
 import time
 
 from ..history import Follower
-from ..life import FAILURES, Closes, Life
+from ..life import FAILURES, Closes, Ended, Life
+from . import memory
+from .supervised import told
 
 NEARLY_FULL = 0.9
+
+
+def what(event):
+    """An event in words."""
+    if isinstance(event, Ended):
+        return f"invocation {event.invocation.identifier} of {event.invocation.function}, {event.kind}"
+    if isinstance(event, Closes):
+        return f"the end of {event.environment.name}, {event.kind}"
+    return f"a throttled invocation of {event.function}"
 
 
 class Watch(threading.Thread):
@@ -16,7 +27,7 @@ class Watch(threading.Thread):
         self.lines, self.log, self.stopping = lines, log, stopping
         self.life, self.follower, self.lock = Life(service.configuration), Follower(service.port), threading.RLock()
         self.most = service.configuration.get("maxEntries", 1_000_000)
-        self.warnings, self.hooks, self.mute = set(), [], None
+        self.warnings, self.hooks, self.mute, self.look_at = set(), [], None, 0.0
 
     def run(self):
         took = 0.0
@@ -25,10 +36,20 @@ class Watch(threading.Thread):
             begun = time.monotonic()
             self.refresh()
             took = time.monotonic() - begun
-            # (A service that has just ended answers no one.)
-            with contextlib.suppress(OSError, http.client.HTTPException):
-                for hook in self.hooks:
-                    hook()
+            for hook in self.hooks:
+                self._call(hook)
+
+    def _call(self, hook):
+        try:
+            hook()
+        except (OSError, http.client.HTTPException):
+            pass  # (a service that has just ended answers no one)
+        except Exception as fault:
+            self._tell(fault, "could not answer a caller in a pause")
+
+    def _tell(self, fault, what):
+        """A fault in one event, which is reported with it: the next one is taken."""
+        self.log("up", f"{what}: {told(fault)}", level="error", kind="fault")
 
     def refresh(self):
         """Takes what has come since the last time. If the service does not answer, the next time does."""
@@ -37,12 +58,27 @@ class Watch(threading.Thread):
                 entries = self.follower.read()
             except (OSError, http.client.HTTPException):
                 return
+            except MemoryError as fault:  # (what has come may be shorter the next time)
+                return self._warn("memory", f"there is no memory for what the history has now: {told(fault)}", "error")
             for entry in entries:
-                for event in self.life.take(entry):
-                    if not self._is_muted(event):
-                        self.lines.take(event)
+                self._take(entry)
             self.lines.tell_throttled()
             self._look_at_room()
+            self._look_at_memory()
+
+    def _take(self, entry):
+        try:
+            for event in self.life.take(entry):
+                if not self._is_muted(event):
+                    self._report(event)
+        except Exception as fault:
+            self._tell(fault, f"could not follow entry {entry.number} of the history, {entry.kind}")
+
+    def _report(self, event):
+        try:
+            self.lines.take(event)
+        except Exception as fault:
+            self._tell(fault, f"could not write the line of {what(event)}")
 
     @contextlib.contextmanager
     def muted(self, environment):
@@ -68,6 +104,17 @@ class Watch(threading.Thread):
         elif count >= NEARLY_FULL * self.most:
             self._warn("nearly", f"the history has {count} of its {self.most} entries: once it is full every call is "
                                  "answered 500; write a higher maxEntries into UP.json", "warning")
+
+    def _look_at_memory(self):
+        """Once a second, since asking costs some files."""
+        now = time.monotonic()
+        if now < self.look_at:
+            return
+        self.look_at = now + 1
+        for use in memory.uses():
+            if use.used >= NEARLY_FULL * use.allowed:
+                self._warn(use.by, f"{use.used >> 20} MB of {use.allowed >> 20} MB are used of {use.by}: events and "
+                                   "the history take memory; stop, or allow more", "warning")
 
     def _warn(self, name, text, level):
         if name not in self.warnings:

@@ -1,0 +1,267 @@
+#!/usr/bin/env python3
+"""Checks that nothing that a function, a caller or a file gives silences tools/up, holds it up, or speaks for it:
+reports of any bytes, a log that no one reads, lines without an end, control characters. The program is
+LAMBDA_LOCAL_PROGRAM, else ./lambda_local. Ends with 'N passed, M failed'."""
+import fcntl
+import json
+import os
+import re
+import resource
+import subprocess
+import sys
+import tempfile
+import threading
+import time
+import urllib.request
+
+ROOT = os.path.dirname(os.path.dirname(os.path.dirname(os.path.realpath(__file__))))
+sys.path[:0] = [os.path.join(ROOT, "tools"), os.path.join(ROOT, "tests", "library")]
+import counted  # noqa: E402
+from counted import check  # noqa: E402
+from lambda_local.json_reader import NotJson, depth_of, read_json  # noqa: E402
+from lambda_local.outgoing import header_value, printable, printable_output  # noqa: E402
+from lambda_local.up.log import Log  # noqa: E402
+from lambda_local.up.output import LONGEST_LINE, read_lines  # noqa: E402
+from lambda_local.up.reports import Report, kind_in  # noqa: E402
+from up_kit import TOOLS, Up, until  # noqa: E402
+
+# A runtime that answers an invocation with the report, in hexadecimal, that its event has; otherwise it responds.
+REPORTING = f'''#!{sys.executable}
+import http.client, json, os
+api = http.client.HTTPConnection(os.environ["AWS_LAMBDA_RUNTIME_API"])
+base = "/2018-06-01/runtime/invocation/"
+def ask(method, path, body=None):
+    api.request(method, base + path, body)
+    answer = api.getresponse()
+    return answer.headers, answer.read()
+while True:
+    headers, event = ask("GET", "next")
+    report = json.loads(event).get("report")
+    done = "response" if report is None else "error"
+    ask("POST", headers["Lambda-Runtime-Aws-Request-Id"] + "/" + done,
+        b"null" if report is None else bytes.fromhex(report))
+'''
+FRAME = '  File "{}", line 2, in run\n'
+HOSTILE = {
+    "a NUL in a file's name": json.dumps({"errorType": "E", "stackTrace": [FRAME.format("a\0b.py")]}).encode(),
+    "100,000 open brackets": b"[" * 100_000,
+    "a frame of 900 levels": b'{"stackTrace":[{"path":"x","line":' + b"[" * 900 + b"]" * 900 + b"}]}",
+    "half a character in a file's name": b'{"stackTrace":["  File \\"\\ud83d.py\\", line 2"]}',
+    "half a character in its type": b'{"errorType":"\\ud83d","errorMessage":"\\udfff"}',
+    "bytes that are no text": bytes(range(256)),
+    "a type that is a list": b'{"errorType":[[1]],"errorMessage":{"a":null}}',
+    "a number of 5,000 digits": b'{"errorType":' + b"9" * 5000 + b"}",
+    "50,000 frames": json.dumps({"stackTrace": [FRAME.format(f"/a/{n}.py") for n in range(50_000)]}).encode(),
+    "a path of a million folders": json.dumps({"stackTrace": [FRAME.format("a/" * 1_000_000)]}).encode(),
+    "a Go frame without a path": b'{"stackTrace":[{"path":7,"line":null},{"path":"\\u0000","line":1}]}',
+}
+
+
+def reports():
+    begun = time.monotonic()
+    for name, body in HOSTILE.items():
+        report = Report(body, "/at")
+        seen = [type(report.members), *map(type, (str(report), *report.lines))]
+        check(f"a report with {name} is a line", set(seen), {dict, str})
+    check("and none of them takes long", time.monotonic() - begun < 10, True)
+    check("a type for a header", kind_in(b'{"errorType":"Runtime.Bad"}', "X"), "Runtime.Bad")
+    for body in (json.dumps({"errorType": "Ошибка"}).encode(), b'{"errorType":"a\\r\\nb: c"}', b"[", b"[1]", b"{}",
+                 b'{"errorType":" "}', b'{"errorType":"' + b"a" * 2000 + b'"}'):
+        check(f"{body[:24]} has none", kind_in(body, "X"), "X")
+
+
+def jsons():
+    check("100 levels are read", depth_of(read_json("[" * 100 + "]" * 100)), 100)
+    for name, text in {"101 levels": "[" * 101 + "]" * 101, "a million levels": b"[" * 1_000_000, "NaN": "NaN",
+                       "no UTF-8": b'"\xff"', "nothing": b"", "two values": "1 2"}.items():
+        try:
+            seen = read_json(text)
+        except NotJson:
+            seen = NotJson
+        check(f"JSON of {name} is refused", seen, NotJson)
+    check("half a character is read", read_json(b'"\\ud83d"'), "\ud83d")
+
+
+def hostile_reports():
+    up = Up(functions=[{"name": "f", "command": ["./reporting"], "timeout": 60}], files={"reporting": REPORTING})
+    up.until("[up] ready")
+    for body in HOSTILE.values():
+        answered(f"{up.endpoint}/2015-03-31/functions/f/invocations", json.dumps({"report": body.hex()}).encode())
+    check("each hostile report has its line", until(lambda: up.count(r"\[f/1\] \S+ error ") == len(HOSTILE), 20),
+          True)
+    up.invoke()
+    check("and an invocation after them has its own", up.until(" ok ", 20), True)
+    check("none of them is a trace", (up.has("Traceback"), up.has("could not")), (False, False))
+    check("nothing is left of them", up.end(), (0, []))
+
+
+def foreign_names():
+    """An Init that fails by an exception whose name is of letters that no header has."""
+    app = 'class Ошибка(Exception):\n    pass\nraise Ошибка("нет")\n'
+    up = Up(functions=[{"name": "f", "runtime": "python", "handler": "app.run", "timeout": 1}], app=app)
+    check("a failed Init with a Cyrillic name is told", up.until("Init failed Ошибка", 20), True)
+    check("it is started again after a pause", up.until("started again in 2 s", 30), True)
+    answer, took = up.invoke()
+    check("a caller in a pause hears the report at once", (answer, took < 1.9), ("Ошибка", True))
+    check("the thread that tells goes on", up.has("cannot go on"), False)
+    check("nothing is left of it", up.end(), (0, []))
+
+
+def unread_log():
+    """tools/up whose standard error is a pipe that no one reads."""
+    folder = tempfile.TemporaryDirectory()
+    with open(os.path.join(folder.name, "app.py"), "w") as file:
+        file.write("def run(event):\n    print('x' * 2000)\n    return 1\n")
+    with open(os.path.join(folder.name, "up.json"), "w") as file:
+        json.dump({"functions": [{"name": "f", "runtime": "python", "handler": "app.run"}]}, file)
+    process = subprocess.Popen([os.path.join(TOOLS, "up"), "up.json"], cwd=folder.name, stderr=subprocess.PIPE)
+    read = b""
+    while not (found := re.search(rb"AWS_ENDPOINT_URL_LAMBDA=(http://[0-9.:]+)\n", read)):
+        read += os.read(process.stderr.fileno(), 4096)
+    url = found[1].decode() + "/2015-03-31/functions/f/invocations"
+    until(lambda: answered(url), 60)
+    slowest = max(seconds(url) for _ in range(3000))
+    check("3,000 invocations are answered while no one reads the log", slowest < 5, True)
+    begun = time.monotonic()
+    process.terminate()
+    until(lambda: process.poll() is not None, 30)
+    check("and TERM ends it", (process.poll(), time.monotonic() - begun < 15), (0, True))
+    if process.poll() is None:
+        process.kill()
+    read += process.stderr.read()
+    process.stderr.close()
+    folder.cleanup()
+
+
+def answered(url, event=b"{}"):
+    try:
+        return urllib.request.urlopen(url, event, timeout=20).status == 200
+    except OSError:
+        return False
+
+
+def seconds(url):
+    begun = time.monotonic()
+    answered(url)
+    return time.monotonic() - begun
+
+
+def pipe_log(**options):
+    """A log into a pipe of 4 KiB, and the end to read it."""
+    reading, writing = os.pipe()
+    fcntl.fcntl(writing, 1031, 4096)  # F_SETPIPE_SZ
+    return Log(stream=os.fdopen(writing, "w"), **options), os.fdopen(reading, "rb")
+
+
+def dropped_lines():
+    log, stream = pipe_log()
+    begun = time.monotonic()
+    for number in range(100_000):
+        log("f/1", f"line {number} " + "x" * 90)
+    check("100,000 lines that no one reads take no time", time.monotonic() - begun < 20, True)
+    lines, reader = [], None
+
+    def read():
+        lines.extend(stream.read().decode().splitlines())
+    reader = threading.Thread(target=read)
+    reader.start()
+    until(lambda: log.writer.size == 0, 20)
+    log("f/1", "the last one")
+    log.close()
+    log.writer.join(10)
+    log.stream.close()
+    reader.join(10)
+    notes = [line for line in lines if "are left out here" in line]
+    left_out = sum(int(re.search(r"([\d,]+) lines", line)[1].replace(",", "")) for line in notes)
+    written = [int(line.split()[3]) for line in lines if " line " in line and line not in notes]
+    check("each line is written or counted", (len(written) + left_out, left_out > 0), (100_000, True))
+    check("the first ones in their order, then the count, then the last one",
+          (written == list(range(len(written))), lines[-2] == notes[0], lines[-1].endswith("the last one")),
+          (True, True, True))
+
+
+def slow_reader():
+    """A process that prints waits for a reader who reads, so that no line is lost."""
+    log, stream = pipe_log()
+    lines = []
+
+    def read():
+        for line in stream:
+            lines.append(line)
+            if len(lines) % 1000 == 0:
+                time.sleep(0.01)
+    reader = threading.Thread(target=read)
+    reader.start()
+    for number in range(60_000):
+        log("f/1", f"line {number} " + "x" * 90, kind="output")
+    log.close()
+    log.writer.join(10)
+    log.stream.close()
+    reader.join(20)
+    check("a slow reader gets each line that a process prints", len(lines), 60_000)
+
+
+class Endless:
+    """A stream of many bytes without a line feed."""
+
+    def __init__(self, size):
+        self.left = size
+
+    def read1(self, most):
+        taken, self.left = min(most, self.left), self.left - min(most, self.left)
+        return b"x" * taken
+
+
+def long_lines():
+    sizes = []
+    before = resource.getrusage(resource.RUSAGE_SELF).ru_maxrss
+    read_lines(Endless(300 << 20), lambda line: sizes.append(len(line)))
+    grown = (resource.getrusage(resource.RUSAGE_SELF).ru_maxrss - before) >> 10
+    check("a line of 300 MB comes in parts", (sum(sizes), max(sizes) <= LONGEST_LINE + (64 << 10)), (300 << 20, True))
+    check("and takes little memory (MB)", grown < 16 or grown, True)
+
+
+def split_characters():
+    lines = []
+
+    class Bytes(Endless):
+        def __init__(self, data):
+            self.data = data
+
+        def read1(self, most):
+            taken, self.data = self.data[:1], self.data[1:]
+            return taken
+    read_lines(Bytes("é\r\nб\n\n\U0001f600".encode() + b"\xff"), lines.append)
+    check("letters that come byte by byte", lines, ["é", "б", "", "\U0001f600\ufffd"])
+
+
+def escapes():
+    check("a line feed begins no line", printable("a\n12:00 [up] b\r"), "a\\n12:00 [up] b\\r")
+    check("a terminal gets no control character", printable("\x1b[2J\x9b2J\x7f\u2028\u202e\ud83d"),
+          "\\x1b[2J\\x9b2J\\x7f\\u2028\\u202e\\ud83d")
+    check("a tab and letters stay", printable("a\té \U0001f600"), "a\té \U0001f600")
+    check("what a function prints may have colours", printable_output("\x1b[31mred\x1b[0m"), "\x1b[31mred\x1b[0m")
+    check("which end with its line", printable_output("\x1b[1;31mred"), "\x1b[1;31mred\x1b[0m")
+    check("and nothing else", printable_output("\x1b[31m\x1b]0;t\x07\r\x1b[2Kx"),
+          "\x1b[31m\\x1b]0;t\\x07\\r\\x1b[2Kx\x1b[0m")
+    check("a value of a header", [header_value(text, "-") for text in ("a b", "a\r\nb", "é", "", " a")],
+          ["a b", "-", "-", "-", "-"])
+
+
+def forged_lines():
+    message = "x\n12:00:00.000 [service] forged\x1b[2J"
+    up = Up(functions=[{"name": "f", "runtime": "python", "handler": "app.run"}],
+            app=f"import sys\nclass E(Exception): pass\nE.__name__ = {message!r}\n"
+                f"def run(event):\n    print({message!r} + '\\r\\x1b[2K')\n    raise E({message!r})\n")
+    up.until("[up] ready")
+    up.invoke()
+    check("an invocation with forged lines has a line", up.until(" error ", 20), True)
+    check("nothing is left of it", up.end(), (0, []))
+    check("a line that it forges has its own source before it",
+          [line for line in up.lines if "forged" in line and re.match(r"\S+ \[(?!f/1\])", line)], [])
+    check("no control character is written", [line for line in up.lines if re.search("[\x00-\x08\x0b-\x1f]", line)], [])
+
+
+if __name__ == "__main__":
+    sys.exit(counted.run(reports, jsons, escapes, split_characters, long_lines, dropped_lines, slow_reader,
+                         hostile_reports, foreign_names, forged_lines, unread_log))

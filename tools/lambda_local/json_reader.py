@@ -1,0 +1,39 @@
+"""Reads JSON of anyone: it raises `NotJson` and nothing else."""
+import json
+from typing import Union
+
+DEEPEST = 100  # arrays and objects in one another
+LONGEST = 64 << 20  # bytes, or letters of a string
+
+
+class NotJson(ValueError):
+    """Why this is not JSON, or more of it than is read here."""
+
+
+def depth_of(value: object) -> int:
+    """How deep arrays and objects are in one another; looks at level after level, without a call for each."""
+    depth, level = 0, [value]
+    while nested := [one for one in level if isinstance(one, (list, dict))]:
+        depth += 1
+        level = [member for one in nested for member in (one.values() if isinstance(one, dict) else one)]
+    return depth
+
+
+def refused(constant: str) -> object:
+    raise ValueError(f"{constant} is not a number of JSON")
+
+
+def read_json(given: Union[str, bytes], deepest: int = DEEPEST, longest: int = LONGEST) -> object:
+    """What JSON says, as a string or as bytes of UTF-8."""
+    if len(given) > longest:
+        raise NotJson(f"it is longer than {longest:,} bytes")
+    try:
+        text = given if isinstance(given, str) else given.decode()
+        value: object = json.loads(text, parse_constant=refused)
+    except (RecursionError, MemoryError):
+        raise NotJson("it is nested too deep, or too long") from None
+    except ValueError as fault:
+        raise NotJson(str(fault)) from None
+    if text.count("[") + text.count("{") > deepest and depth_of(value) > deepest:
+        raise NotJson(f"it is nested too deep: {deepest} levels are the most")
+    return value

@@ -1,0 +1,72 @@
+"""What leaves the tools, by one function for each way out: a line that a person reads, the value of an HTTP header,
+a variable and a word of a process, a path, a file that has payloads, and what a proxy must not get.
+
+Texts of functions, callers, files and variables go through these, whatever is in them."""
+import io
+import os
+import re
+import sys
+from typing import Dict, Mapping, Optional, TextIO
+
+# Control characters but the tab, separators of lines, what turns the direction of writing, and halves of characters.
+UNSAFE = re.compile("[\x00-\x08\x0a-\x1f\x7f-\x9f\u2028\u2029\u202a-\u202e\u2066-\u2069\ud800-\udfff]")
+COLOUR = re.compile("(\x1b\\[[0-9;:]*m)")  # also bold, underlined ..: a terminal does nothing else with it
+PLAIN = "\x1b[0m"
+SHORT = {"\n": "\\n", "\r": "\\r"}
+HEADER_VALUE = re.compile("[!-~](?:[ -~]*[!-~])?")
+LOCAL = ("127.0.0.1", "localhost")
+
+
+def _escaped(found: "re.Match[str]") -> str:
+    letter = found[0]
+    return SHORT.get(letter) or (f"\\x{ord(letter):02x}" if ord(letter) < 256 else f"\\u{ord(letter):04x}")
+
+
+def printable(text: str) -> str:
+    """A text for a person, in one line: it begins no line of its own, and does nothing to a terminal."""
+    return UNSAFE.sub(_escaped, text)
+
+
+def printable_output(text: str) -> str:
+    """The same for what a function prints, which may have colours; they end with its line."""
+    if "\x1b" not in text:
+        return printable(text)
+    parts = COLOUR.split(text)
+    parts[::2] = map(printable, parts[::2])
+    return "".join(parts) + (PLAIN if len(parts) > 1 and parts[-2] != PLAIN else "")
+
+
+def tell(text: str, stream: Optional[TextIO] = None) -> None:
+    """Prints a line of a tool on standard error."""
+    print(printable(text), file=stream or sys.stderr, flush=True)
+
+
+def header_value(text: str, otherwise: str, most: int = 1000) -> str:
+    """A text as the value of an HTTP header if it is printable ASCII, else another one."""
+    return text if len(text) <= most and HEADER_VALUE.fullmatch(text) else otherwise
+
+
+def is_for_the_system(text: str) -> bool:
+    """Whether the system takes a text as a path, a word of a command or the value of a variable."""
+    try:
+        return b"\0" not in os.fsencode(text)
+    except UnicodeEncodeError:
+        return False
+
+
+def is_name_of_variable(text: str) -> bool:
+    return text != "" and "=" not in text and is_for_the_system(text)
+
+
+def opened_for_payloads(path: str) -> io.TextIOWrapper:
+    """A file to be written anew that its user alone may read; one that is there keeps its mode."""
+    number = os.open(path, os.O_WRONLY | os.O_CREAT | os.O_TRUNC | os.O_CLOEXEC, 0o600)
+    return io.TextIOWrapper(io.FileIO(number, "w"), encoding="utf-8", errors="backslashreplace", write_through=True)
+
+
+def past_proxies(environ: Mapping[str, str]) -> Dict[str, str]:
+    """The variables by which clients reach this machine itself past a proxy: both spellings, since each client reads
+    its own."""
+    given = ",".join(filter(None, (environ.get(name, "").strip() for name in ("no_proxy", "NO_PROXY"))))
+    names = list(dict.fromkeys([name.strip() for name in given.split(",") if name.strip()] + list(LOCAL)))
+    return dict.fromkeys(("NO_PROXY", "no_proxy"), ",".join(names))

@@ -1,0 +1,47 @@
+"""How much memory this process may have, and how much of it is used."""
+import os
+import resource
+from typing import Iterator, NamedTuple, Optional
+
+CGROUP = "/sys/fs/cgroup"
+PAGE = os.sysconf("SC_PAGE_SIZE")
+
+
+class Use(NamedTuple):
+    used: int  # bytes
+    allowed: int
+    by: str  # what allows no more, in words
+
+
+def number_in(path: str) -> Optional[int]:
+    """The number in a file of the system; none if there is none, such as `max`."""
+    try:
+        with open(path) as file:
+            return int(file.read())
+    except (OSError, ValueError):
+        return None
+
+
+def folder_of_cgroup() -> Optional[str]:
+    """The folder of this process's control group (version 2)."""
+    try:
+        with open("/proc/self/cgroup") as file:
+            path = next((line.strip()[3:] for line in file if line.startswith("0::")), None)
+    except OSError:
+        return None
+    return None if path is None else os.path.normpath(f"{CGROUP}/{path}")
+
+
+def uses() -> Iterator[Use]:
+    """Each limit that there is."""
+    limit = resource.getrlimit(resource.RLIMIT_AS)[0]
+    if limit != resource.RLIM_INFINITY:
+        with open("/proc/self/statm") as file:
+            yield Use(PAGE * int(file.read().split()[0]), limit, "its address space (ulimit -v)")
+    folder = folder_of_cgroup()
+    while folder is not None and folder.startswith(CGROUP):
+        allowed, used = number_in(f"{folder}/memory.max"), number_in(f"{folder}/memory.current")
+        if allowed is not None and used is not None:
+            yield Use(used, allowed, "the memory of its control group, with all its processes")
+            return
+        folder = os.path.dirname(folder) if folder != CGROUP else None

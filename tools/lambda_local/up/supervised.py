@@ -1,0 +1,39 @@
+"""The threads of tools/up: one that ends by an exception is reported, and ends the run."""
+import os
+import threading
+import traceback
+from typing import Callable
+
+from .log import Log
+
+BROKEN = 70  # the status of a run that a fault of the tools themselves has ended (sysexits.h: an internal fault)
+MOST_SHOWN = 300  # characters
+
+
+def told(fault: BaseException) -> str:
+    """An exception and the line that raised it, in one line."""
+    frames = traceback.extract_tb(fault.__traceback__)
+    place = f" ({os.path.basename(frames[-1].filename)}:{frames[-1].lineno})" if frames else ""
+    return f"{type(fault).__name__}: {shortened(str(fault))}{place}"
+
+
+def shortened(text: str) -> str:
+    return text if len(text) <= MOST_SHOWN else text[:MOST_SHOWN] + ".."
+
+
+class Supervisor:
+    """Hears of each thread of this process that an exception has ended; `when_broken` is called once for each."""
+
+    def __init__(self, log: Log, when_broken: Callable[[], None]):
+        self.log, self.when_broken, self.is_broken = log, when_broken, False
+        threading.excepthook = self.ended
+
+    def ended(self, what: "threading.ExceptHookArgs") -> None:
+        self.is_broken = True
+        try:
+            name = what.thread.name if what.thread else "that is unknown"
+            fault = what.exc_value or what.exc_type()
+            self.log("up", f"tools/up ends, since its thread {name} cannot go on: {told(fault)}", level="error",
+                     kind="fault")
+        finally:
+            self.when_broken()
