@@ -163,125 +163,6 @@ def serverless():
     check("Serverless: variables in a circle", (made["s-dev-f"].get("variables"), circle in said), (None, True))
 
 
-def up_and_said(template):
-    """UP.json's object of a template, and what is said."""
-    with tempfile.TemporaryDirectory() as folder:
-        path, output = os.path.join(folder, "template.json"), io.StringIO()
-        with open(path, "w") as file:
-            json.dump(template, file)
-        with contextlib.redirect_stderr(output):
-            return up_of(path), output.getvalue()
-
-
-def addresses():
-    """Function URLs and HTTP routes, of SAM and of Serverless, in JSON."""
-    event = {"HttpApi": lambda **properties: {"Type": "HttpApi", "Properties": properties},
-             "Api": lambda **properties: {"Type": "Api", "Properties": properties}}
-    cors = {"AllowOrigins": ["https://shop.example"], "AllowCredentials": True, "MaxAge": 60, "AllowMethods": "x"}
-    made, said = up_and_said({"Resources": {
-        "F": {"Type": "AWS::Serverless::Function", "Properties": {
-            "Runtime": "provided", "FunctionUrlConfig": {"AuthType": "AWS_IAM", "Cors": cors},
-            "Events": {"A": event["HttpApi"](Path="/orders/{id}", Method="get"),
-                       "B": event["Api"](Path="/all/{proxy+}", Method="ANY"), "C": {"Type": "S3", "Properties": {}}}}},
-        "G": {"Type": "AWS::Serverless::Function", "Properties": {
-            "Runtime": "provided", "FunctionUrlConfig": {"AuthType": "NONE"},
-            "Events": {"A": {"Type": "HttpApi"}, "B": event["HttpApi"](Path="/orders/{other}", Method="GET")}}}}})
-    check("SAM: routes", made["routes"], {"GET /orders/{id}": "F", "ANY /all/{proxy+}": "F", "$default": "G"})
-    check("SAM: URLs", [function["url"] for function in made["functions"]],
-          [{"cors": {"allowOrigins": ["https://shop.example"], "allowCredentials": True, "maxAge": 60}}, True])
-    for words in ("F: its URL takes requests without a signature here",
-                  "F: leaves out allowMethods of the Cors of its URL: x",
-                  "F: the event B is of a REST API", "F: leaves out its event C, S3",
-                  "G: leaves out the route GET /orders/{other}, since F has GET /orders/{id}"):
-        check(f"SAM: {words}", words in said)
-    made, said = up_and_said({"service": "s", "provider": {"runtime": "provided"}, "functions": {
-        "f": {"handler": "x", "url": True, "events": [
-            {"httpApi": "GET /a/{b}"}, {"httpApi": {"method": "*", "path": "/c"}}, {"httpApi": "*"},
-            {"http": {"path": "d", "method": "post"}}, {"sqs": "arn"}]},
-        "g": {"handler": "x", "url": {"cors": {"allowedOrigins": ["*"]}}}}})
-    check("Serverless: routes", made["routes"],
-          dict.fromkeys(("GET /a/{b}", "ANY /c", "$default", "POST /d"), "s-dev-f"))
-    check("Serverless: URLs", [function["url"] for function in made["functions"]],
-          [True, {"cors": {"allowOrigins": ["*"]}}])
-    check("Serverless: what is left out", "s-dev-f: leaves out events: sqs" in said)
-
-
-def url_resources():
-    """AWS::Lambda::Url, as CDK writes it beside its function."""
-    def url(target, **properties):
-        return {"Type": "AWS::Lambda::Url",
-                "Properties": {"AuthType": "NONE", "TargetFunctionArn": target, **properties}}
-
-    functions = {key: {"Type": "AWS::Lambda::Function", "Properties": {"Runtime": "provided", **properties}}
-                 for key, properties in (("F", {}), ("G", {"FunctionName": "shop-g"}), ("H", {}), ("I", {}))}
-    cors = {"AllowOrigins": ["https://shop.example"], "AllowMethods": ["GET"], "AllowHeaders": ["x-one"],
-            "ExposeHeaders": ["x-two"], "AllowCredentials": True, "MaxAge": 60}
-    made, said = up_and_said({"Conditions": {"Never": {"Fn::Equals": ["a", "b"]}}, "Resources": {
-        **functions, "FUrl": url({"Fn::GetAtt": ["F", "Arn"]}, Cors=cors, InvokeMode="RESPONSE_STREAM", Colour="x"),
-        "GUrl": url({"Ref": "G"}, AuthType="AWS_IAM", Qualifier="live"),
-        "HUrl": url("H", Cors={"AllowOrigins": [{"Ref": "Site"}]}),
-        "Second": url("arn:aws:lambda:us-east-1:123456789012:function:H"), "Far": url({"Fn::ImportValue": "far"}),
-        "None": url({"Ref": "I"}) | {"Condition": "Never"}, "Odd": {"Type": "AWS::Lambda::Url", "Properties": 5}}})
-    check("URLs that are resources", {function["name"]: function.get("url") for function in made["functions"]}, {
-        "F": {"cors": {name[:1].lower() + name[1:]: value for name, value in cors.items()}}, "shop-g": True,
-        "H": {"cors": {"allowOrigins": ["Site"]}}, "I": None})
-    for words in ("F: leaves out Colour of its URL",
-                  "F: its URL answers once the whole result is there, without streaming",
-                  "shop-g: its URL takes requests without a signature here",
-                  "shop-g: its URL is of live, and here of $LATEST",
-                  "H: HUrl has a placeholder for the resource Site",
-                  "leaves out Second, AWS::Lambda::Url: H has a URL already",
-                  "leaves out Far, AWS::Lambda::Url: there is no function far",
-                  "leaves out None: its condition Never is not met",
-                  "leaves out Odd, AWS::Lambda::Url: there is no function None"):
-        check(f"URLs that are resources: {words}", words in said or said)
-
-
-def cors_of_routes():
-    """What an HTTP API says of cross-origin requests: for all of SAM's, for one of its own, and in Serverless."""
-    def template(shared=None, **apis):
-        """A function with a route of each API, and one of SAM's own if there is none."""
-        events = {key: {"Type": "HttpApi",
-                        "Properties": {"Path": f"/{key}", "Method": "GET", **({"ApiId": {"Ref": key}} if apis else {})}}
-                  for key in apis or ("own",)}
-        function = {"Type": "AWS::Serverless::Function", "Properties": {"Runtime": "provided", "Events": events}}
-        return {"Globals": {"HttpApi": shared or {}}, "Resources": {"F": function, **{
-            key: {"Type": "AWS::Serverless::HttpApi", "Properties": properties} for key, properties in apis.items()}}}
-
-    any_site = {"allowOrigins": ["*"], "allowHeaders": ["*"], "allowMethods": ["*"]}
-    own = {"AllowOrigins": ["http://a"], "AllowMethods": ["GET"], "MaxAge": 5, "AllowCredentials": False}
-    made_own = {"allowOrigins": ["http://a"], "allowMethods": ["GET"], "maxAge": 5, "allowCredentials": False}
-    for title, given, wanted, words in (
-            ("none", template(), None, ""),
-            ("of Globals, any site", template({"CorsConfiguration": True}), any_site, ""),
-            ("of Globals, one site", template({"CorsConfiguration": "http://a"}), {"allowOrigins": ["http://a"]}, ""),
-            ("of Globals, in full", template({"CorsConfiguration": own, "Auth": {}}), made_own,
-             "leaves out Auth of the HTTP API ServerlessHttpApi"),
-            ("of an API", template({"CorsConfiguration": True}, Shop={"CorsConfiguration": own, "StageName": "x"}),
-             made_own, "leaves out StageName of the HTTP API Shop"),
-            ("of an API by Globals", template({"CorsConfiguration": True}, Shop={}), any_site, ""),
-            ("of an API, none", template({"CorsConfiguration": True}, Shop={"CorsConfiguration": False}), None, ""),
-            ("of two APIs", template(None, Shop={"CorsConfiguration": own}, Back={"CorsConfiguration": True}), made_own,
-             "all routes have one port here, with the Cors of the HTTP API Shop, and not those of Back"),
-            ("with what is no Cors", template({"CorsConfiguration": {**own, "AllowOrigins": "x", "Colour": 1}}),
-             {name: value for name, value in made_own.items() if name != "allowOrigins"},
-             "leaves out allowOrigins of the Cors of the HTTP API ServerlessHttpApi: x")):
-        made, said = up_and_said(given)
-        check(f"Cors of routes: {title}", (made.get("api", {}).get("cors"), words in said or said), (wanted, True))
-    unused = {"Resources": {"Shop": {"Type": "AWS::Serverless::HttpApi", "Properties": {"CorsConfiguration": True}},
-                            "F": {"Type": "AWS::Lambda::Function", "Properties": {"Runtime": "provided"}}}}
-    made, said = up_and_said(unused)
-    check("an HTTP API without routes",
-          ("api" in made, "leaves out Shop: none of the routes is of this HTTP API" in said), (False, True))
-    for cors, wanted in ((True, any_site),
-                         ({"allowedOrigins": ["http://a"], "maxAge": 5}, {"allowOrigins": ["http://a"], "maxAge": 5})):
-        made, said = up_and_said({"service": "s",
-                                  "provider": {"runtime": "provided", "httpApi": {"cors": cors, "metrics": True}},
-                                  "functions": {"f": {"handler": "x", "events": [{"httpApi": "GET /a"}]}}})
-        check(f"Serverless: Cors of routes {cors}",
-              (made["api"], "leaves out metrics of the HTTP API provider.httpApi" in said), ({"cors": wanted}, True))
-
-
 def expressions():
     parameters = {"Stage": {"Type": "String", "Default": "dev"},
                   "Key": {"Type": "AWS::SSM::Parameter::Value<String>", "Default": "/key"},
@@ -440,6 +321,30 @@ def replaced(node, value):
                 yield [*node[:index], inner, *node[index + 1:]]
 
 
+def resource(kind, **properties):
+    return {"Type": f"AWS::{kind}", "Properties": properties}
+
+
+ROOT_OF = {"Fn::GetAtt": ["Old", "RootResourceId"]}
+OF_GATEWAYS = {
+    "Shop": resource("Serverless::Api", StageName="a", Variables={"a": "b"}, BinaryMediaTypes=["a"],
+                     Cors={"AllowOrigin": "'*'", "MaxAge": "'1'"}),
+    "Old": resource("ApiGateway::RestApi", BinaryMediaTypes=["a"]),
+    "Part": resource("ApiGateway::Resource", ParentId=ROOT_OF, PathPart="a", RestApiId={"Ref": "Old"}),
+    "Get": resource("ApiGateway::Method", HttpMethod="GET", ResourceId={"Ref": "Part"}, RestApiId={"Ref": "Old"},
+                    Integration={"Type": "AWS_PROXY", "Uri": {"Fn::GetAtt": ["Two", "Arn"]}}),
+    "Ask": resource("ApiGateway::Method", HttpMethod="OPTIONS", ResourceId=ROOT_OF, RestApiId={"Ref": "Old"},
+                    Integration={"Type": "MOCK", "IntegrationResponses": [{"ResponseParameters": {
+                        "method.response.header.Access-Control-Allow-Origin": "'*'"}}]}),
+    "New": resource("ApiGatewayV2::Api", ProtocolType="HTTP", CorsConfiguration={"AllowOrigins": ["a"]},
+                    Target={"Fn::GetAtt": ["Two", "Arn"]}, RouteKey="GET /new"),
+    "Leads": resource("ApiGatewayV2::Integration", IntegrationUri={"Fn::GetAtt": ["Two", "Arn"]},
+                      PayloadFormatVersion="2.0"),
+    "Way": resource("ApiGatewayV2::Route", ApiId={"Ref": "New"}, RouteKey="GET /way",
+                    Target={"Fn::Join": ["/", ["integrations", {"Ref": "Leads"}]]}),
+}
+
+
 def other_types():
     """Of each part of a template a value of another type: no traceback, and never is it all refused for one
     function."""
@@ -452,7 +357,8 @@ def other_types():
            "Metadata": {"aws:asset:path": "x"},
                                       "Condition": "C"}
     one["Properties"]["Events"] = {"Get": {
-        "Type": "HttpApi", "Properties": {"Path": "/", "Method": "GET", "ApiId": {"Ref": "Api"}}}}
+        "Type": "HttpApi", "Properties": {"Path": "/", "Method": "GET", "ApiId": {"Ref": "Api"}}},
+        "Old": {"Type": "Api", "Properties": {"Path": "/old", "Method": "GET", "RestApiId": {"Ref": "Shop"}}}}
     whole = {"Parameters": {"Stage": {"Type": "String", "Default": "dev"}}, "Mappings": {"M": {"a": {"b": 3}}},
              "Conditions": {"C": {"Fn::Not": [{"Fn::Equals": ["a", {"Ref": "Stage"}]}]}},
              "Globals": {"Function": {"Environment": {"Variables": {"E": 1}}}},
@@ -461,11 +367,13 @@ def other_types():
                            "Api": {"Type": "AWS::Serverless::HttpApi",
                                    "Properties": {"CorsConfiguration": {"AllowOrigins": ["a"]}}},
                            "Url": {"Type": "AWS::Lambda::Url",
-                                   "Properties": {"TargetFunctionArn": "Two", "Cors": {"MaxAge": 1}}}}}
+                                   "Properties": {"TargetFunctionArn": "Two", "Cors": {"MaxAge": 1}}},
+                           **OF_GATEWAYS}}
     less = {"service": {"name": "shop"}, "provider": {"stage": "${opt:stage, 'dev'}", "runtime": "python3.12",
                                                       "environment": {"A": "${self:custom.a}"}},
                                                       "custom": {"a": ["${self:custom.b}"], "b": {"c": 1}},
-            "params": {"default": {"p": 1}}, "functions": {"one": {"handler": "a.b",
+            "params": {"default": {"p": 1}}, "functions": {"one": {"handler": "a.b", "events": [
+                {"http": {"path": "a", "method": "get", "cors": {"origins": ["a"]}}}, {"httpApi": "GET /b"}],
                     "environment": {"P": "${param:p}", "Q": {"Ref": "TwoLambdaFunction"}}}, "two": {"handler": "c.d"}},
             "resources": {"Resources": {"T": {"Type": "AWS::S3::Bucket"}}}}
     with tempfile.TemporaryDirectory() as folder:
@@ -527,5 +435,5 @@ def places():
 
 
 if __name__ == "__main__":
-    sys.exit(counted.run(sam, cdk, serverless, addresses, url_resources, cors_of_routes, expressions, code, numbers,
-                         names, wrong_templates, other_types, places))
+    sys.exit(counted.run(sam, cdk, serverless, expressions, code, numbers, names, wrong_templates,
+                         other_types, places))

@@ -1,40 +1,12 @@
 """The Function URL and the HTTP routes of a function, as UP.json has them: of SAM's FunctionUrlConfig and Events, and
 of url and events of Serverless."""
-from ..front import settings
-from ..front.routes import DEFAULT, Route, WrongRoute
+from ..front.routes import WrongRoute
+from .cors import cors_of, rest_cors_of
+from .routes import IMPLICIT, IMPLICIT_REST, OF_SERVERLESS, REST_OF_SERVERLESS, Mapped, Of, key_of
 from .telling import shown
-from .values import NO_VALUE, Unknown, members_of
+from .values import NO_VALUE, members_of
 
 READ = {"FunctionUrlConfig", "Events", "url", "events"}
-IMPLICIT, OF_SERVERLESS = "ServerlessHttpApi", "provider.httpApi"  # the APIs of events that name none
-ANY_SITE = {"allowOrigins": ["*"], "allowHeaders": ["*"], "allowMethods": ["*"]}
-REST = "is of a REST API: its events have payload format 1.0 there, and 2.0 here"
-
-
-def cors_of(given, where, scope, tell):
-    """Returns the member `cors` of a Cors in one of its forms; None if it allows no site. Reports what it leaves
-    out."""
-    try:
-        given, placeholders = scope.known(given)
-    except Unknown as reason:
-        return tell(f"leaves out the Cors of {where}: it needs {reason}")
-    if placeholders:
-        tell(f"the Cors of {where} has a placeholder for {' and '.join(placeholders)}: write its value into UP.json")
-    if given is True:  # (any site)
-        return ANY_SITE
-    if isinstance(given, str):  # (SAM: the one site)
-        return {"allowOrigins": [given]}
-    if not isinstance(given, dict):
-        return None
-    found = {}
-    for name, value in given.items():
-        name = {"allowedOrigins": "allowOrigins", "allowedHeaders": "allowHeaders", "allowedMethods": "allowMethods",
-                "exposedResponseHeaders": "exposeHeaders"}.get(name, str(name)[:1].lower() + str(name)[1:])
-        if name in settings.OF_CORS and settings.OF_CORS[name].accepts(value):
-            found[name] = value
-        else:
-            tell(f"leaves out {name} of the Cors of {where}: {shown(value)}")
-    return found or None
 
 
 def url_with(cors):
@@ -79,8 +51,8 @@ class Addresses:
     # --- its routes ---
 
     def routes(self):
-        """The keys of its routes, each with its HTTP API; none for a REST API."""
-        return dict(found for given in (self.of_sam(), self.of_serverless()) for found in given)
+        """Its routes, each with its API."""
+        return [*self.of_sam(), *self.of_serverless()]
 
     def of_sam(self):
         events = self.properties.get("Events")
@@ -91,16 +63,17 @@ class Addresses:
                 continue
             given = members_of(event, "Properties")
             if kind == "Api":
-                self.tell(f"the event {name} {REST}")
-            for key in self.route(f"event {name}", given.get("Method"), given.get("Path")):
-                yield key, self.api(given) if kind == "HttpApi" else None
+                of = Of(self.api(given.get("RestApiId"), IMPLICIT_REST), True)
+            else:
+                payload = given.get("PayloadFormatVersion")
+                of = Of(self.api(given.get("ApiId"), IMPLICIT), payload="1.0" if str(payload) == "1.0" else "2.0")
+            yield from self.route(f"event {name}", given.get("Method"), given.get("Path"), of)
 
     @staticmethod
-    def api(given):
-        """The logical id of the HTTP API that an event of SAM is of."""
-        named = given.get("ApiId")
+    def api(named, otherwise):
+        """The logical id of the API that an event of SAM is of."""
         named = named.get("Ref") if isinstance(named, dict) else named
-        return named if isinstance(named, str) else IMPLICIT
+        return named if isinstance(named, str) else otherwise
 
     def of_serverless(self):
         events = self.properties.get("events")
@@ -109,42 +82,22 @@ class Addresses:
             if kind not in ("httpApi", "http"):
                 self.tell(f"leaves out events: {shown(kind)}")
                 continue
-            if kind == "http":
-                self.tell(f"the event {shown(given)} {REST}")
             if isinstance(given, str):
                 method, _, path = given.strip().partition(" ")
                 given = {} if given.strip() == "*" else {"method": method, "path": path.strip()}
             given = given if isinstance(given, dict) else {}
-            for key in self.route(f"events: {kind}", given.get("method"), given.get("path")):
-                yield key, OF_SERVERLESS if kind == "httpApi" else None
+            of, cors = Of(OF_SERVERLESS, payload=self.scope.payload), None
+            if kind == "http":
+                of = Of(REST_OF_SERVERLESS, True)
+                cors = rest_cors_of(given.get("cors"), f"its event {kind}", self.scope, self.tell)
+            yield from self.route(f"events: {kind}", given.get("method"), given.get("path"), of, cors)
 
-    def route(self, where, method, path):
-        """Returns one route, or reports it if it is unknown. One without a method and a path takes everything else."""
+    def route(self, where, method, path, of, cors=None):
+        """Returns one route, or reports it if it is unknown."""
         both, placeholders = self.scope.known_or_why([method, path])
         if placeholders:
             return self.tell(f"leaves out its {where}: it needs {' and '.join(placeholders)}") or ()
-        method, path = both
-        key = DEFAULT
-        if method is not None or path is not None:
-            method = str(method or "ANY").upper().replace("*", "ANY").replace("X-AMAZON-APIGATEWAY-ANY-METHOD", "ANY")
-            key = f"{method} /{str(path or '').lstrip('/')}"
         try:
-            Route(key, None)
+            return (Mapped(key_of(*both), of, cors),)
         except WrongRoute as fault:
-            return self.tell(f"leaves out its {where}: {shown(key)}: {fault}") or ()
-        return (key,)
-
-
-def routes_of(functions, tell):
-    """The member `routes` of UP.json, and the HTTP APIs that they are of; takes the routes out of the functions. Of two
-    that take the same requests the first counts."""
-    found, shapes, apis = {}, {}, {}
-    for made in functions:
-        for key, api in made.pop("routes", {}).items():
-            shape = Route(key, None).shape
-            if shape in shapes:
-                tell(f"{made['name']}: leaves out the route {key}, since {found[shapes[shape]]} has {shapes[shape]}")
-            else:
-                found[key], shapes[shape] = made["name"], key
-                apis[api] = True
-    return found, [api for api in apis if api is not None]
+            return self.tell(f"leaves out its {where}: {fault}") or ()

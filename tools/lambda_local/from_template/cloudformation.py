@@ -1,9 +1,14 @@
 """The functions of a SAM or CloudFormation template, also one that CDK or Serverless writes."""
+import re
+
 from .telling import shown, tell
 from .values import Scope, Unknown, members_of
 
 FUNCTION, SAM_FUNCTION = "AWS::Lambda::Function", "AWS::Serverless::Function"
-TAKEN_LATER = ("AWS::Lambda::Url", "AWS::Serverless::HttpApi")  # once the functions are known
+# Read once the functions are known
+TAKEN_LATER = re.compile(r"AWS::Lambda::Url|AWS::Serverless::(Http)?Api|"
+                         r"AWS::ApiGateway::(RestApi|Resource|Method|Stage)|"
+                         r"AWS::ApiGatewayV2::(Api|Route|Integration|Stage)")
 ASSET = "aws:asset:path"  # CDK says here, of what it has staged, in which folder it is
 
 
@@ -55,7 +60,7 @@ def listed(template, stack):
     shared = members_of(members_of(template, "Globals"), "Function")
     for key, resource in template["Resources"].items():
         kind = resource.get("Type") if isinstance(resource, dict) else shown(resource)
-        if kind in TAKEN_LATER:
+        if isinstance(kind, str) and TAKEN_LATER.fullmatch(kind):
             continue
         if kind not in (FUNCTION, SAM_FUNCTION):
             tell(f"leaves out {key}, {kind}")

@@ -22,10 +22,11 @@ import sys
 
 from ..usage import parser_of
 from . import cloudformation, serverless
-from .addresses import routes_of
 from .functions import functions_of
+from .gateway_resources import add_routes
 from .reading import read
-from .resources import add_urls, api_of, apis_of
+from .resources import add_urls, apis_of
+from .routes import Apis
 from .telling import Fault, tell
 from .values import REGION
 
@@ -54,13 +55,12 @@ def up_of(path):
         raise Fault(f"{path} has no function")
     if is_of_resources:
         add_urls(functions, scope)
+        apis = {**apis_of(whole, scope), **add_routes(functions, scope)}
+    else:
+        apis = serverless.apis_of(scope)
     region = scope.pseudo["AWS::Region"]
     is_other = region != REGION and re.fullmatch(r"[a-z0-9-]{1,32}", region)
-    routes, used = routes_of(functions, tell)
-    shared, apis = apis_of(whole, scope) if is_of_resources else ({}, serverless.http_apis(scope))
-    api = api_of(used, shared, apis, scope)
-    return {**({"region": region} if is_other else {}), **({"routes": routes} if routes else {}),
-            **({"api": api} if api else {}), "functions": functions}
+    return {**({"region": region} if is_other else {}), **Apis(apis, scope).members(functions), "functions": functions}
 
 
 def place(functions, template, folder):

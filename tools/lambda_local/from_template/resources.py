@@ -1,13 +1,14 @@
-"""Function URLs and HTTP APIs that a template has as resources of their own: AWS::Lambda::Url, which CDK writes, and
-SAM's AWS::Serverless::HttpApi with what Globals says of all of them."""
+"""Function URLs and APIs that a template has as resources of their own: AWS::Lambda::Url, which CDK writes, and SAM's
+APIs with what Globals says of all of them."""
 from ..front.events import NAMED
-from .addresses import Addresses, cors_of
+from .addresses import Addresses
 from .cloudformation import is_wanted
+from .routes import IMPLICIT, IMPLICIT_REST
 from .telling import shown, tell
 from .values import Unknown, members_of
 
-URL, HTTP_API = "AWS::Lambda::Url", "AWS::Serverless::HttpApi"
-READ_OF_URL, READ_OF_API = {"TargetFunctionArn", "AuthType", "Cors", "InvokeMode", "Qualifier"}, {"CorsConfiguration"}
+URL, HTTP_API, REST_API = "AWS::Lambda::Url", "AWS::Serverless::HttpApi", "AWS::Serverless::Api"
+READ_OF_URL = {"TargetFunctionArn", "AuthType", "Cors", "InvokeMode", "Qualifier"}
 
 
 def resources_of(kind, scope):
@@ -55,25 +56,9 @@ def url_of(name, key, properties, scope):
 
 
 def apis_of(template, scope):
-    """What Globals says of all of SAM's HTTP APIs, and what is said of each that is a resource, by its logical id."""
-    shared = members_of(members_of(template, "Globals"), "HttpApi")
-    return shared, {key: {**shared, **properties} for key, properties in resources_of(HTTP_API, scope)}
-
-
-def api_of(used, shared, apis, scope):
-    """The member `api` of UP.json for routes of these APIs; empty if it is not needed. All have one port here."""
-    found = {}
-    for key in used:
-        properties, where = apis.get(key, shared), f"the HTTP API {key}"
-        found[key] = cors_of(properties.get("CorsConfiguration"), where, scope, tell)
-        if left := sorted(str(member) for member in set(properties) - READ_OF_API):
-            tell(f"leaves out {', '.join(left)} of {where}")
-    for key in set(apis) - set(used):
-        tell(f"leaves out {key}: none of the routes is of this HTTP API")
-    if not found:
-        return {}
-    first = next(iter(found))
-    if any(cors != found[first] for cors in found.values()):
-        others = ", ".join(list(found)[1:])
-        tell(f"all routes have one port here, with the Cors of the HTTP API {first}, and not those of {others}")
-    return {"cors": found[first]} if found[first] else {}
+    """The properties of each API by its logical id, with what Globals says of all, in SAM's names."""
+    common = members_of(template, "Globals")
+    http, rest = members_of(common, "HttpApi"), {"StageName": "Prod", **members_of(common, "Api")}
+    return {IMPLICIT: http, IMPLICIT_REST: rest,
+            **{key: {**http, **properties} for key, properties in resources_of(HTTP_API, scope)},
+            **{key: {**rest, **properties} for key, properties in resources_of(REST_API, scope)}}

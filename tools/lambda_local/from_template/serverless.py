@@ -2,7 +2,7 @@
 import os
 import re
 
-from .addresses import OF_SERVERLESS
+from .routes import OF_SERVERLESS, REST_OF_SERVERLESS
 from .telling import shown, tell
 from .values import ACCOUNT, REGION, Scope, Unknown, is_scalar, members_of, text_of
 
@@ -34,6 +34,11 @@ class ServerlessScope(Scope):
         self.stage, self.region = "dev", REGION  # (as options, until they are known)
         self.stage = self.setting("stage", self.stage)
         self.region = self.pseudo["AWS::Region"] = self.setting("region", self.region)
+
+    @property
+    def payload(self):
+        """The format of the events of its HTTP API."""
+        return "1.0" if str(members_of(self.provider, "httpApi").get("payload")) == "1.0" else "2.0"
 
     def setting(self, name, otherwise):
         """A text of `provider`."""
@@ -126,12 +131,14 @@ def object_of(part, name, where, scope):
     return value if isinstance(value, dict) else {}
 
 
-def http_apis(scope):
-    """What `provider` says of its HTTP API, by the names of SAM."""
-    given = object_of(scope.provider, "httpApi", "provider", scope)
-    if not given:
-        return {}
-    return {OF_SERVERLESS: {"CorsConfiguration" if name == "cors" else name: value for name, value in given.items()}}
+def apis_of(scope):
+    """What `provider` says of its APIs, by the names of SAM."""
+    http = object_of(scope.provider, "httpApi", "provider", scope)
+    rest = object_of(scope.provider, "apiGateway", "provider", scope)
+    return {OF_SERVERLESS: {"CorsConfiguration" if name == "cors" else name: value
+                            for name, value in http.items() if name != "payload"},
+            REST_OF_SERVERLESS: {"StageName": scope.stage, **{
+                "BinaryMediaTypes" if name == "binaryMediaTypes" else name: value for name, value in rest.items()}}}
 
 
 def properties_of(key, member, scope):

@@ -18,7 +18,7 @@ class Unmappable(Exception):
     """Why a function's result is not an answer."""
 
 
-def event_of(request, body, context, parameters=None):
+def event_of(request, body, context, parameters=None, variables=None):
     """`context` has the members of requestContext that do not depend on the request."""
     now, agent = time.time(), first(request.headers, "user-agent")
     event = {
@@ -30,6 +30,7 @@ def event_of(request, body, context, parameters=None):
                      "userAgent": agent or ""},
             "time": time.strftime("%d/%b/%Y:%H:%M:%S +0000", time.gmtime(now)), "timeEpoch": int(1000 * now)},
         **({"pathParameters": parameters} if parameters else {}),
+        **({"stageVariables": variables} if variables else {}),
         **body_of(request, body)}
     return json.dumps(event, ensure_ascii=False).encode(errors="replace")
 
@@ -59,12 +60,14 @@ def query_of(request):
     return {"queryStringParameters": found} if found else {}
 
 
-def body_of(request, body):
-    """As text if its type says that it is one, else in base64."""
+def body_of(request, body, is_text=None):
+    """As text if its type says that it is one, unless that is known already; else in base64."""
     if not body:
         return {"isBase64Encoded": False}
     kind = (first(request.headers, "content-type") or "").partition(";")[0].strip().lower()
-    if TEXTUAL.fullmatch(kind) and not first(request.headers, "content-encoding"):
+    if is_text is None:
+        is_text = TEXTUAL.fullmatch(kind) is not None and not first(request.headers, "content-encoding")
+    if is_text:
         try:
             return {"body": body.decode(), "isBase64Encoded": False}
         except UnicodeDecodeError:
@@ -75,12 +78,16 @@ def body_of(request, body):
 # ---- results ---------------------------------------------------------------------------------------------------------
 
 
-def reply_of(result):
-    """The answer that a result says, or the result itself as JSON."""
+def read_result(result):
     try:
-        value = json.loads(result)
+        return json.loads(result)
     except (ValueError, RecursionError):
         raise Unmappable(f"it is no JSON: {result[:60].decode(errors='replace')}") from None
+
+
+def reply_of(result):
+    """The answer that a result says, or the result itself as JSON."""
+    value = read_result(result)
     if not isinstance(value, dict) or "statusCode" not in value:
         return Reply(200, [("Content-Type", "application/json")], result)
     headers = headers_in(value)

@@ -18,10 +18,11 @@ def parts_of(path):
 
 
 class Route:
-    """`key` is `METHOD /path/{parameter}/{rest+}`, with `ANY` for each method, or `$default`."""
+    """`key` is `METHOD /path/{parameter}/{rest+}`, with `ANY` for each method, or `$default`; `target` is what it leads
+    to."""
 
-    def __init__(self, key, function):
-        self.key, self.function = key, function
+    def __init__(self, key, target=None):
+        self.key, self.target = key, target
         if key == DEFAULT:
             self.method, self.parts = "ANY", None
             return
@@ -72,7 +73,7 @@ class Route:
 
 class Routes:
     def __init__(self, routes):
-        self.routes = sorted((Route(key, function) for key, function in routes.items()), key=lambda route: route.rank)
+        self.routes = sorted((Route(key, target) for key, target in routes.items()), key=lambda route: route.rank)
 
     def find(self, method, path):
         """The route that takes a request, and its parameters; none if none does."""

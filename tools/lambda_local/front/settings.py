@@ -1,4 +1,5 @@
 """The members of UP.json that say what is in front of the functions."""
+import re
 from typing import Dict, NamedTuple, Optional, Tuple
 
 from ..configuration import PORT, Kind, is_list_of, is_text, is_whole, mistakes_of, shown
@@ -29,11 +30,23 @@ OF_CORS = {
 }
 OBJECT = Kind(lambda value: isinstance(value, dict), "an object")
 OF_ADDRESS = {"port": PORT, "cors": OBJECT}
+OF_INTEGRATION = {
+    "payload": Kind(lambda value: value in ("1.0", "2.0"), '"1.0" or "2.0"'),
+    "type": Kind(lambda value: value in ("REST", "HTTP"), '"REST" or "HTTP"'),
+    "stage": Kind(lambda value: is_text(value) and re.fullmatch("[A-Za-z0-9_-]{1,128}", value) is not None,
+                  "a text of 1 to 128 letters, digits, - and _"),
+    "stageVariables": Kind(lambda value: isinstance(value, dict) and all(map(is_text, value.values())),
+                           "an object of texts"),
+    "binaryMediaTypes": TEXTS,
+}
+OF_API = {**OF_ADDRESS, **OF_INTEGRATION}
+OF_ROUTE = {"function": Kind(is_text, "a text: the name of a function"), **OF_INTEGRATION}
 SWITCH = Kind(lambda value: isinstance(value, (bool, dict)), "true, or an object")
 AT_THE_TOP = {
     "asynchronous": SWITCH,
-    "routes": Kind(lambda value: isinstance(value, dict) and all(map(is_text, value.values())),
-                   'an object: for each route, such as "GET /orders/{id}", the name of a function'),
+    "routes": Kind(lambda value: isinstance(value, dict) and all(isinstance(of, (str, dict)) for of in value.values()),
+                   'an object: for each route, such as "GET /orders/{id}", the name of a function, or an object with '
+                   '"function"'),
     "api": OBJECT,
 }
 OF_FUNCTION = {"url": SWITCH}
@@ -65,11 +78,26 @@ class Address(NamedTuple):
     cors: Optional[Cors] = None
 
 
+class Integration(NamedTuple):
+    """How the requests of a route become events, and results answers."""
+    version: str = "2.0"  # of the payload format
+    is_rest: bool = False
+    stage: str = "$default"
+    variables: Optional[Dict[str, str]] = None
+    binary: Tuple[str, ...] = ()  # media types of a REST API, in lower case
+
+
+class Target(NamedTuple):
+    """What a route leads to."""
+    function: str
+    integration: Integration
+
+
 class Settings(NamedTuple):
     invoke_port: int
     asynchronous: Optional[Asynchronous]
     urls: Dict[str, Address]  # by function
-    routes: Dict[str, str]
+    routes: Dict[str, Target]
     api: Address
 
 
@@ -84,26 +112,42 @@ def mistakes(whole):
     for member in whole["functions"]:
         if isinstance(member.get("url"), dict):
             yield from mistakes_of_address(member["url"], f"function {member['name']}: url: ")
-    yield from mistakes_of_address(whole.get("api", {}), "api: ")
+    api = whole.get("api", {})
+    yield from mistakes_of_address(api, "api: ", OF_API)
+    yield from mistakes_of_integration(api, api, "api: ")
     if "api" in whole and "routes" not in whole:
         yield "api: there are no routes: write \"routes\", or leave it out"
-    yield from mistakes_of_routes(whole.get("routes", {}), names)
+    yield from mistakes_of_routes(whole.get("routes", {}), names, api)
 
 
-def mistakes_of_address(given, where):
-    yield from mistakes_of(given, OF_ADDRESS, where)
+def mistakes_of_address(given, where, kinds=OF_ADDRESS):
+    yield from mistakes_of(given, kinds, where)
     if isinstance(given.get("cors"), dict):
         yield from mistakes_of(given["cors"], OF_CORS, f"{where}cors: ")
 
 
-def mistakes_of_routes(routes, names):
+def mistakes_of_integration(given, whole, where):
+    """What does not go together; `whole` also has what a route has from its API."""
+    kind = kind_of(whole)
+    if kind == "REST" and whole.get("payload") == "2.0":
+        yield f'{where}the events of a REST API have "payload": "1.0": write that, or "type": "HTTP"'
+    for name in ("stage", "binaryMediaTypes"):
+        if kind == "HTTP" and name in given:
+            yield f'{where}{name} is of a REST API: leave it out, or write "type": "REST"'
+
+
+def mistakes_of_routes(routes, names, api):
     seen = {}
-    for key, name in routes.items():
+    for key, given in routes.items():
         where = f"routes: {shown(key)}: "
-        if name not in names:
+        if isinstance(given, dict):
+            yield from mistakes_of(given, OF_ROUTE, where, ["function"])
+            yield from mistakes_of_integration(given, {**api, **given}, where)
+        name = given.get("function") if isinstance(given, dict) else given
+        if is_text(name) and name not in names:
             yield f"{where}there is no function {shown(name)}"
         try:
-            shape = Route(key, name).shape
+            shape = Route(key).shape
         except WrongRoute as fault:
             yield f"{where}{fault}"
             continue
@@ -125,6 +169,22 @@ def address_of(given):
     return Address(given.get("port", 0), cors_of(given.get("cors")))
 
 
+def kind_of(given):
+    return given.get("type", "REST" if given.get("payload") == "1.0" else "HTTP")
+
+
+def target_of(given, api):
+    """What a route leads to; what it does not say, the API does."""
+    given = given if isinstance(given, dict) else {"function": given}
+    whole = {**api, **given}
+    is_rest = kind_of(whole) == "REST"
+    variables = whole.get("stageVariables") or None
+    if not is_rest:
+        return Target(given["function"], Integration(whole.get("payload", "2.0"), variables=variables))
+    binary = tuple(kind.lower() for kind in whole.get("binaryMediaTypes", ()))
+    return Target(given["function"], Integration("1.0", True, whole.get("stage", "local"), variables, binary))
+
+
 def asynchronous_of(given):
     if not given and given != {}:
         return None
@@ -140,5 +200,6 @@ def settings_of(whole):
             if member.get("url") or member.get("url") == {}}
     if not (asynchronous or urls or whole.get("routes")):
         return None
-    return Settings(whole.get("invokePort", 0), asynchronous, urls, whole.get("routes", {}),
-                    address_of(whole.get("api")))
+    api = whole.get("api", {})
+    routes = {key: target_of(given, api) for key, given in whole.get("routes", {}).items()}
+    return Settings(whole.get("invokePort", 0), asynchronous, urls, routes, address_of(api))

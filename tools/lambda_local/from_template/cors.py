@@ -1,0 +1,79 @@
+"""What a template says of cross-origin requests, as UP.json has it."""
+from ..front import settings
+from .telling import shown
+from .values import NO_VALUE, Unknown
+
+ANY_SITE = {"allowOrigins": ["*"], "allowHeaders": ["*"], "allowMethods": ["*"]}
+OTHER_NAMES = {"allowedOrigins": "allowOrigins", "allowedHeaders": "allowHeaders", "allowedMethods": "allowMethods",
+               "exposedResponseHeaders": "exposeHeaders"}
+# Of a REST API: the names that SAM and Serverless have, and those of the headers of a method OPTIONS
+OF_REST = {"AllowOrigin": "allowOrigins", "AllowHeaders": "allowHeaders", "AllowMethods": "allowMethods",
+           "AllowCredentials": "allowCredentials", "MaxAge": "maxAge", "origin": "allowOrigins",
+           "origins": "allowOrigins", "headers": "allowHeaders", "methods": "allowMethods",
+           "allowCredentials": "allowCredentials", "maxAge": "maxAge", "ExposeHeaders": "exposeHeaders",
+           "exposedResponseHeaders": "exposeHeaders"}
+# What Serverless allows if an event says no more than that it may
+SERVERLESS_HEADERS = ["Content-Type", "X-Amz-Date", "Authorization", "X-Api-Key", "X-Amz-Security-Token",
+                      "X-Amz-User-Agent", "X-Amzn-Trace-Id"]
+
+
+def known(given, where, scope, tell):
+    """The value of a Cors; None, with a report, if it is not known here."""
+    try:
+        given, placeholders = scope.known(given)
+    except Unknown as reason:
+        return tell(f"leaves out the Cors of {where}: it needs {reason}")
+    if placeholders:
+        tell(f"the Cors of {where} has a placeholder for {' and '.join(placeholders)}: write its value into UP.json")
+    return None if given is NO_VALUE else given
+
+
+def taken(given, names, where, tell):
+    """The members that UP.json takes."""
+    found = {}
+    for name, value in given.items():
+        member = names(str(name))
+        if member in settings.OF_CORS and settings.OF_CORS[member].accepts(value):
+            found[member] = value
+        else:
+            tell(f"leaves out {member} of the Cors of {where}: {shown(value)}")
+    return found or None
+
+
+def cors_of(given, where, scope, tell):
+    """Returns the member `cors` of the Cors of a Function URL or an HTTP API in one of its forms; None if it allows no
+    site. Reports what it leaves out."""
+    given = known(given, where, scope, tell)
+    if given is True:  # (any site)
+        return ANY_SITE
+    if isinstance(given, str):  # (SAM: the one site)
+        return {"allowOrigins": [given]}
+    if not isinstance(given, dict):
+        return None
+    return taken(given, lambda name: OTHER_NAMES.get(name, name[:1].lower() + name[1:]), where, tell)
+
+
+def rest_cors_of(given, where, scope, tell):
+    """The same of a REST API, whose values are texts in quotes: they are the headers of a method OPTIONS."""
+    given = known(given, where, scope, tell)
+    if given is True:
+        return {**ANY_SITE, "allowHeaders": SERVERLESS_HEADERS}
+    if isinstance(given, str):
+        given = {"AllowOrigin": given}
+    if not isinstance(given, dict):
+        return None
+    found = taken({name: plain(OF_REST.get(str(name)), value) for name, value in given.items()},
+                  lambda name: OF_REST.get(name, name), where, tell)
+    return {"allowMethods": ["*"], **found} if found else None
+
+
+def plain(member, value):
+    """A value without its quotes, of the type that UP.json has for it."""
+    text = value.strip().strip("'") if isinstance(value, str) else value
+    if member in ("allowOrigins", "allowHeaders", "allowMethods", "exposeHeaders") and isinstance(text, str):
+        return [part.strip() for part in text.split(",") if part.strip()]
+    if member == "allowCredentials" and text in ("true", "false"):
+        return text == "true"
+    if member == "maxAge" and isinstance(text, str) and text.isascii() and text.isdigit() and len(text) < 9:
+        return int(text)
+    return value

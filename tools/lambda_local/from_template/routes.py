@@ -1,0 +1,147 @@
+"""Routes that a template has, the APIs that they are of, and what UP.json says of both."""
+import re
+from typing import Any, Dict, NamedTuple, Optional
+
+from ..front import settings
+from ..front.routes import DEFAULT, Route, WrongRoute
+from .cors import cors_of, rest_cors_of
+from .telling import shown, tell
+from .values import NO_VALUE, is_scalar, text_of
+
+# The APIs of events that name none
+IMPLICIT, IMPLICIT_REST = "ServerlessHttpApi", "ServerlessRestApi"
+OF_SERVERLESS, REST_OF_SERVERLESS = "provider.httpApi", "provider.apiGateway"
+UNNAMED = {IMPLICIT, IMPLICIT_REST, OF_SERVERLESS, REST_OF_SERVERLESS}
+# What is taken of an API's properties, or has no meaning here
+READ_OF_HTTP, READ_OF_REST = {"CorsConfiguration"}, {"StageName", "Variables", "BinaryMediaTypes", "Cors", "Name"}
+
+
+class Of(NamedTuple):
+    """The API that a route is of."""
+    key: str  # its logical id
+    is_rest: bool = False
+    payload: str = "2.0"
+
+    @property
+    def name(self):
+        return f"the {'REST' if self.is_rest else 'HTTP'} API {self.key}"
+
+
+class Mapped(NamedTuple):
+    """One route of a function. `cors` is what its own event says of other sites."""
+    key: str
+    of: Of
+    cors: Optional[Dict[str, Any]] = None
+
+
+def key_of(method, path):
+    """The key of a route; WrongRoute if it is none. One without a method and a path takes everything else."""
+    key = DEFAULT
+    if method is not None or path is not None:
+        method = str(method or "ANY").upper().replace("*", "ANY").replace("X-AMAZON-APIGATEWAY-ANY-METHOD", "ANY")
+        key = f"{method} /{str(path or '').lstrip('/')}"
+    return checked(key)
+
+
+def checked(key):
+    """The key of a route that is written as UP.json has it; WrongRoute if it is none."""
+    try:
+        Route(key)
+    except WrongRoute as fault:
+        raise WrongRoute(f"{shown(key)}: {fault}") from None
+    return key
+
+
+def taken_from(functions):
+    """Takes the routes out of the functions: each by its key, with its function's name. Of two that take the same
+    requests the first counts."""
+    found, shapes = {}, {}
+    for made in functions:
+        for mapped in made.pop("routes", ()):
+            shape = Route(mapped.key).shape
+            if shape in shapes:
+                tell(f"{made['name']}: leaves out the route {mapped.key}, since {found[shapes[shape]][0]} has "
+                     f"{shapes[shape]}")
+            else:
+                found[mapped.key], shapes[shape] = (made["name"], mapped), mapped.key
+    return found
+
+
+class Apis:
+    """What UP.json has of the APIs of a template. `properties` are those of each by its logical id, in the names that
+    SAM has for them."""
+
+    def __init__(self, properties, scope):
+        self.properties, self.scope = properties, scope
+
+    def members(self, functions):
+        """The members `routes` and `api` of UP.json, without those that are empty; takes routes out of the
+        functions."""
+        found = taken_from(functions)
+        used = list(dict.fromkeys(mapped.of for _, mapped in found.values()))
+        integrations = {of: self.integration(of) for of in used}
+        for key in set(self.properties) - {of.key for of in used} - UNNAMED:
+            tell(f"leaves out {key}: none of the routes is of this API")
+        alike = len({repr(each) for each in integrations.values()}) == 1
+        api = {**(integrations[used[0]] if alike else {}), **self.cors(found, used)}
+        routes = {}
+        for key, (name, mapped) in found.items():
+            own = {} if alike else integrations[mapped.of]
+            routes[key] = {"function": name, **own} if own else name
+        return {**({"routes": routes} if routes else {}), **({"api": api} if api else {})}
+
+    def value(self, of, name):
+        """A property's value; None if it is absent, or unknown, which is reported."""
+        given = self.properties.get(of.key, {}).get(name)
+        if given is None:
+            return None
+        value, placeholders = self.scope.known_or_why(given)
+        if placeholders:
+            return tell(f"leaves out {name} of {of.name}: it needs {' and '.join(placeholders)}")
+        return None if value is NO_VALUE else value
+
+    def integration(self, of):
+        """The members that say how requests become events."""
+        read = READ_OF_REST if of.is_rest else READ_OF_HTTP
+        if left := sorted(str(name) for name in set(self.properties.get(of.key, {})) - read):
+            tell(f"leaves out {', '.join(left)} of {of.name}")
+        if not of.is_rest:
+            return {"payload": "1.0", "type": "HTTP"} if of.payload == "1.0" else {}
+        found = {"payload": "1.0", "stage": self.value(of, "StageName"),
+                 "stageVariables": self.variables(of), "binaryMediaTypes": self.binary(of)}
+        if found["stage"] is not None and not settings.OF_INTEGRATION["stage"].accepts(found["stage"]):
+            tell(f"leaves out StageName of {of.name}: {shown(found['stage'])}")
+            found["stage"] = None
+        return {name: value for name, value in found.items() if value}
+
+    def variables(self, of):
+        given = self.value(of, "Variables") or {}
+        if not isinstance(given, dict):
+            return tell(f"leaves out Variables of {of.name}: they must be an object, not {shown(given)}")
+        return {str(name): text_of(value) for name, value in given.items() if is_scalar(value)}
+
+    def binary(self, of):
+        given = self.value(of, "BinaryMediaTypes") or []
+        if not settings.TEXTS.accepts(given):
+            return tell(f"leaves out BinaryMediaTypes of {of.name}: they must be a list of texts, not {shown(given)}")
+        return [re.sub("~1", "/", kind) for kind in given]  # (which is how SAM writes it)
+
+    def cors(self, found, used):
+        """The member `cors`: all routes have one port here."""
+        if not used:
+            return {}
+        given = {of.key: self.cors_of_api(of) for of in used}
+        for _, mapped in found.values():
+            given[mapped.of.key] = given[mapped.of.key] or mapped.cors
+        first = next(iter(given))
+        if any(cors != given[first] for cors in given.values()):
+            names = {of.key: of.name for of in used}
+            tell(f"all routes have one port here, with the Cors of {names[first]}, and not those of "
+                 f"{', '.join(list(given)[1:])}")
+        return {"cors": given[first]} if given[first] else {}
+
+    def cors_of_api(self, of):
+        properties = self.properties.get(of.key, {})
+        if of.is_rest:
+            return rest_cors_of(properties.get("Cors"), of.name, self.scope, tell)
+        return cors_of(properties.get("CorsConfiguration"), of.name, self.scope, tell)

@@ -1,0 +1,86 @@
+"""What is in front of functions for HTTP, by its kind: in which format requests become events and results answers, and
+what is answered if there is no result."""
+import json
+
+from . import payload, rest_payload
+from .http import Reply
+
+JSON = [("Content-Type", "application/json")]
+
+
+def message(status, text):
+    return Reply(status, JSON, json.dumps({"message": text}).encode())
+
+
+class OfUrl:
+    """A Function URL: payload format 2.0."""
+    replaces_cors = True  # whether a configuration's headers stand in place of the function's own
+
+    @staticmethod
+    def event(request, body, context, parameters, tell):
+        return payload.event_of(request, body, context)
+
+    @staticmethod
+    def reply(result, request, tell):
+        return payload.reply_of(result)
+
+    @staticmethod
+    def broken():
+        """For a function that fails, or whose result is not an answer."""
+        return Reply(502, JSON, b"Internal Server Error")
+
+    @staticmethod
+    def throttled(result):
+        return Reply(429, JSON, result)
+
+
+class OfHttpApi(OfUrl):
+    """A route of an HTTP API, in payload format 2.0 or 1.0."""
+
+    def __init__(self, integration):
+        self.integration = integration
+
+    def event(self, request, body, context, parameters, tell):
+        if self.integration.version == "1.0":
+            return rest_payload.event_of(request, body, context, parameters, self.integration, tell)
+        return payload.event_of(request, body, context, parameters, self.integration.variables)
+
+    def reply(self, result, request, tell):
+        if self.integration.version == "1.0":
+            return rest_payload.reply_of(result, request, self.integration, tell)
+        return payload.reply_of(result)
+
+    @staticmethod
+    def broken():
+        return message(502, "Internal Server Error")
+
+    @staticmethod
+    def throttled(result):
+        return Reply(503, JSON, result)
+
+    @staticmethod
+    def unrouted():
+        """For a request that no route takes."""
+        return message(404, "Not Found")
+
+
+class OfRestApi(OfHttpApi):
+    """A method of a REST API (Lambda Developer Guide, "Error handling with an API Gateway API"; API Gateway Developer
+    Guide, "Gateway response types"). Its function answers for cross-origin requests itself."""
+    replaces_cors = False
+
+    @staticmethod
+    def broken():
+        return message(502, "Internal server error")
+
+    @staticmethod
+    def throttled(result):
+        return message(500, "Internal server error")
+
+    @staticmethod
+    def unrouted():
+        return message(403, "Missing Authentication Token")
+
+
+def format_of(integration):
+    return (OfRestApi if integration.is_rest else OfHttpApi)(integration)

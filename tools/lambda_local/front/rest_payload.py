@@ -1,0 +1,144 @@
+"""HTTP requests as events, and results as answers, in payload format 1.0: as a REST API has it (API Gateway Developer
+Guide, "Set up Lambda proxy integrations"), and an HTTP API ("Create AWS Lambda proxy integrations for HTTP APIs")."""
+import json
+import re
+import time
+from urllib.parse import parse_qsl
+
+from .http import OF_CONNECTION, TOKEN, Reply, every, first
+from .payload import FRAMING, HERE, Unmappable, body_in, body_of, headers_in, read_result, status_in, text_in
+
+MEMBERS = ("statusCode", "headers", "multiValueHeaders", "body", "isBase64Encoded")  # of a result
+UNKNOWN_IDENTITY = ("accessKey", "accountId", "caller", "cognitoAuthenticationProvider", "cognitoAuthenticationType",
+                    "cognitoIdentityId", "cognitoIdentityPoolId", "principalOrgId", "user", "userArn")
+ANY_TYPE = "*/*"
+
+
+def event_of(request, body, context, parameters, integration, tell):
+    """`context` has the members of requestContext that do not depend on the request. `tell` takes a sentence on what
+    is lost."""
+    key = context["routeKey"]
+    resource = key.partition(" ")[2] or key
+    headers, query = headers_of(request, integration.is_rest), query_of(request)
+    event = {
+        **({} if integration.is_rest else {"version": "1.0"}),
+        "resource": resource, "path": request.path, "httpMethod": request.method,
+        "headers": last_of_each(headers), "multiValueHeaders": headers,
+        "queryStringParameters": last_of_each(query) or None, "multiValueQueryStringParameters": query or None,
+        "pathParameters": parameters or None, "stageVariables": integration.variables or None,
+        "requestContext": context_of(request, context, resource, integration),
+        **(body_of_rest(request, body, integration, tell) if integration.is_rest
+           else {"body": None, **body_of(request, body)})}
+    return json.dumps(event, ensure_ascii=False).encode(errors="replace")
+
+
+def last_of_each(values):
+    return {name: given[-1] for name, given in values.items()}
+
+
+def headers_of(request, keeps_case):
+    """Returns the values of each header, under the name that it has in the request, or that name in lower case."""
+    found, names = {}, {}
+    for name, value in request.headers:
+        key = name.lower()
+        if key not in OF_CONNECTION and key != "expect":
+            found.setdefault(names.setdefault(key, name if keeps_case else key), []).append(value)
+
+    def put(name, value):
+        found.setdefault(names.setdefault(name.lower(), name if keeps_case else name.lower()), [value])
+
+    before = ", ".join(every(request.headers, "x-forwarded-for"))
+    found.pop(names.get("x-forwarded-for"), None)
+    put("X-Forwarded-For", f"{before}, {HERE}" if before else HERE)
+    put("X-Forwarded-Proto", "http")
+    port = re.search(r":([0-9]+)$", first(request.headers, "host") or "")
+    put("X-Forwarded-Port", port[1] if port else "80")
+    return found
+
+
+def query_of(request):
+    found = {}
+    for name, value in parse_qsl(request.query, keep_blank_values=True):
+        found.setdefault(name, []).append(value)
+    return found
+
+
+def context_of(request, context, resource, integration):
+    now, is_rest = time.time(), integration.is_rest
+    identity = {**dict.fromkeys(UNKNOWN_IDENTITY), "sourceIp": HERE,
+                "userAgent": first(request.headers, "user-agent") or "",
+                **({"apiKey": first(request.headers, "x-api-key")} if is_rest else {"clientCert": None})}
+    members = {name: value for name, value in context.items() if name != "routeKey"}
+    return {
+        **members, **({} if is_rest else {"authorizer": {"claims": None, "scopes": None}}),
+        "extendedRequestId": context["requestId"], "httpMethod": request.method, "identity": identity,
+        "path": f"/{integration.stage}{request.path}" if is_rest else request.path, "protocol": request.version,
+        "requestTime": time.strftime("%d/%b/%Y:%H:%M:%S +0000", time.gmtime(now)), "requestTimeEpoch": int(1000 * now),
+        "resourceId": "local" if is_rest else None, "resourcePath": resource, "stage": integration.stage}
+
+
+def media_type(value):
+    return (value or "").partition(";")[0].strip().lower()
+
+
+def is_binary(kind, integration):
+    return ANY_TYPE in integration.binary or kind in integration.binary
+
+
+def body_of_rest(request, body, integration, tell):
+    """In base64 if its type is one of the API's binary media types, else as text."""
+    if not body:
+        return {"body": None, "isBase64Encoded": False}
+    kind = media_type(first(request.headers, "content-type")) or "application/json"
+    if is_binary(kind, integration):
+        return body_of(request, body, is_text=False)
+    try:
+        text = body.decode()
+    except UnicodeDecodeError:
+        tell(f"its body is not UTF-8, and {kind[:60]} is not in binaryMediaTypes: other bytes are replaced")
+        text = body.decode(errors="replace")
+    return {"body": text, "isBase64Encoded": False}
+
+
+# ---- results ---------------------------------------------------------------------------------------------------------
+
+
+def reply_of(result, request, integration, tell):
+    """The answer that a result says; Unmappable for a result of another form."""
+    value = read_result(result)
+    if not isinstance(value, dict) or "statusCode" not in value:
+        raise Unmappable("it must be an object with a statusCode, as format 1.0 has it")
+    if integration.is_rest and (others := [name for name in value if name not in MEMBERS]):
+        raise Unmappable(f"it has the member {json.dumps(others[0])[:60]}: format 1.0 has {', '.join(MEMBERS)}")
+    headers = merged(headers_in(value), multiple_in(value))
+    if first(headers, "content-type") is None:
+        headers.append(("Content-Type", "application/json"))
+    if integration.is_rest and value.get("isBase64Encoded") is True and not is_binary(accepted(request), integration):
+        tell("its result is sent as the base64 that it is, since the type that Accept names first is not in "
+             "binaryMediaTypes")
+        value = {**value, "isBase64Encoded": False}
+    return Reply(status_in(value), headers, body_in(value))
+
+
+def accepted(request):
+    """The type that a request would have first."""
+    return media_type((first(request.headers, "accept") or "").partition(",")[0]) or "application/json"
+
+
+def multiple_in(value):
+    """The member multiValueHeaders, one pair for each value."""
+    given = value.get("multiValueHeaders")
+    if given is None:
+        return []
+    if not isinstance(given, dict) or not all(isinstance(values, list) for values in given.values()):
+        raise Unmappable(f"multiValueHeaders must be an object of lists, not {json.dumps(given)[:60]}")
+    if wrong := [name for name in given if not TOKEN.fullmatch(name)]:
+        raise Unmappable(f"multiValueHeaders: {json.dumps(wrong[0])[:60]} is no name of a header")
+    return [(name, text_in(text, f"multiValueHeaders: each of {name}")) for name, values in given.items()
+            for text in values if name.lower() not in FRAMING]
+
+
+def merged(single, multiple):
+    """Both members as one list, in which a pair that both have comes once."""
+    seen = {(name.lower(), value) for name, value in multiple}
+    return [pair for pair in single if (pair[0].lower(), pair[1]) not in seen] + multiple
