@@ -260,6 +260,61 @@ def refused_alike():
     check("it ends in order, and leaves nothing", (up.end(), up.count(r"\[f\] event \S+ ok")), ((0, []), 2))
 
 
+HIDDEN = b'{"do":"sleep","seconds":0.5,"whose":"hidden"}'
+HIDDEN_REQUEST = f"{INVOKE}Host: a\r\nContent-Length: {len(HIDDEN)}\r\n\r\n".encode() + HIDDEN
+
+
+def in_one_chunk(data):
+    return b"%x\r\n%b\r\n0\r\n\r\n" % (len(data), data)
+
+
+def smuggled():
+    """What a head's `Connection` names takes nothing away: neither where its body ends, so that a second request hides
+    in it whose answer another caller gets, nor why it is refused (RFC 9110, section 7.6.1)."""
+    long = f"Content-Length: {len(HIDDEN_REQUEST)}\r\n"
+    for name, head, body in (
+            ("a body whose length is of the connection", f"Connection: content-length\r\n{long}", HIDDEN_REQUEST),
+            ("in capitals, in a list", f"Connection: keep-alive, CONTENT-LENGTH\r\n{long}", HIDDEN_REQUEST),
+            ("in two headers", f"Connection: te\r\nConnection: Content-Length,\r\n{long}", HIDDEN_REQUEST),
+            ("a body in chunks", "Connection: transfer-encoding\r\nTransfer-Encoding: chunked\r\n",
+             in_one_chunk(HIDDEN_REQUEST)),
+            ("chunks and a length", f"Connection: content-length\r\n{long}Transfer-Encoding: chunked\r\n",
+             in_one_chunk(b"{}") + HIDDEN_REQUEST)):
+        with running(environments=2, timeout=10) as (up, caller):
+            caller.invoke("f", {"warm": True})
+            raw_answers(up.endpoint, f"GET /_local/stats HTTP/1.1\r\nHost: a\r\n{head}\r\n".encode() + body, 0.2)
+            seen = [json.loads(caller.invoke("f", {"whose": number})[2]) for number in range(3)]
+            check(f"{name}: each caller gets its own answer", seen, [{"whose": number} for number in range(3)])
+            time.sleep(1)
+            check(f"{name}: what it hides is not invoked", up.count(r"\[f/\d\] \S+ ok"), 4)
+    with running() as (up, caller):
+        before = len(caller.ask("GET", "/_local/history")[2].splitlines())
+        old, length = INVOKE.replace("1.1", "1.0"), "Content-Length: 2\r\n\r\n{}"
+        for head, wanted in (
+                (f"{INVOKE}Host: a\r\nOrigin: https://evil\r\nConnection: close, origin\r\n{length}", b"403"),
+                (f"{INVOKE}Host: a\r\nSec-Fetch-Site: cross-site\r\nConnection: sec-fetch-site\r\n{length}", b"403"),
+                (f"{INVOKE}Host: evil.example\r\nConnection: close, host\r\n{length}", b"403"),
+                (f"{old}Host: evil.example\r\nConnection: host\r\n{length}", b"403"),
+                (f"{old}Connection: host\r\nHost: evil.example\r\nHost: a\r\n{length}", b"400"),
+                ("GET /_local/history HTTP/1.0\r\nHost: evil.example\r\nConnection: host\r\n\r\n", b"403"),
+                (f"{INVOKE}Host: a\r\nX-Amz-Invocation-Type: Nonsense\r\nConnection: x-amz-invocation-type\r\n{length}",
+                 b"400")):
+            check(f"{head!r} is refused", raw_answers(up.endpoint, head.encode())[9:12], wanted)
+        check("nothing is invoked", len(caller.ask("GET", "/_local/history")[2].splitlines()), before)
+
+
+def raw_answers(address, data, seconds=2):
+    """All that is answered to these bytes until nothing comes for so long."""
+    parts = urllib.parse.urlsplit(address)
+    with socket.create_connection((parts.hostname, parts.port), timeout=seconds) as peer:
+        peer.sendall(data)
+        found = b""
+        with contextlib.suppress(TimeoutError, socket.timeout):
+            while part := peer.recv(65536):
+                found += part
+    return found
+
+
 def peers_that_go():
     """A connection whose caller has gone is closed on both sides; one whose caller has ended its own side is
     answered."""
@@ -329,6 +384,6 @@ def mistakes():
 
 if __name__ == "__main__":
     parts = {part.__name__: part
-             for part in (by_boto3, refusals, fan_out, failures, bounds, ends, unchanged, refused_alike, peers_that_go,
-                          samples, mistakes)}
+             for part in (by_boto3, refusals, fan_out, failures, bounds, ends, unchanged, refused_alike, smuggled,
+                          peers_that_go, samples, mistakes)}
     sys.exit(counted.run(*(parts[name] for name in sys.argv[1:] or parts)))

@@ -1,17 +1,42 @@
-"""The side that calls the service: connections that are kept, and each used by one request at a time."""
+"""The side that calls the service: connections that are kept, and each used by one request at a time. What is asked is
+written here and nowhere else: a method, a target, the headers that the service reads, and a body of a known length. A
+caller's own head is never passed on."""
 import asyncio
 import contextlib
+import errno
 import time
 
-from .http import Malformed, answer_of, rendered
+from ..http1 import CLOSED, Malformed, ResponseReader, request_head
+from .http import Answer, Body
 from .wire import Gone, Wire
 
 MOST_IDLE = 64  # connections that are kept
 IDLE_SECONDS = 60  # (the service closes one after 300)
+NO_DESCRIPTOR = (errno.EMFILE, errno.ENFILE)
 
 
 class Unreached(Gone):
     """There is no connection to the service, so it has received nothing of the request."""
+
+
+class NoDescriptor(Unreached):
+    """This process has no descriptor for a connection."""
+
+
+class ServiceWire(Wire):
+    """A connection to the service, on which an answer that is not HTTP/1.1 is as good as none."""
+
+    def __init__(self):
+        super().__init__(ResponseReader())
+
+    async def event(self):
+        try:
+            event = await super().event()
+        except Malformed:
+            raise Gone from None
+        if event is CLOSED:
+            raise Gone
+        return event
 
 
 class Client:
@@ -22,20 +47,22 @@ class Client:
         now = time.monotonic()
         while self.idle:
             wire, since = self.idle.pop()
-            if wire.is_silent() and now - since < IDLE_SECONDS:
+            if now - since < IDLE_SECONDS and wire.is_silent():
                 return wire
-            wire.close()
+            wire.abort()
         try:
-            _, wire = await asyncio.get_running_loop().create_connection(Wire, "127.0.0.1", self.port)
-        except OSError:
-            raise Unreached from None
+            _, wire = await asyncio.get_running_loop().create_connection(ServiceWire, "127.0.0.1", self.port)
+        except OSError as fault:
+            raise (NoDescriptor if fault.errno in NO_DESCRIPTOR else Unreached) from None
         return wire
 
     def give_back(self, wire):
-        if wire.ended or wire.buffer or len(self.idle) >= MOST_IDLE:
-            wire.close()
-        else:
+        """Keeps a connection that is silent: what came after the answer would be taken for the next one."""
+        wire.reader.next_message()
+        if len(self.idle) < MOST_IDLE and wire.is_silent():
             self.idle.append((wire, time.monotonic()))
+        else:
+            wire.abort()
 
     def close(self):
         for wire, _ in self.idle:
@@ -43,44 +70,52 @@ class Client:
         self.idle.clear()
 
     @contextlib.asynccontextmanager
-    async def asking(self, method, target, headers, body=b"", pieces=None):
-        """The answer to a request whose body is there, or comes in pieces, while it is read. A request is never sent
-        twice: it could be an invocation."""
+    async def asking(self, method, target, headers=(), length=0, pieces=None, body=b""):
+        """The answer to a request, while it is read. Its body of this length is there, or comes in pieces; if neither,
+        the service refuses it by its length. A request is never sent twice: it could be an invocation."""
+        head = request_head(method, target, [("Host", f"127.0.0.1:{self.port}"), *headers,
+                                             ("Content-Length", str(length))])
         wire = await self.connection()
         sending = answer = None
         try:
-            wire.transport.write(rendered(f"{method} {target} HTTP/1.1", headers) + body)
+            wire.transport.write(head + body)
             if pieces is not None:
                 sending = asyncio.get_running_loop().create_task(self.send(wire, pieces))
-            answer = await answer_of(wire, method)
+            answer = await self.answer(wire, method)
             yield answer
         except Gone:
             if sending is not None and sending.done() and isinstance(sending.exception(), Malformed):
                 raise sending.exception() from None
             raise
         finally:
-            if sending is not None and not sending.done():
-                sending.cancel()
-                answer = None
+            is_sent = len(body) == length
             if sending is not None:
+                is_sent = sending.done() and not sending.cancelled() and sending.exception() is None
+                sending.cancel()
                 with contextlib.suppress(asyncio.CancelledError, Exception):
                     await sending
-            if answer is not None and answer.keeps and answer.body.is_read:
+            if is_sent and answer is not None and answer.keeps and answer.body.is_read:
                 self.give_back(wire)
             else:
                 wire.abort()
+
+    @staticmethod
+    async def answer(wire, method):
+        wire.reader.method = method
+        while (event := await wire.event()).status < 200:
+            pass
+        return Answer(event.status, event.reason, event.headers, Body(wire, event.length), event.keeps_alive)
 
     @staticmethod
     async def send(wire, pieces):
         try:
             async for piece in pieces:
                 await wire.write(piece)
-        except Exception:
+        except BaseException:
             wire.abort()  # (half a request must not be taken for a whole one)
             raise
 
-    async def ask(self, method, target, headers, body=b""):
+    async def ask(self, method, target, headers=(), body=b""):
         """The status, headers and whole body of an answer."""
-        headers = [("Host", f"127.0.0.1:{self.port}"), *headers, ("Content-Length", str(len(body)))]
-        async with self.asking(method, target, headers, body) as answer:
+        async with self.asking(method, target, headers, len(body), None, body) as answer:
             return answer.status, answer.headers, await answer.body.whole(1 << 30)

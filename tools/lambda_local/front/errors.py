@@ -5,9 +5,9 @@ from .http import Reply
 
 
 def refusal(status, kind, members, identifier=None):
-    headers = [("Content-Type", "application/json"), ("x-amzn-ErrorType", kind)]
+    headers = [("content-type", "application/json"), ("x-amzn-errortype", kind)]
     if identifier:
-        headers.append(("x-amzn-RequestId", identifier))
+        headers.append(("x-amzn-requestid", identifier))
     return Reply(status, headers, of_json(members))
 
 
@@ -17,6 +17,10 @@ def of_json(members):
 
 def of_user(status, kind, message, identifier=None):
     return refusal(status, kind, {"Type": "User", "message": message}, identifier)
+
+
+def of_service(status, message):
+    return refusal(status, "ServiceException", {"Message": message, "Type": "Service"})
 
 
 def throttled(reason, identifier):

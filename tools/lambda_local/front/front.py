@@ -9,6 +9,7 @@ from .client import Client
 from .events import Identifiers
 from .gateway import Api, Url
 from .invoke import InvokePort
+from .places import Places, places_for, raised_limit
 from .server import Server
 
 TRIES = 5  # for a free port, which another program can take between looking and listening
@@ -59,18 +60,19 @@ class Front(threading.Thread):
         self.service, configuration = service, service.configuration
         self.client = Client(service.port)
         identifiers = Identifiers(configuration)
+        self.places = Places(places_for(raised_limit(), sum(len(one["ports"]) for one in configuration["functions"])))
         self.servers = []
         if self.invoking:
             port = InvokePort(self.client, self.settings.asynchronous, configuration, self.drain_seconds, self.log)
             self.queue, identifiers = port.queue, port.identifiers
-            self.servers.append(Server(self.invoking, port.handle, self.log))
+            self.servers.append(Server(self.invoking, port, self.places, self.log))
             service.endpoint_url = url_of(self.invoking)
         for function, listener in self.urls.items():
             url = Url(self.client, self.settings.urls[function], identifiers, self.log, function, configuration)
-            self.servers.append(Server(listener, url.handle, self.log))
+            self.servers.append(Server(listener, url, self.places, self.log))
         if self.routing:
             api = Api(self.client, self.settings.api, identifiers, self.log, self.settings.routes, configuration)
-            self.servers.append(Server(self.routing, api.handle, self.log))
+            self.servers.append(Server(self.routing, api, self.places, self.log))
         self.start()
 
     def run(self):

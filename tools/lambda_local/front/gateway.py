@@ -1,10 +1,12 @@
 """Ports at which HTTP requests invoke functions: a Function URL, and the routes of an HTTP API or a REST API."""
+import json
 from typing import Any, Dict, NamedTuple, Optional
 
 from . import cors
 from .events import target_of
 from .formats import OfHttpApi, OfUrl, format_of, message
-from .http import Malformed, TooLong, every, first
+from .http import PHRASES, Malformed, Reply, TooLong, first
+from .origins import FOREIGN_CODING, further_hosts, refusal_of
 from .payload import Unmappable
 from .routes import Routes
 from .wire import Gone
@@ -21,28 +23,41 @@ class Found(NamedTuple):
     format: OfUrl
 
 
-def check_host(request):
-    hosts = every(request.headers, "host")
-    if len(hosts) > 1 or not hosts and request.version == "HTTP/1.1":
-        raise Malformed(400, "a request has one Host")
-
-
 class Gateway:
     """`find` gives what takes a request; None if no route does, and then `unrouted` what is answered."""
     preflight_status = 200
 
     def __init__(self, client, address, identifiers, log):
         self.client, self.cors, self.identifiers, self.log = client, address.cors, identifiers, log
-        self.held = 0
+        self.held, self.hosts = 0, further_hosts()
 
     async def handle(self, request):
-        check_host(request)
+        refused = refusal_of(request.head, self.hosts, pages_may=True)
+        if refused:
+            return self.refused(request, refused)
         if self.cors and cors.is_preflight(request):
             return cors.preflight(self.cors, request, self.preflight_status)
         found = self.find(request)
         reply = self.unrouted() if found is None else await self.invoke(request, found)
         replaces = self.cors and (found is None or found.format.replaces_cors)
         return cors.with_cors(self.cors, request, reply) if replaces else reply
+
+    def refused(self, request, refused):
+        """A page whose name leads to this machine could do here what it likes: so not each Host is served."""
+        self.log("up", f"a request is answered {refused.status}: {refused.message}", level="error", kind="http")
+        reply = message(refused.status, refused.message)
+        closes = [("Connection", "close")] if refused is FOREIGN_CODING else []
+        return reply._replace(headers=[*reply.headers, *closes])
+
+    @staticmethod
+    def malformed(fault, _request):
+        kind = PHRASES[fault.status].title().replace(" ", "")
+        body = json.dumps({"errorMessage": str(fault), "errorType": kind}).encode()
+        return Reply(fault.status, [("Content-Type", "application/json"), ("Connection", "close")], body)
+
+    @staticmethod
+    def refusal(status, text):
+        return message(status, text)
 
     async def invoke(self, request, found):
         size = MOST_BODY if request.body.length is None else min(MOST_BODY, request.body.length)

@@ -1,11 +1,12 @@
-"""The invoke port: asynchronous invocations are taken here, all else is passed on to the service."""
+"""The invoke port: asynchronous invocations are taken here, and the service is asked for all else."""
 import json
 
-from .errors import of_user, stopped, throttled
+from .errors import of_json, of_service, of_user, stopped, throttled
 from .events import Event, Identifiers, function_of
+from .held import Full as NoRoom, Held
 from .http import Reply, TooLong, first
-from .origins import further_hosts, is_from_here
-from .passing import pass_on, without_body
+from .origins import BROKEN_BODY, FOREIGN_CODING, further_hosts, refusal_of
+from .passing import asked_headers, pass_on
 from .queue import Full, Queue
 
 MOST_PAYLOAD = 1 << 20  # bytes of an event (Developer Guide, "Lambda quotas")
@@ -13,31 +14,48 @@ MOST_TARGETS = 1000  # that are remembered
 TYPE = "x-amz-invocation-type"
 # The service refuses any other type once it knows the function (docs/formats.md): so it is it that judges a name.
 KNOWN = b"Invocation type is not RequestResponse"
+CLOSES = ("connection", "close")
 
 
 class InvokePort:
     def __init__(self, client, settings, configuration, drain_seconds, log):
         self.client, self.drain_seconds = client, drain_seconds
         self.identifiers, self.hosts, self.known = Identifiers(configuration), further_hosts(), set()
-        self.queue = Queue(client, settings, configuration, self.identifiers, log)
+        self.queue, self.held = Queue(client, settings, configuration, self.identifiers, log), Held()
 
     async def handle(self, request):
-        if not is_from_here(request, self.hosts):
-            return await pass_on(self.client, without_body(request))  # (it refuses by the same rule, in its own words)
+        refused = refusal_of(request.head, self.hosts)
+        if refused:
+            return refused_reply(refused)
         if request.method == "POST" and request.path == "/_local/stop":
             await self.queue.drained(self.drain_seconds)
         kind, function = first(request.headers, TYPE), function_of(request.target)
-        if request.method != "POST" or function is None or kind not in ("Event", "DryRun"):
-            return await pass_on(self.client, request)
-        refused = await self.refusal(request)
-        if refused:
-            return refused
-        identifier = self.identifiers.next(function)
-        if kind == "DryRun":
-            return Reply(204, [("x-amzn-RequestId", identifier)])
-        return await self.take(request, function, identifier)
+        try:
+            if request.method != "POST" or function is None or kind not in ("Event", "DryRun"):
+                return await pass_on(self.client, request, self.held)
+            unknown = await self.unknown(request)
+            if unknown:
+                return unknown
+            identifier = self.identifiers.next(function)
+            if kind == "DryRun":
+                return Reply(204, [("x-amzn-requestid", identifier)])
+            return await self.take(request, function, identifier)
+        except NoRoom:
+            return self.refusal(503, "Too many bodies are held")
 
-    async def refusal(self, request):
+    @staticmethod
+    def malformed(fault, request):
+        """The service's own answer: `hyper`'s to a head, and its own to a body."""
+        if request is None:
+            return Reply(fault.status, [CLOSES])
+        broken = refused_reply(BROKEN_BODY)
+        return broken._replace(headers=[*broken.headers, CLOSES])
+
+    @staticmethod
+    def refusal(status, text):
+        return of_service(status, text)
+
+    async def unknown(self, request):
         """What the service answers to this name and qualifier; none if it knows the function."""
         if request.target in self.known:
             return None
@@ -51,20 +69,30 @@ class InvokePort:
         return None
 
     async def take(self, request, function, identifier):
+        length = MOST_PAYLOAD if request.body.length is None else min(MOST_PAYLOAD, request.body.length)
         try:
-            payload = await request.body.whole(MOST_PAYLOAD)
+            with self.held.holding(length):
+                payload = await request.body.whole(MOST_PAYLOAD)
         except TooLong:
             return of_user(413, "RequestTooLargeException", f"Payload exceeds {MOST_PAYLOAD} bytes", identifier)
         if payload and not is_json(payload):
             return of_user(400, "InvalidRequestContentException", "Payload is not JSON", identifier)
         if self.queue.is_closed:
             return stopped(identifier)
-        trace = [(name, value) for name, value in request.headers if name.lower() == "x-amzn-trace-id"]
+        headers = [(name, value) for name, value in asked_headers(request.headers) if name.lower() != TYPE]
         try:
-            self.queue.put(Event(identifier, function, request.target, trace, payload or b"{}"))
+            self.queue.put(Event(identifier, function, request.target, headers, payload or b"{}"))
         except Full:
             return throttled("CallerRateLimitExceeded", identifier)
-        return Reply(202, [("x-amzn-RequestId", identifier)])
+        return Reply(202, [("x-amzn-requestid", identifier)])
+
+
+def refused_reply(refused):
+    """The service's own answer to a request that it does not take."""
+    if refused is FOREIGN_CODING:
+        body = of_json({"errorMessage": refused.message, "errorType": refused.kind})
+        return Reply(refused.status, [("content-type", "application/json"), CLOSES], body)
+    return of_user(refused.status, refused.kind, refused.message)
 
 
 def is_json(payload):

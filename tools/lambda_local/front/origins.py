@@ -1,16 +1,29 @@
-"""Which requests the invoke port takes: by the service's own rule (docs/formats.md), those of programs on this machine,
-and not of sites that a browser shows. A name of theirs that leads to this machine is in `Host`, and they themselves are
-in `Origin`."""
+"""Which requests the front takes: by the service's own rule (docs/formats.md; crates/request_guard), those of programs
+on this machine, and not of sites that a browser shows. A name of theirs that leads to this machine is in `Host`, and
+they themselves are in `Origin`."""
 import os
 import re
+from typing import NamedTuple
 
-from .http import every
+from ..http1 import every
 
 LOCAL_ENDINGS = (".localhost", ".internal", ".local", ".localdomain")
 VARIABLE = "LAMBDA_LOCAL_HOSTS"  # further names, between commas
 HOST = re.compile(r"(?:\[[0-9A-Fa-f:.]+\]|([A-Za-z0-9._~%!$&'()*+,;=-]*))(?::[0-9]*)?")
-AUTHORITY = re.compile(r"[A-Za-z][A-Za-z0-9+.-]*://([^/?]*)")
 OWN_SITES = ("none", "same-origin")
+
+
+class Refusal(NamedTuple):
+    status: int
+    kind: str  # the service's, at its invoke port
+    message: str
+
+
+MALFORMED_HOST = Refusal(400, "InvalidParameterValueException", "Host is malformed")
+FROM_PAGE = Refusal(403, "AccessDeniedException", "Web pages may not call this service")
+FOREIGN_HOST = Refusal(403, "AccessDeniedException", f"Host is neither local nor in {VARIABLE}")
+FOREIGN_CODING = Refusal(501, "NotImplemented", "Transfer coding not supported")
+BROKEN_BODY = Refusal(400, "InvalidRequestContentException", "Body is malformed")
 
 
 def further_hosts(environ=os.environ):
@@ -24,19 +37,36 @@ def is_local(name, further):
                            or name in further)
 
 
-def has_own_host(request, further):
-    """Whether it names one host, and that is local. What its target names counts before its Host (RFC 9112, section
-    3.2.2)."""
-    hosts = every(request.headers, "host")
-    if len(hosts) != 1 and (hosts or request.version == "HTTP/1.1"):
-        return False
-    absolute = AUTHORITY.match(request.target)
-    named = absolute[1] if absolute else next(iter(hosts), None)
-    found = HOST.fullmatch(named) if named is not None else None
-    return named is None or found is not None and (found[1] is None or is_local(found[1], further))
+def wrong_host(head, further):
+    """What is wrong with the host that a request names; none if it is local. What its target names counts before its
+    Host (RFC 9112, section 3.2.2)."""
+    named = head.parts.authority
+    if named is None:
+        named = next(iter(every(head.headers, "host")), None)
+    if named is None:
+        return None
+    found = HOST.fullmatch(named)
+    if found is None:
+        return MALFORMED_HOST
+    return None if found[1] is None or is_local(found[1], further) else FOREIGN_HOST
 
 
-def is_from_here(request, further):
-    """Whether a request may be taken."""
-    return (has_own_host(request, further) and not every(request.headers, "origin")
-            and all(site in OWN_SITES for site in every(request.headers, "sec-fetch-site")))
+def is_from_page(headers):
+    return bool(every(headers, "origin")) or any(site not in OWN_SITES for site in every(headers, "sec-fetch-site"))
+
+
+def is_plainly_coded(headers):
+    codings = every(headers, "transfer-encoding")
+    return not codings or len(codings) == 1 and codings[0].lower() == "chunked"
+
+
+def refusal_of(head, further, pages_may=False):
+    """Why a request is not taken; the first cause that holds, in the service's order."""
+    wrong = wrong_host(head, further)
+    if wrong is MALFORMED_HOST:
+        return wrong
+    if not pages_may and is_from_page(head.headers):
+        return FROM_PAGE
+    if wrong is not None:
+        return wrong
+    return None if is_plainly_coded(head.headers) else FOREIGN_CODING

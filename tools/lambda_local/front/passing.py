@@ -1,69 +1,67 @@
-"""Requests that are passed on to the service as they are, and its answers as they come."""
-from .http import OF_CONNECTION, Body, Reply, every, passed_on, words_of
+"""Requests that are asked of the service in the front's own words, and its answers as they come."""
+import contextlib
+
+from .http import OF_CONNECTION, Reply, TooLong, first, words_of
+
+LONGEST = 6 << 20  # bytes of a body that the service reads; a longer one it refuses by its length alone
+TYPE, TRACE = "X-Amz-Invocation-Type", "X-Amzn-Trace-Id"
 
 
-OF_BODY = ("content-length", "transfer-encoding")
-
-
-async def encoded(pieces):
-    """Pieces of a body, in chunks."""
-    async for piece in pieces:
-        yield b"%x\r\n%b\r\n" % (len(piece), piece)
-    yield b"0\r\n\r\n"
-
-
-def pass_on(client, request):
-    """A Reply whose body is the service's, while it is read. What breaks off there breaks off here."""
-    return Passing(client, request).reply()
-
-
-def without_body(request):
-    """The same request as one that has no body, for a service that refuses it by its head."""
-    headers = [(name, value) for name, value in request.headers if name.lower() not in OF_BODY]
-    return request._replace(headers=headers, body=Body(request.body.wire))
+def asked_headers(headers):
+    """The headers that the service reads at its invoke port, but for those by which a request is refused: of these it
+    has been asked already. If one comes twice, the first counts."""
+    return [(name, value) for name in (TYPE, TRACE) for value in [first(headers, name.lower())] if value is not None]
 
 
 def answered(headers):
     """Returns the headers of an answer. If the service ends the connection after it, so does the front."""
     words = words_of(headers, "connection")
-    dropped = OF_CONNECTION.union(words) - ({"connection"} if "close" in words else set())
+    dropped = OF_CONNECTION - ({"connection"} if "close" in words else set())
     kept = [(name, value) for name, value in headers if name.lower() not in dropped]
     return [(name, "close" if name.lower() == "connection" else value) for name, value in kept]
 
 
-class Passing:
-    def __init__(self, client, request):
-        self.client, self.request = client, request
+async def pass_on(client, request, held):
+    """A Reply whose body is the service's, while it is read. What breaks off there breaks off here."""
+    async with contextlib.AsyncExitStack() as stack:
+        length, pieces, body = await outgoing(request, held, stack)
+        answer = await stack.enter_async_context(client.asking(request.method, request.target,
+                                                               asked_headers(request.headers), length, pieces, body))
+        headers = answered(answer.headers)
+        if answer.body.is_here:
+            content = await answer.body.whole(answer.body.length)
+            return Reply(answer.status, headers, content, reason=answer.reason)
+        return Reply(answer.status, headers, pieces=Pieces(answer.body, stack.pop_all()), reason=answer.reason)
 
-    async def reply(self):
-        request, body = self.request, self.request.body
-        headers = [(name, value) for name, value in passed_on(request.headers) if name.lower() != "expect"]
-        if request.version == "HTTP/1.0" and not every(headers, "host"):
-            headers.append(("Host", f"127.0.0.1:{self.client.port}"))  # (it is passed on as one of HTTP/1.1)
-        whole, pieces = b"", None
-        if body.in_chunks:
-            headers.append(("Transfer-Encoding", "chunked"))
-            pieces = encoded(body.pieces())
-        elif not body.is_read and body.is_here:
-            whole = await body.whole(body.length)
-        elif not body.is_read:
-            pieces = body.pieces()
-        asking = self.client.asking(request.method, request.target, headers, whole, pieces)
-        answer = await asking.__aenter__()
-        try:
-            if answer.body.is_read or answer.body.is_here:
-                content = await answer.body.whole(answer.body.length)
-                await asking.__aexit__(None, None, None)
-                return Reply(answer.status, answered(answer.headers), content, reason=answer.reason)
-        except BaseException:
-            await asking.__aexit__(None, None, None)
-            raise
-        return Reply(answer.status, answered(answer.headers), pieces=self.pieces(asking, answer), reason=answer.reason)
 
-    @staticmethod
-    async def pieces(asking, answer):
+async def outgoing(request, held, stack):
+    """The length of the body that the service is told, its pieces as they come, and what of it is here. One in chunks
+    is read whole, so that its length is known."""
+    body = request.body
+    if body.length is None:
+        stack.enter_context(held.holding(LONGEST))
         try:
-            async for piece in answer.body.pieces():
-                yield piece
-        finally:
-            await asking.__aexit__(None, None, None)
+            whole = await body.whole(LONGEST)
+        except TooLong:
+            return LONGEST + 1, None, b""
+        return len(whole), None, whole
+    if body.length > LONGEST:
+        return body.length, None, b""
+    if body.is_here:
+        whole = await body.whole(body.length)
+        return len(whole), None, whole
+    return body.length, body.pieces(), b""
+
+
+class Pieces:
+    """The body of an answer as it comes. Its connection is given back, or closed, at its end."""
+
+    def __init__(self, body, stack):
+        self.body, self.stack = body, stack
+
+    async def __aiter__(self):
+        async for piece in self.body.pieces():
+            yield piece
+
+    async def aclose(self):
+        await self.stack.aclose()

@@ -7,6 +7,7 @@ import re
 import time
 from urllib.parse import parse_qsl
 
+from ..http1 import is_field_value
 from .http import OF_CONNECTION, TOKEN, Reply, every, first
 
 HERE = "127.0.0.1"
@@ -109,9 +110,13 @@ def status_in(value):
 def text_in(value, where):
     """A header's value, also given as a number, true or false."""
     text = value if isinstance(value, str) else json.dumps(value) if isinstance(value, (int, float)) else None
-    if text is None or re.search(r"[\r\n\0]", text):
-        raise Unmappable(f"{where} must be a text of one line, not {json.dumps(value)[:60]}")
-    return text.encode().decode("latin-1")
+    try:
+        found = text.encode().decode("latin-1") if text is not None else "\n"
+    except UnicodeEncodeError:  # (half a surrogate pair)
+        found = "\n"
+    if not is_field_value(found):
+        raise Unmappable(f"{where} must be a string of one line, not {json.dumps(value)[:60]}")
+    return found
 
 
 def headers_in(value):

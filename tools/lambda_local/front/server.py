@@ -1,174 +1,250 @@
 """The side that is called: connections that are kept alive, each request answered by a handler."""
 import asyncio
 import contextlib
-import http
-import json
+import errno
 import time
 
-from .http import Malformed, Reply, first, rendered, request_of, words_of
+from ..http1 import CLOSED, NEED_DATA, CutShort, Malformed, RequestReader, chunk, last_chunk, response_head
+from .client import NoDescriptor
+from .http import PHRASES, Body, Request, first, words_of
+from .patience import LINGER_BYTES, Patience, Phase
 from .wire import Gone, Wire
 
-MOST_CONNECTIONS = 1024  # of one port; a further one is closed
-# without a byte: in a head or a body; between requests, or while an answer is not taken
-HEAD_SECONDS, IDLE_SECONDS = 20, 300
-# of a body that was not read to its end, so that its sender can read the answer
-LINGER_BYTES, LINGER_SECONDS = 64 << 20, 2
 BETWEEN_LOOKS = 1.0
+AT_ONCE = 64  # newcomers that are accepted before others have their turn
+WITHOUT_ROOM = (errno.EMFILE, errno.ENFILE, errno.ENOBUFS, errno.ENOMEM)
+PAUSE, BETWEEN_TELLS = 0.1, 60.0  # seconds; after a newcomer for whom there is no descriptor
 
 
-def refusal(status, text):
-    kind = http.HTTPStatus(status).phrase.title().replace(" ", "")
-    return Reply(status, [("Content-Type", "application/json")],
-                 json.dumps({"errorMessage": text, "errorType": kind}).encode())
+class Connection:
+    """One caller."""
 
+    def __init__(self, server):
+        self.server, self.is_in_reserve, self.has_answered = server, False, False
+        self.wire = Wire(RequestReader(), self.lost)
+        self.patience, self.task = Patience(self.wire), None
 
-class Server:
-    """`handler` makes a Reply of a Request."""
-
-    def __init__(self, listener, handler, log):
-        self.listener, self.handler, self.log = listener, handler, log
-        self.connections = {}  # each with its task
-
-    async def start(self):
-        loop = asyncio.get_running_loop()
-        self.server = await loop.create_server(lambda: Wire(self.opened, self.lost), sock=self.listener, backlog=1024)
-        self.looking = loop.create_task(self.look())
-
-    async def stop(self):
-        """Closes all connections, also those that wait for an answer."""
-        self.server.close()
-        self.looking.cancel()
-        for wire in list(self.connections):
-            wire.abort()
-        await asyncio.gather(*self.connections.values(), return_exceptions=True)
-
-    def opened(self, wire):
-        if len(self.connections) >= MOST_CONNECTIONS:
-            wire.abort()
-            return
-        self.connections[wire] = asyncio.get_running_loop().create_task(self.serve(wire))
-
-    def lost(self, wire):
+    def lost(self, _wire):
         """What is done for a peer that has gone ends."""
-        if task := self.connections.get(wire):
-            task.cancel()
+        if self.task:
+            self.task.cancel()
 
-    async def look(self):
-        """Closes the connections that have been silent too long."""
-        while True:
-            await asyncio.sleep(BETWEEN_LOOKS)
-            now = time.monotonic()
-            for wire in list(self.connections):
-                if wire.is_overdue(now):
-                    wire.abort()
+    def give_way(self):
+        if self.wire.transport:
+            self.wire.abort()
+        self.lost(self.wire)
 
-    async def serve(self, wire):
+    async def serve(self, peer):
         try:
-            wire.patience = HEAD_SECONDS
-            while await self.serve_one(wire):
-                wire.patience = IDLE_SECONDS
-        except (Gone, asyncio.CancelledError):
+            await asyncio.get_running_loop().connect_accepted_socket(lambda: self.wire, peer)
+            while await self.serve_one():
+                self.patience.begin(Phase.IDLE)
+                self.wire.reader.next_message()
+        except (Gone, OSError, asyncio.CancelledError):
             pass
-        except Exception as fault:
-            self.log("up", f"the front could not answer a request: {fault!r}", level="error")
         finally:
-            del self.connections[wire]
-            wire.close()
+            self.server.leave(self)
+            self.wire.close() if self.wire.transport else peer.close()
 
-    async def serve_one(self, wire):
+    async def serve_one(self):
         """Whether the connection is kept."""
-        request, is_understood = None, False
+        wire, request, reply = self.wire, None, None
+        self.has_answered = False
         try:
-            request = await self.next_request(wire)
-            if request is None:
+            head = await self.next_head()
+            if head is CLOSED:
                 return False
-            reply = await self.handler(request)
+            self.patience.begin(Phase.BODY)
+            request = Request(head, Body(wire, head.length, head.expects_continue, self.is_whole))
+            reply = await self.answer(request)
+            keeps = head.keeps_alive and "close" not in words_of(reply.headers, "connection")
+        except Malformed as fault:
+            reply, keeps = self.server.malformed(fault, request), False
+        try:
+            is_read = request is not None and request.body.is_read
+            self.patience.begin(Phase.ANSWERED)
+            keeps = await self.send(request, reply, keeps and is_read)
+        finally:
+            if reply.pieces is not None:
+                await reply.pieces.aclose()
+        if not is_read:
+            await self.linger()
+        elif keeps:
+            self.server.places.waits(self)
+        return keeps and is_read
+
+    async def answer(self, request):
+        """What is answered to a request. A fault of the front's own is answered too, and reported."""
+        try:
+            reply = await self.server.reply_to(request, self.is_in_reserve)
             if request.body.is_here and not request.body.is_read:
                 # (a refusal that needs no body: the connection can be kept)
                 await request.body.whole(request.body.length)
-            is_understood = True
-        except Malformed as fault:
-            reply = refusal(fault.status, str(fault))
-            self.log("up", f"a request is answered {fault.status}: {fault}", level="error", kind="http")
-        keeps = is_understood and request.body.is_read and self.is_kept(request) and "close" not in words_of(
-            reply.headers, "connection")
-        wire.patience, wire.touched = IDLE_SECONDS, time.monotonic()
-        keeps = await send(wire, request, reply, keeps)
-        if request is not None and request.body.is_read:
-            return keeps
-        await self.linger(wire)
-        return False
+            return reply
+        except NoDescriptor:
+            self.server.tell_shortage()
+            return self.server.refusal(503, "There are too many connections (ulimit -n)")
+        except (Gone, Malformed):
+            raise
+        except Exception as fault:
+            self.server.log("up", f"{request.method} {request.path[:200]} cannot be answered: {fault!r}", level="error",
+                            kind="http")
+            return self.server.refusal(500, "Internal Server Error")
 
-    @staticmethod
-    async def next_request(wire):
-        if not wire.buffer and wire.ended:
-            return None
-        while not wire.buffer:
-            try:
-                await wire.more()
-            except Gone:
-                return None
-        wire.patience = HEAD_SECONDS
-        request = await request_of(wire)
-        if request is not None and request.body.is_read:
-            wire.patience = None  # (what the handler does may take any time)
-        return request
+    def is_whole(self):
+        self.patience.phase = Phase.SERVED  # (what the handler does may take any time)
+        self.server.places.is_served(self)
 
-    @staticmethod
-    def is_kept(request):
-        words = words_of(request.headers, "connection")
-        return "close" not in words and (request.version == "HTTP/1.1" or "keep-alive" in words)
+    async def next_head(self):
+        wire, reader = self.wire, self.wire.reader
+        while True:
+            if (event := reader.next_event()) is not NEED_DATA:
+                return event
+            if reader.has_begun and self.patience.phase is not Phase.HEAD:
+                self.patience.begin(Phase.HEAD)
+            await wire.more()
 
-    @staticmethod
-    async def linger(wire):
+    async def linger(self):
+        """Takes what its peer still sends, so that the peer can read its answer (RFC 9112, section 9.6)."""
+        wire = self.wire
         wire.end()
-        wire.patience = LINGER_SECONDS
-        left = LINGER_BYTES
+        self.patience.begin(Phase.LINGERING)
+        most = wire.received + LINGER_BYTES
         with contextlib.suppress(Gone):
-            while left > 0:
-                left -= len(wire.take(left))
+            while wire.received < most and not wire.reader.ended:
+                wire.reader.buffer.clear()
                 await wire.more()
 
+    # ---- answers -----------------------------------------------------------------------------------------------------
 
-async def send(wire, request, reply, keeps):
-    """Sends a reply; whether the connection can be kept."""
-    method, version = (request.method, request.version) if request else ("GET", "HTTP/1.1")
-    is_new, has_body = version == "HTTP/1.1", method != "HEAD" and reply.status not in (204, 304)
-    headers, in_chunks = list(reply.headers), False
-    if reply.pieces is None:
-        if reply.status not in (204, 304) and first(headers, "content-length") is None:
-            headers.append(("content-length", str(len(reply.body))))
-    elif has_body and first(headers, "content-length") is None:
-        in_chunks = is_new
-        keeps = keeps and is_new
-        if in_chunks:
-            headers.append(("transfer-encoding", "chunked"))
-    if not keeps and first(headers, "connection") is None:
-        headers.append(("connection", "close"))
-    elif keeps and not is_new:
-        headers.append(("connection", "keep-alive"))
-    reason = reply.reason
-    if reason is None:
-        reason = http.HTTPStatus(reply.status).phrase if reply.status in http.HTTPStatus._value2member_map_ else ""
-    head = rendered(f"{version} {reply.status} {reason}", headers)
-    if reply.pieces is None:
-        await wire.write(head + reply.body if has_body else head)
+    async def send(self, request, reply, keeps):
+        """Sends a reply; whether the connection can be kept."""
+        method, version = (request.method, request.version) if request else ("GET", "HTTP/1.1")
+        is_new, has_body = version == "HTTP/1.1", method != "HEAD" and reply.status not in (204, 304)
+        headers, in_chunks = list(reply.headers), False
+        has_length = first(headers, "content-length") is not None
+        if reply.pieces is None:
+            if reply.status not in (204, 304) and not has_length:
+                headers.append(("content-length", str(len(reply.body))))
+        elif has_body and not has_length:
+            in_chunks, keeps = is_new, keeps and is_new
+            if in_chunks:
+                headers.append(("transfer-encoding", "chunked"))
+        if first(headers, "connection") is None and not (keeps and is_new):
+            headers.append(("connection", "keep-alive" if keeps else "close"))
+        reason = PHRASES.get(reply.status, "") if reply.reason is None else reply.reason
+        head = response_head(version, reply.status, reason, headers)
+        self.has_answered = True
+        if reply.pieces is None:
+            await self.wire.write(head + reply.body if has_body else head)
+        else:
+            await self.send_pieces(head, reply.pieces, in_chunks)
         return keeps
-    await send_pieces(wire, head, reply.pieces, in_chunks)
-    return keeps
+
+    async def send_pieces(self, head, pieces, in_chunks):
+        """The first piece goes with the head. A body that breaks off breaks the connection off, so that its reader
+        knows."""
+        wire = self.wire
+        try:
+            async for piece in pieces:
+                await wire.write(head + (chunk(piece) if in_chunks else piece))
+                head, wire.touched = b"", time.monotonic()
+            await wire.write(head + (last_chunk() if in_chunks else b""))
+        except Gone:
+            wire.abort()
+            raise
 
 
-async def send_pieces(wire, head, pieces, in_chunks):
-    """The first piece goes with the head. A body that breaks off breaks the connection off, so that its reader
-    knows."""
-    try:
-        async for piece in pieces:
-            await wire.write(head + (b"%x\r\n%b\r\n" % (len(piece), piece) if in_chunks else piece))
-            head = b""
-            wire.touched = time.monotonic()
-        await wire.write(head + (b"0\r\n\r\n" if in_chunks else b""))
-    except (Gone, Malformed):
-        wire.abort()
-        raise Gone from None
-    finally:
-        await pieces.aclose()
+class Server:
+    """One port. `handler` makes a Reply of a Request, and `malformed` one of what is not HTTP/1.1."""
+
+    def __init__(self, listener, port, places, log):
+        self.listener, self.port, self.places, self.log = listener, port, places, log
+        self.connections, self.told = set(), -BETWEEN_TELLS
+
+    async def start(self):
+        self.loop = asyncio.get_running_loop()
+        self.listener.setblocking(False)
+        self.loop.add_reader(self.listener, self.accept)
+        self.looking = self.loop.create_task(self.look())
+
+    async def stop(self):
+        """Closes all connections, also those that wait for an answer."""
+        self.loop.remove_reader(self.listener)
+        self.listener.close()
+        self.looking.cancel()
+        ending = [connection.task for connection in self.connections]
+        for connection in list(self.connections):
+            connection.give_way()
+        await asyncio.gather(*ending, return_exceptions=True)
+
+    def accept(self):
+        """Takes newcomers. (The loop's own way reports each one for whom there is no descriptor, some thousand times a
+        second.)"""
+        for _ in range(AT_ONCE):
+            try:
+                peer, _ = self.listener.accept()
+            except (BlockingIOError, InterruptedError, ConnectionAbortedError):
+                return
+            except OSError as fault:
+                if fault.errno in WITHOUT_ROOM:
+                    return self.wait_for_room()
+                raise
+            self.welcome(peer)
+
+    def welcome(self, peer):
+        connection = Connection(self)
+        if not self.places.take(connection):
+            peer.close()
+            return
+        peer.setblocking(False)
+        self.connections.add(connection)
+        connection.task = self.loop.create_task(connection.serve(peer))
+
+    def wait_for_room(self):
+        """There is no descriptor for a newcomer: the connection that has waited longest gives way."""
+        self.tell_shortage()
+        self.places.make_room()
+        self.loop.remove_reader(self.listener)
+        self.loop.call_later(PAUSE, self.accept_again)
+
+    def accept_again(self):
+        if self.listener.fileno() >= 0:
+            self.loop.add_reader(self.listener, self.accept)
+
+    def tell_shortage(self):
+        now = time.monotonic()
+        if now - self.told > BETWEEN_TELLS:
+            self.told = now
+            self.log("up", "there is no descriptor for a further connection (ulimit -n): callers wait, and those that "
+                           "are idle are closed", level="error", kind="http")
+
+    def leave(self, connection):
+        self.connections.discard(connection)
+        self.places.leave(connection)
+
+    async def look(self):
+        """Closes the connections whose callers take too long."""
+        while True:
+            await asyncio.sleep(BETWEEN_LOOKS)
+            now = time.monotonic()
+            for connection in list(self.connections):
+                if connection.patience.is_over(now) and connection.wire.transport:
+                    connection.wire.abort()
+
+    # ---- what is answered --------------------------------------------------------------------------------------------
+
+    async def reply_to(self, request, is_in_reserve):
+        if is_in_reserve and not request.path.startswith("/_local/"):
+            reply = self.refusal(503, "All places for connections are taken")
+            return reply._replace(headers=[*reply.headers, ("connection", "close")])
+        return await self.port.handle(request)
+
+    def malformed(self, fault, request):
+        """The answer to what is not HTTP/1.1, which is reported."""
+        what = "a body ends early" if isinstance(fault, CutShort) and request else str(fault)
+        self.log("up", f"a request is answered {fault.status}: {what}", level="error", kind="http")
+        return self.port.malformed(fault, request)
+
+    def refusal(self, status, text):
+        return self.port.refusal(status, text)

@@ -1,7 +1,15 @@
-"""One TCP connection: what has come and was not read yet, and what waits to be sent, both bounded."""
+"""One TCP connection: a reader of HTTP/1.1 that is fed what comes, and what waits to be sent, both bounded.
+
+It is a protocol of asyncio and not a pair of its streams, for three reasons. A connection to the service is kept only
+while it is silent, and a stream does not say whether it holds bytes that nobody has read. What is done for a peer that
+has gone ends at once, and a stream tells its loss only to who reads or writes. And a stream copies what comes into a
+buffer of its own before the reader of HTTP does: measured with the same reader, a request of an SDK took 80
+microseconds of processor time through streams and 72 so, one with a body of 1 MiB 900 and 600."""
 import asyncio
 import select
 import time
+
+from ..http1 import NEED_DATA
 
 MOST_UNREAD = 256 << 10  # bytes; with more, the peer is not read from until they are taken
 
@@ -11,36 +19,35 @@ class Gone(Exception):
 
 
 class Wire(asyncio.Protocol):
-    """`on_open` is called with the connection once it is there, `on_lost` once it is gone in both directions."""
+    """`on_lost` is called with the connection once it is gone in both directions."""
 
-    def __init__(self, on_open=None, on_lost=None):
-        self.on_open, self.on_lost = on_open, on_lost
-        self.buffer, self.ended, self.is_lost = bytearray(), False, False
-        self.waiting, self.draining, self.is_paused = None, None, False
-        self.touched, self.patience = time.monotonic(), None  # seconds without a byte after which it is closed
+    def __init__(self, reader, on_lost=None):
+        self.reader, self.on_lost = reader, on_lost
+        self.is_lost = self.is_paused = False
+        self.transport = self.waiting = self.draining = None
+        self.touched, self.received = time.monotonic(), 0  # the last byte in one of the directions; bytes that came
 
     # ---- what asyncio tells ------------------------------------------------------------------------------------------
 
     def connection_made(self, transport):
         self.transport = transport
-        if self.on_open:
-            self.on_open(self)
 
     def data_received(self, data):
         self.touched = time.monotonic()
-        self.buffer += data
-        if len(self.buffer) > MOST_UNREAD and not self.is_paused:
+        self.received += len(data)
+        self.reader.receive(data)
+        if len(self.reader.buffer) > MOST_UNREAD and not self.is_paused:
             self.is_paused = True
             self.transport.pause_reading()
         self._wake()
 
     def eof_received(self):
-        self.ended = True
+        self.reader.receive(b"")
         self._wake()
         return True  # (the other direction stays open: a caller may end its side and wait for the answer)
 
     def connection_lost(self, fault):
-        self.ended = self.is_lost = True
+        self.is_lost = True
         self._wake()
         if self.draining and not self.draining.done():
             self.draining.set_result(None)
@@ -61,30 +68,31 @@ class Wire(asyncio.Protocol):
 
     # ---- reading -----------------------------------------------------------------------------------------------------
 
+    async def event(self):
+        """The next event of the reader. Gone if the connection breaks before; Malformed if it is not HTTP/1.1."""
+        while (event := self.reader.next_event()) is NEED_DATA:
+            await self.more()
+        if self.is_paused and len(self.reader.buffer) <= MOST_UNREAD and not self.is_lost:
+            self._resume()
+        return event
+
     async def more(self):
-        """Waits until more has come; Gone if nothing more will."""
-        if self.ended:
+        """Waits until more has come, or the peer has ended its side; Gone if nothing will."""
+        if self.is_lost:
             raise Gone
         if self.is_paused:
-            self.is_paused = False
-            self.transport.resume_reading()
+            self._resume()
         self.waiting = asyncio.get_running_loop().create_future()
         try:
             await self.waiting
         finally:
             self.waiting = None
+        if self.is_lost:
+            raise Gone
 
-    def take(self, count):
-        """Returns up to this many bytes of what has come."""
-        if count >= len(self.buffer):
-            taken, self.buffer = bytes(self.buffer), bytearray()
-        else:
-            taken = bytes(self.buffer[:count])
-            del self.buffer[:count]
-        if self.is_paused and len(self.buffer) <= MOST_UNREAD and not self.is_lost:
-            self.is_paused = False
-            self.transport.resume_reading()
-        return taken
+    def _resume(self):
+        self.is_paused = False
+        self.transport.resume_reading()
 
     # ---- writing -----------------------------------------------------------------------------------------------------
 
@@ -113,11 +121,8 @@ class Wire(asyncio.Protocol):
     def is_silent(self):
         """Whether nothing has come that was not read, not even the end: also nothing that the system has and the loop
         has not looked at yet."""
-        if self.ended or self.buffer or self.transport.is_closing():
+        if self.is_lost or not self.reader.is_silent or self.transport.is_closing():
             return False
         poll = select.poll()
         poll.register(self.transport.get_extra_info("socket").fileno(), select.POLLIN)
         return not poll.poll(0)
-
-    def is_overdue(self, now):
-        return self.patience is not None and now - self.touched > self.patience

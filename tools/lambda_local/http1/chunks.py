@@ -1,0 +1,108 @@
+"""Bodies in chunks (RFC 9112, section 7.1)."""
+import re
+from typing import List, Optional
+
+from .syntax import Malformed
+
+LINE = re.compile(rb"([0-9A-Fa-f]+)([ \t]*)(?:;([\t -~\x80-\xff]*))?\r\n")
+BEGUN_LINE = re.compile(rb"(?:[0-9A-Fa-f]+[ \t]*(?:;[\t -~\x80-\xff]*)?\r?)?")
+PLAIN_LINE = re.compile(rb"([1-9A-Fa-f][0-9A-Fa-f]{0,7})\r\n")
+MOST_DIGITS = 16  # without leading zeros
+AT_ONCE = 64 << 10  # bytes of a body that are read before others have their turn
+SMALL = 16  # bytes of a chunk; of these a run is read at once
+LEAST_RUN = 4
+
+
+class Chunks:
+    """The position in such a body. `extensions` is how many bytes of extensions, blanks and leading zeros are still
+    taken."""
+
+    def __init__(self, extensions: int) -> None:
+        self.extensions = extensions
+        self.left: Optional[int] = None  # bytes of the present chunk that are still to come; none before its size
+        self.is_over = False  # the last chunk has come, and the trailers follow
+
+    def take(self, buffer: bytearray) -> bytes:
+        """Takes chunks off the buffer, or a part of one, up to the last one. Returns their data; none if more bytes are
+        needed."""
+        parts: List[bytes] = []
+        text, at, begun = bytes(buffer[:AT_ONCE]), 0, -1
+        while at > begun and not self.is_over:
+            begun = at
+            if self.left is None:
+                at = self._plain(text, at, parts)
+                at = self._size(text, at, len(buffer) > len(text))
+            elif self.left:
+                data = text[at:at + self.left]
+                at, self.left = at + len(data), self.left - len(data)
+                parts.append(data)
+            else:
+                at = self._end(text, at)
+        del buffer[:at]
+        return b"".join(parts)
+
+    @staticmethod
+    def _plain(text: bytes, at: int, parts: List[bytes]) -> int:
+        """Takes the whole chunks from here on whose lines are nothing but a size. Returns the place after them."""
+        last = 0
+        while found := PLAIN_LINE.match(text, at):
+            size, start = int(found[1], 16), found.end()
+            if text[start + size:start + size + 2] != b"\r\n":
+                break
+            parts.append(text[start:start + size])
+            width, at = start + size + 2 - at, start + size + 2
+            if size == last and size <= SMALL:
+                at = run_of_equal(text, at, width, size, parts)
+            last = size
+        return at
+
+    def _size(self, text: bytes, at: int, is_cut: bool) -> int:
+        """The place after the line of a chunk's size; the same one if the line is not whole."""
+        found = LINE.match(text, at)
+        if not found:
+            self._look_at(text, at, is_cut)
+            return at
+        digits, blanks, extension = found.groups(b"")
+        significant = digits.lstrip(b"0")
+        if len(significant) > MOST_DIGITS:
+            raise Malformed(400, "the size of a chunk is too large")
+        self.extensions -= len(extension) + len(blanks) + len(digits) - max(1, len(significant))
+        if self.extensions < 0:
+            raise Malformed(400, "the extensions of the chunks are too long")
+        self.left = int(significant or b"0", 16)
+        self.is_over = self.left == 0
+        return found.end()
+
+    def _look_at(self, text: bytes, at: int, is_cut: bool) -> None:
+        """Malformed if what has come of a line cannot become one."""
+        if text.find(b"\n", at) >= 0 or not BEGUN_LINE.fullmatch(text, at):
+            raise Malformed(400, "the size of a chunk is not a hexadecimal number on a line")
+        if len(text) - at > self.extensions + MOST_DIGITS + len(";\r\n") or is_cut and at == 0:
+            raise Malformed(400, "the extensions of the chunks are too long")
+
+    def _end(self, text: bytes, at: int) -> int:
+        """The place after a chunk's CR LF; the same one if it has not come."""
+        found = text[at:at + 2]
+        if not b"\r\n".startswith(found):
+            raise Malformed(400, "a chunk is longer than its size")
+        if len(found) < 2:
+            return at
+        self.left = None
+        return at + 2
+
+
+def run_of_equal(text: bytes, at: int, width: int, size: int, parts: List[bytes]) -> int:
+    """Takes chunks that have the same line as the one before this place, which was small. Returns the place after them.
+    They are compared as columns, since each byte of their lines and ends is the same in all of them; each time twice as
+    many. So a body in chunks of one byte costs about as much as its bytes on the wire."""
+    frame = [(place, text[at - width + place]) for place in (*range(width - size - 2), width - 2, width - 1)]
+    count = LEAST_RUN
+    while (end := at + count * width) <= len(text):
+        if any(text[at + place:end:width] != bytes((byte,)) * count for place, byte in frame):
+            break
+        data = bytearray(count * size)
+        for place in range(size):
+            data[place::size] = text[at + width - size - 2 + place:end:width]
+        parts.append(bytes(data))
+        at, count = end, 2 * count
+    return at
