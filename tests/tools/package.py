@@ -203,6 +203,14 @@ def wheel():
         status, output, said = run([command], stdin="", LAMBDA_LOCAL_PROGRAM="/nonexistent/program")
         check("one that is not there is told", (status, output, said.count("\n"), "/nonexistent/program" in said),
               (4, "", 1, True))
+        events = run([command, "invoke", "greet", "--sample", "s3", "--endpoint", "http://127.0.0.1:1"])
+        check("sample events are in it", (events[0], "127.0.0.1:1: Connection refused" in events[2]), (4, True))
+        pages = re.search(r"^The pages docs/\*\.md are in (\S+)\.$", run([command, "--help"])[1], re.M)
+        check("so are the pages, and --help says where", bool(pages) and sorted(os.listdir(pages[1]))
+              == sorted(os.listdir(os.path.join(ROOT, "docs"))))
+        told = run([f"{commands}/python", "-c", "import importlib.metadata as m; print(m.metadata('lambda_local'))"])[1]
+        check("what an index shows of it has no link to a file that is not there",
+              re.findall(r"\]\((?!\w+:)[^)]*\)", told), [])
         pip = [f"{commands}/python", "-m", "pip", "--disable-pip-version-check"]
         check("pip finds no fault", run([*pip, "check"])[0], 0)
         check("pip takes it away", run([*pip, "uninstall", "-qy", "lambda_local"])[0], 0)

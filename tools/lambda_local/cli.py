@@ -11,6 +11,7 @@ TOOLS = {
     "check": ".check",
     "conformance": ".conformance.command",
     "from_template": ".from_template",
+    "invoke": ".invoke",
     "rerun": ".rerun",
     "timeline": ".timeline",
     "up": ".up",
@@ -49,6 +50,8 @@ def show_help():
     """The launcher's help, without what a checkout alone has."""
     with open(os.path.join(PACKAGE, "help.txt"), encoding="utf-8") as file:
         print("".join(line for line in file if not line.startswith("In a checkout")), end="")
+    if os.path.isdir(pages := os.path.join(PACKAGE, "docs")):
+        print(f"The pages docs/*.md are in {pages}.")
 
 
 def main():

@@ -4,6 +4,7 @@ import base64
 import hashlib
 import io
 import os
+import re
 import time
 import zipfile
 
@@ -37,13 +38,20 @@ Tag: {TAG}
 """
 
 
+def without_links(readme):
+    """A page's links lead to files of the repository, and an index of packages has none of them: their names stay."""
+    return re.sub(r"!?\[([^\]]+)\]\((?!\w+:)([^)#\s]+)(?:#[^)\s]*)?\)",
+                  lambda link: link[1] if link[2] in link[1] else f"{link[1]} (`{link[2]}`)", readme)
+
+
 def contents(source):
     """The name of each file in the wheel, with its mode and contents."""
     info = f"lambda_local-{source.version}.dist-info"
-    readme = source.files["README.md"][1].decode()
+    readme = without_links(source.files["README.md"][1].decode())
     files = {f"lambda_local/{name}": file for name, file in source.below("tools/lambda_local").items()}
     files.update({f"lambda_local/examples/{name}": file for name, file in source.below("examples").items()
-                  if name.startswith("runtime.")})
+                  if name.startswith(("runtime.", "events/"))})
+    files.update({f"lambda_local/docs/{name}": file for name, file in source.below("docs").items()})
     files["lambda_local/bin/lambda_local"] = (0o755, source.program)
     files["lambda_local/bin/lambda_local.proved"] = (0o644, source.proved)
     files[f"{info}/METADATA"] = (0o644, METADATA.format(version=source.version, readme=readme).encode())

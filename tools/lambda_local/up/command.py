@@ -24,7 +24,7 @@ runtime or command is yours to start, at the address that is printed. docs/up.md
 
 Its own lines and those of the functions go to standard error. Exit statuses: the command's, else the service's
 (docs/formats.md); 2 for a fault in the arguments or in UP.json; 4 if something cannot be started; 5 if an environment
-does not become ready; 70 if a fault in tools/up itself ends it."""
+does not become ready; 70 if a fault in this tool itself ends it."""
 import sys
 
 from ..outgoing import tell

@@ -1,0 +1,229 @@
+"""Invokes a function of a service that runs, and prints what it returns.
+
+  lambda_local invoke greet '{"name": "Ada"}'   JSON on the command line
+  lambda_local invoke greet event.json          a file with the payload; `-` is standard input
+  lambda_local invoke greet --sample s3         an event as a service of AWS sends it
+  lambda_local invoke greet                     {}
+
+The service is that of AWS_ENDPOINT_URL_LAMBDA, which `lambda_local up` prints and sets, else http://127.0.0.1:9000.
+NAME is the name of the function or its ARN. What the function returns, or its error, goes to standard output; all else
+to standard error.
+
+Exit statuses: 0, the function has returned, or its event is taken; 1, it has failed; 2, a fault in the arguments; 3,
+the service has refused, for example since no environment is free; 4, the service cannot be reached."""
+import base64
+import binascii
+import datetime
+import difflib
+import glob
+import http.client
+import json
+import os
+import sys
+from urllib.parse import quote, urlsplit
+
+from .paths import bundled
+from .service import Fault
+from .usage import called, parser_of
+
+USAGE = "[OPTION..] NAME [PAYLOAD | FILE | - | --sample KIND]"
+NOWHERE = "http://127.0.0.1:9000"
+MOST_BYTES = 6 << 20  # of a payload
+LONGEST_SECONDS = 1000  # of an invocation: 900, and what it waits for
+
+
+# ---- the payload -----------------------------------------------------------------------------------------------------
+
+def samples():
+    """The path of each sample event by its kind."""
+    folder = os.path.dirname(bundled("events/s3.json") or "")
+    paths = sorted(glob.glob(os.path.join(glob.escape(folder), "*.json")))
+    return {os.path.basename(path)[:-5]: path for path in paths}
+
+
+def sample(kind):
+    found = samples()
+    if kind not in found:
+        near = difflib.get_close_matches(kind, found, 1, 0.5)
+        raise Fault(2, f"--sample {kind}: " + (f"did you mean {near[0]}? " if near else "") + "there are "
+                    + ", ".join(found))
+    with open(found[kind], "rb") as file:
+        return file.read()
+
+
+def scheduled(now):
+    """The event of a schedule that is due at this moment."""
+    event = json.loads(sample("schedule"))
+    event["time"] = now.strftime("%Y-%m-%dT%H:%M:%SZ")
+    return json.dumps(event).encode()
+
+
+def refuse_constant(name):
+    raise ValueError(f"{name} is not JSON")
+
+
+def is_json(text):
+    try:
+        json.loads(text, parse_constant=refuse_constant)
+        return True
+    except (ValueError, RecursionError):
+        return False
+
+
+def whole(path):
+    """What a file or standard input has."""
+    try:
+        with open(sys.stdin.fileno() if path == "-" else path, "rb", closefd=path != "-") as file:
+            text = file.read(MOST_BYTES + 1)
+    except OSError as fault:
+        raise Fault(2, f"{path}: {fault.strerror}") from None
+    if len(text) > MOST_BYTES:
+        raise Fault(2, f"{path}: it has more than {MOST_BYTES} bytes, which Lambda takes at most")
+    return text
+
+
+def payload_of(options):
+    if (options.payload is not None) + (options.sample is not None) + options.now > 1:
+        raise Fault(2, "write one of PAYLOAD, FILE, -, --sample and --now")
+    if options.sample is not None:
+        return sample(options.sample)
+    if options.now:
+        return scheduled(datetime.datetime.now(datetime.timezone.utc))
+    if options.payload is None:
+        return b"{}"
+    if options.payload != "-" and is_json(options.payload):
+        return os.fsencode(options.payload)
+    if options.payload != "-" and not os.path.isfile(options.payload):
+        raise Fault(2, f"{options.payload[:80]} is neither JSON nor a file: write for example '{{\"name\": \"Ada\"}}'")
+    text = whole(options.payload)
+    try:
+        json.loads(text, parse_constant=refuse_constant)
+    except UnicodeDecodeError:
+        raise Fault(2, f"{options.payload}: this is not JSON: it is not UTF-8") from None
+    except ValueError as fault:
+        raise Fault(2, f"{options.payload}: this is not JSON: {fault}") from None
+    except RecursionError:
+        raise Fault(2, f"{options.payload}: this is not JSON that Lambda takes: it is nested too deep") from None
+    return text
+
+
+# ---- the request -----------------------------------------------------------------------------------------------------
+
+def address_of(given):
+    """The host, port and path at which the service is."""
+    url = given or os.environ.get("AWS_ENDPOINT_URL_LAMBDA") or NOWHERE
+    where = "--endpoint" if given else "AWS_ENDPOINT_URL_LAMBDA"
+    try:
+        parts = urlsplit(url)
+        host, port = parts.hostname, parts.port
+    except ValueError:
+        host = port = None
+    if host is None or parts.scheme != "http" or parts.query or parts.fragment or parts.username is not None:
+        raise Fault(2, f"{where}={url[:200]}: write it as http://127.0.0.1:PORT")
+    return host, port or 80, parts.path.rstrip("/")
+
+
+def headers_of(options):
+    found = {"Content-Type": "application/json"}
+    if options.event:
+        found["X-Amz-Invocation-Type"] = "Event"
+    if options.tail:
+        found["X-Amz-Log-Type"] = "Tail"
+    return found
+
+
+def ask(options, payload):
+    """The answer: status, headers and body."""
+    host, port, path = address_of(options.endpoint)
+    connection = http.client.HTTPConnection(host, port, timeout=LONGEST_SECONDS)
+    target = f"{path}/2015-03-31/functions/{quote(options.name, safe=':$')}/invocations"
+    try:
+        connection.request("POST", target, payload, headers_of(options))
+        answer = connection.getresponse()
+        return answer.status, answer.headers, answer.read()
+    except (OSError, http.client.HTTPException) as fault:
+        reason = getattr(fault, "strerror", None) or str(fault) or type(fault).__name__
+        raise Fault(4, f"http://{host}:{port}: {reason}: start the service, for example by `lambda_local up UP.json`, "
+                    "and name the address that it prints by --endpoint or AWS_ENDPOINT_URL_LAMBDA") from None
+    finally:
+        connection.close()
+
+
+# ---- what comes of it ------------------------------------------------------------------------------------------------
+
+def printed(body):
+    sys.stdout.buffer.write(body if body.endswith(b"\n") else body + b"\n")
+    sys.stdout.flush()
+
+
+def show_log(headers):
+    """What the invocation printed, as far as the answer has it."""
+    if headers.get("X-Amz-Log-Result") is None:
+        return say("the answer has no log: `lambda_local up` keeps what functions print")
+    try:
+        text = base64.b64decode(headers["X-Amz-Log-Result"], validate=True).decode(errors="replace")
+    except binascii.Error:
+        return say("the log in the answer is not Base64")
+    return print(text, end="" if text.endswith("\n") else "\n", file=sys.stderr)
+
+
+def say(text):
+    print(f"invoke: {called(str(text))}", file=sys.stderr)
+
+
+def refusal(name, status, headers, body):
+    """A line on an answer that is no result of the function."""
+    try:
+        members = json.loads(body)
+        told = members.get("message") or members.get("Message") or ""
+        reason = members.get("Reason") or ""
+    except (ValueError, RecursionError, AttributeError):
+        told, reason = body[:300].decode(errors="replace"), ""
+    kind = (headers.get("x-amzn-ErrorType") or "").partition(":")[0]
+    said = ": ".join(filter(None, (f"{status} {kind}".strip(), str(told), str(reason))))
+    return f"{name}: {' '.join(said.split())}"
+
+
+def tell(options, answer):
+    """The exit status of an answer, which is printed."""
+    status, headers, body = answer
+    if options.tail and status == 200:
+        show_log(headers)
+    if options.event and status == 202:
+        say(f"{options.name}: the event is taken: {headers.get('x-amzn-RequestId', 'it has no identifier')}")
+        return 0
+    if status != 200:
+        say(refusal(options.name, status, headers, body))
+        return 3
+    printed(body)
+    if headers.get("X-Amz-Function-Error"):
+        say(f"{options.name}: the function has failed")
+        return 1
+    return 0
+
+
+def parser():
+    made = parser_of("invoke", __doc__, USAGE)
+    made.add_argument("name", metavar="NAME")
+    made.add_argument("payload", metavar="PAYLOAD", nargs="?")
+    made.add_argument("--sample", metavar="KIND", help=f"the payload is a sample event: {', '.join(samples())}")
+    made.add_argument("--now", action="store_true", help="the payload is the event of a schedule that is due now")
+    made.add_argument("--event", action="store_true", help="invoke asynchronously, and do not wait for the result")
+    made.add_argument("--tail", action="store_true", help="print the end of what the invocation printed")
+    made.add_argument("--endpoint", metavar="URL",
+                      help=f"the address of the service (AWS_ENDPOINT_URL_LAMBDA, else {NOWHERE})")
+    return made
+
+
+def main():
+    options = parser().parse_args()
+    try:
+        return tell(options, ask(options, payload_of(options)))
+    except Fault as fault:
+        say(fault)
+        return fault.status
+    except KeyboardInterrupt:
+        return 130
+    except BrokenPipeError:  # (what reads the output has gone)
+        os.dup2(os.open(os.devnull, os.O_WRONLY), sys.stdout.fileno())
+        return 0
