@@ -5,6 +5,7 @@ import gzip
 import hashlib
 import os
 import re
+import shutil
 import subprocess
 
 from page_facts import pages_of, text_of
@@ -74,14 +75,25 @@ def broken_release(root):
 
 
 def old_release(root):
-    """By what the released program is not of these sources and this kit."""
+    """By what the released program is not of these sources. Which kit proved it is a fact about the release, whatever
+    kit this machine has."""
     proved = text_of(root, "release", "PROVED")
     stamp = subprocess.run([f"{root}/lambda_local", "stamp"], stdout=subprocess.PIPE, text=True).stdout
-    for word in ("sources", "kit"):
-        if line_of(stamp, word) not in ("", line_of(proved, word)):
-            since = git(root, "log", "-1", "--format=%h", "--", "release/PROVED")
-            changes = git(root, "rev-list", "--count", f"{since}..HEAD", "--", "crates", "crates.txt", "HANDLES")
-            yield f"it is of other {word}: {changes or 'unknown'} commits since {since or 'it'} changed crates"
+    if line_of(stamp, "sources") not in ("", line_of(proved, "sources")):
+        since = git(root, "log", "-1", "--format=%h", "--", "release/PROVED")
+        changes = git(root, "rev-list", "--count", f"{since}..HEAD", "--", "crates", "crates.txt", "HANDLES")
+        yield f"it is of other sources: {changes or 'unknown'} commits since {since or 'it'} changed crates"
+
+
+def kit_beside(root):
+    """What to say of this machine's kit beside the one that proved the release; nothing if they are the same."""
+    proved = line_of(text_of(root, "release", "PROVED"), "kit")
+    if not shutil.which("rt"):
+        return
+    here = subprocess.run(["rt", "version"], stdout=subprocess.PIPE, text=True).stdout.strip()
+    if here != proved:
+        is_same = here.split(" logic ")[-1] == proved.split(" logic ")[-1]
+        yield f"it was proved by {proved}, and here is {here}: {'the same' if is_same else 'another'} logic"
 
 
 def is_known(root, commit):
