@@ -3,10 +3,12 @@
 reports of any bytes, a log that no one reads, lines without an end, control characters. The program is
 LAMBDA_LOCAL_PROGRAM, else ./lambda_local. Ends with 'N passed, M failed'."""
 import fcntl
+import http.client
 import json
 import os
 import re
 import resource
+import signal
 import subprocess
 import sys
 import tempfile
@@ -20,10 +22,12 @@ import counted  # noqa: E402
 from counted import check  # noqa: E402
 from lambda_local.json_reader import NotJson, depth_of, read_json  # noqa: E402
 from lambda_local.outgoing import header_value, printable, printable_output  # noqa: E402
+from lambda_local.service import Fault, Service, ask  # noqa: E402
 from lambda_local.up.log import Log  # noqa: E402
 from lambda_local.up.output import LONGEST_LINE, read_lines  # noqa: E402
 from lambda_local.up.reports import Report, kind_in  # noqa: E402
-from up_kit import TOOLS, Up, until  # noqa: E402
+from ports import free_range  # noqa: E402
+from up_kit import RUNTIME, TOOLS, Up, children, lives, until  # noqa: E402
 
 # A runtime that answers an invocation with the report, in hexadecimal, that its event has; otherwise it responds.
 REPORTING = f'''#!{sys.executable}
@@ -262,6 +266,150 @@ def forged_lines():
     check("no control character is written", [line for line in up.lines if re.search("[\x00-\x08\x0b-\x1f]", line)], [])
 
 
+# A module that starts processes in sessions of their own: one below it, and one whose parent has ended.
+LEAVING = """import os, subprocess, time
+subprocess.Popen(["sleep", "991"], start_new_session=True)
+subprocess.run(["sh", "-c", "setsid sleep 992 >/dev/null 2>&1 & setsid sleep 993 >/dev/null 2>&1 & sleep 0.2"])
+def run(event):
+    if event.get("do") == "hang":
+        subprocess.Popen(["sleep", "994"], start_new_session=True, env={})
+        time.sleep(600)
+    return os.getpid()
+"""
+
+
+def with_word(word):
+    """The processes that have this word in their command line."""
+    found = []
+    for pid in filter(str.isdigit, os.listdir("/proc")):
+        try:
+            with open(f"/proc/{pid}/cmdline") as file:
+                if word in file.read().split("\0") and lives(pid):
+                    found.append(int(pid))
+        except OSError:
+            pass
+    return found
+
+
+def leaving():
+    up = Up(functions=[{"name": "f", "runtime": "python", "handler": "app.run", "timeout": 2}], app=LEAVING)
+    up.until("[up] ready")
+    here = [pid for word in ("991", "992", "993") for pid in with_word(word) if up.is_here(pid)]
+    check("a module has left three processes", len(here), 3)
+    return up
+
+
+def of_sessions_of_their_own():
+    up = leaving()
+    first = up.invoke()[0]
+    check("a handler that hangs times out", up.invoke(do="hang")[0], "Function.Timeout")
+    check("and another process serves", until(lambda: up.invoke()[0] not in (first, "Function.Timeout"), 10), True)
+    check("what it had below it is gone, whatever session that is in",
+          until(lambda: not [pid for pid in with_word("994") if up.is_here(pid)], 5), True)
+    check("after TERM nothing is left", up.end(), (0, []))
+
+
+def killed():
+    """kill -9 of each process of tools/up, but those of functions."""
+    up = leaving()
+    check("after kill -9 of tools/up nothing is left", end_by(up, up.process.pid), (-9, []))
+    up = leaving()
+    guard = next(pid for pid in children(up.process.pid) if "guarding.py" in command_of(pid))
+    check("after kill -9 of its guard nothing is left", end_by(up, guard), (70, []))
+    check("which it tells", up.has("tools/up ends, since its guard process has ended"), True)
+    up = leaving()
+    service = next(pid for pid in children(up.process.pid) if "serve" in command_of(pid).split("\0"))
+    check("after kill -9 of its service nothing is left", end_by(up, service), (4, []))
+    up = leaving()
+    everyone = children(up.process.pid)
+    for pid in everyone:
+        if "guarding.py" not in command_of(pid):
+            kill(pid)
+    check("after kill -9 of tools/up and all but its guard nothing is left", end_by(up, up.process.pid), (-9, []))
+
+
+def private_files():
+    """A saved history has payloads: its user alone may read it."""
+    up = Up("--history", "saved", command=["--", "true"], functions=[{"name": "f"}])
+    until(lambda: up.process.poll() is not None, 60)
+    path = os.path.join(up.at, "saved")
+    seen = (oct(os.stat(path).st_mode & 0o777), open(path).read()[:7])
+    up.end(None)
+    check("a saved history is its user's", seen, ("0o600", "form 2\n"))
+
+
+def few_ports():
+    """Services one after the other on few ports, whose connections have ended a moment ago."""
+    first = free_range(6)
+    os.environ["LAMBDA_LOCAL_PORTS"] = f"{first}-{first + 5}"
+    seen = []
+    try:
+        for _ in range(12):
+            service = Service({"account": "123456789012", "region": "us-east-1",
+                               "functions": [{"name": "f", "ports": [0]}]})
+            # (the service closes these connections, so that its ends of them wait)
+            for port in (service.port, service.configuration["functions"][0]["ports"][0]):
+                ask(port, "GET", "/nowhere", headers={"Connection": "close"})
+            seen.append(service.stop()[0])
+    except Fault as fault:
+        seen.append(str(fault))
+    finally:
+        del os.environ["LAMBDA_LOCAL_PORTS"]
+    check("twelve services have six ports by turns", seen, [0] * 12)
+
+
+def out_of_memory():
+    """What a limit of memory does to tools/up: it is told, and TERM ends it."""
+    up = Up("--drain", "0", functions=[{"name": "f", "command": ["./slow"], "timeout": 900}],
+            files={"slow": "#!/bin/sh\nulimit -v unlimited; exec " + " ".join(RUNTIME) + "\n"},
+            whole={"asynchronous": True}, app="import time\ndef run(event):\n    time.sleep(600)\n")
+    up.until("AWS_ENDPOINT_URL_LAMBDA")
+    resource.prlimit(up.process.pid, resource.RLIMIT_AS, (address_space(up.process.pid) + (24 << 20), -1))
+    payload = json.dumps("x" * 1_000_000).encode()
+    for _ in range(60):
+        request = urllib.request.Request(up.endpoint + "/2015-03-31/functions/f/invocations", payload,
+                                         {"X-Amz-Invocation-Type": "Event"})
+        try:
+            urllib.request.urlopen(request, timeout=5).close()
+        except (OSError, http.client.HTTPException):
+            pass
+    check("nine tenths of the allowed memory are told", up.until("MB are used of its address space (ulimit -v)", 20),
+          True)
+    begun = time.monotonic()
+    status, left = up.end()
+    check("TERM ends it, and nothing is left", (status != "hangs", time.monotonic() - begun < 35, left),
+          (True, True, []))
+
+
+def address_space(pid):
+    with open(f"/proc/{pid}/statm") as file:
+        return resource.getpagesize() * int(file.read().split()[0])
+
+
+def kill(pid):
+    try:
+        os.kill(pid, signal.SIGKILL)
+    except ProcessLookupError:
+        pass
+
+
+def command_of(pid):
+    try:
+        with open(f"/proc/{pid}/cmdline") as file:
+            return file.read()
+    except OSError:
+        return ""
+
+
+def end_by(up, pid):
+    """The status and what is left of tools/up, a few seconds after a process was killed."""
+    kill(pid)
+    until(lambda: up.process.poll() is not None, 30)
+    until(lambda: not any(map(up.is_here, filter(str.isdigit, os.listdir("/proc")))), 10)
+    return up.end(None)
+
+
 if __name__ == "__main__":
     sys.exit(counted.run(reports, jsons, escapes, split_characters, long_lines, dropped_lines, slow_reader,
-                         hostile_reports, foreign_names, forged_lines, unread_log))
+                         hostile_reports, foreign_names, forged_lines, unread_log,
+                         of_sessions_of_their_own, killed, private_files, few_ports, out_of_memory))

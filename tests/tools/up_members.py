@@ -56,6 +56,24 @@ OF_FUNCTION = {
                              'ports must be a list of ports, one for each environment, not ["9001"]'),
     "ports and environments": ({"ports": [0, 0], "environments": 3},
                                "2 ports for 3 environments: leave one of the two out"),
+    # What the system takes neither as a variable nor as a word of a command.
+    "a variable with a NUL": ({"variables": {"A": "a\0b"}},
+                              'variables: A: "a\\u0000b": no variable has a NUL, or half a character'),
+    "half a character in a variable": ({"variables": {"A": "\ud83d"}},
+                                       'variables: A: "\\ud83d": no variable has a NUL, or half a character'),
+    "a variable with = in its name": ({"variables": {"A=B": "1"}},
+                                      'variables: "A=B" is not the name of a variable: it has letters, and no = or '
+                                      'NUL'),
+    "a variable without a name": ({"variables": {"": 1}},
+                                  'variables: "" is not the name of a variable: it has letters, and no = or NUL'),
+    "a NUL in a variable's name": ({"variables": {"A\0": 1}},
+                                   'variables: "A\\u0000" is not the name of a variable: it has letters, and no = or '
+                                   'NUL'),
+    "a NUL in a command": ({"command": ["true", "a\0b"]},
+                           '"a\\u0000b": no word of a command has a NUL, or half a character'),
+    "half a character in an extension's command": ({"extensions": {"x": ["true", "\ude00"]}},
+                                                   '"\\ude00": no word of a command has a NUL, or half a character'),
+    "a NUL in a path": ({"watch": ["a\0"]}, 'watch: "a\\u0000": no path has a NUL, or half a character'),
     # These the service refuses, and its word for it is explained.
     "a long timeout": ({"timeout": 1000},
                        "timeout must be from 1 to 900 seconds, not 1000 (the service says BadTimeout)"),
@@ -100,6 +118,11 @@ def mistakes():
               (2, ['up: up.json: it must be an object with a list of "functions", not [1]']))
         check("no JSON is told with line and column", told('{"functions": [}', folder),
               (2, ["up: up.json: this is no JSON: Expecting value: line 1 column 16 (char 15)"]))
+        for name, text in {"a million brackets": "[" * 1_000_000, "101 levels": "[" * 101 + "]" * 101}.items():
+            status, lines = told(text, folder)
+            check(f"{name} are told in a line",
+                  (status, [line.startswith("up: up.json: this is no JSON: it is nested too deep") for line in lines]),
+                  (2, [True]))
         check("nothing is left of them", sorted(os.listdir(folder)), ["up.json"])
 
 

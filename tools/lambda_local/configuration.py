@@ -47,12 +47,17 @@ def shown(value):
     return text if len(text) <= 60 else text[:57] + ".."
 
 
+def named(name):
+    """A name in a sentence, cut short."""
+    return name if len(name) <= 60 else name[:57] + ".."
+
+
 def mistakes_of(members, kinds, where, required=()):
     """What is wrong with the members of an object, one sentence each."""
     for name, value in members.items():
         if name not in kinds:
             near = difflib.get_close_matches(name, kinds, 1, 0.6)
-            yield f"{where}unknown member {name}" + (
+            yield f"{where}unknown member {named(name)}" + (
                 f", did you mean {near[0]}?" if near else f"; there are {', '.join(sorted(kinds))}")
         elif not kinds[name].accepts(value):
             yield f"{where}{name} must be {kinds[name].expected}, not {shown(value)}"
@@ -64,7 +69,7 @@ def mistakes_of(members, kinds, where, required=()):
 def place_of(member, number):
     """Returns how a sentence names the function at this place of the list, from 1."""
     name = member.get("name")
-    return f"function {name}: " if isinstance(name, str) else f"function number {number}: "
+    return f"function {named(name)}: " if isinstance(name, str) else f"function number {number}: "
 
 
 def mistakes(configuration, of_service=OF_SERVICE, of_function=OF_FUNCTION, required=REQUIRED,
@@ -215,5 +220,5 @@ def explained(name, configuration):
     """A sentence on what the service means by this name of a fault; nothing if this page knows no reason."""
     try:
         return SENTENCES[name](configuration, configuration["functions"])
-    except (KeyError, StopIteration, TypeError, AttributeError):
+    except (KeyError, IndexError, StopIteration, TypeError, ValueError, AttributeError):
         return ""

@@ -3,93 +3,219 @@
 `hold` and `release` name what is to be ended: a process group (its number), a single process (`Single`), a folder (a
 path). They go through a pipe whose writing end only this process has. When that closes, however this process ended, the
 guard kills what is still held. A process must be released before its status is asked for: until then, its number cannot
-be another's."""
+be another's.
+
+`start` lets the guard start a process: it is then below the guard, which ends it with all that it has started, whatever
+session that is in. If the guard itself is killed, what was below it comes below this process (`adopt_orphans`)."""
 import atexit
 import contextlib
+import errno
 import os
-import shutil
-import signal
+import socket
 import subprocess
 import sys
 import threading
+from typing import Callable, Dict, List, Mapping, Optional, Tuple, Union
+
+from . import guarding
+from .guarding import framed, received
+
+PATIENCE = 30.0  # seconds for the guard to answer
 
 
 class Single(int):
     """The number of one process, without its group."""
 
 
+Target = Union[int, str]
+
+
+class Started:
+    """A process that the guard has started, in a session of its own: its number is its own until it is killed."""
+
+    def __init__(self, guard: "Guard", pid: int):
+        self.guard, self.pid = guard, pid
+        self.has_ended = threading.Event()
+        self.returncode: Optional[int] = None  # below zero: the signal that ended it
+
+    def status(self) -> int:
+        """Once it has ended; -9 if the guard has gone, which knows it."""
+        self.has_ended.wait(PATIENCE)
+        return -9 if self.returncode is None else self.returncode
+
+    def kill(self) -> None:
+        """Kills it, its group, and all below it."""
+        self.guard.kill(self)
+
+
+class Channel:
+    """Requests to the guard and their answers, in their order; and what it says of processes meanwhile."""
+
+    def __init__(self, ours: socket.socket, when_lost: "Callable[[Channel], None]"):
+        self.socket, self.when_lost = ours, when_lost
+        self.asking, self.changed = threading.Lock(), threading.Condition()
+        self.answer: Optional[Dict[str, object]] = None
+        self.is_lost = False
+        self.started: Dict[int, Started] = {}
+        self.early: Dict[int, int] = {}  # statuses of processes that ended before their start was answered
+
+    def follow(self) -> None:
+        threading.Thread(target=self.read, name="guard", daemon=True).start()
+
+    def ask(self, message: object, handles: Tuple[int, ...] = ()) -> Dict[str, object]:
+        """The answer to a request. OSError if the guard has gone."""
+        with self.asking:
+            with self.changed:
+                self.answer = None
+            data = framed(message)
+            sent = socket.send_fds(self.socket, [data], handles) if handles else 0
+            self.socket.sendall(data[sent:])
+            with self.changed:
+                if not self.changed.wait_for(lambda: self.answer is not None or self.is_lost, PATIENCE):
+                    raise TimeoutError(errno.ETIMEDOUT, "the guard does not answer")
+                if self.answer is None:
+                    raise ConnectionResetError(errno.ECONNRESET, "the guard has gone")
+                return self.answer
+
+    def read(self) -> None:
+        try:
+            while (message := received(self.socket)[0]) is not None:
+                with self.changed:
+                    self.take(message)
+                    self.changed.notify_all()
+        except OSError:
+            pass
+        with self.changed:
+            self.is_lost = True
+            self.changed.notify_all()
+            for started in self.started.values():
+                started.has_ended.set()
+        self.when_lost(self)
+
+    def take(self, message: Dict[str, object]) -> None:
+        pid, status = message.get("ended"), message.get("status")
+        if not isinstance(pid, int) or not isinstance(status, int):
+            self.answer = message
+        elif pid in self.started:
+            self.note(self.started[pid], status)
+        else:
+            self.early[pid] = status
+
+    @staticmethod
+    def note(started: Started, status: int) -> None:
+        started.returncode = status
+        started.has_ended.set()
+
+    def know(self, started: Started) -> None:
+        with self.changed:
+            self.started[started.pid] = started
+            if started.pid in self.early:
+                self.note(started, self.early.pop(started.pid))
+            if self.is_lost:
+                started.has_ended.set()
+
+    def forget(self, pid: int) -> None:
+        with self.changed:
+            self.started.pop(pid, None)
+            self.early.pop(pid, None)
+
+
 class Guard:
-    def __init__(self):
-        self.lock, self.process, self.pipe = threading.Lock(), None, None
+    def __init__(self) -> None:
+        self.lock = threading.Lock()
+        self.process: "Optional[subprocess.Popen[bytes]]" = None
+        self.pipe = -1
+        self.channel: Optional[Channel] = None
+        self.when_lost: Callable[[], None] = lambda: None
         os.register_at_fork(after_in_child=self._forget)
 
-    def hold(self, target):
+    def hold(self, target: Target) -> None:
         self._say("+", target)
 
-    def release(self, target):
+    def release(self, target: Target) -> None:
         self._say("-", target)
 
-    def announcing(self, words):
+    def announcing(self, words: List[str]) -> Tuple[List[str], int]:
         """Returns these words after those of a shell that holds its own group before it becomes them, and the pipe that
         must be its standard input: so the guard knows the group from the moment that it exists."""
-        self._start()
+        self._begin()
         return ["/bin/sh", "-c", '(echo "+ group $$" >&0) 2>/dev/null; exec "$@" </dev/null', "sh", *words], self.pipe
 
-    def end(self):
+    def start(self, words: List[str], directory: str, variables: Mapping[str, str], output: int) -> Started:
+        """Starts a process below the guard, whose standard output and error are this descriptor. OSError if it cannot
+        be."""
+        channel = self._begin()
+        answer = channel.ask({"start": words, "cwd": directory, "env": dict(variables)}, (output,))
+        pid, number = answer.get("pid"), answer.get("errno")
+        if not isinstance(pid, int):
+            number = number if isinstance(number, int) else 0
+            raise OSError(number, os.strerror(number) if number else str(answer.get("reason")), words[0])
+        started = Started(self, pid)
+        channel.know(started)
+        return started
+
+    def kill(self, started: Started) -> None:
+        channel = self.channel
+        try:
+            if channel is None:
+                raise ConnectionResetError
+            channel.ask({"end": started.pid})
+            channel.forget(started.pid)
+        except OSError:  # (the guard has gone: what it had started is below this process)
+            guarding.kill_tree(started.pid)
+
+    def adopt_orphans(self, when_lost: Callable[[], None]) -> None:
+        """For a tool that uses `start`: what is below the guard comes below this process if the guard is killed, which
+        `when_lost` is told."""
+        guarding.adopt_orphans()
+        self.when_lost = when_lost
+
+    def end(self) -> None:
         """Ends the guard itself, which ends what is still held."""
         with self.lock:
-            if self.process:
+            if self.process and self.channel:
+                self.channel = None
                 os.close(self.pipe)
                 self.process.wait()
-                self.process = self.pipe = None
+                self.process = None
 
-    def _say(self, sign, target):
-        self._start()
+    def _lost(self, channel: Channel) -> None:
+        if channel is self.channel:
+            self.when_lost()
+
+    def _say(self, sign: str, target: Target) -> None:
+        self._begin()
         kind = "folder" if isinstance(target, str) else "process" if isinstance(target, Single) else "group"
         with contextlib.suppress(OSError):
-            os.write(self.pipe, f"{sign} {kind} {target}\n".encode())
+            os.write(self.pipe, os.fsencode(f"{sign} {kind} {target}\n"))
 
-    def _start(self):
+    def _begin(self) -> Channel:
         with self.lock:
-            if self.process:
-                return
+            if self.channel:
+                return self.channel
             ours, self.pipe = os.pipe()  # (neither is inherited)
+            mine, its = socket.socketpair()
             try:
                 # In a session of its own, since a terminal's signals are not for it.
                 self.process = subprocess.Popen(
-                    [sys.executable or "python3", "-I", "-S", os.path.realpath(__file__)], stdin=ours, cwd="/",
-                    stdout=subprocess.DEVNULL, stderr=subprocess.DEVNULL, start_new_session=True)
+                    [sys.executable or "python3", "-I", "-S", os.path.realpath(guarding.__file__), str(its.fileno())],
+                    stdin=ours, cwd="/", stdout=subprocess.DEVNULL, stderr=subprocess.DEVNULL, start_new_session=True,
+                    pass_fds=[its.fileno()])
             finally:
                 os.close(ours)
+                its.close()
+            self.channel = Channel(mine, self._lost)
+            self.channel.follow()
             atexit.register(self.end)
+            return self.channel
 
-    def _forget(self):
+    def _forget(self) -> None:
         """A child that was only forked holds nothing."""
-        if self.process:
+        if self.process and self.channel:
             os.close(self.pipe)
-            self.process = self.pipe = None
+            self.channel.socket.close()
+            self.process = self.channel = None
         self.lock = threading.Lock()
 
 
 GUARD = Guard()
-
-
-def main():
-    held = []
-    for line in sys.stdin.buffer:
-        sign, kind, target = line.decode(errors="surrogateescape").rstrip("\n").split(" ", 2)
-        if sign == "+":
-            held.append((kind, target))
-        elif (kind, target) in held:
-            held.remove((kind, target))
-    for kind, target in held:
-        with contextlib.suppress(OSError):
-            if kind == "folder":
-                shutil.rmtree(target, ignore_errors=True)
-            else:
-                (os.killpg if kind == "group" else os.kill)(int(target), signal.SIGKILL)
-
-
-if __name__ == "__main__":
-    main()
-    os._exit(0)  # (at once: the one that ends this waits for it)

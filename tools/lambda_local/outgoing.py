@@ -1,12 +1,13 @@
 """What leaves the tools, by one function for each way out: a line that a person reads, the value of an HTTP header,
-a variable and a word of a process, a path, a file that has payloads, and what a proxy must not get.
+a variable and a word of a process, a path, a file that has payloads. (`variables` has what keeps a client from AWS and
+from proxies.)
 
 Texts of functions, callers, files and variables go through these, whatever is in them."""
 import io
 import os
 import re
 import sys
-from typing import Dict, Mapping, Optional, TextIO
+from typing import Optional, TextIO
 
 # Control characters but the tab, separators of lines, what turns the direction of writing, and halves of characters.
 UNSAFE = re.compile("[\x00-\x08\x0a-\x1f\x7f-\x9f\u2028\u2029\u202a-\u202e\u2066-\u2069\ud800-\udfff]")
@@ -14,7 +15,6 @@ COLOUR = re.compile("(\x1b\\[[0-9;:]*m)")  # also bold, underlined ..: a termina
 PLAIN = "\x1b[0m"
 SHORT = {"\n": "\\n", "\r": "\\r"}
 HEADER_VALUE = re.compile("[!-~](?:[ -~]*[!-~])?")
-LOCAL = ("127.0.0.1", "localhost")
 
 
 def _escaped(found: "re.Match[str]") -> str:
@@ -62,11 +62,3 @@ def opened_for_payloads(path: str) -> io.TextIOWrapper:
     """A file to be written anew that its user alone may read; one that is there keeps its mode."""
     number = os.open(path, os.O_WRONLY | os.O_CREAT | os.O_TRUNC | os.O_CLOEXEC, 0o600)
     return io.TextIOWrapper(io.FileIO(number, "w"), encoding="utf-8", errors="backslashreplace", write_through=True)
-
-
-def past_proxies(environ: Mapping[str, str]) -> Dict[str, str]:
-    """The variables by which clients reach this machine itself past a proxy: both spellings, since each client reads
-    its own."""
-    given = ",".join(filter(None, (environ.get(name, "").strip() for name in ("no_proxy", "NO_PROXY"))))
-    names = list(dict.fromkeys([name.strip() for name in given.split(",") if name.strip()] + list(LOCAL)))
-    return dict.fromkeys(("NO_PROXY", "no_proxy"), ",".join(names))

@@ -76,8 +76,9 @@ def free_ports(count, taken):
     if words := os.environ.get("LAMBDA_LOCAL_PORTS"):
         try:
             first, last = (int(word) for word in words.split("-"))
-            assert 0 < first <= last < 65536
-        except (ValueError, AssertionError):
+            if not 0 < first <= last < 65536:
+                raise ValueError
+        except ValueError:
             raise Fault(2, f"LAMBDA_LOCAL_PORTS={words}: write it as FIRST-LAST, for example 20000-23999") from None
     candidates = iter(random.sample(range(first, last + 1), last + 1 - first)) if first else None
     held, found = [], []
@@ -89,7 +90,12 @@ def free_ports(count, taken):
             listener = socket.socket()
             held.append(listener)
             try:
+                if candidates:
+                    # (a port whose connections have ended a moment ago is free; one that another program looks at at
+                    # the same time is not, since it listens there as well)
+                    listener.setsockopt(socket.SOL_SOCKET, socket.SO_REUSEADDR, 1)
                 listener.bind(("127.0.0.1", port))
+                listener.listen(1)
             except OSError:
                 if candidates:
                     continue

@@ -32,13 +32,13 @@ def leading_to(endpoint_url, region):
             "AWS_IGNORE_CONFIGURED_ENDPOINT_URLS": "false", **past_proxies()}
 
 
-def past_proxies():
+def past_proxies(environ=os.environ):
     """Clients take the first of no_proxy and NO_PROXY that they know: both say that this machine needs no proxy."""
-    if not any(os.environ.get(name) or os.environ.get(name.upper()) for name in ("http_proxy", "all_proxy")):
+    if not any(environ.get(name) or environ.get(name.upper()) for name in ("http_proxy", "all_proxy")):
         return {}
     found = {}
     for name in ("no_proxy", "NO_PROXY"):
-        others = [word for word in re.split(r"[\s,]+", os.environ.get(name) or os.environ.get(name.swapcase()) or "")
+        others = [word for word in re.split(r"[\s,]+", environ.get(name) or environ.get(name.swapcase()) or "")
                   if word and word not in LOOPBACK]
         found[name] = "*" if "*" in others else ",".join([*others, *LOOPBACK])
     return found

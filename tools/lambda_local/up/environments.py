@@ -111,11 +111,11 @@ class Environment(threading.Thread):
         for name, words in self.function.extensions.items():
             if words:
                 self.extensions.append(
-                    (name, Process(f"{self.name} {name}", words, self.function, self.variables, self.log)))
+                    (name, Process(f"{self.name} {name}", words, self.function.directory, self.variables, self.log)))
 
     def start_runtime(self):
         self.generation += 1
-        self.runtime = Process(self.name, self.function.command, self.function, self.variables, self.log)
+        self.runtime = Process(self.name, self.function.command, self.function.directory, self.variables, self.log)
 
     def begin_unseen(self):
         """For a debugger: this tool's registration would start Init's clock, so it waits for the runtime's first

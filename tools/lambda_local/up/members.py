@@ -1,11 +1,12 @@
 """UP.json: a service's configuration in which each function says how its processes are started."""
-import json
 import os
 import shlex
 import shutil
 
-from ..configuration import OF_FUNCTION, OF_SERVICE, Kind, is_list_of, is_text, is_whole, mistakes, shown
+from ..configuration import OF_FUNCTION, OF_SERVICE, Kind, is_list_of, is_text, is_whole, mistakes, named, shown
 from ..front import settings
+from ..json_reader import NotJson, read_json
+from ..outgoing import is_for_the_system, is_name_of_variable
 from ..paths import bundled
 from ..service import Fault
 from ..usage import called
@@ -14,6 +15,7 @@ from ..variables import text_of
 from .processes import program_of
 
 NAME = "lambda_local.up"  # under which tools/up registers
+LONGEST = 16 << 20  # bytes of UP.json
 MOST_EXTENSIONS = 9  # the tenth is tools/up
 DEBUG_TIMEOUT = 900
 RUNTIMES = {"python": ("python3", "runtime.py"), "node": ("node", "runtime.mjs")}
@@ -60,15 +62,29 @@ class Function:
         self.directory = os.path.join(os.path.dirname(os.path.abspath(path)), member.get("directory", ""))
         if not os.path.isdir(self.directory):
             raise Fault(2, f"{self.where}: directory: there is no folder {self.directory}")
-        self.variables = {name: text_of(value) for name, value in member.get("variables", {}).items()}
+        self.variables = self._variables(member.get("variables", {}))
         self.memory = member.get("memory", 128)
         self.watch = [os.path.join(self.directory, name) for name in member.get("watch", ["."])]
+        for name in member.get("watch", []):
+            if not is_for_the_system(name):
+                raise Fault(2, f"{self.where}: watch: {shown(name)}: no path has a NUL, or half a character")
         self.handler = member.get("handler", "index.handler")
         self.command = self._command(member)
         self.extensions = self._extensions(member.get("extensions", {}))
         self.expected = list(self.extensions) + ([NAME] if self.command else [])
         self._look()
         self.part = self._part(member)
+
+    def _variables(self, given):
+        variables = {name: text_of(value) for name, value in given.items()}
+        for name, text in variables.items():
+            if not is_name_of_variable(name):
+                raise Fault(2, f"{self.where}: variables: {shown(name)} is not the name of a variable: it has letters, "
+                               "and no = or NUL")
+            if not is_for_the_system(text):
+                raise Fault(2, f"{self.where}: variables: {named(name)}: {shown(text)}: no variable has a NUL, or half "
+                               "a character")
+        return variables
 
     def _command(self, member):
         if "runtime" not in member:
@@ -96,6 +112,9 @@ class Function:
         if self.command and (NAME in self.extensions or len(self.extensions) > MOST_EXTENSIONS):
             raise Fault(2, f"{self.where}: extensions: at most nine, none of them {NAME}: the tenth is tools/up")
         for words in filter(None, [self.command, *self.extensions.values()]):
+            for word in words:
+                if not is_for_the_system(word):
+                    raise Fault(2, f"{self.where}: {shown(word)}: no word of a command has a NUL, or half a character")
             if not shutil.which(program_of(words[0], self.directory)):
                 raise Fault(4, f"{self.where}: {words[0]} is not a program (looked for in "
                                f"{self.directory if '/' in words[0] else 'PATH'})")
@@ -117,15 +136,13 @@ class Function:
 def read(path):
     """What the file says, whose members have been looked at."""
     try:
-        with open(path) as file:
-            whole = json.load(file)
+        with open(path, "rb") as file:
+            whole = read_json(file.read(LONGEST + 1), longest=LONGEST)
     except OSError as fault:
         usage = called("lambda_local up --help")
         raise Fault(2, f"{path}: {fault.strerror}: name a file as `{usage}` describes it") from None
-    except ValueError as fault:
+    except NotJson as fault:
         raise Fault(2, f"{path}: this is no JSON: {fault}") from None
-    except RecursionError:
-        raise Fault(2, f"{path}: this is no JSON of a configuration: it is nested too deep") from None
     for looked in (mistakes(whole, AT_THE_TOP, MEMBERS, ["functions"], ["name"]), settings.mistakes(whole)):
         for mistake in looked:
             raise Fault(2, f"{path}: {mistake}")

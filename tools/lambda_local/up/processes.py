@@ -3,70 +3,73 @@ import os
 import select
 import shutil
 import signal
-import subprocess
 import threading
 import time
+from typing import List, Mapping
 
 from ..guard import GUARD
-from .log import OUTPUT
+from .log import OUTPUT, Log
 from .output import read_lines
 
 
-def program_of(word, directory):
+def program_of(word: str, directory: str) -> str:
     """The path of a program as a command of a function names it: from its directory, or on PATH."""
     return os.path.join(directory, word) if "/" in word else word
 
 
 class Process:
-    """A process in a group of its own; each line of its output has its name before it."""
+    """A process in a session of its own; each line of its output has its name before it."""
 
-    def __init__(self, name, words, function, variables, log):
+    def __init__(self, name: str, words: List[str], directory: str, variables: Mapping[str, str], log: Log):
         self.name, self.log, self.begun = name, log, time.monotonic()
-        program = program_of(words[0], function.directory)
+        program = program_of(words[0], directory)
         if not shutil.which(program):
             raise FileNotFoundError(f"{words[0]} is not a program (any more)")
-        command, pipe = GUARD.announcing([program, *words[1:]])
-        self.child = subprocess.Popen(command, cwd=function.directory, env=variables, stdin=pipe,
-                                      stdout=subprocess.PIPE, stderr=subprocess.STDOUT, start_new_session=True)
-        self.handle = os.pidfd_open(self.child.pid)
-        self.reader = threading.Thread(target=self.read, daemon=True)
+        reading, writing = os.pipe()
+        try:
+            self.started = GUARD.start([program, *words[1:]], directory, variables, writing)
+        except OSError:
+            os.close(reading)
+            raise
+        finally:
+            os.close(writing)
+        try:
+            self.handle = os.pidfd_open(self.started.pid)
+        except OSError:
+            self.started.kill()
+            os.close(reading)
+            raise
+        self.reader = threading.Thread(target=self.read, args=(reading,), name=f"output of {name}", daemon=True)
         self.reader.start()
 
-    def read(self):
-        with self.child.stdout as stream:
+    def read(self, reading: int) -> None:
+        with os.fdopen(reading, "rb") as stream:
             read_lines(stream, lambda line: self.log(self.name, line, kind=OUTPUT))
 
-    def ended(self, seconds=0.0):
+    def ended(self, seconds: float = 0.0) -> bool:
         """Whether it ends within this many seconds."""
         waiting = select.poll()
         waiting.register(self.handle, select.POLLIN)
         return bool(waiting.poll(max(0, seconds) * 1000))
 
-    def status(self):
-        """The status of a process that has ended, which stays to be asked for."""
-        seen = os.waitid(os.P_PID, self.child.pid, os.WEXITED | os.WNOWAIT)
-        return seen.si_status if seen.si_code == os.CLD_EXITED else -seen.si_status
+    def status(self) -> int:
+        """The status of a process that has ended."""
+        return self.started.status()
 
-    def signal(self, number):
-        try:
-            os.killpg(self.child.pid, number)
-        except (ProcessLookupError, PermissionError):
-            pass
-
-    def end(self, seconds=0.0):
-        """Asks it to end if there is time for it; then its whole group is killed."""
+    def end(self, seconds: float = 0.0) -> None:
+        """Asks it to end if there is time for it; then its whole group is killed, with all below it."""
         if seconds > 0 and not self.ended():
-            self.signal(signal.SIGTERM)
+            try:
+                os.killpg(self.started.pid, signal.SIGTERM)
+            except (ProcessLookupError, PermissionError):
+                pass
             self.ended(seconds)
-        # (its number can't be another's yet, since its status has not been asked for)
-        self.signal(signal.SIGKILL)
-        GUARD.release(self.child.pid)
-        self.child.wait()
+        self.started.kill()
         os.close(self.handle)
         self.reader.join(1)
 
 
-def reason_of(status, who="Runtime"):
+def reason_of(status: int, who: str = "Runtime") -> str:
     """Returns how Lambda reports to a caller that a process has ended."""
     if status == 0:
         return f"{who} exited without providing a reason"

@@ -5,6 +5,9 @@ import threading
 import time
 
 from ..front.front import Front
+from ..guard import GUARD
+from ..guarding import end_all_below
+from ..outgoing import opened_for_payloads
 from ..service import Fault, Service
 from . import surroundings
 from .environments import Environment
@@ -28,6 +31,8 @@ class Session:
         self.happened, self.stopping = threading.Event(), threading.Event()  # something to look at; all is to end
         self.signals, self.signal_number, self.kills_at = 0, 0, 2
         self.supervisor = Supervisor(log, self.happened.set)
+        GUARD.adopt_orphans(self.guard_lost)
+        self.has_guard = True
         salt = options.salt
         configuration, self.functions, front = load(options.up, options.debug, salt)
         self.front = Front(front, options.up, options.drain, log) if front else None
@@ -78,6 +83,11 @@ class Session:
         if self.signals >= self.kills_at and self.service.process.poll() is None:
             # (it ends, and with it each environment's thread, which kills its processes)
             self.service.process.kill()
+
+    def guard_lost(self):
+        """The guard has been killed: all that it had started is below this process now, and ends with it."""
+        self.has_guard = False
+        self.supervisor.broken("its guard process has ended")
 
     def wait(self):
         """Until something happens. (The system may give a signal to any thread, and Python runs its handler in this
@@ -173,7 +183,7 @@ class Session:
     def save(self):
         path = self.options.history or SAVED
         try:
-            with open(path, "w") as file:
+            with opened_for_payloads(path) as file:
                 file.write(self.service.history())
             self.say(f"the history is in {path}")
         except (OSError, http.client.HTTPException) as fault:
@@ -212,6 +222,8 @@ class Session:
         if counts:
             self.say(counts, kind="counts")
         self.service.kill()
+        if not self.has_guard:
+            self.step("the end of all processes", end_all_below)
         return status if status >= 0 else 4
 
     def join(self):

@@ -29,11 +29,12 @@ class Supervisor:
         threading.excepthook = self.ended
 
     def ended(self, what: "threading.ExceptHookArgs") -> None:
+        name = what.thread.name if what.thread else "that is unknown"
+        self.broken(f"its thread {name} cannot go on: {told(what.exc_value or what.exc_type())}")
+
+    def broken(self, why: str) -> None:
         self.is_broken = True
         try:
-            name = what.thread.name if what.thread else "that is unknown"
-            fault = what.exc_value or what.exc_type()
-            self.log("up", f"tools/up ends, since its thread {name} cannot go on: {told(fault)}", level="error",
-                     kind="fault")
+            self.log("up", f"tools/up ends, since {why}", level="error", kind="fault")
         finally:
             self.when_broken()

@@ -7,7 +7,7 @@ import threading
 import time
 
 from ..guard import GUARD
-from ..variables import of_callers, of_function
+from ..variables import of_callers, of_function, past_proxies
 
 # The first that read AWS_ENDPOINT_URL_LAMBDA; older ones call AWS itself.
 OLDEST_BOTO3 = (1, 28)
@@ -17,12 +17,13 @@ LONGEST_SECONDS = 10.0  # for a client to say its version
 
 def of_environment(service, function, number, port, keeps_credentials):
     """The variables of an environment's processes."""
-    return {
+    found = {
         "TZ": ":UTC", "PYTHONUNBUFFERED": "1", **of_callers(service, keeps_credentials),
         **({} if keeps_credentials else {"AWS_SESSION_TOKEN": "local"}),
         "AWS_LAMBDA_RUNTIME_API": f"127.0.0.1:{port}",
         "_HANDLER": function.handler, "LAMBDA_TASK_ROOT": os.path.realpath(function.directory),
         **of_function(function.name, function.memory, number), **function.variables}
+    return {**found, **past_proxies(found)}
 
 
 def written(version):

@@ -1,0 +1,235 @@
+"""The guard of a tool, as a process of its own: it starts processes that the tool asks for, so that they are below it,
+and ends them and all else that the tool holds once the tool has gone, however that ended.
+
+It adopts what loses its parent below it (`PR_SET_CHILD_SUBREAPER`, prctl(2)): so a process cannot leave it, not even
+by a session of its own. `guard` has the tool's side. Standard input has a line for each target that is held or
+released; the socket whose number is the argument has requests and answers, each a length and JSON."""
+import contextlib
+import json
+import os
+import select
+import shutil
+import signal
+import socket
+import struct
+import subprocess
+import sys
+import time
+from typing import Dict, List, Optional, Tuple, cast
+
+SET_CHILD_SUBREAPER = 36  # <linux/prctl.h>
+LENGTH = struct.Struct("!I")
+PATIENCE = 10.0  # seconds for killed processes to end (one may wait for a device)
+
+
+def adopt_orphans() -> None:
+    """From now on, a process below this one whose parent ends gets this one as its parent."""
+    with contextlib.suppress(ImportError, OSError, AttributeError):
+        import ctypes
+        ctypes.CDLL(None).prctl(SET_CHILD_SUBREAPER, 1, 0, 0, 0)
+
+
+def below(pid: int) -> List[int]:
+    """The processes below this one, those of each level before those below them."""
+    children: Dict[int, List[int]] = {}
+    for name in filter(str.isdigit, os.listdir("/proc")):
+        with contextlib.suppress(OSError, IndexError), open(f"/proc/{name}/stat", "rb") as file:
+            parent = int(file.read().rpartition(b")")[2].split()[1])
+            children.setdefault(parent, []).append(int(name))
+    found: List[int] = []
+    level = [pid]
+    while level := [child for parent in level for child in children.get(parent, ())]:
+        found += level
+    return found
+
+
+def send(pid: int, number: int) -> None:
+    with contextlib.suppress(ProcessLookupError, PermissionError):
+        os.kill(pid, number)
+
+
+def send_group(pid: int, number: int) -> None:
+    with contextlib.suppress(ProcessLookupError, PermissionError):
+        os.killpg(pid, number)
+
+
+def kill_tree(pid: int) -> None:
+    """Kills a process, its group, and all below it: each is stopped first, so that it starts nothing more."""
+    found: List[int] = []
+    fresh = [pid]
+    while fresh:
+        for one in fresh:
+            send(one, signal.SIGSTOP)
+        found += fresh
+        fresh = [one for one in below(pid) if one not in found]
+    send_group(pid, signal.SIGKILL)
+    for one in found:
+        send(one, signal.SIGKILL)
+
+
+def reap() -> None:
+    """Takes the status of each child that has ended."""
+    with contextlib.suppress(ChildProcessError):
+        while os.waitpid(-1, os.WNOHANG)[0]:
+            pass
+
+
+def end_all_below() -> None:
+    """Kills all that is below this process."""
+    end = time.monotonic() + PATIENCE
+    while (found := below(os.getpid())) and time.monotonic() < end:
+        for pid in found:
+            send(pid, signal.SIGKILL)
+        reap()
+        time.sleep(0.005)
+
+
+def framed(message: object) -> bytes:
+    data = json.dumps(message).encode()
+    return LENGTH.pack(len(data)) + data
+
+
+def received(channel: socket.socket) -> Tuple[Optional[Dict[str, object]], List[int]]:
+    """The next message, and the descriptors that came with it; none at the end."""
+    data, handles, wanted = b"", [], LENGTH.size
+    while len(data) < wanted:
+        piece, came, _, _ = socket.recv_fds(channel, wanted - len(data), 1)
+        handles += came
+        if not piece:
+            return None, handles
+        data += piece
+        if len(data) == LENGTH.size == wanted:
+            wanted += LENGTH.unpack(data)[0]
+    message: Dict[str, object] = json.loads(data[LENGTH.size:])
+    return message, handles
+
+
+class Guard:
+    def __init__(self, channel: socket.socket):
+        self.channel = channel
+        self.held: List[Tuple[str, str]] = []
+        self.started: Dict[int, "subprocess.Popen[bytes]"] = {}
+        self.ended: Dict[int, int] = {}  # the statuses that the tool was sent
+        self.unread = b""  # of standard input
+
+    def serve(self) -> None:
+        """Until the tool has gone."""
+        woken, wakes = os.pipe()
+        os.set_blocking(wakes, False)
+        signal.signal(signal.SIGCHLD, lambda *_: None)
+        signal.set_wakeup_fd(wakes, warn_on_full_buffer=False)
+        sources = select.poll()
+        for source in (0, self.channel.fileno(), woken):
+            sources.register(source, select.POLLIN)
+        while True:
+            ready = {source for source, _ in sources.poll()}
+            if woken in ready:
+                os.read(woken, 4096)
+                self.look()
+            if self.channel.fileno() in ready and not self.answer():
+                sources.unregister(self.channel.fileno())
+            if 0 in ready and not self.note():
+                return
+
+    # ---- what is held ------------------------------------------------------------------------------------------------
+
+    def note(self) -> bool:
+        """Takes lines; whether more can come."""
+        data = os.read(0, 65536)
+        *lines, self.unread = (self.unread + data).split(b"\n")
+        for line in lines:
+            sign, kind, target = os.fsdecode(line).split(" ", 2)
+            if sign == "+":
+                self.held.append((kind, target))
+            elif (kind, target) in self.held:
+                self.held.remove((kind, target))
+        return bool(data)
+
+    def end(self) -> None:
+        """Ends all that is held, and all below this process."""
+        for kind, target in self.held:
+            if kind != "folder":
+                (send_group if kind == "group" else send)(int(target), signal.SIGKILL)
+        end_all_below()
+        for kind, target in self.held:
+            if kind == "folder":
+                shutil.rmtree(target, ignore_errors=True)
+
+    # ---- what is started here ----------------------------------------------------------------------------------------
+
+    def answer(self) -> bool:
+        """Does what the next message asks for; whether more can come."""
+        message, handles = received(self.channel)
+        if message is None:
+            return False
+        try:
+            if "start" in message:
+                self.tell(self.start(cast(List[str], message["start"]), cast(str, message["cwd"]),
+                                     cast(Dict[str, str], message["env"]), handles[0]))
+            else:
+                self.kill(cast(int, message["end"]))
+        finally:
+            for handle in handles:
+                os.close(handle)
+        return True
+
+    def tell(self, message: object) -> None:
+        with contextlib.suppress(OSError):  # (the tool has gone, which standard input says)
+            self.channel.sendall(framed(message))
+
+    def start(self, words: List[str], cwd: str, env: Dict[str, str], output: int) -> Dict[str, object]:
+        try:
+            child = subprocess.Popen(words, cwd=cwd, env=env, stdin=subprocess.DEVNULL, stdout=output, stderr=output,
+                                     start_new_session=True)
+        except OSError as fault:
+            return {"errno": fault.errno}
+        except (ValueError, MemoryError) as fault:
+            return {"errno": 0, "reason": str(fault)}
+        self.started[child.pid] = child
+        return {"pid": child.pid}
+
+    def kill(self, pid: int) -> None:
+        """Ends a process that was started here, and what is below it."""
+        child = self.started.get(pid)
+        if child is not None:
+            kill_tree(pid)
+            child.wait()
+            del self.started[pid]
+            self.ended.pop(pid, None)
+        self.tell({"gone": pid})
+
+    def look(self) -> None:
+        """Says which processes have ended: their numbers stay theirs until they are killed. What was adopted goes."""
+        for pid in self.started:
+            if pid not in self.ended:
+                seen = os.waitid(os.P_PID, pid, os.WEXITED | os.WNOWAIT | os.WNOHANG)
+                if seen is not None:
+                    self.ended[pid] = seen.si_status if seen.si_code == os.CLD_EXITED else -seen.si_status
+                    self.tell({"ended": pid, "status": self.ended[pid]})
+        for pid in self.children():
+            if pid not in self.started:
+                with contextlib.suppress(ChildProcessError):
+                    os.waitpid(pid, os.WNOHANG)
+
+    @staticmethod
+    def children() -> List[int]:
+        own = os.getpid()
+        try:
+            with open(f"/proc/{own}/task/{own}/children") as file:
+                return list(map(int, file.read().split()))
+        except OSError:  # (a kernel without this file)
+            return below(own)
+
+
+def main() -> None:
+    adopt_orphans()
+    guard = Guard(socket.socket(fileno=int(sys.argv[1])))
+    try:
+        guard.serve()
+    finally:
+        guard.end()
+
+
+if __name__ == "__main__":
+    main()
+    os._exit(0)  # (at once: the one that ends this waits for it)
