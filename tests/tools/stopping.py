@@ -5,6 +5,7 @@ told, with descriptors of processes and without. The program is LAMBDA_LOCAL_PRO
 import os
 import subprocess
 import sys
+import threading
 import time
 
 ROOT = os.path.dirname(os.path.dirname(os.path.dirname(os.path.realpath(__file__))))
@@ -47,6 +48,21 @@ def waits_without_descriptors():
             os.pidfd_open = opens
 
 
+def waits_beside_another():
+    """tools/up has a thread that waits for the service as well."""
+    seen = []
+    for _ in range(30):
+        with subprocess.Popen(["sleep", "0.02"]) as child:
+            other = threading.Thread(target=child.wait)
+            other.start()
+            try:
+                seen.append(wait_for(child, 30))
+            except subprocess.TimeoutExpired:
+                seen.append("goes on")
+            other.join()
+    check("a process that another thread waits for too", set(seen), {0})
+
+
 def stops():
     service = Service(CONFIGURATION)
     begun = time.monotonic()
@@ -56,4 +72,4 @@ def stops():
 
 
 if __name__ == "__main__":
-    sys.exit(counted.run(waits, waits_without_descriptors, stops))
+    sys.exit(counted.run(waits, waits_without_descriptors, waits_beside_another, stops))

@@ -23,6 +23,7 @@ from .paths import own_program
 
 RUNTIME = "/2018-06-01/runtime/"
 EXTENSION = "/2020-01-01/extension/"
+TAKEN_SECONDS = 5.0  # for the status of a process that has ended
 NO_NETWORK = "network: failed"  # the program's line if it cannot listen on a port
 
 
@@ -129,10 +130,11 @@ def wait_for(child, seconds):
     try:
         end = select.poll()
         end.register(descriptor, select.POLLIN)
-        end.poll(seconds * 1000)
+        has_ended = end.poll(seconds * 1000)
     finally:
         os.close(descriptor)
-    return child.wait(0)
+    # (Another thread may wait for it too, and take its status a moment later than this one hears of its end.)
+    return child.wait(TAKEN_SECONDS if has_ended else 0)
 
 
 class Service:
@@ -265,8 +267,8 @@ class Service:
         """If the launcher is building the program, it cleans up when it is asked to end."""
         for number in (signal.SIGTERM, signal.SIGKILL):
             if self.process.poll() is None:
-                os.killpg(self.process.pid, number)
-                with contextlib.suppress(subprocess.TimeoutExpired):
+                with contextlib.suppress(subprocess.TimeoutExpired, ProcessLookupError):
+                    os.killpg(self.process.pid, number)
                     self.process.wait(3 if number == signal.SIGTERM else None)
 
     def kill(self):
