@@ -1,13 +1,16 @@
-"""What bench/requests and bench/submits have in common: the program of crates/benches, and the medians of its runs."""
+"""What bench/requests and bench/submits have in common: the program of bench/benches, and the medians of its runs."""
 import argparse
+import atexit
 import collections
 import os
+import shutil
 import statistics
 import subprocess
 import sys
 import tempfile
 
-CRATE = os.path.join(os.path.dirname(os.path.dirname(os.path.realpath(__file__))), "crates", "benches")
+sys.path.insert(0, os.path.join(os.path.dirname(os.path.dirname(os.path.realpath(__file__))), "tests", "library"))
+import second_root
 
 
 def arguments(doc):
@@ -18,11 +21,10 @@ def arguments(doc):
     words.add_argument("program", nargs="?")
     given = words.parse_args()
     if not given.program:
-        given.program = os.path.join(CRATE, "out", "benches")
-        built = subprocess.run(["rt", "run"], cwd=CRATE, stdin=subprocess.DEVNULL, stdout=subprocess.PIPE,
-                               stderr=subprocess.STDOUT, text=True)
-        if built.returncode or not os.access(given.program, os.X_OK):
-            sys.exit(f"crates/benches is not built:\n{built.stdout[-1000:]}")
+        folder = tempfile.mkdtemp()
+        atexit.register(shutil.rmtree, folder, ignore_errors=True)
+        second_root.make(f"{folder}/root", "benches")
+        given.program = second_root.prove(f"{folder}/root", "benches")
     return given
 
 

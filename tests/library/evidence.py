@@ -8,6 +8,7 @@ import re
 import shutil
 import subprocess
 
+import edits
 from page_facts import pages_of, text_of
 
 MEASURED = re.compile(r"^<!-- measured at ([0-9a-f]{7,40}) -->$", re.M)
@@ -20,28 +21,8 @@ def git(root, *words):
     return ran.stdout.strip() if ran.returncode == 0 else ""
 
 
-def misfit(edit, crate):
-    """Returns why an edit does not fit its crate: each text that it replaces must occur in its file exactly once."""
-    texts, path, old = {}, "", ""
-    for key, value in re.findall(r"^(file|old|new):(?: (.*))?$", text_of(edit), re.M):
-        if key == "file":
-            path = value.strip()
-            texts.setdefault(path, text_of(crate, path))
-        elif key == "old":
-            old = value
-        elif not texts.get(path):
-            return f"there is no {path}"
-        elif texts[path].count(old) != 1 or not old:
-            return f"stands {texts[path].count(old)} times in {path}: {old.strip()}"
-        else:
-            texts[path] = texts[path].replace(old, value)
-    return "" if texts else "names no file"
-
-
 def edits_of(root):
     """Each edit of the repository with the folder of its crate."""
-    for edit in sorted(glob.glob(f"{root}/crates/*/must-fail/*.edit")):
-        yield edit, os.path.dirname(os.path.dirname(edit))
     for edit in sorted(glob.glob(f"{root}/tests/must_fail/*/*.edit")):
         yield edit, f"{root}/crates/{os.path.basename(os.path.dirname(edit))}"
     for edit in sorted(glob.glob(f"{root}/tests/definitions/*.edit")):
@@ -50,7 +31,7 @@ def edits_of(root):
 
 def misfits(root):
     for edit, crate in edits_of(root):
-        fault = misfit(edit, crate)
+        fault = edits.misfit(edit, crate)
         if fault:
             yield f"{os.path.relpath(edit, root)}: {fault}"
 
@@ -94,6 +75,17 @@ def kit_beside(root):
     if here != proved:
         is_same = here.split(" logic ")[-1] == proved.split(" logic ")[-1]
         yield f"it was proved by {proved}, and here is {here}: {'the same' if is_same else 'another'} logic"
+
+
+def age_of_gate(root):
+    """When the whole gate last passed from scratch, as far as the tree says."""
+    record = text_of(root, ".ci", "LAST_FROM_SCRATCH")
+    commit = line_of(record, "commit").removesuffix("-dirty")
+    if not is_known(root, commit):
+        return f"LAST_FROM_SCRATCH names {commit or 'no commit'}, which git does not know"
+    cost = ", ".join(f"{line_of(record, word)} {word.replace('_', ' ')}" for word in ("processors", "minutes",
+                                                                                      "cpu_minutes"))
+    return f"last passed from scratch at {age(root, commit)}: {line_of(record, 'gate')}, {cost}"
 
 
 def is_known(root, commit):

@@ -9,13 +9,13 @@ import sys
 sys.path.insert(0, os.path.join(os.path.dirname(os.path.realpath(__file__)), "..", "..", "tools", "library"))
 from crate_list import uses
 
-FOLDERS = ("bench", "crates", "docs", "examples", "tests", "tools")
+FOLDERS = ("bench", "crates", "docs", "examples", "tables", "tests", "tools")
 FENCED = re.compile(r"(?:^<!-- (\w[\w ]*) -->\n)?^```(\w*)\n(.*?)^```$", re.M | re.S)
 NUMBERS = {word: number for number, word in enumerate(
     "one two three four five six seven eight nine ten eleven twelve thirteen fourteen fifteen sixteen seventeen "
     "eighteen nineteen twenty twenty-one twenty-two twenty-three twenty-four twenty-five twenty-six".split(), 1)}
-COMMAND = re.compile(r"(tools/conformance (?:runtime|extension|service)|tools/\w+|tests/\w+/run|tests/\w+"
-                     r"|bench/serve/\w+|bench/\w+|\./lambda_local)\b(.*)")
+COMMAND = re.compile(r"(tools/conformance (?:runtime|extension|service)|tools/\w+|tests/\w+/run|tests/must_fail/gate"
+                     r"|tests/\w+|tables/run|bench/serve/\w+|bench/\w+|\./lambda_local)\b(.*)")
 
 
 def text_of(*parts):
@@ -102,7 +102,8 @@ def names(root, page, text):
 def numbers(root, page, text):
     count = {
         "crates": len(uses(root)),
-        "must-fail edits": len(glob.glob(f"{root}/crates/*/must-fail/*.edit")),
+        "must-fail edits": len([it for it in glob.glob(f"{root}/tests/must_fail/*/*.edit")
+                                if text_of(it).startswith("gate:")]),
         "wrong definitions": len(glob.glob(f"{root}/tests/definitions/*.edit")),
     }
     for said, what in re.findall(rf"\b(\d[\d,]*|{'|'.join(NUMBERS)}) ({'|'.join(count)})\b", text):
@@ -122,6 +123,12 @@ def kit(root, page, text):
     for said in re.findall(r"rattle-kit-\S+ logic [0-9a-f]+", text):
         if said != proved:
             yield f"says {said}, and release/PROVED says {proved}"
+
+
+def outside(root):
+    """The crates outside crates/, which run the tables or are measured, with what each uses."""
+    lists = text_of(root, "tables", "crates.list") + text_of(root, "bench", "crates.list")
+    return {name: needs.split() for name, needs in re.findall(r"^(\w+):(.*)$", lists, re.M)}
 
 
 def unnamed(root, text):
@@ -154,7 +161,7 @@ def of_formats(root, page, text):
 
 
 def of_proofs(root, page, text):
-    crates = uses(root)
+    crates = {**uses(root), **outside(root)}
     of_kit = {it for used in crates.values() for it in used} - set(crates)
     listed = re.search(r"the kit's crates (.*?)\.\n", text)
     said = set(re.findall(r"`(\w+)`", listed[1])) if listed else set()
@@ -177,7 +184,7 @@ def of_proofs(root, page, text):
 
 
 def of_checks(root, page, text):
-    tables = "\n".join(map(text_of, glob.glob(f"{root}/crates/*/data/**/*.txt", recursive=True)))
+    tables = "\n".join(map(text_of, glob.glob(f"{root}/tables/*/data/**/*.txt", recursive=True)))
     for block in code_of(text)[0]:
         if block.startswith("== ") and block not in tables:
             yield f"no table has the case {block.splitlines()[0]}"
@@ -185,16 +192,17 @@ def of_checks(root, page, text):
 
 def of_architecture(root, page, text):
     crates, listed = uses(root), set()
+    unproved = outside(root)
     for it, needs in crates.items():
         for need in needs:
             if need in crates and need not in listed:
                 yield f"crates.txt lists {it} before {need}, which it uses"
         listed.add(it)
-    for it in crates:
+    for it in [*crates, *unproved]:
         if f"**`{it}`**" not in text and not re.search(rf"\*\*.*`{it}`.*\*\*", text):
             yield f"has no paragraph on {it}"
     for it in re.findall(r"^- \*\*`(\w+)`\*\*", text, re.M):
-        if it not in crates:
+        if it not in crates and it not in unproved:
             yield f"tells of the crate {it}, which is not in crates.txt"
 
 
