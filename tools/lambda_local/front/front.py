@@ -6,9 +6,9 @@ import time
 
 from ..service import Fault, free_ports
 from .client import Client
-from .events import Identifiers
 from .gateway import Api, Url
 from .invoke import InvokePort
+from .management import Management
 from .places import Places, places_for, raised_limit
 from .server import Server
 
@@ -42,7 +42,7 @@ class Front(threading.Thread):
     def __init__(self, settings, path, drain_seconds, log):
         super().__init__(name="front", daemon=True)
         self.settings, self.drain_seconds, self.log, self.queue = settings, drain_seconds, log, None
-        self.invoking = listener_at(settings.invoke_port, "invokePort", path) if settings.asynchronous else None
+        self.invoking = listener_at(settings.invoke_port, "invokePort", path)
         self.urls = {function: listener_at(address.port, f"url of function {function}", path)
                      for function, address in settings.urls.items()}
         self.routing = listener_at(settings.api.port, "api", path) if settings.routes else None
@@ -59,14 +59,13 @@ class Front(threading.Thread):
         """Begins to answer, by this service."""
         self.service, configuration = service, service.configuration
         self.client = Client(service.port)
-        identifiers = Identifiers(configuration)
         self.places = Places(places_for(raised_limit(), sum(len(one["ports"]) for one in configuration["functions"])))
-        self.servers = []
-        if self.invoking:
-            port = InvokePort(self.client, self.settings.asynchronous, configuration, self.drain_seconds, self.log)
-            self.queue, identifiers = port.queue, port.identifiers
-            self.servers.append(Server(self.invoking, port, self.places, self.log))
-            service.endpoint_url = url_of(self.invoking)
+        port = InvokePort(self.client, self.settings.asynchronous, configuration, self.drain_seconds, self.log)
+        self.queue, identifiers = port.queue, port.identifiers
+        urls = {function: url_of(listener) for function, listener in self.urls.items()}
+        management = Management(port, self.client, self.settings, configuration, urls)
+        self.servers = [Server(self.invoking, management, self.places, self.log)]
+        service.endpoint_url = url_of(self.invoking)
         for function, listener in self.urls.items():
             url = Url(self.client, self.settings.urls[function], identifiers, self.log, function, configuration)
             self.servers.append(Server(listener, url, self.places, self.log))

@@ -18,20 +18,24 @@ CLOSES = ("connection", "close")
 
 
 class InvokePort:
+    """Without settings of asynchronous invocations, the service refuses those."""
+
     def __init__(self, client, settings, configuration, drain_seconds, log):
         self.client, self.drain_seconds = client, drain_seconds
         self.identifiers, self.hosts, self.known = Identifiers(configuration), further_hosts(), set()
-        self.queue, self.held = Queue(client, settings, configuration, self.identifiers, log), Held()
+        self.queue = Queue(client, settings, configuration, self.identifiers, log) if settings else None
+        self.held = Held()
 
     async def handle(self, request):
         refused = refusal_of(request.head, self.hosts)
         if refused:
             return refused_reply(refused)
-        if request.method == "POST" and request.path == "/_local/stop":
+        if self.queue and request.method == "POST" and request.path == "/_local/stop":
             await self.queue.drained(self.drain_seconds)
         kind, function = first(request.headers, TYPE), function_of(request.target)
         try:
-            if request.method != "POST" or function is None or kind not in ("Event", "DryRun"):
+            is_event = self.queue and request.method == "POST" and function is not None and kind in ("Event", "DryRun")
+            if not is_event:
                 return await pass_on(self.client, request, self.held)
             unknown = await self.unknown(request)
             if unknown:

@@ -1,6 +1,6 @@
 """The members of UP.json that say what is in front of the functions."""
 import re
-from typing import Dict, NamedTuple, Optional, Tuple
+from typing import Any, Dict, NamedTuple, Optional, Tuple
 
 from ..configuration import PORT, Kind, is_list_of, is_text, is_whole, mistakes_of, shown
 from .routes import Route, WrongRoute
@@ -99,6 +99,8 @@ class Settings(NamedTuple):
     urls: Dict[str, Address]  # by function
     routes: Dict[str, Target]
     api: Address
+    functions: Tuple[Dict[str, Any], ...] = ()  # as UP.json has them
+    folder: str = ""  # of UP.json, from which their folders are seen
 
 
 def mistakes(whole):
@@ -193,13 +195,12 @@ def asynchronous_of(given):
                         given.get("maximumAge", OLDEST), given.get("onFailure"))
 
 
-def settings_of(whole):
-    """Returns the settings in a valid UP.json; None if nothing is in front of the functions."""
+def settings_of(whole, folder=""):
+    """Returns the settings in a valid UP.json, which is in this folder."""
     asynchronous = asynchronous_of(whole.get("asynchronous"))
     urls = {member["name"]: address_of(member["url"]) for member in whole["functions"]
             if member.get("url") or member.get("url") == {}}
-    if not (asynchronous or urls or whole.get("routes")):
-        return None
     api = whole.get("api", {})
     routes = {key: target_of(given, api) for key, given in whole.get("routes", {}).items()}
-    return Settings(whole.get("invokePort", 0), asynchronous, urls, routes, address_of(api))
+    return Settings(whole.get("invokePort", 0), asynchronous, urls, routes, address_of(api), tuple(whole["functions"]),
+                    folder)

@@ -159,9 +159,8 @@ def load(path, debug=None, salt=None):
     own = {name: value for name, value in whole.items() if name in OF_SERVICE}
     configuration = {"account": "123456789012", "region": "us-east-1", **own,
                      "functions": [function.part for function in functions]}
-    front = settings.settings_of(whole)
-    if front and front.asynchronous:
-        configuration.pop("invokePort", None)  # (the front has it)
+    front = settings.settings_of(whole, os.path.dirname(os.path.abspath(path)))
+    configuration.pop("invokePort", None)  # (the front has it)
     if salt is not None:
         configuration["salt"] = salt
     return configuration, functions, front

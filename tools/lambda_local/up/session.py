@@ -35,7 +35,7 @@ class Session:
         self.has_guard = True
         salt = options.salt
         configuration, self.functions, front = load(options.up, options.debug, salt)
-        self.front = Front(front, options.up, options.drain, log) if front else None
+        self.front = Front(front, options.up, options.drain, log)
         if salt is None and "salt" not in configuration:
             configuration["salt"] = int(1000 * time.time()) << 16  # so that no two runs have the same identifiers
         # From here on a signal ends it in order; a second one kills.
@@ -43,8 +43,7 @@ class Session:
             signal.signal(number, self.signalled)
         self.service = Service(configuration, options.program, lambda line: log("service", line, kind="service"),
                                options.up)
-        if self.front:
-            self.front.serve(self.service)
+        self.front.serve(self.service)
         self.watch = Watch(self.service, Lines(log, self.functions), log, self.stopping)
         self.environments = list(self.make_environments())
         self.watch.hooks = [environment.answer_callers for environment in self.environments]
@@ -99,7 +98,7 @@ class Session:
         status = 0
         self.say(f"callers: AWS_ENDPOINT_URL_LAMBDA={self.service.endpoint_url}", kind="address",
                  always=not self.options.command, endpoint=self.service.endpoint_url)
-        for function, text, url in self.front.addresses() if self.front else ():
+        for function, text, url in self.front.addresses():
             self.say(text, kind="address", always=not self.options.command, function=function, endpoint=url)
         for thread in self.threads:
             thread.start()
@@ -201,8 +200,7 @@ class Session:
     def finish(self, failed):
         """Stops the service and all processes in order; the service's status. The history is saved if that is asked, or
         the command failed."""
-        if self.front:
-            self.step("waiting for events", lambda: self.front.drain(lambda: self.service.process.poll() is not None))
+        self.step("waiting for events", lambda: self.front.drain(lambda: self.service.process.poll() is not None))
         gone = self.service.process.poll() is not None
         self.step("reading the history", self.watch.refresh)
         if (self.options.history or self.options.command and failed) and not gone:
@@ -211,8 +209,7 @@ class Session:
         for environment in self.environments:
             environment.hurry.set()
         status, counts = self.step("the stop", self.service.stop) or (4, "")
-        if self.front:
-            self.step("the end of the front", self.front.end)
+        self.step("the end of the front", self.front.end)
         self.join()
         self.step("counting", lambda: self.watch.lines.tell_throttled(at_the_end=True))
         if status == 0 and gone:

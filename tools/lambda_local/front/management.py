@@ -1,0 +1,164 @@
+"""What the invoke port answers of the Lambda API beside Invoke and reserved concurrency: the functions of UP.json as
+GetFunction, GetFunctionConfiguration, ListFunctions and GetFunctionUrlConfig show them, which SDKs' waiters ask for;
+and an error with a sentence for each operation that is not there."""
+import json
+import os
+import sys
+import uuid
+from datetime import datetime, timezone
+from typing import Any, Dict, List, Optional, Tuple
+from urllib.parse import parse_qs, quote
+
+from ..variables import text_of
+from .client import Client
+from .errors import of_service, of_user, refusal
+from .events import function_of, target_of
+from .http import Malformed, Reply, Request
+from .invoke import KNOWN, InvokePort
+from .operations import HERE, OF_API, Asked, asked, sentence
+from .origins import further_hosts, refusal_of
+from .settings import Address, Settings
+from .wire import Gone
+
+MOST_ITEMS, DEFAULT_ITEMS = 10_000, 50  # of a page of ListFunctions
+BY_SERVICE = ("Invoke", "GetFunctionConcurrency", "PutFunctionConcurrency", "DeleteFunctionConcurrency")
+
+
+class Management:
+    """Answers these operations; `port` is the invoke port, which has all other requests."""
+
+    def __init__(self, port: InvokePort, client: Client, settings: Settings, configuration: Dict[str, Any],
+                 urls: Dict[str, str]):
+        self.client, self.settings, self.configuration, self.urls = client, settings, configuration, urls
+        self.port, self.malformed, self.refusal = port, port.malformed, port.refusal
+        self.hosts, self.since = further_hosts(), datetime.now(timezone.utc)
+        self.members = {member["name"]: member for member in settings.functions}
+
+    async def handle(self, request: Request) -> Reply:
+        operation = asked(request.method, request.path)
+        is_other = operation.name in BY_SERVICE if operation else not self.is_of_api(request)
+        # (a request that may not be taken is refused there, by the service's own rule)
+        if is_other or refusal_of(request.head, self.hosts):
+            return await self.port.handle(request)
+        return await self.answer(request, operation)
+
+    @staticmethod
+    def is_of_api(request: Request) -> bool:
+        """Whether a request that is no known operation is still one of the Lambda API: another method of a path that
+        the service has is refused there."""
+        return OF_API.fullmatch(request.path) is not None and not request.path.rstrip("/").endswith(
+            ("/invocations", "/concurrency"))
+
+    async def answer(self, request: Request, operation: Optional[Asked]) -> Reply:
+        identifier = str(uuid.uuid4())
+        if operation is None or operation.name not in HERE:
+            message = sentence(request.method, request.path, operation)
+            return self.refused(501, "NotImplementedException", message, identifier)
+        query = parse_qs(request.query, keep_blank_values=True)
+        if operation.name == "ListFunctions":
+            return self.list_functions(query, identifier)
+        name = operation.parameters[0]
+        try:
+            unknown = await self.unknown(name, query)
+            if unknown:
+                return unknown
+            return await self.of_function(operation.name, str(function_of(target_of(name))), identifier)
+        except (Gone, Malformed):
+            return of_service(500, "The service breaks its connection off")
+
+    @staticmethod
+    def refused(status: int, kind: str, message: str, identifier: str) -> Reply:
+        return refusal(status, kind, {"Message": message, "Type": "User"}, identifier)
+
+    @staticmethod
+    def given(value: Dict[str, Any], identifier: str) -> Reply:
+        return Reply(200, [("content-type", "application/json"), ("x-amzn-requestid", identifier)],
+                     json.dumps(value).encode())
+
+    async def unknown(self, name: str, query: Dict[str, List[str]]) -> Optional[Reply]:
+        """What the service answers to this name and qualifier; none if it knows the function."""
+        qualifier = first_of(query, "Qualifier")
+        target = target_of(name) + (f"?Qualifier={quote(qualifier, safe='')}" if qualifier is not None else "")
+        status, headers, body = await self.client.ask("POST", target, [("X-Amz-Invocation-Type", "Event")])
+        if status == 400 and KNOWN in body:
+            return None
+        kept = [(each, value) for each, value in headers
+                if each.lower() in ("content-type", "x-amzn-errortype", "x-amzn-requestid")]
+        return Reply(status, kept, body)
+
+    async def of_function(self, operation: str, name: str, identifier: str) -> Reply:
+        configuration = self.of_member(name)
+        if operation == "GetFunctionConfiguration":
+            return self.given(configuration, identifier)
+        if operation == "GetFunctionUrlConfig":
+            if name not in self.urls:
+                return self.refused(404, "ResourceNotFoundException", f'{name} has no "url" in UP.json', identifier)
+            return self.given(self.of_url(name, self.settings.urls[name]), identifier)
+        reserved = await self.client.ask("GET", f"/2019-09-30/functions/{name}/concurrency", [])
+        concurrency = json.loads(reserved[2]) if reserved[0] == 200 else {}
+        code = {"RepositoryType": "local", "Location": f"file://{quote(self.folder(name))}"}
+        return self.given({"Configuration": configuration, "Code": code, "Tags": {},
+                           **({"Concurrency": concurrency} if concurrency else {})}, identifier)
+
+    def folder(self, name: str) -> str:
+        return os.path.realpath(os.path.join(self.settings.folder, self.members[name].get("directory", "")))
+
+    def list_functions(self, query: Dict[str, List[str]], identifier: str) -> Reply:
+        most, marker = first_of(query, "MaxItems"), first_of(query, "Marker")
+        count = whole(most, MOST_ITEMS) if most is not None else DEFAULT_ITEMS
+        begin = whole(marker, len(self.members)) if marker else 0
+        if not count or begin is None:
+            wrong = f"MaxItems must be from 1 to {MOST_ITEMS}" if not count else "Marker is not one that was given"
+            return of_user(400, "InvalidParameterValueException", wrong, identifier)
+        names = list(self.members)
+        following = begin + count
+        return self.given({"Functions": [self.of_member(name) for name in names[begin:following]],
+                           **({"NextMarker": str(following)} if following < len(names) else {})}, identifier)
+
+    # ---- a function --------------------------------------------------------------------------------------------------
+
+    def of_member(self, name: str) -> Dict[str, Any]:
+        """A function's configuration, as the operations show it."""
+        member, whole_ = self.members[name], self.configuration
+        account, region = whole_["account"], whole_["region"]
+        variables = {key: text_of(value) for key, value in member.get("variables", {}).items()}
+        return {
+            "FunctionName": name, "FunctionArn": f"arn:aws:lambda:{region}:{account}:function:{name}",
+            "Runtime": runtime_of(member), "Role": f"arn:aws:iam::{account}:role/local",
+            "Handler": member.get("handler", "index.handler"), "CodeSize": 0, "Description": "",
+            "Timeout": member.get("timeout", 3), "MemorySize": member.get("memory", 128),
+            "LastModified": self.since.strftime("%Y-%m-%dT%H:%M:%S.000+0000"), "Version": "$LATEST",
+            **({"Environment": {"Variables": variables}} if variables else {}),
+            "TracingConfig": {"Mode": "PassThrough"}, "State": "Active", "LastUpdateStatus": "Successful",
+            "PackageType": "Zip", "Architectures": ["x86_64"], "EphemeralStorage": {"Size": 512},
+            "LoggingConfig": {"LogFormat": "Text", "LogGroup": f"/aws/lambda/{name}"}}
+
+    def of_url(self, name: str, address: Address) -> Dict[str, Any]:
+        moment = self.since.strftime("%Y-%m-%dT%H:%M:%SZ")
+        return {"FunctionUrl": f"{self.urls[name]}/", "FunctionArn": self.of_member(name)["FunctionArn"],
+                "AuthType": "NONE", "CreationTime": moment, "LastModifiedTime": moment, "InvokeMode": "BUFFERED",
+                **({"Cors": of_cors(address)} if address.cors else {})}
+
+
+def first_of(query: Dict[str, List[str]], name: str) -> Optional[str]:
+    return next(iter(query.get(name, ())), None)
+
+
+def whole(text: str, most: int) -> Optional[int]:
+    """A number of digits; none if it is none, or greater."""
+    return int(text) if text.isascii() and text.isdigit() and len(text) < 9 and int(text) <= most else None
+
+
+def runtime_of(member: Dict[str, Any]) -> str:
+    """By its name among Lambda's runtimes, if UP.json says one; a command is of a custom runtime."""
+    given = member.get("runtime", "provided")
+    return {"python": f"python{sys.version_info[0]}.{sys.version_info[1]}", "node": "nodejs"}.get(given, str(given))
+
+
+def of_cors(address: Address) -> Dict[str, Any]:
+    cors = address.cors
+    found: List[Tuple[str, Any]] = [] if cors is None else [
+        ("AllowCredentials", cors.credentials), ("AllowHeaders", list(cors.headers)),
+        ("AllowMethods", list(cors.methods)), ("AllowOrigins", list(cors.origins)),
+        ("ExposeHeaders", list(cors.exposed)), ("MaxAge", cors.seconds)]
+    return {name: value for name, value in found if value not in ([], None)}
