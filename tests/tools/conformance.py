@@ -1,6 +1,7 @@
 #!/usr/bin/env python3
-"""Checks tools/conformance: the runtimes and the extension of examples/ and two sound ones pass, and each wrong one is
-caught by the check named after its mistake, and by no other. The program is LAMBDA_LOCAL_PROGRAM, else ./lambda_local.
+"""Checks tools/conformance: the runtimes and the extension of examples/ pass, and so do sound ones, among them some in
+the shapes of AWS's own clients; each wrong one is caught by the check named after its mistake, and by no other. The
+program is LAMBDA_LOCAL_PROGRAM, else ./lambda_local.
 Ends with 'N passed, M failed'.
 
 usage: tests/tools/conformance.py [NAME ..]   (a mistake, or one of `sound`, `shipped`; default: everything)"""
@@ -20,16 +21,22 @@ ROOT = os.path.dirname(os.path.dirname(os.path.dirname(os.path.realpath(__file__
 EXAMPLES = os.path.join(ROOT, "examples")
 HANDLERS = os.path.join(EXAMPLES, "conformance")
 PROGRAMS = os.path.join(ROOT, "tests", "tools", "wrong_programs")
-sys.path[:0] = [PROGRAMS, os.path.join(ROOT, "tools"), os.path.join(ROOT, "tests", "library")]
+SHAPES = os.path.join(ROOT, "tests", "tools", "sound_programs")
+sys.path[:0] = [PROGRAMS, SHAPES, os.path.join(ROOT, "tools"), os.path.join(ROOT, "tests", "library")]
 import counted  # noqa: E402
+import shapes  # noqa: E402
 import wrong_extensions  # noqa: E402
 import wrong_runtimes  # noqa: E402
 from counted import check  # noqa: E402
 from lambda_local.conformance import extension, runtime  # noqa: E402
 
+LENIENT = {"runtime": {"keep_alive", "continue_first", "same_process", "error_header"}, "extension": set()}
 AT_ONCE = 3 * (os.cpu_count() or 2)  # runs of the kit, which wait most of the time
 PYTHON = [sys.executable, "-S"]  # (it starts in half the time)
 TOOL = [*PYTHON, os.path.join(ROOT, "tools", "conformance")]
+
+
+LEAKS = {"memory", "descriptors", "threads", "children", "zombies"}  # (a machine may be too slow to judge them)
 
 
 class Kind(NamedTuple):
@@ -57,7 +64,10 @@ class Run:
         self.words, self.status, self.output, self.errors = words, done.returncode, done.stdout, done.stderr
 
     def verdicts(self, outcome):
-        return set(re.findall(rf"^{outcome}  (\w+)", self.output, re.MULTILINE))
+        """The checks with this outcome; FAILs of one cause after the first are only named."""
+        again = re.findall(r"^the same came for .*?: (.*)$", self.output, re.MULTILINE) if outcome == "FAIL" else []
+        return {*re.findall(rf"^{outcome}  (\w+)", self.output, re.MULTILINE),
+                *(name for names in again for name in names.split(", "))}
 
     def told(self, passed):
         if not passed:
@@ -101,6 +111,26 @@ def shipped():
     return found
 
 
+def in_shapes():
+    """Runtimes in the shapes of clients: those whose languages are on the machine, and those that need only Python."""
+    if shutil.which("node"):
+        yield "a Node client with agents", ["node", os.path.join(SHAPES, "node_agent.mjs")]
+        yield "a Node client that streams", ["node", os.path.join(SHAPES, "node_agent.mjs"), "streaming"]
+    if shutil.which("bash") and shutil.which("curl"):
+        yield "the tutorial's bootstrap", [os.path.join(SHAPES, "tutorial.sh")]
+    if shutil.which("perl"):
+        yield "a Perl client", ["perl", os.path.join(SHAPES, "perl_tiny.pl")]
+    for name in shapes.SHAPES:
+        yield f"a client in the shape of {name}", [*PYTHON, os.path.join(SHAPES, "shapes.py"), name]
+
+
+def in_java(kind):
+    """A client in the shape of Java's, with one of its two libraries for HTTP, and a heap as it is by default."""
+    with tempfile.TemporaryDirectory() as folder:
+        subprocess.run(["javac", "-d", folder, os.path.join(SHAPES, "JavaRuntime.java")], check=True, timeout=300)
+        return Run("runtime", "--", "java", "-cp", folder, "JavaRuntime", kind)
+
+
 def shipped_extension():
     return Run("extension", "--name", "extension.py", "--", sys.executable, os.path.join(EXAMPLES, "extension.py"))
 
@@ -125,21 +155,22 @@ def wrong(kind, mistake):
 
 
 def caught(run, kind, mistake):
-    """A wrong one is caught by its own check alone."""
-    noted = getattr(mistake, "noted", False)
-    seen = (run.status, run.verdicts("FAIL"), not noted or mistake.check in run.verdicts("NOTE"))
-    wanted = (0 if noted else 1, set() if noted else {mistake.check}, True)
-    how = "noted" if noted else "caught"
-    check(f"{kind.name} {mistake.__name__} is {how} by {mistake.check}, and by no other", seen, wanted)
+    """A wrong one is caught by its own check, and by no other that can do without."""
+    outcome, also = getattr(mistake, "outcome", "FAIL"), getattr(mistake, "also", set())
+    seen = (run.status, run.verdicts("FAIL") - also, mistake.check in run.verdicts(outcome))
+    wanted = (1, {mistake.check}, True) if outcome == "FAIL" else (0, set(), True)
+    others = f", and {' '.join(sorted(also))}" if also else ""
+    check(f"{kind.name} {mistake.__name__} is a {outcome} of {mistake.check}{others}, and of no other", seen, wanted)
     run.told(seen == wanted)
 
 
 def each_check_can_fail():
     for kind in KINDS:
-        failed = {mistake.check for mistake in kind.mistakes.values() if not getattr(mistake, "noted", False)}
-        only_notes = {"keep_alive"} if kind.name == "runtime" else set()
-        check(f"{kind.name}: each check has a wrong one, but for those that only note",
-              {one.name for one in kind.checks} - failed, only_notes)
+        failed = {mistake.check for mistake in kind.mistakes.values() if getattr(mistake, "outcome", "FAIL") == "FAIL"}
+        check(f"{kind.name}: each check has a wrong one, but for those that cannot fail",
+              {one.name for one in kind.checks} - failed, LENIENT[kind.name])
+        others = {mistake.check for mistake in kind.mistakes.values()} - failed
+        check(f"{kind.name}: these have one that is a NOTE or a SHOULD", LENIENT[kind.name] - others, set())
 
 
 # ---- all of them, beside one another ---------------------------------------------------------------------------------
@@ -160,10 +191,15 @@ def jobs():
     """All of them. First come those that take longest: so none of them is the last one to begin."""
     if shutil.which("go"):
         yield Job("shipped", in_go, (), passes, ("conformance.go",))
+    if shutil.which("javac"):
+        for kind in ("new", "old"):
+            yield Job("sound", in_java, (kind,), passes, (f"a Java client ({kind})",))
     for name, command in shipped():
         yield Job("shipped", shipped_runtime, command, passes, (name,))
     yield Job("shipped", shipped_extension, (), passes, ("extension.py",))
-    yield Job("sound", sound_runtime, (), passes, ("the sound runtime", {"numbers", "memory", "descriptors"}))
+    for name, command in in_shapes():
+        yield Job("sound", shipped_runtime, command, passes, (name,))
+    yield Job("sound", sound_runtime, (), passes, ("the sound runtime", {"numbers", *LEAKS}))
     yield Job("sound", sound_extension, (), passes, ("the sound extension", set()))
     mistakes = [(kind, mistake) for kind in KINDS for mistake in kind.mistakes.values()]
     for kind, mistake in sorted(mistakes, key=lambda each: not hasattr(each[1], "settings")):

@@ -13,7 +13,8 @@ ROOT = os.path.dirname(os.path.dirname(os.path.dirname(os.path.realpath(__file__
 sys.path[:0] = [os.path.join(ROOT, "tools"), os.path.join(ROOT, "tests", "library")]
 import counted  # noqa: E402
 from counted import check  # noqa: E402
-from lambda_local.conformance.proxy import Proxy, Rule  # noqa: E402
+from lambda_local.conformance.exchanges import Rule  # noqa: E402
+from lambda_local.conformance.proxy import Proxy  # noqa: E402
 
 LARGE = 20_000_000  # bytes: more than all buffers on the way hold
 TOO_LARGE = b"HTTP/1.1 413 Payload Too Large\r\nContent-Length: 3\r\n\r\n413"

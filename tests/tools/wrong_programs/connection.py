@@ -30,10 +30,7 @@ class Connection:
 
     def request(self, method, path, body=None, headers=None):
         """Sends a request; a body that is not bytes is a sequence of parts, each of which becomes a chunk."""
-        if self.sock is None:
-            host, _, port = self.address.rpartition(":")
-            self.sock = socket.create_connection((host, int(port)), self.timeout)
-            self.sock.setsockopt(socket.IPPROTO_TCP, socket.TCP_NODELAY, 1)
+        self.connect()
         lines = [f"{method} {path} HTTP/1.1", f"Host: {self.address}"]
         lines += [f"{name}: {value}" for name, value in (headers or {}).items()]
         if body is None or isinstance(body, bytes):
@@ -44,16 +41,27 @@ class Connection:
             data = b"".join(b"%x\r\n%b\r\n" % (len(part), part) for part in (*body, b""))
         self.sock.sendall("\r\n".join(lines).encode() + b"\r\n\r\n" + data)
 
+    def connect(self):
+        if self.sock is None:
+            host, _, port = self.address.rpartition(":")
+            self.sock = socket.create_connection((host, int(port)), self.timeout)
+            self.sock.setsockopt(socket.IPPROTO_TCP, socket.TCP_NODELAY, 1)
+
     def answer(self):
         head = self._until(b"\r\n\r\n").decode("latin-1").split("\r\n")
+        while head[0].split(" ")[1].startswith("1"):  # (an answer before the final one)
+            head = self._until(b"\r\n\r\n").decode("latin-1").split("\r\n")
         headers = Headers()
         for line in head[1:-2]:
             name, _, value = line.partition(":")
             headers[name] = value.strip()
-        body = self._chunks() if headers["Transfer-Encoding"] else self._take(int(headers["Content-Length"] or 0))
+        body = self.body(int(head[0].split(" ")[1]), headers)
         if (headers["Connection"] or "").lower() == "close":
             self.close()
         return Answer(int(head[0].split(" ")[1]), headers, body)
+
+    def body(self, status, headers):
+        return self._chunks() if headers["Transfer-Encoding"] else self._take(int(headers["Content-Length"] or 0))
 
     def close(self):
         if self.sock:
@@ -89,9 +97,11 @@ class Connection:
 
 
 class Client:
+    connected = Connection
+
     def __init__(self):
         self.address = os.environ["AWS_LAMBDA_RUNTIME_API"]
-        self.connection = Connection(self.address)
+        self.connection = self.connected(self.address)
 
     def headers(self):
         """Those of each request."""

@@ -24,6 +24,8 @@ class Extension(Client):
     def run(self):
         self.begin()
         self.register()
+        if not self.identifier:
+            self.registration_refused()
         try:
             self.initialize()
         except Failed as fault:
@@ -49,6 +51,9 @@ class Extension(Client):
         answer = self.ask("POST", PATH + "register", {"events": self.events()}, {"Lambda-Extension-Name": self.name()})
         self.identifier = answer.headers["Lambda-Extension-Identifier"]
 
+    def registration_refused(self):
+        self.end(1)
+
     def initialize(self):
         self.subscribe()
         if self.fails_at == "init":
@@ -56,7 +61,8 @@ class Extension(Client):
 
     def subscribe(self):
         """To telemetry, if there is any."""
-        wanted = {"schemaVersion": "2022-12-13", "types": ["platform"]}
+        wanted = {"schemaVersion": "2022-12-13", "types": ["platform"],
+                  "destination": {"protocol": "HTTP", "URI": "http://sandbox.localdomain:4323"}}
         self.subscribed(self.ask("PUT", "/2022-07-01/telemetry", wanted))
 
     def subscribed(self, answer):

@@ -71,7 +71,7 @@ class Runtime(Client):
         return json.loads(payload)
 
     def call(self, event, headers):
-        os.environ["_X_AMZN_TRACE_ID"] = headers["Lambda-Runtime-Trace-Id"]
+        os.environ["_X_AMZN_TRACE_ID"] = headers["Lambda-Runtime-Trace-Id"] or ""
         if isinstance(event, dict) and event.get("do") == "stream":
             return Parts(event["value"])
         return self.handler(event, self.context(headers))

@@ -3,14 +3,47 @@ and `check` is the check that catches it."""
 import io
 import json
 import os
+import re
 import sys
 import time
 from contextlib import redirect_stdout
 
+from connection import Connection
+from shared_mistakes import is_scenario
 from sound_runtime import Runtime
 
 
 # ---- payloads --------------------------------------------------------------------------------------------------------
+
+class SendsResponsesByPut(Runtime):
+    check = "first_echo"
+
+    def ask(self, method, path, body=None, headers=None):
+        return super().ask("PUT" if path.endswith("/response") else method, path, body, headers)
+
+
+class EncodesTwice(Runtime):
+    check = "first_echo"
+
+    def dump(self, output):
+        return super().dump(json.dumps(output))
+
+
+class CountsCharacters(Runtime):
+    """Declares the length of a body in characters."""
+    check, also = "utf8", {"kinds", "error_message", "error_texts", "long_text"}
+
+    class Counting(Connection):
+        def request(self, method, path, body=None, headers=None):
+            length = len(body.decode()) if isinstance(body, bytes) else None
+            if length is None or length == len(body):
+                return super().request(method, path, body, headers)
+            self.connect()
+            head = f"{method} {path} HTTP/1.1\r\nHost: {self.address}\r\nContent-Length: {length}\r\n\r\n"
+            return self.sock.sendall(head.encode() + body)
+
+    connected = Counting
+
 
 class RefusesEmptyEvents(Runtime):
     check = "payload_empty"
@@ -57,6 +90,81 @@ class DecodesLatin1(Runtime):
             return super().dump(output).decode().encode("latin-1")
         except UnicodeEncodeError:
             return super().dump(output)
+
+
+class WritesLatin1IfItFits(Runtime):
+    """As some clients do with a body that is a text."""
+    check = "utf8"
+
+    def dump(self, output):
+        body = super().dump(output)
+        try:
+            return body if isinstance(output, dict) else body.decode().encode("latin-1")
+        except UnicodeEncodeError:
+            return body
+
+
+class DecodesPartByPart(Runtime):
+    """Loses what is cut apart where one part of what is read ends."""
+    check, part = "long_text", 4096
+
+    def read(self, payload):
+        parts = [payload[begin:begin + self.part] for begin in range(0, len(payload), self.part)]
+        return json.loads("".join(part.decode(errors="ignore") for part in parts))
+
+
+class CutsLongOutputs(Runtime):
+    """Counts characters where it cuts, so that text beyond ASCII is cut before its time."""
+    check = "long_text"
+
+    def dump(self, output):
+        body = super().dump(output)
+        return body if len(body) < 200_000 or body.isascii() else body[:len(body.decode())] + b'"'
+
+
+class DropsNulls(Runtime):
+    check = "kinds"
+
+    def dump(self, output):
+        return super().dump(self.without(output))
+
+    def without(self, value):
+        if isinstance(value, dict):
+            return {name: self.without(member) for name, member in value.items()
+                    if member is not None or name == "stackTrace"}
+        return value
+
+
+class RenamesMembers(Runtime):
+    """To camel case, as serializers of some frameworks do."""
+    check = "kinds"
+
+    def dump(self, output):
+        if isinstance(output, dict) and "snake_case_name" in output:
+            output = {re.sub(r"_(\w)", lambda found: found[1].upper(), name): value for name, value in output.items()}
+        return super().dump(output)
+
+
+class RewritesDates(Runtime):
+    check = "kinds"
+
+    def read(self, payload):
+        return json.loads(re.sub(rb'(\d\d:\d\d:\d\d)\.000\+00:00"', rb'\1Z"', payload))
+
+
+class EscapesMarkup(Runtime):
+    check = "kinds"
+
+    def dump(self, output):
+        return super().dump(output).replace(b"<b>", b"&lt;b&gt;") if isinstance(output, dict) else super().dump(output)
+
+
+class TrimsTexts(Runtime):
+    check = "kinds"
+
+    def read(self, payload):
+        return json.loads(payload, object_hook=lambda value: {
+            name: member.strip(" ") if isinstance(member, str) else member for name, member in value.items()})
 
 
 class DropsLineEnds(Runtime):
@@ -167,6 +275,21 @@ class ReadsTheDeadlineAsSeconds(Runtime):
         return int(1000 * (deadline - time.time()))
 
 
+class KeepsTheFirstDeadline(Runtime):
+    check, also, first = "deadline", {"after_error"}, None
+
+    def remaining(self, deadline):
+        self.first = self.first or deadline
+        return super().remaining(self.first)
+
+
+class AssumesThreeSeconds(Runtime):
+    check = "deadline"
+
+    def remaining(self, deadline):
+        return 3000 - int(1000 * time.time()) % 1000
+
+
 class RemainingTimeStandsStill(Runtime):
     check = "remaining_time"
 
@@ -218,27 +341,59 @@ class LosesTheErrorType(Runtime):
         return {**super().report(fault), "errorType": "Error"}
 
 
+class BuildsReportsByHand(Runtime):
+    check = "error_texts"
+
+    def fails(self, request, fault):
+        body = f'{{"errorMessage":"{fault}","errorType":"{type(fault).__name__}","stackTrace":[]}}'.encode()
+        answer = self.ask("POST", f"invocation/{request}/error", body, self.error_headers(fault))
+        self.sent(answer, request, fault)
+
+
+class CutsMessagesAtALineEnd(Runtime):
+    check = "error_texts"
+
+    def report(self, fault):
+        report = super().report(fault)
+        return {**report, "errorMessage": (report["errorMessage"].splitlines() or [""])[0]}
+
+
+class PutsTheMessageIntoAHeader(Runtime):
+    check = "error_texts"
+
+    def error_headers(self, fault):
+        return {**super().error_headers(fault), "X-Message": str(fault).encode().decode("latin-1")}
+
+
+class ReportsTheErrorBefore(Runtime):
+    """Keeps the first error for all that follow."""
+    check, also, kept = "error_texts", {"after_error", "nesting"}, None
+
+    def report(self, fault):
+        self.kept = self.kept or super().report(fault)
+        return self.kept
+
+
+class KeepsItsContextAfterAnError(Runtime):
+    check, kept = "after_error", None
+
+    def fails(self, request, fault):
+        self.kept = self.kept or request
+        super().fails(request, fault)
+
+    def context(self, headers):
+        context = super().context(headers)
+        if self.kept and is_scenario("error_then_output"):
+            context.aws_request_id = self.kept
+        return context
+
+
 class StackTraceAsText(Runtime):
     check = "stack_trace"
 
     def report(self, fault):
         report = super().report(fault)
         return {**report, "stackTrace": "".join(report["stackTrace"])}
-
-
-class NamesOneTypeForAllErrors(Runtime):
-    check = "error_header"
-
-    def error_headers(self, fault):
-        return {"Lambda-Runtime-Function-Error-Type": "Runtime.Unknown"}
-
-
-class DiesAfterAnError(Runtime):
-    check = "after_error"
-
-    def fails(self, request, fault):
-        super().fails(request, fault)
-        sys.exit(1)
 
 
 class ExitsWithoutInitError(Runtime):
@@ -281,6 +436,27 @@ class TakesInvocationsWithABrokenHandler(Runtime):
         def handler(event, context):
             raise fault
         self.handler = handler
+
+
+class LeavesRefusalsUnread(Runtime):
+    """Takes the next bytes on the connection for the next answer."""
+    check, also = "late_response", {"long_refusal"}
+
+    class Unread(Connection):
+        def body(self, status, headers):
+            return b"" if status >= 400 else super().body(status, headers)
+
+    connected = Unread
+
+
+class ReadsRefusalsByTheirLength(Runtime):
+    check, also = "long_refusal", {"chunked_answers"}
+
+    class ByLength(Connection):
+        def body(self, status, headers):
+            return self._take(int(headers["Content-Length"] or 0)) if status != 200 else super().body(status, headers)
+
+    connected = ByLength
 
 
 class RepeatsWhatIsTooLarge(Runtime):

@@ -1,6 +1,6 @@
 """Runtimes with one mistake each in when they begin, ask, respond or end. A class is named after its mistake, and
-`check` is the check that catches it, or that notes it if `noted`. `settings` are the kit's options by which it shows,
-if those of the test do not do."""
+`check` is the check that catches it, by `outcome` if not by a FAIL; `also` are others that cannot but catch it.
+`settings` are the kit's options by which it shows, if those of the test do not do."""
 import atexit
 import json
 import os
@@ -24,6 +24,15 @@ class StartsSlowly(Runtime):
             time.sleep(TOO_LONG)
 
 
+class WaitsBeforeItEnds(Runtime):
+    """Ends after 500 as it has to, but five seconds later, in which it does nothing."""
+    check = "ends_at_500"
+
+    def at_500(self, answer):
+        time.sleep(5 if is_scenario("container_error_at_next") else 0)
+        super().at_500(answer)
+
+
 class SpinsAt500(Runtime):
     check = "ends_at_500"
 
@@ -31,11 +40,23 @@ class SpinsAt500(Runtime):
         time.sleep(0.01)
 
 
-class IgnoresA500AtItsResponse(Runtime):
+class RepeatsItsResponseAt500(Runtime):
     check = "ends_at_500_response"
 
     def sent(self, answer, request, output):
-        pass
+        while answer.status == 500 and not isinstance(output, Exception):
+            time.sleep(0.1)
+            self.ask("POST", f"invocation/{request}/response", self.dump(output))
+        super().sent(answer, request, output)
+
+
+class WaitsAt500OfItsError(Runtime):
+    check = "ends_at_500_error"
+
+    def sent(self, answer, request, output):
+        if answer.status == 500 and isinstance(output, Exception):
+            signal.pause()
+        super().sent(answer, request, output)
 
 
 class IgnoresSigterm(Runtime):
@@ -124,6 +145,58 @@ class LeavesFilesOpen(Runtime):
         return super().read(payload)
 
 
+class KeepsALittle(Runtime):
+    """Twenty thousand bytes of each event, however large it is."""
+    check, settings = "memory", {"invocations": 1000}
+    kept = []
+
+    def read(self, payload):
+        self.kept.append(bytearray(payload[:20_000]))
+        return super().read(payload)
+
+
+class StartsAThreadForEach(Runtime):
+    check, settings = "threads", {"invocations": 100}
+
+    def read(self, payload):
+        import threading
+        threading.Thread(target=time.sleep, args=(1000,), daemon=True).start()
+        return super().read(payload)
+
+
+class LeavesProcesses(Runtime):
+    """Each in a session of its own."""
+    check, settings = "children", {"invocations": 60}
+
+    def read(self, payload):
+        if len(payload) > 10_000 and os.fork() == 0:
+            os.setsid()
+            self.connection.close()
+            os.execvp("sleep", ["sleep", "60"])
+        return super().read(payload)
+
+
+class LeavesZombies(Runtime):
+    check, settings = "zombies", {"invocations": 60}
+
+    def read(self, payload):
+        if len(payload) > 10_000 and os.fork() == 0:
+            os._exit(0)
+        return super().read(payload)
+
+
+class LeavesPayloads(Runtime):
+    check, settings = "files", {"invocations": 100}
+    count = 0
+
+    def read(self, payload):
+        if len(payload) > 10_000:
+            self.count += 1
+            with open(os.path.join(TEMPORARY, f"wrong_runtime.{os.getpid()}.{self.count}.json"), "wb") as file:
+                file.write(payload)
+        return super().read(payload)
+
+
 class SharesAFile(Runtime):
     """Passes the output on through a file that all environments of the function share."""
     check = "environments_apart"
@@ -143,24 +216,70 @@ class SharesAFile(Runtime):
         return super().respond(request, output)
 
 
+# ---- what the documents recommend: a SHOULD --------------------------------------------------------------------------
+
+class LeavesSmallFiles(Runtime):
+    check, outcome, settings = "files", "SHOULD", {"invocations": 100}
+
+    def context(self, headers):
+        request = headers["Lambda-Runtime-Aws-Request-Id"]
+        if is_scenario("a_thousand"):
+            with open(os.path.join(TEMPORARY, f"wrong_runtime.{request}.headers"), "w") as file:
+                file.write(request)
+        return super().context(headers)
+
+
+class AsksAgainAfter500(Runtime):
+    """Looks at the status of Next alone."""
+    check, outcome = "ends_at_500_response", "SHOULD"
+
+    def sent(self, answer, request, output):
+        pass
+
+
+class DiesAfterAnError(Runtime):
+    check, outcome = "same_process", "SHOULD"
+
+    def fails(self, request, fault):
+        super().fails(request, fault)
+        sys.exit(1)
+
+
 # ---- what the documents leave open: a NOTE ---------------------------------------------------------------------------
 
+class NamesOneTypeForAllErrors(Runtime):
+    check, outcome = "error_header", "NOTE"
+
+    def error_headers(self, fault):
+        return {"Lambda-Runtime-Function-Error-Type": "Runtime.Unknown"}
+
+
+class ReadsNoDeepEvents(Runtime):
+    """Reports what is deeper than 64 levels as an error, as some parsers do by default."""
+    check, outcome = "nesting", "NOTE"
+
+    def read(self, payload):
+        if payload.count(b'{"in":[') > 32:
+            raise ValueError("it is nested too deeply")
+        return super().read(payload)
+
+
 class ReportsNoTrace(Runtime):
-    check, noted = "stack_trace", True
+    check, outcome = "stack_trace", "NOTE"
 
     def report(self, fault):
         return {name: value for name, value in super().report(fault).items() if name != "stackTrace"}
 
 
 class SendsNoErrorHeader(Runtime):
-    check, noted = "error_header", True
+    check, outcome = "error_header", "NOTE"
 
     def error_headers(self, fault):
         return {}
 
 
 class ConnectsForEachRequest(Runtime):
-    check, noted = "keep_alive", True
+    check, outcome = "keep_alive", "NOTE"
 
     def ask(self, *arguments, **named):
         self.connection.close()
@@ -168,7 +287,7 @@ class ConnectsForEachRequest(Runtime):
 
 
 class EndsWhenItIsLate(Runtime):
-    check, noted, refusal = "late_response", True, 403
+    check, outcome, refusal = "late_response", "NOTE", 403
 
     def sent(self, answer, request, output):
         if answer.status == self.refusal:
@@ -181,7 +300,7 @@ class EndsWhenItIsTooLarge(EndsWhenItIsLate):
 
 
 class DoesNotStream(Runtime):
-    check, noted = "stream", True
+    check, outcome = "stream", "NOTE"
 
     def respond(self, request, output):
         return super().respond(request, "".join(output) if isinstance(output, Parts) else output)

@@ -1,6 +1,6 @@
 #!/usr/bin/env python3
 """Extensions with one mistake each. A class is named after its mistake, and `check` is the check that catches it, or
-that notes it if `noted`. `settings` are the kit's options by which it shows, if those of the test do not do.
+by `outcome` if not by a FAIL. `settings` are the kit's options by which it shows, if those of the test do not do.
 
 usage: wrong_extensions.py MISTAKE"""
 import os
@@ -9,6 +9,7 @@ import sys
 import time
 
 import shared_mistakes
+import wrong_connections
 from shared_mistakes import TEMPORARY, TOO_LONG, is_scenario
 from sound_extension import Extension
 
@@ -106,6 +107,29 @@ class GoesOnAtSpindown(Extension):
         if reason == self.reason:
             signal.pause()
         super().shut_down(reason)
+
+
+class EndsHalfASecondLate(GoesOnAtSpindown):
+    def shut_down(self, reason):
+        if reason == self.reason:
+            time.sleep(2.5)
+        Extension.shut_down(self, reason)
+
+
+class DoesNotKnowShutdown(Extension):
+    """Asks for the next event, whatever came."""
+    check, also = "ends_at_spindown", {"ends_at_timeout", "ends_at_failure"}
+
+    def shut_down(self, reason):
+        pass
+
+
+class KnowsOtherReasons(Extension):
+    check, also = "ends_at_spindown", {"ends_at_timeout", "ends_at_failure"}
+
+    def shut_down(self, reason):
+        if reason == "spindown":
+            super().shut_down(reason)
 
 
 class GoesOnAtTimeout(GoesOnAtSpindown):
@@ -207,7 +231,201 @@ class GoesOnAfterExitError(Extension):
         super().end(status)
 
 
+class MisspellsTheRouteOfItsReport(Extension):
+    check = "init_error"
+
+    def report(self, path, fault):
+        super().report("init/errors" if path == "init/error" else path, fault)
+
+
+class SwapsItsReports(Extension):
+    check, also = "init_error", {"exit_error"}
+
+    def report(self, path, fault):
+        super().report({"init/error": "exit/error", "exit/error": "init/error"}[path], fault)
+
+
+# ---- refusals --------------------------------------------------------------------------------------------------------
+
+class WaitsAfter500AtItsRegistration(Extension):
+    check, also = "ends_at_500_register", {"refused_registration"}
+
+    def registration_refused(self):
+        signal.pause()
+
+
+class WaitsAfterARefusal(Extension):
+    check = "refused_registration"
+
+    def register(self):
+        super().register()
+        if not self.identifier and is_scenario("registration_refused"):
+            signal.pause()
+
+
+class WaitsAfterARefusedNext(Extension):
+    check = "refused_next"
+
+    def unknown(self, event):
+        if not event:
+            signal.pause()
+
+
+class RegistersAgainAndAgain(Extension):
+    check, outcome = "refused_registration", "SHOULD"
+
+    def register(self):
+        super().register()
+        while not self.identifier and is_scenario("registration_refused"):
+            super().register()
+
+
+# ---- telemetry -------------------------------------------------------------------------------------------------------
+
+class SubscribesBeforeItRegisters(Extension):
+    check = "telemetry"
+
+    def begin(self):
+        self.subscribe()
+
+
+class SubscribesWithoutItsIdentifier(Extension):
+    check = "telemetry"
+
+    def subscribe(self):
+        identifier, self.identifier = self.identifier, None
+        super().subscribe()
+        self.identifier = identifier
+
+
+class SubscribesLate(Extension):
+    check, asked = "telemetry", 0
+
+    def subscribe(self):
+        if self.asked:
+            super().subscribe()
+
+    def invoked(self, event):
+        super().invoked(event)
+        self.asked += 1
+        if self.asked == 1:
+            self.subscribe()
+
+
+class SubscribesForItself(Extension):
+    """With a destination that Lambda does not take."""
+    check, wanted = "telemetry", {"protocol": "HTTP", "URI": "http://localhost:4323"}
+
+    def subscribe(self):
+        self.subscribed(self.ask("PUT", "/2022-07-01/telemetry", {
+            "schemaVersion": "2022-12-13", "types": ["platform"], "destination": self.wanted}))
+
+
+# ---- many events -----------------------------------------------------------------------------------------------------
+
+class DiesAfterFortyEvents(Extension):
+    check, also, count = "many_events", {"memory", "descriptors", "threads", "children", "zombies", "files"}, 0
+
+    def invoked(self, event):
+        super().invoked(event)
+        self.count += 1
+        if self.count > 40:
+            sys.exit(1)
+
+
+class KeepsMuchOfEachEvent(Extension):
+    check, kept = "memory", []
+
+    def invoked(self, event):
+        super().invoked(event)
+        self.kept.append(os.urandom(100_000))
+
+
+class LeavesFilesOpen(Extension):
+    check, files = "descriptors", []
+
+    def invoked(self, event):
+        super().invoked(event)
+        self.files.append(open(os.devnull))
+
+
+class StartsAThreadForEach(Extension):
+    check = "threads"
+
+    def invoked(self, event):
+        import threading
+        super().invoked(event)
+        threading.Thread(target=time.sleep, args=(1000,), daemon=True).start()
+
+
+class LeavesProcesses(Extension):
+    check = "children"
+
+    def invoked(self, event):
+        super().invoked(event)
+        if is_scenario("many_events") and os.fork() == 0:
+            self.connection.close()
+            os.execvp("sleep", ["sleep", "60"])
+
+
+class LeavesZombies(Extension):
+    check = "zombies"
+
+    def invoked(self, event):
+        super().invoked(event)
+        if is_scenario("many_events") and os.fork() == 0:
+            os._exit(0)
+
+
+class WritesAFileForEach(Extension):
+    check, outcome, size = "files", "SHOULD", 0
+
+    def invoked(self, event):
+        super().invoked(event)
+        if is_scenario("many_events"):
+            with open(os.path.join(TEMPORARY, f"wrong_extension.{event['requestId']}"), "w") as file:
+                file.write(event["requestId"] + " " * self.size)
+
+
+class WritesALargeFileForEach(WritesAFileForEach):
+    outcome, size = "FAIL", 10_000
+
+
 # ---- what it may not rely on -----------------------------------------------------------------------------------------
+
+class ReadsItsOwnCase(Extension):
+    check, connected = "header_names", wrong_connections.ReadsItsOwnCase.Exact
+
+
+class CannotReadChunks(Extension):
+    check, connected = "chunked_answers", wrong_connections.CannotReadChunks.ByLength
+
+
+class HasRoomForFewHeaders(Extension):
+    check, connected = "more_headers", wrong_connections.HasRoomForFewHeaders.Small
+
+
+class GivesUpWithinAnAnswer(Extension):
+    check, connected = "slow_answers", wrong_connections.GivesUpWithinAnAnswer.Hasty
+
+
+class IgnoresConnectionClose(Extension):
+    check, connected = "closing_answers", wrong_connections.IgnoresConnectionClose.Kept
+
+
+class WaitsOnADeadConnection(Extension):
+    check = "lost_poll"
+
+    def next(self):
+        if not is_scenario("lost_poll"):
+            return super().next()
+        self.connection.request("GET", self.next_path, headers=self.headers())
+        try:
+            return self.connection.answer()
+        except ConnectionError:
+            signal.pause()
+            raise
+
 
 class DiesOfAnUnknownEvent(Extension):
     check = "unknown_event"
@@ -235,7 +453,7 @@ class GivesNextUp(shared_mistakes.GivesNextUp, Extension):
 # ---- what the documents leave open, or is not there: a NOTE ----------------------------------------------------------
 
 class ReportsNoInitError(Extension):
-    check, noted = "init_error", True
+    check, outcome = "init_error", "NOTE"
 
     def report(self, path, fault):
         pass
@@ -246,14 +464,14 @@ class ReportsNoExitError(ReportsNoInitError):
 
 
 class IsForShutdownAlone(Extension):
-    check, noted, settings = "asks_after_invoke", True, {"events": "SHUTDOWN"}
+    check, outcome, settings = "asks_after_invoke", "NOTE", {"events": "SHUTDOWN"}
 
     def events(self):
         return ["SHUTDOWN"]
 
 
 class IsForInvokeAlone(Extension):
-    check, noted, settings = "ends_at_spindown", True, {"events": "INVOKE"}
+    check, outcome, settings = "ends_at_spindown", "NOTE", {"events": "INVOKE"}
 
     def events(self):
         return ["INVOKE"]

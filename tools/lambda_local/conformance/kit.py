@@ -4,9 +4,11 @@ import time
 import traceback
 from typing import Callable, NamedTuple, Optional, Tuple
 
+from ..service import Fault
 from .pages import Page
 
-PASS, FAIL, NOTE = "PASS", "FAIL", "NOTE"
+PASS, FAIL, SHOULD, NOTE = "PASS", "FAIL", "SHOULD", "NOTE"
+GRAVITY = (PASS, NOTE, SHOULD, FAIL)  # of several outcomes of one check the last of these counts
 
 
 class Check(NamedTuple):
@@ -32,6 +34,8 @@ class Verdict(NamedTuple):
     seconds: float  # that its scenario took
     history: Optional[str] = None  # of a scenario with a FAIL: the service's, for its timeline
     acts: Tuple[str, ...] = ()  # and what the kit did in the service's place
+    wire: Tuple[str, ...] = ()  # and what the proxy saw that may be the cause, and the last exchange
+    stops: bool = False  # whether nothing else can be judged
 
 
 class Missing(Exception):
@@ -42,13 +46,14 @@ class Jury:
     """The verdicts on the checks of one scenario."""
 
     def __init__(self, scenario):
-        self.scenario, self.verdicts = scenario, {}
+        self.scenario, self.verdicts, self.stops = scenario, {}, False
 
     def judge(self, name, outcome, came):
-        """Each check is judged once; a failure stays one."""
+        """Of several outcomes of a check the worst counts, and of these the first."""
         if not any(check.name == name for check in self.scenario.checks):
             raise ValueError(f"scenario {self.scenario.name} has no check {name}")
-        if name not in self.verdicts or outcome == FAIL:
+        before = self.verdicts.get(name)
+        if not before or GRAVITY.index(outcome) > GRAVITY.index(before[0]):
             self.verdicts[name] = (outcome, came)
 
     def rest(self, outcome, came):
@@ -81,7 +86,7 @@ def names_of(registry):
 
 def run(scenario, open_stage):
     """Plays one scenario on a stage of its own: its verdicts, in the order of its checks."""
-    jury, begun, history, acts = Jury(scenario), time.monotonic(), None, ()
+    jury, begun, seen = Jury(scenario), time.monotonic(), (None, (), ())
     with open_stage(scenario, jury) as stage:
         try:
             stage.prepare()
@@ -89,12 +94,16 @@ def run(scenario, open_stage):
             jury.rest(FAIL, "the scenario ended before it came to this check")
         except Missing as missing:
             jury.rest(FAIL, str(missing))
+            jury.stops = scenario.settings.get("first", False)
+        except Fault:
+            raise
         except Exception:  # a fault of the kit itself, or the service is gone: said as it is
             jury.rest(FAIL, "the kit could not go on: " + traceback.format_exc().strip().splitlines()[-1])
-        if scenario.settings.get("drawn", True) and any(outcome == FAIL for outcome, _ in jury.verdicts.values()):
-            history, acts = stage.history(), tuple(stage.acts())
+        if any(outcome == FAIL for outcome, _ in jury.verdicts.values()):
+            drawn = scenario.settings.get("drawn", True)
+            seen = (stage.history() if drawn else None, tuple(stage.acts()), tuple(stage.on_the_wire()))
     seconds = time.monotonic() - begun
-    return [Verdict(check, scenario.name, *jury.verdicts[check.name], seconds, history, acts)
+    return [Verdict(check, scenario.name, *jury.verdicts[check.name], seconds, *seen, jury.stops)
             for check in scenario.checks]
 
 

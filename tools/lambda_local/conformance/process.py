@@ -5,12 +5,15 @@ import signal
 import subprocess
 import tempfile
 import threading
+import time
+from typing import NamedTuple
 
 from ..guard import GUARD
 from ..service import Fault
-from .clock import CLOCK
+from .watch import OwnTime, marked, members, open_descriptors, resident, threads_of
 
 SHOWN = 400  # bytes of the end of what it wrote
+LOOK = 0.05  # seconds between two looks at what it does
 
 
 def program_of(command):
@@ -32,6 +35,15 @@ def variables_of(configuration, function, port, number, more):
         "AWS_LAMBDA_FUNCTION_MEMORY_SIZE": "128", "AWS_LAMBDA_INITIALIZATION_TYPE": "on-demand",
         "AWS_LAMBDA_LOG_GROUP_NAME": f"/aws/lambda/{function['name']}",
         "AWS_LAMBDA_LOG_STREAM_NAME": f"local/[$LATEST]{number}", **more}
+
+
+class Holds(NamedTuple):
+    """What the processes of a command hold at one moment."""
+    memory: int
+    descriptors: int
+    threads: int
+    processes: int
+    zombies: int
 
 
 class Processes:
@@ -64,7 +76,7 @@ class Process:
     """A command in a session of its own. What it writes goes to a file that is gone with it."""
 
     def __init__(self, command, variables, gone):
-        self.command, self.begun, self._gone = command, CLOCK.now(), gone
+        self.command, self.begun, self._gone = command, time.monotonic(), gone
         self.output = tempfile.TemporaryFile()
         try:
             words, pipe = GUARD.announcing([program_of(command), *command[1:]])
@@ -73,7 +85,9 @@ class Process:
         except OSError as fault:
             self.output.close()
             raise Fault(2, f"{command[0]} could not be started: {fault.strerror}") from None
+        self._mark = f"AWS_LAMBDA_RUNTIME_API={variables['AWS_LAMBDA_RUNTIME_API']}".encode()
         self.status = None
+        self.own = OwnTime(self._child.pid)  # since it began, or since `wait` has begun
         self._ended = threading.Event()
         threading.Thread(target=self._watch, daemon=True).start()
 
@@ -90,8 +104,13 @@ class Process:
         return self._ended.is_set()
 
     def wait(self, seconds):
-        """Whether it ends within this many seconds."""
-        return CLOCK.wait(self._ended.wait, seconds)
+        """Whether it ends within this many seconds, by its own time, which `own` has then."""
+        self.own = OwnTime(self.number)
+        while not self._ended.wait(max(0.001, min(LOOK, seconds - self.own.seconds))):
+            if self.own.look() >= seconds:
+                return False
+        self.own.look()
+        return True
 
     def signal(self, number):
         """Sends it to the whole group."""
@@ -103,7 +122,7 @@ class Process:
     def kill(self):
         """Ends all its processes as Lambda does at last."""
         self.signal(signal.SIGKILL)
-        for member in members(self.number):
+        for member in {*members(self.number), *marked(self._mark, self.number)}:
             try:
                 os.kill(member, signal.SIGKILL)
             except ProcessLookupError:
@@ -127,40 +146,9 @@ class Process:
             return "it runs"
         return f"it ended by signal {-self.status}" if self.status < 0 else f"it ended with status {self.status}"
 
-    def memory(self):
-        """The bytes that its processes hold in memory."""
-        return sum(resident(member) for member in members(self.number))
-
-    def descriptors(self):
-        """How many descriptors its processes have open."""
-        return sum(open_descriptors(member) for member in members(self.number))
-
-
-def members(session):
-    """The numbers of the session's processes."""
-    found = []
-    for name in os.listdir("/proc"):
-        if name.isdigit():
-            try:
-                with open(f"/proc/{name}/stat") as file:
-                    words = file.read().rpartition(")")[2].split()
-            except OSError:
-                continue
-            if int(words[3]) == session and words[0] != "Z":
-                found.append(int(name))
-    return found
-
-
-def resident(process):
-    try:
-        with open(f"/proc/{process}/statm") as file:
-            return int(file.read().split()[1]) * os.sysconf("SC_PAGE_SIZE")
-    except (OSError, IndexError):
-        return 0
-
-
-def open_descriptors(process):
-    try:
-        return len(os.listdir(f"/proc/{process}/fd"))
-    except OSError:
-        return 0
+    def holds(self):
+        """What its processes hold: bytes of memory, and how many descriptors, threads, processes and zombies."""
+        running = {*members(self.number), *marked(self._mark, self.number)}
+        return Holds(sum(map(resident, running)), sum(map(open_descriptors, running)),
+                     sum(len(threads_of(member)) for member in running), len(running),
+                     len(members(self.number, zombies=True)))

@@ -5,97 +5,19 @@ place, or close the connection after a reply.
     proxy = Proxy(port)                                      # listens at 127.0.0.1:proxy.port
     proxy.rule = Rule("response", reply=(500, b"{}"))        # of the next response, once
     proxy.exchanges                                          # what was asked, in the order in which it began"""
-import json
+import re
 import selectors
 import socket
 import struct
 import threading
 import time
 
-from ..service import EXTENSION, RUNTIME
 from .clock import CLOCK
+from .exchanges import ENOUGH, Exchange
 from .messages import Malformed, Message
 
 PART = 262_144
-KINDS = {
-    ("GET", RUNTIME + "invocation/next"): "next",
-    ("POST", RUNTIME + "init/error"): "init_error",
-    ("POST", EXTENSION + "register"): "register",
-    ("GET", EXTENSION + "event/next"): "event",
-    ("POST", EXTENSION + "init/error"): "extension_init_error",
-    ("POST", EXTENSION + "exit/error"): "extension_exit_error",
-    ("PUT", "/2022-07-01/telemetry"): "telemetry",
-    ("PUT", "/2020-08-15/logs"): "telemetry",
-}
-
-
-class Exchange:
-    """A request and its reply. Times are those of `time.monotonic`, and None for what has not come; `since` is when it
-    began by the kit's clock."""
-
-    def __init__(self, connection, peer, request):
-        self.connection, self.peer = connection, peer  # the connection's number, from 1, and the peer's port
-        self.begun, self.since = time.monotonic(), CLOCK.now()
-        self.asked = self.answered = None  # the request is whole; the reply is
-        self.left = None  # one of the two has gone before that
-        self.method, _, rest = request.start.partition(" ")
-        self.path = rest.partition(" ")[0]
-        self.request, self.reply = request, None
-        self.by_rule = None  # a rule with `close` may still be set while the exchange is open
-        self.kind, self.request_id = self._kind()
-
-    def _kind(self):
-        if (self.method, self.path) in KINDS:
-            return KINDS[self.method, self.path], None
-        words = self.path.split("/")
-        if (self.method == "POST" and self.path.startswith(RUNTIME + "invocation/")
-                and words[-1] in ("response", "error")):
-            return words[-1], words[-2].lower()
-        return "other", None
-
-    @property
-    def status(self):
-        """The reply's status; None if there is none."""
-        return int(self.reply.start.split(" ")[1]) if self.reply else None
-
-    @property
-    def delivered(self):
-        """The request identifier of the invocation that this poll was answered with; None if it was not."""
-        return (self.reply.headers.get("lambda-runtime-aws-request-id")
-                if self.kind == "next" and self.status == 200 else None)
-
-    @property
-    def ended(self):
-        """When the exchange was over; None if it is open."""
-        return self.answered or self.left
-
-    def json(self):
-        """The request's body as JSON; None if it is none."""
-        return as_json(self.request.body)
-
-    def reply_json(self):
-        return as_json(self.reply.body) if self.reply else None
-
-
-def as_json(body):
-    try:
-        return json.loads(bytes(body))
-    except ValueError:
-        return None
-
-
-class Rule:
-    """What the proxy does to a request of a kind: answers in the service's place by a status and a body, or closes the
-    connection after the reply."""
-
-    def __init__(self, kind, reply=None, close=False, headers=()):
-        self.kind, self.reply, self.close, self.headers = kind, reply, close, headers
-
-    def bytes(self):
-        status, body = self.reply
-        lines = [f"HTTP/1.1 {status} Rule", "Content-Type: application/json", f"Content-Length: {len(body)}"]
-        lines += [f"{name}: {value}" for name, value in self.headers]
-        return ("\r\n".join(lines) + "\r\n\r\n").encode() + body
+REQUEST = re.compile(r"[A-Z]+ \S+ HTTP/1\.[01]$")
 
 
 class Proxy:
@@ -104,7 +26,10 @@ class Proxy:
     def __init__(self, target):
         self.target, self.exchanges, self.connections = target, [], 0
         self.rule = None  # for the next request of its kind
+        self.then = None  # for all of its kind, once that one has been made
         self.always = {}  # by kind: rules for each request
+        self.manner = None  # in which replies are written, if not as the service does
+        self.on_answer = None  # is called with each exchange that is answered, before the answer is sent
         self.changed = threading.Condition()
         self._open, self._closed = set(), False
         self._listener = socket.create_server(("127.0.0.1", 0), backlog=128)
@@ -157,8 +82,8 @@ class Proxy:
             link = Link(self, client, number, peer, sources)
             try:
                 link.run()
-            except OSError:
-                pass  # (one of the two has gone, which the exchanges say)
+            except (OSError, ValueError):
+                pass  # (one of the two has gone, which the exchanges say, or the proxy has been closed)
             finally:
                 link.end()
                 with self.changed:
@@ -175,6 +100,8 @@ class Proxy:
         with self.changed:
             if self.rule and self.rule.kind == kind:
                 rule, self.rule = self.rule, None
+                if self.then:
+                    self.always[self.then.kind] = self.then
                 return rule
             return self.always.get(kind)
 
@@ -192,9 +119,11 @@ class Link:
         self.waiting = b""  # what the client has sent after a whole request
         self.reads = True  # until what comes is not HTTP/1.1, or not a request that the service would take
         self.service_ended = self.service_refuses = False  # it sends no more; it has reset the connection
-        client.setsockopt(socket.IPPROTO_TCP, socket.TCP_NODELAY, 1)
+        self.before = None  # the exchange that was over last
+        self.raw = bytearray()  # of a reply that may be written anew
 
     def run(self):
+        self.client.setsockopt(socket.IPPROTO_TCP, socket.TCP_NODELAY, 1)
         self.sources.register(self.client, selectors.EVENT_READ)
         while self.sources.get_map():
             for key, _ in self.sources.select():
@@ -217,6 +146,7 @@ class Link:
         """The side's peer sends no more: nor does the link to the other one."""
         self.sources.unregister(side)
         if side is self.client:
+            self.note_behind(self.held)
             self.note_left()
             if self.service:
                 self.to_service(self.held + self.waiting)
@@ -270,6 +200,7 @@ class Link:
         try:
             self.waiting = self.request.feed(data)
         except Malformed:
+            self.note_behind(self.held + data)
             self.held += data
             return self.stop_reading()
         data = data[:len(data) - len(self.waiting)]
@@ -280,14 +211,23 @@ class Link:
             data, self.held = self.held, b""
             self.begin()
         rule = self.exchange.by_rule
-        if not (rule and rule.reply) and not self.to_service(data):
+        stands_in = rule and rule.stands_in
+        if not stands_in and not self.to_service(data):
             return False
         if not self.request.whole:
             return True
         self.proxy.note(lambda: setattr(self.exchange, "asked", time.monotonic()))
-        return self.answer_by(rule) if rule and rule.reply else self.go_on()
+        return self.answer_by(rule) if stands_in else self.go_on()
+
+    def note_behind(self, data):
+        """What comes is no request: the body of the one before may be longer than it says."""
+        before = self.before
+        if before and not before.behind and data.strip():
+            self.proxy.note(lambda: setattr(before, "behind", bytes(data[:ENOUGH])))
 
     def begin(self):
+        if not REQUEST.match(self.request.start):
+            self.note_behind(self.request.raw_head)
         self.exchange = Exchange(self.number, self.peer, self.request)
         self.exchange.by_rule = self.proxy.take_rule(self.exchange.kind)
         self.proxy.note(lambda: self.proxy.exchanges.append(self.exchange))
@@ -307,10 +247,15 @@ class Link:
     # -- replies
 
     def answer_by(self, rule):
-        data = rule.bytes()
+        if rule.holds:
+            return True
+        if rule.ends_after is not None:
+            time.sleep(rule.ends_after)
+            return False
+        data = rule.bytes(self.exchange)
         self.reply = Message()
         self.reply.feed(data)
-        return self.finish(data)
+        return self.finish(data, rule.manner)
 
     def from_service(self, data):
         while data:
@@ -324,8 +269,12 @@ class Link:
                 self.stop_reading()
                 continue
             part, data = data[:len(data) - len(rest)], rest
+            if self.proxy.manner or self.raw:  # (how it is written is known once it is whole)
+                self.raw += part
+                part = b""
             if self.reply.whole and not self.reply.start.split(" ")[1].startswith("1"):
-                if not self.finish(part):
+                part, self.raw = bytes(self.raw) or part, bytearray()
+                if not self.finish(part, self.manner()):
                     return False
                 continue
             self.client.sendall(part)
@@ -333,25 +282,43 @@ class Link:
                 self.reply = None
         return True
 
-    def finish(self, data=b""):
-        """The reply is whole with these bytes: whether the link goes on."""
+    def manner(self):
+        """The manner in which the reply is to be written, if not as it comes."""
+        manner, exchange = self.proxy.manner, self.exchange
+        status = self.reply.start.split(" ")[1]
+        return manner if manner and exchange and status.isdigit() and manner.fits(exchange, int(status)) else None
+
+    def finish(self, data=b"", manner=None):
+        """The reply is whole with these bytes, which are sent in this manner: whether the link goes on."""
         exchange, reply, self.reply = self.exchange, self.reply, None
 
         def change():
             exchange.reply, exchange.answered = reply, time.monotonic()
         if exchange:  # (noted first: the receiver of the reply may act on it before this thread runs again)
             self.proxy.note(change)
-        if data:
+            if self.proxy.on_answer:
+                self.proxy.on_answer(exchange)
+        if manner:
+            self.send_in(manner, reply)
+        elif data:
             self.client.sendall(data)
-        if exchange and exchange.by_rule and exchange.by_rule.close:
+        if (exchange and exchange.by_rule and exchange.by_rule.close) or (manner and manner.ends):
             return False
         return self.go_on()
+
+    def send_in(self, manner, reply):
+        """Writes a reply anew."""
+        for place, part in enumerate(manner.parts(reply)):
+            if place:
+                time.sleep(manner.pause)
+            self.client.sendall(part)
 
     def go_on(self):
         """A request or a reply is whole: with the next request if both are."""
         if self.exchange and not self.exchange.asked:
             return True
         if self.exchange and self.exchange.answered:
+            self.before = self.exchange
             self.exchange = self.request = None
         if self.service_ended:
             return self.stop_reading()

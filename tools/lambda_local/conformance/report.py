@@ -1,14 +1,17 @@
-"""What a run says: a line for each check, for a FAIL what was expected, by which page, what came, and the timeline."""
+"""What a run says: a line for each check, for a FAIL what was expected, by which page, what came, what the connections
+show, and the timeline. FAILs of one cause are told once and then counted."""
 import os
+import re
 import subprocess
 
 from .. import junit
 from ..paths import tool
 from ..service import Fault
 from .clock import CLOCK
-from .kit import FAIL, NOTE, PASS
+from .kit import FAIL, NOTE, PASS, SHOULD
 
 LINES, WIDTH = 24, 200  # of a timeline as text
+SIGNS = re.compile(r"\d+|[0-9a-f]{8}-[0-9a-f-]{27}")  # that differ from one FAIL of a cause to another
 
 
 def draw(history, *options):
@@ -29,7 +32,8 @@ class Report:
 
     def __init__(self, name, options, write=print):
         self.write, self.pictures, self.junit_path = write, options.pictures, options.junit
-        self.suite, self.counts, self._drawn = junit.Suite(name), {PASS: 0, FAIL: 0, NOTE: 0}, {}
+        self.strict, self._told, self._again, self._timelines = options.strict, {}, {}, set()
+        self.suite, self.counts, self._drawn = junit.Suite(name), {PASS: 0, FAIL: 0, SHOULD: 0, NOTE: 0}, {}
         if self.junit_path and not os.access(os.path.dirname(os.path.abspath(self.junit_path)), os.W_OK):
             raise Fault(2, f"--junit {self.junit_path}: name a file in a folder that can be written")
         if self.pictures:
@@ -39,24 +43,52 @@ class Report:
                 raise Fault(2, f"--pictures {self.pictures}: {fault.strerror}: name a folder that can be "
                                f"written") from None
 
+    def add_all(self, verdicts, only):
+        """Adds those that are chosen."""
+        for verdict in verdicts:
+            if not only or verdict.scenario in only or verdict.check.name in only:
+                self.add(verdict)
+
     def add(self, verdict):
         self.counts[verdict.outcome] += 1
+        cause = SIGNS.sub("", verdict.came)
+        if verdict.outcome == FAIL and cause in self._told:
+            self._again.setdefault(self._told[cause], []).append(verdict.check.name)
+            details = [f"the same came for {self._told[cause]}"]
+        else:
+            details = self._tell(verdict)
+        if verdict.outcome == FAIL:
+            self._told.setdefault(cause, verdict.check.name)
+        failed = verdict.outcome == FAIL or (verdict.outcome == SHOULD and self.strict)
+        said = verdict.outcome in (NOTE, SHOULD) and not failed
+        self.suite.case(f"{self.suite.name}.{verdict.scenario}", verdict.check.name, verdict.seconds,
+                        failure=verdict.came if failed else None, details="\n".join(details),
+                        output=f"{verdict.outcome} {verdict.came}" if said else "")
+
+    def _tell(self, verdict):
+        """Writes a verdict. Returns the details."""
         said = verdict.came if verdict.outcome != PASS else (
             verdict.check.expected + (f": {verdict.came}" if verdict.came else ""))
         self.write(f"{verdict.outcome}  {verdict.check.name:<22}{said}")
-        details = self._details(verdict) if verdict.outcome == FAIL else []
+        details = self._details(verdict) if verdict.outcome == FAIL else (
+            self._rule(verdict) if verdict.outcome == SHOULD else [])
         for line in details:
             self.write("      " + line)
-        failed, noted = verdict.outcome == FAIL, verdict.outcome == NOTE
-        self.suite.case(f"{self.suite.name}.{verdict.scenario}", verdict.check.name, verdict.seconds,
-                        failure=verdict.came if failed else None, details="\n".join(details),
-                        output=f"NOTE {verdict.came}" if noted else "")
+        return details
+
+    @staticmethod
+    def _rule(verdict):
+        return [f"expected  {verdict.check.expected}", f"page      {verdict.check.page}"]
 
     def _details(self, verdict):
-        lines = [f"expected  {verdict.check.expected}", f"page      {verdict.check.page}"]
+        lines = [*self._rule(verdict), *(f"wire      {line}" for line in verdict.wire)]
         if verdict.history:
             lines += [f"kit       {act}" for act in verdict.acts]
-            lines += ["timeline", *("  " + line for line in text_timeline(verdict.history))]
+            if verdict.scenario in self._timelines:
+                lines.append("timeline  as above")
+            else:
+                self._timelines.add(verdict.scenario)
+                lines += ["timeline", *("  " + line for line in text_timeline(verdict.history))]
             if self.pictures:
                 lines.append(f"picture   {self._picture(verdict)}")
         return lines
@@ -71,12 +103,16 @@ class Report:
         return path
 
     def finish(self, seconds):
-        """The last line and the file: the exit status."""
+        """The last lines and the file: the exit status."""
         self.suite.seconds = seconds
+        for name, others in self._again.items():
+            checks = "check" if len(others) == 1 else "checks"
+            self.write(f"the same came for {len(others)} more {checks} as for {name}: {', '.join(others)}")
         if CLOCK.stretch() > 1.5:
             self.write(f"(this machine is busy with other things: limits were {CLOCK.stretch():.1f} times as long)")
-        self.write(
-            f"{self.counts[PASS]} passed, {self.counts[FAIL]} failed, {self.counts[NOTE]} noted in {seconds:.1f} s")
+        should = f"{self.counts[SHOULD]} should, " if self.counts[SHOULD] else ""
+        self.write(f"{self.counts[PASS]} passed, {self.counts[FAIL]} failed, {should}{self.counts[NOTE]} noted in "
+                   f"{seconds:.1f} s")
         if self.junit_path:
             self.suite.write(self.junit_path)
-        return 1 if self.counts[FAIL] else 0
+        return 1 if self.counts[FAIL] or (self.strict and self.counts[SHOULD]) else 0

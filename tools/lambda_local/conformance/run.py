@@ -27,6 +27,7 @@ def parser_of(name, description, options):
     parser.add_argument("--init-seconds", metavar="S", type=seconds, default=10, help="how long an Init may take (10)")
     parser.add_argument("--only", metavar="NAME", action="append", default=[],
                         help="a scenario or a check; may stand several times")
+    parser.add_argument("--strict", action="store_true", help="a SHOULD is a failure too")
     parser.add_argument("--list", action="store_true",
                         help="list the scenarios and checks, each with its page, and start nothing")
     parser.add_argument("--junit", metavar="FILE", help="write the verdicts there as JUnit XML")
@@ -73,9 +74,9 @@ def ended_by_signal(number, _frame):
     raise SystemExit(128 + number)
 
 
-def play(name, registry, options, command, rehearse, title, stage=Stage):
-    """Runs the chosen scenarios: the exit status. `rehearse` takes the tools, says whether the first scenario can pass,
-    without which none can, and raises a Fault if the command is none that can be tested."""
+def play(name, registry, options, command, title, stage=Stage):
+    """Runs the chosen scenarios: the exit status. If the first of all shows that nothing else can be judged, that is
+    all; it raises a Fault if the command is none that can be tested."""
     patient()
     for number in (signal.SIGTERM, signal.SIGINT, signal.SIGHUP):
         signal.signal(number, ended_by_signal)
@@ -85,17 +86,18 @@ def play(name, registry, options, command, rehearse, title, stage=Stage):
         tools = Tools(command, options.program, processes, options)
         report, begun = Report(name, options), time.monotonic()
         report.write(title)
-        scenarios, only = kit.chosen(registry, options.only), options.only
-        if not rehearse(tools):
-            report.write("it does not come so far that the other checks can judge it:")
-            scenarios, only = registry[:1], []
+        chosen, only = kit.chosen(registry, options.only), options.only
 
         def open_stage(scenario, jury):
             return stage(tools, scenario, jury, **scenario.settings)
-        for verdicts in kit.run_all(scenarios, open_stage, at_once()):
-            for verdict in verdicts:
-                if not only or verdict.scenario in only or verdict.check.name in only:
-                    report.add(verdict)
+        first = kit.run(registry[0], open_stage)
+        if any(verdict.stops for verdict in first):
+            report.write("it does not come so far that the other checks can judge it:")
+            chosen, only = [], []
+        if chosen[:1] == registry[:1] or not chosen:
+            report.add_all(first, only)
+        for verdicts in kit.run_all([one for one in chosen if one is not registry[0]], open_stage, at_once()):
+            report.add_all(verdicts, only)
         return report.finish(time.monotonic() - begun)
     except Fault as fault:
         raise Fault(2, str(fault)) from None

@@ -8,10 +8,11 @@ import os
 import time
 from typing import NamedTuple
 
-from ..service import Fault, Service, ask, parked
+from ..service import RUNTIME, Fault, Service, ask, parked
 from .clock import CLOCK
-from .kit import FAIL, NOTE, PASS, Missing
+from .kit import FAIL, NOTE, PASS, SHOULD, Missing
 from .process import variables_of
+from .watch import OwnTime
 from .proxy import Proxy
 
 KITS_HANDLER = "conformance.handler"
@@ -19,6 +20,10 @@ ACCOUNT, REGION = "123456789012", "us-east-1"
 PATIENCE = 50  # seconds beyond an Init's limit: one check alone is about that limit
 ANSWERED_WITHIN = 10  # seconds that a caller waits beyond the function's timeout
 SHOWN = 200  # letters of what came
+LOOK = 0.05  # seconds between two looks at what a process does
+BEHIND = 3  # lines of what the connections show
+SILENT = 12  # seconds of its own after which a process that has to answer, or to ask, does not do so any more
+REFUSED = 3  # polls that are refused for what they are, after which it is not waited for another one
 
 
 class Tools(NamedTuple):
@@ -76,7 +81,7 @@ class Environment:
 
     def __init__(self, stage, number, port):
         self.stage, self.number, self.service_port = stage, number, port
-        self.proxy, self.process = Proxy(port), None
+        self.proxy, self.process, self.own = Proxy(port), None, None
 
     def start(self):
         """Starts the command anew, as Lambda starts an environment."""
@@ -90,20 +95,38 @@ class Environment:
         if self.process:
             self.process.kill()
 
+    def revive(self):
+        """Starts a new process in place of one that has ended; Missing if that does not ask for an invocation."""
+        asked = len(self.proxy.of("next"))
+        self.kill()
+        self._end_open_invocation()
+        self.start()
+        if not self.asked(asked + 1):
+            raise Missing(f"the new process did not ask for an invocation: {self.stage.said()}")
+
+    def _end_open_invocation(self):
+        """As Lambda does when a process has ended with one."""
+        delivered = [one.delivered for one in self.proxy.of("next") if one.delivered]
+        if delivered and not any(one.request_id == delivered[-1] and one.status == 202
+                                 for one in self.proxy.of("response", "error")):
+            ask(self.service_port, "POST", f"{RUNTIME}invocation/{delivered[-1]}/error",
+                b'{"errorType":"Runtime.ExitError","errorMessage":"the process has ended"}')
+
     def asked(self, count=1, seconds=None, kind="next", real_seconds=0, in_vain=lambda: False):
         """Whether it makes its count-th request of a kind. Waits up to this many seconds (by default those of the Init)
-        by the kit's clock and by the real one, or until its process ends or `in_vain` holds."""
+        of its own time, which `own` has then, and of real ones, or until its process ends or `in_vain` holds."""
         process, real_end = self.process, time.monotonic() + real_seconds
-        end = CLOCK.now() + (self.stage.patience if seconds is None else seconds)
+        limit, self.own = self.stage.patience if seconds is None else seconds, OwnTime(process.number)
         while len(self.proxy.of(kind)) < count and not (process and process.ended) and not in_vain():
-            if CLOCK.now() >= end and time.monotonic() >= real_end:
+            if self.own.look() >= limit and time.monotonic() >= real_end:
                 break
-            self.proxy.wait(lambda: sum(one.kind == kind for one in self.proxy.exchanges) >= count, 0.1)
+            self.proxy.wait(lambda: sum(one.kind == kind for one in self.proxy.exchanges) >= count, LOOK)
+        self.own.look()
         return len(self.proxy.of(kind)) >= count
 
     def asked_after(self, exchange, seconds, kind="next", real_seconds=0):
-        """Whether it asks again within this many seconds after the answer to this exchange."""
-        before = sum(one.begun < exchange.answered for one in self.proxy.of(kind))
+        """Whether it asks again within this many seconds after this exchange is over."""
+        before = sum(one.begun < exchange.ended for one in self.proxy.of(kind))
         return self.asked(before + 1, seconds, kind, real_seconds)
 
     def given_up(self, kind, seconds):
@@ -126,9 +149,10 @@ class Stage:
     """Opened for one scenario, and ended with it in any case."""
 
     def __init__(self, tools, scenario, jury, environments=1, timeout=30, handler=KITS_HANDLER, start=True,
-                 extensions=(), lasts=0, drawn=True, variables=None):
+                 extensions=(), lasts=0, drawn=True, first=False, variables=None):
         self.tools, self.scenario, self.jury, self.variables = tools, scenario, jury, variables or {}
         # (the service's clock is the real one: on a busy machine a function has more of it)
+        self.is_long = timeout > SILENT  # no handler takes as long
         self.timeout = timeout = math.ceil(timeout * CLOCK.slowness())
         self.patience = tools.options.init_seconds + PATIENCE
         self.name = scenario.name
@@ -192,6 +216,17 @@ class Stage:
     def note(self, name, came):
         self.jury.judge(name, NOTE, came)
 
+    def should(self, name, came):
+        """What the pages recommend is not done, as clients of AWS's own do not either."""
+        self.jury.judge(name, SHOULD, came)
+
+    def in_time(self, name, passed, own, limit, came, measured=""):
+        """Judges what has a limit in seconds: a program is late by its own time alone, and in time by the real one."""
+        if passed and own.real > limit:
+            return self.note(name, f"after {own.real:.1f} s, of {limit:g}: in time only because this machine is busy "
+                                   f"with other things")
+        return self.check(name, passed, came, measured)
+
     # -- calling
 
     def invoke(self, event, qualified=False, trace=None):
@@ -214,11 +249,14 @@ class Stage:
         too."""
         waiting = self._asking.submit(ask, self.service.port, "POST", path, body, headers,
                                       self.timeout + self.patience + ANSWERED_WITHIN)
+        own = OwnTime(self.environment.process.number) if self.environment.process else None
         while not waiting.done():
-            concurrent.futures.wait([waiting], 0.1)
+            concurrent.futures.wait([waiting], LOOK)
             if all(environment.process and environment.process.ended for environment in self.environments):
                 concurrent.futures.wait([waiting], 0.5)
                 break
+            if self.is_long and own and own.look() > SILENT:
+                raise Missing(f"the caller received no answer within {SILENT} s: {self.said()}")
         if not waiting.done():
             raise Missing(f"the caller received no answer: {self.said()}")
         try:
@@ -229,7 +267,8 @@ class Stage:
     def said(self):
         """How the tested process ended, and its last line."""
         process = self.environment.process
-        return f"{process.how_it_ended()}; its last line: {shown(process.written())}"
+        written = process.written()
+        return process.how_it_ended() + (f"; its last line: {shown(written)}" if written else "")
 
     def later(self, call, *arguments, **named):
         """Does that in a thread of its own: `.result()` waits for it."""
@@ -253,10 +292,11 @@ class Stage:
 
     def idle(self):
         """Waits until each environment's runtime waits for an invocation."""
-        end = CLOCK.now() + self.patience
+        own = OwnTime(self.environment.process.number)
         while len(parked(self.service.history())[0]) < len(self.environments):
-            if CLOCK.now() > end or any(environment.process and environment.process.ended
-                                        for environment in self.environments):
+            refused = [one for one in self.environment.proxy.of("next") if one.refused and one.status not in (403, 500)]
+            if (own.look() > SILENT or len(refused) > REFUSED
+                    or any(environment.process and environment.process.ended for environment in self.environments)):
                 raise Missing(f"it does not wait for an invocation ({self.environment.process.how_it_ended()})")
             time.sleep(0.02)
 
@@ -265,9 +305,17 @@ class Stage:
         for environment in self.environments:
             for exchange in environment.proxy.exchanges:
                 if exchange.by_rule:
-                    did = (f"answered it {exchange.by_rule.reply[0]}" if exchange.by_rule.reply
-                           else "ended the connection after the answer")
-                    yield f"{exchange.method} {exchange.path}: the kit {did}"
+                    yield f"{exchange.method} {exchange.path}: the kit {exchange.by_rule.did(exchange)}"
+
+    def on_the_wire(self):
+        """What the connections show that may be the cause of a FAIL, and the last exchange that is over, as lines."""
+        exchanges = [one for environment in self.environments for one in list(environment.proxy.exchanges)]
+        yield from [fault for exchange in exchanges for fault in exchange.faults()][:BEHIND]
+        over = [exchange for exchange in exchanges if exchange.ended]
+        refused = [exchange for exchange in over if exchange.refused]
+        for name, found in (("refused", refused), ("last", over)):
+            if found and (name == "last" or found[-1] is not over[-1]):
+                yield f"{name}: {max(found, key=lambda one: one.ended)}"
 
     def history(self):
         try:
@@ -279,4 +327,3 @@ class Stage:
 def patient():
     """How long the service may hold back an Invoke while its environment is about to ask again."""
     os.environ["LAMBDA_LOCAL_PATIENCE_MS"] = "2000"
-

@@ -7,16 +7,19 @@
 COMMAND is started for each scenario, in this folder, with the variables that Lambda sets; the kit plays the runtime
 beside it. NAME is what it registers as: for Lambda the full file name of the extension. With CONFORMANCE_FAILS=init or
 exit in its environment an extension may show how it reports errors (docs/conformance.md). Each check is a PASS, a FAIL,
-or a NOTE if the documents leave it open or the extension does not do what the check is about.
+a SHOULD if it does not do what the documents recommend, or a NOTE if they leave it open or the extension does not do
+what the check is about.
 
-Exit statuses: 0; 1 if a check is a FAIL; 2 for wrong usage, or a command that cannot be tested."""
+Exit statuses: 0; 1 if a check is a FAIL, or with --strict a SHOULD; 2 for wrong usage, or a command that cannot be
+tested."""
 import argparse
 
 from ...service import Fault
-from .. import kit
 from ..run import check_arguments, listed, parser_of, play, seconds, split
-from .scenarios import SCENARIOS
+from . import another, load, reports, scenarios, telemetry
 from .stage import ExtensionStage
+
+SCENARIOS = [scenario for module in (scenarios, telemetry, reports, another, load) for scenario in module.SCENARIOS]
 
 EVENTS = ("INVOKE", "SHUTDOWN")
 
@@ -28,22 +31,11 @@ def events(text):
     return found
 
 
-def rehearse(tools):
-    """Whether it registers. A command that ends before it asks for anything is none that can be tested."""
-    scenario = kit.Scenario("rehearsal", (), None, {})
-    with ExtensionStage(tools, scenario, kit.Jury(scenario)) as stage:
-        stage.start()
-        if stage.environment.asked(kind="register"):
-            return True
-        stage.refuse_if_it_ended()
-        return False
-
-
 def main(words):
     words, command = split(words)
     parser = parser_of("extension", __doc__,
-                       "--name NAME [--events INVOKE,SHUTDOWN] [--init-seconds S] [--only NAME] [--junit FILE] "
-                       "[--pictures DIR] [--program P]")
+                       "--name NAME [--events INVOKE,SHUTDOWN] [--init-seconds S] [--only NAME] [--strict] "
+                       "[--junit FILE] [--pictures DIR] [--program P]")
     parser.add_argument("--name", metavar="NAME", help="the name under which it registers")
     parser.add_argument("--events", metavar="EVENTS", type=events, default=list(EVENTS),
                         help="what it registers for (INVOKE,SHUTDOWN)")
@@ -56,4 +48,4 @@ def main(words):
     if not options.name:
         raise Fault(2, "write --name NAME, the name under which the extension registers")
     title = f"conformance extension {options.name}: {' '.join(command)}"
-    return play("conformance extension", SCENARIOS, options, command, rehearse, title, ExtensionStage)
+    return play("conformance extension", SCENARIOS, options, command, title, ExtensionStage)

@@ -1,15 +1,15 @@
-"""The checks of an external extension."""
+"""The phases of an external extension: its registration, its invocations, its end."""
 import os
 import signal
+import time
 
 from .. import pages
 from ..clock import CLOCK
 from ..kit import NOTE, Missing, scenarios_of
-from ..process import members
-from ..proxy import Rule
+from ..watch import begun_at, members, parent_of
 from ..stage import shown
 from .sockets import owner_of
-from .stage import FAILURE_TYPE, SHUTDOWN_SECONDS, SPARE, report_failure
+from .stage import SHUTDOWN_SECONDS, SPARE, report_failure
 
 SCENARIOS = []
 scenario = scenarios_of(SCENARIOS)
@@ -17,11 +17,7 @@ scenario = scenarios_of(SCENARIOS)
 TIMEOUT = 3  # seconds
 INVOCATIONS = 3
 ENDS = 3  # seconds in which a process that has to end promptly has ended
-ASKS = 5  # seconds in which a request has come that follows from what came before
 SETTLES = 1  # seconds in which a poll too many is seen
-CONTAINER_ERROR = b'{"errorMessage":"Environment is shutting down","errorType":"ContainerError"}'
-UNKNOWN_EVENT = (b'{"eventType":"CONFORMANCE","deadlineMs":4102444800000,'
-                 b'"requestId":"00000000-0000-8000-8001-000000000000"}')
 
 
 @scenario(
@@ -31,16 +27,18 @@ UNKNOWN_EVENT = (b'{"eventType":"CONFORMANCE","deadlineMs":4102444800000,'
     ("asks_for_events", pages.EXTENSION_INIT,
      "once it has registered it asks, within as much time again, for its first event"),
     ("identifier", pages.EXTENSION_NEXT,
-     "each Next has the Lambda-Extension-Identifier that its registration was answered with"))
+     "each Next has the Lambda-Extension-Identifier that its registration was answered with"), first=True)
 def registration(stage):
     options, environment = stage.tools.options, stage.environment
     stage.start()
     if not environment.asked(kind="register") or environment.saw("register", 5) is None:
+        stage.refuse_if_it_ended()
         raise Missing(f"it did not register: {stage.said()}")
     exchange = environment.proxy.of("register")[0]
-    seconds = exchange.since - environment.process.begun
-    stage.check("registers", exchange.status == 200 and seconds <= options.init_seconds,
-                f"after {seconds:.2f} s, answered {exchange.status}", f"after {seconds:.2f} s")
+    seconds, own = exchange.begun - environment.process.begun, environment.own
+    own.real = seconds
+    stage.in_time("registers", exchange.status == 200 and min(seconds, own.seconds) <= options.init_seconds, own,
+                  options.init_seconds, f"after {seconds:.2f} s, answered {exchange.status}", f"after {seconds:.2f} s")
     name, asked = exchange.request.headers.get("lambda-extension-name"), exchange.json()
     stage.check("name", name == options.name, f"{shown(name)} in place of {options.name}")
     events = asked.get("events") if isinstance(asked, dict) else None
@@ -48,9 +46,11 @@ def registration(stage):
                 f"{shown(exchange.request.body)}")
     polled = environment.asked(kind="event")
     first = environment.proxy.of("event")[0] if polled else None
-    stage.check("asks_for_events", polled and first.since - exchange.since <= options.init_seconds,
-                f"{first.since - exchange.since:.2f} s after its registration" if polled
-                else f"no Next: {stage.said()}")
+    own, seconds = environment.own, first.begun - exchange.begun if polled else 0
+    own.real = seconds
+    stage.in_time("asks_for_events", polled and min(seconds, own.seconds) <= options.init_seconds, own,
+                  options.init_seconds, f"{seconds:.2f} s after its registration" if polled
+                  else f"no Next: {stage.said()}")
     CLOCK.sleep(SETTLES)
     wrong = [one for one in environment.proxy.of("event")
              if one.request.headers.get("lambda-extension-identifier") != stage.identifier]
@@ -92,11 +92,13 @@ def invocations(stage):
 
 def ends_at(stage, name, reason):
     """Judges whether it ends at a SHUTDOWN for this reason."""
-    exchange, ended = stage.shut_down()
+    exchange, ended, own = stage.shut_down()
     came = exchange.reply_json().get("shutdownReason")
     if came != reason:
         raise Missing(f"its SHUTDOWN was for {came}")
-    stage.check(name, ended, f"it still ran {SHUTDOWN_SECONDS + SPARE:g} s after its SHUTDOWN, and was killed")
+    asked = "it asked for other events, and " if len(stage.polls_after(exchange)) > 1 else ""
+    stage.in_time(name, ended, own, SHUTDOWN_SECONDS + SPARE,
+                  f"{asked}it still ran {SHUTDOWN_SECONDS:g} s after its SHUTDOWN, and was killed")
 
 
 def without_shutdown(stage):
@@ -151,6 +153,27 @@ def shutdown_for_a_failure(stage):
         ends_at(stage, "ends_at_failure", "FAILURE")
 
 
+def worker_of(stage):
+    """The number of the process that asks for events; if that is a helper that was started for this poll alone, such as
+    a `curl`, of the one that has started it."""
+    environment = stage.environment
+    session = members(environment.process.number)
+    found = owner_of(environment.proxy.of("event")[-1].peer, environment.proxy.port, session)
+    if found is None:
+        raise Missing("the process that asks for events was not found")
+    since = stage.registration
+    while found != environment.process.number and parent_of(found) in session and is_younger(found, since):
+        found = parent_of(found)
+    return found
+
+
+def is_younger(process, exchange):
+    """Whether a process began after this exchange did."""
+    ticks = begun_at(process)
+    uptime = time.clock_gettime(time.CLOCK_BOOTTIME) - (time.monotonic() - exchange.begun)
+    return ticks is not None and ticks / os.sysconf("SC_CLK_TCK") > uptime
+
+
 @scenario(
     ("crash_noticed", pages.EXTENSION_EXIT_ERROR,
      "if the process that asks for events is killed, the command ends: no crash is hidden"),
@@ -159,12 +182,7 @@ def shutdown_for_a_failure(stage):
 def crash(stage):
     stage.begin()
     stage.idle()
-    environment = stage.environment
-    poll = environment.proxy.of("event")[-1]
-    session = members(environment.process.number)
-    found = owner_of(poll.peer, environment.proxy.port, session)
-    if found is None:
-        raise Missing("the process that asks for events was not found")
+    environment, found = stage.environment, worker_of(stage)
     identifier = stage.identifier
     os.kill(found, signal.SIGKILL)
     stage.check("crash_noticed", environment.process.wait(ENDS),
@@ -172,102 +190,6 @@ def crash(stage):
     environment.kill()
     report_failure(environment.service_port, identifier, "it was killed")
     works_anew(stage, "works_after_crash")
-
-
-def reports(stage, name, kind):
-    """Judges an error report: its header, its body, and that the process ends after it."""
-    environment = stage.environment
-    exchange = environment.saw(kind, ASKS)
-    if exchange is None:
-        return stage.note(name, f"it makes no such report, though CONFORMANCE_FAILS asks for one: "
-                                f"{environment.process.how_it_ended()}")
-    header, report = exchange.request.headers.get(FAILURE_TYPE.lower()), exchange.json()
-    faults = []
-    if not header:
-        faults.append(f"no {FAILURE_TYPE}")
-    if not isinstance(report, dict) or not report.get("errorMessage") or not report.get("errorType"):
-        faults.append(f"its body is {shown(exchange.request.body)}")
-    if exchange.status != 202:
-        faults.append(f"it was answered {exchange.status}")
-    if not environment.process.wait(ENDS):
-        faults.append(f"{ENDS} s later its process runs")
-    return stage.check(name, not faults, ", ".join(faults))
-
-
-@scenario(
-    ("init_error", pages.EXTENSION_INIT_ERROR,
-     "if it fails after its registration (CONFORMANCE_FAILS=init asks for that) it sends init/error, with "
-     f"{FAILURE_TYPE}, \"errorMessage\" and \"errorType\", and exits; one that never does so is a NOTE"),
-    variables={"CONFORMANCE_FAILS": "init"})
-def failing_init(stage):
-    stage.start()
-    if not stage.environment.asked(kind="register"):
-        raise Missing(f"it did not register: {stage.said()}")
-    reports(stage, "init_error", "extension_init_error")
-
-
-@scenario(
-    ("exit_error", pages.EXTENSION_EXIT_ERROR,
-     "if it fails later (CONFORMANCE_FAILS=exit asks for that at its first event) it sends exit/error in the same way, "
-     "and exits; one that never does so is a NOTE"),
-    variables={"CONFORMANCE_FAILS": "exit"})
-def failing_later(stage):
-    stage.begin()
-    stage.idle()
-    if stage.registered_for("INVOKE"):
-        stage.later(stage.invoke, b"1")
-    else:
-        stage.spin_down()
-    reports(stage, "exit_error", "extension_exit_error")
-
-
-@scenario(
-    ("ends_at_500", pages.EXTENSION_NEXT, "after 500 at Next, which is not recoverable, the process exits promptly"))
-def container_error(stage):
-    stage.environment.proxy.rule = Rule("event", reply=(500, CONTAINER_ERROR))
-    stage.begin()
-    process = stage.environment.process
-    ended, more = process.wait(ENDS), len(stage.environment.proxy.of("event")) - 1
-    stage.check("ends_at_500", ended, f"{ENDS} s after 500 it runs, and has made {more} more requests")
-
-
-@scenario(
-    ("unknown_event", pages.EXTENSION_NEXT,
-     "an event of a type that it does not know does not end it: it asks for the next one"))
-def event_of_another_type(stage):
-    environment = stage.environment
-    environment.proxy.rule = Rule("event", reply=(200, UNKNOWN_EVENT),
-                                  headers=[("Lambda-Extension-Event-Identifier", "0")])
-    stage.begin()
-    goes_on = environment.asked(2, ASKS, kind="event") and not environment.process.wait(0.2)
-    stage.check("unknown_event", goes_on, f"after an unknown event {stage.said()}")
-
-
-@scenario(
-    ("without_telemetry", pages.TELEMETRY, "if there is no Telemetry API (404) it goes on without it"), telemetry=False)
-def no_telemetry(stage):
-    stage.begin()
-    stage.idle()
-    answer = stage.invoke(b"1")
-    asked = stage.environment.proxy.of("telemetry")
-    stage.check("without_telemetry", answer.body == b"1", f"the caller received {shown(answer.body)}",
-                f"refused {len(asked)} times" if asked else "it asks for none")
-
-
-@scenario(
-    ("connection_end", pages.RETRYING,
-     "if its peer ends the connection after an event, it asks for the next one on a new connection"))
-def connection_ends(stage):
-    environment = stage.environment
-    stage.begin()
-    stage.idle()
-    if not stage.registered_for("INVOKE"):
-        return stage.note("connection_end", "it does not register for INVOKE")
-    environment.proxy.of("event")[-1].by_rule = Rule("event", close=True)
-    stage.invoke(b"1")
-    event = stage.event("INVOKE")
-    return stage.check("connection_end", environment.asked_after(event, ASKS, "event"),
-                       f"no Next within {ASKS} s: {stage.said()}")
 
 
 @scenario(

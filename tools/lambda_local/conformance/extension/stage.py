@@ -7,14 +7,19 @@ import time
 from ...service import EXTENSION, RUNTIME, ask, parked
 from ..clock import CLOCK
 from ..kit import Missing
-from ..proxy import Rule
-from ..stage import Stage, shown
+from ..exchanges import Rule
+from ..stage import SILENT, Stage, shown
+from ..watch import OwnTime
+from .telemetry import Telemetry
 
 NAMED, IDENTIFIED = "Lambda-Extension-Name", "Lambda-Extension-Identifier"
 FAILURE_TYPE = "Lambda-Extension-Function-Error-Type"
 SHUTDOWN_SECONDS = 2  # that Lambda's Shutdown phase has
-SPARE = 1  # seconds for a machine that is busy with other things
+SPARE = 0.15  # seconds in which an end is noticed
 COMPANION = "conformance.companion"
+ANOTHER_EVENT = (b'{"eventType":"INVOKE","deadlineMs":4102444800000,"requestId":"00000000-0000-4000-8000-00000000d00d",'
+                 b'"invokedFunctionArn":"arn:aws:lambda:us-east-1:123456789012:function:f",'
+                 b'"tracing":{"type":"X-Amzn-Trace-Id","value":""}}')
 
 
 class PlayedRuntime(threading.Thread):
@@ -69,20 +74,53 @@ class ExtensionStage(Stage):
     def __init__(self, tools, scenario, jury, telemetry=True, companion=False, **settings):
         super().__init__(tools, scenario, jury, start=False, **settings)
         self._wants_companion, self.companion = companion, None
+        self.telemetry = Telemetry(self)
         if telemetry:  # (this service has none, which one scenario alone is about)
-            self.environment.proxy.always["telemetry"] = Rule("telemetry", reply=(200, b'"OK"'))
+            self.environment.proxy.always["telemetry"] = Rule("telemetry", decide=self.telemetry.decide)
+        self.environment.proxy.on_answer = self._hold_after_shutdown
 
     def prepare(self):
         """(Each scenario begins by itself.)"""
+
+    def _hold_after_shutdown(self, exchange):
+        """One that has understood its SHUTDOWN may ask once more, to say that it is done, and ends whatever the answer
+        is: here another INVOKE. One that asks again for that waits for ever, as in Lambda."""
+        if self.body_of(exchange).get("eventType") == "SHUTDOWN":
+            proxy = self.environment.proxy
+            proxy.rule = Rule("event", reply=(200, ANOTHER_EVENT), headers=[("Lambda-Extension-Event-Identifier", "1")])
+            proxy.then = Rule("event", holds=True)
 
     def start(self):
         """Starts the extension's process."""
         self.environment.start()
 
+    def register(self):
+        """Starts it, and waits for its registration; Missing if that does not come, or is refused."""
+        before = len(self.environment.proxy.of("register"))
+        self.start()
+        asked = self.environment.asked(before + 1, kind="register")
+        if not asked or self.environment.saw("register", 5, before + 1) is None:
+            raise Missing(f"it did not register: {self.said()}")
+        registered = self.environment.proxy.of("register")[before]
+        if registered.status != 200:
+            raise Missing(f"its registration was answered {registered.status} {shown(registered.reply.body)}")
+
+    def forget(self):
+        """Ends the process and its generation, so that another one can begin."""
+        self.environment.kill()
+        registered = [one for one in self.environment.proxy.of("register") if one.status == 200]
+        if registered:
+            report_failure(self.environment.service_port, registered[-1].reply.headers["lambda-extension-identifier"],
+                           "the kit has ended it")
+
     def begin(self):
         """A generation: the extension registers and asks for its first event, then come the kit's companion and
         runtime."""
         environment = self.environment
+        environment.proxy.always.pop("event", None)
+        environment.proxy.then = None
+        if self.events("SHUTDOWN"):  # (of the generation before)
+            environment.proxy.rule = None
         before, polls = len(environment.proxy.of("register")), len(environment.proxy.of("event"))
 
         def goes_on_without():
@@ -127,8 +165,13 @@ class ExtensionStage(Stage):
     def events(self, kind):
         """The exchanges that brought it an event of a kind."""
         return [one for one in self.environment.proxy.of("event")
-                if one.status == 200 and isinstance(one.reply_json(), dict)
-                and one.reply_json().get("eventType") == kind]
+                if self.body_of(one).get("eventType") == kind]
+
+    @staticmethod
+    def body_of(exchange):
+        """The event that an exchange brought; empty if it brought none."""
+        found = exchange.reply_json() if exchange.kind == "event" and exchange.status == 200 else None
+        return found if isinstance(found, dict) else {}
 
     def event(self, kind, count=1, seconds=5):
         """The count-th exchange that brought it an event of a kind; Missing if that does not come."""
@@ -143,22 +186,21 @@ class ExtensionStage(Stage):
         return [one for one in self.environment.proxy.of("event") if one.begun >= exchange.answered]
 
     def shut_down(self):
-        """Waits for its SHUTDOWN, and whether its process ends in time: the exchange, and whether it did. Then all is
-        ended as Lambda ends it, and the service knows."""
-        exchange = self.event("SHUTDOWN")
-        ended = self.environment.process.wait(SHUTDOWN_SECONDS + SPARE)
+        """Waits for its SHUTDOWN, and whether its process ends in time: the exchange, whether it did, and its own time.
+        Then all is ended as Lambda ends it, and the service knows."""
+        exchange, process = self.event("SHUTDOWN"), self.environment.process
+        ended = process.wait(SHUTDOWN_SECONDS + SPARE)
         self.environment.kill()
-        if not self.polls_after(exchange):
-            ask(self.environment.service_port, "GET", EXTENSION + "event/next", headers={IDENTIFIED: self.identifier})
-        return exchange, ended
+        ask(self.environment.service_port, "GET", EXTENSION + "event/next", headers={IDENTIFIED: self.identifier})
+        return exchange, ended, process.own
 
     def idle(self):
         """Waits until the runtime and the extension wait."""
-        end = CLOCK.now() + self.patience
+        own = OwnTime(self.environment.process.number)
         while True:
             runtimes, extensions = parked(self.service.history())
             if runtimes and extensions.get(1, 0) >= (2 if self.companion else 1):
                 return
-            if CLOCK.now() > end or self.environment.process.ended:
+            if own.look() > SILENT or self.environment.process.ended:
                 raise Missing(f"it does not wait for an event: {self.said()}")
             time.sleep(0.02)

@@ -5,29 +5,18 @@
   lambda_local conformance runtime --list                  the checks, each with its public page
 
 COMMAND is started for each scenario, in this folder, with the variables that Lambda sets; it runs the handler of the
-kit (docs/conformance.md defines it, examples/conformance has it for four runtimes). Each check is a PASS, a FAIL, or a
-NOTE if the documents leave it open.
+kit (docs/conformance.md defines it, examples/conformance has it for four runtimes). Each check is a PASS, a FAIL, a
+SHOULD if it does not do what the documents recommend, as some clients of AWS's own, or a NOTE if they leave it open.
 
-Exit statuses: 0; 1 if a check is a FAIL; 2 for wrong usage, or a command that cannot be tested."""
+Exit statuses: 0; 1 if a check is a FAIL, or with --strict a SHOULD; 2 for wrong usage, or a command that cannot be
+tested."""
 import argparse
 
-from .. import kit
 from ..run import check_arguments, listed, parser_of, play, seconds, split
-from ..stage import Stage
-from . import connections, context, errors, life, load, payloads
+from . import another, connections, context, errors, failed_inits, first, life, load, payloads, refusals
 
-SCENARIOS = [*life.SCENARIOS, *payloads.SCENARIOS, *context.SCENARIOS, *errors.SCENARIOS, *connections.SCENARIOS,
-             *load.SCENARIOS]
-
-
-def rehearse(tools):
-    """Whether it asks for an invocation. A command that ends before it asks for anything is none that can be tested."""
-    scenario = kit.Scenario("rehearsal", (), None, {})
-    with Stage(tools, scenario, kit.Jury(scenario)) as stage:
-        if stage.environment.asked():
-            return True
-        stage.refuse_if_it_ended()
-        return False
+MODULES = (first, life, payloads, context, errors, failed_inits, refusals, connections, another, load)
+SCENARIOS = [scenario for module in MODULES for scenario in module.SCENARIOS]
 
 
 def many(text):
@@ -40,7 +29,7 @@ def many(text):
 def main(words):
     words, command = split(words)
     parser = parser_of("runtime", __doc__,
-                       "[--init-seconds S] [--only NAME] [--junit FILE] [--pictures DIR] [--program P]")
+                       "[--init-seconds S] [--only NAME] [--strict] [--junit FILE] [--pictures DIR] [--program P]")
     parser.add_argument("--idle-seconds", metavar="S", type=seconds, default=5,
                         help="how long a Next has to wait without a timeout (5)")
     parser.add_argument("--invocations", metavar="N", type=many,
@@ -50,5 +39,4 @@ def main(words):
     check_arguments(options, command, SCENARIOS)
     if options.list:
         return listed(SCENARIOS)
-    return play("conformance runtime", SCENARIOS, options, command, rehearse,
-                f"conformance runtime: {' '.join(command)}")
+    return play("conformance runtime", SCENARIOS, options, command, f"conformance runtime: {' '.join(command)}")

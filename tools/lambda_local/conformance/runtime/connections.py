@@ -1,8 +1,9 @@
 """Requests and connections: how many, one after the other, and what becomes of them."""
 from .. import pages
+from ..again import fault_after
 from ..clock import CLOCK
 from ..kit import Missing, scenarios_of
-from ..proxy import Rule
+from ..exchanges import Rule
 from ..stage import shown
 
 SCENARIOS = []
@@ -10,13 +11,18 @@ scenario = scenarios_of(SCENARIOS)
 
 ROUNDS = 5
 SETTLES = 1  # seconds in which a poll too many is seen
+ASKS = 5  # seconds in which it has asked again
+LOOKS_UP = 0.2  # seconds in which a connection's end is known to both sides
+WORKS = 300  # milliseconds that a handler works, in which its connection ends
 
 
 @scenario(
     ("one_next", pages.NEXT, "there is one Next at a time: no second one while one waits"),
     ("next_after_response", pages.PROCESSING_TASKS,
      "Next is asked for after the response was sent, and not while the handler works"),
-    ("responds_once", pages.RESPONSE, "each invocation gets one response, or one error"))
+    ("responds_once", pages.RESPONSE, "each invocation gets one response, or one error"),
+    ("identifier_as_given", pages.RESPONSE,
+     "the path of a response has the request identifier letter by letter, as Lambda-Runtime-Aws-Request-Id has it"))
 def one_after_the_other(stage):
     for number in range(ROUNDS):
         stage.output({"do": "sleep", "value": 20 * (number % 2)})
@@ -32,11 +38,12 @@ def one_after_the_other(stage):
 
 
 def judge_responses(stage, polls, sent):
-    early, counts = 0, []
+    early, counts, otherwise = 0, [], None
     for poll in polls:
         if poll.delivered:
-            own = [one for one in sent if one.request_id == poll.delivered]
+            own = [one for one in sent if simple(one.request_id) == simple(poll.delivered)]
             counts.append(len(own))
+            otherwise = otherwise or next((one for one in own if one.request_id != poll.delivered), None)
             # (the proxy notes an answer before it forwards it: what comes by it is later)
             early += any(poll.answered <= other.begun and (not own or not own[0].asked or other.begun < own[0].asked)
                          for other in polls)
@@ -44,6 +51,12 @@ def judge_responses(stage, polls, sent):
                 f"in {early} of {len(counts)} invocations Next came before the response")
     stage.check("responds_once", all(count == 1 for count in counts),
                 f"responses to each of {len(counts)} invocations: {counts}")
+    stage.check("identifier_as_given", otherwise is None, f"{otherwise}: the identifier was given otherwise")
+
+
+def simple(identifier):
+    """An identifier without what a lenient service looks over."""
+    return identifier.lower().replace("-", "").strip("{}")
 
 
 @scenario(
@@ -60,17 +73,35 @@ def kept_alive(stage):
 
 @scenario(
     ("connection_end", pages.RETRYING,
-     "if its peer ends the connection after a response, it asks for the next invocation on a new one"))
+     "if its peer ends the connection, while the handler works or after a response, it goes on with a new one"))
 def connection_ends(stage):
     environment = stage.environment
     stage.idle()
+    environment.proxy.of("next")[-1].by_rule = Rule("next", close=True)
+    output = stage.output({"do": "sleep", "value": WORKS})
+    if output != WORKS:
+        return stage.check("connection_end", False, f"the caller received {shown(output)}")
+    if fault := fault_after(stage, "after the connection's end", environment.process):
+        return stage.check("connection_end", False, fault)
+    return ends_after_response(stage)
+
+
+def ends_after_response(stage):
+    """(A Next that is on its way when the connection ends may be lost, and RFC 9112 asks no client to repeat it: one
+    that ends for that is replaced.)"""
+    environment = stage.environment
+    process = environment.process
     environment.proxy.rule = Rule("response", close=True)
     stage.output({"do": "echo", "value": 1})
-    response = environment.saw("response", 5)
-    if response is None or not environment.asked_after(response, 5):
-        raise Missing(f"no Next within 5 s after the connection's end: {stage.said()}")
-    output = stage.output({"do": "echo", "value": 2})
-    stage.check("connection_end", output == 2, f"the next caller received {shown(output)}")
+    response = environment.saw("response", 5, len(environment.proxy.of("response")))
+    if response is None or not (environment.asked_after(response, ASKS) or process.ended):
+        raise Missing(f"no Next within {ASKS} s after the connection's end: {stage.said()}")
+    ended = process.wait(LOOKS_UP)
+    fault = fault_after(stage, "after the connection's end")
+    if ended and not fault:
+        return stage.note("connection_end", f"{process.how_it_ended()} when the connection ended as it asked for its "
+                                            "next invocation")
+    return stage.check("connection_end", not fault, fault)
 
 
 @scenario(

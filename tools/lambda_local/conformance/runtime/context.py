@@ -1,5 +1,8 @@
 """What the handler may know of its invocation."""
+import time
+
 from .. import pages
+from ..again import SLACK, remaining_fault
 from ..kit import scenarios_of
 from ..stage import shown
 
@@ -8,6 +11,7 @@ scenario = scenarios_of(SCENARIOS)
 
 TIMEOUT = 20  # seconds
 SLEEP = 60  # milliseconds between the two looks at the remaining time
+APART = SLACK / 1000 + 0.3  # seconds between the invocations, so that their deadlines differ
 TRACES = ("Root=1-5759e988-bd862e3fe1be46a994272793;Parent=53995c3f42cd8ad8;Sampled=1",
           "Root=1-5759e989-0123456789abcdef01234567;Parent=0123456789abcdef;Sampled=0")
 
@@ -25,6 +29,7 @@ TRACES = ("Root=1-5759e988-bd862e3fe1be46a994272793;Parent=53995c3f42cd8ad8;Samp
     ("trace_renewed", pages.PROCESSING_TASKS, "_X_AMZN_TRACE_ID is renewed for each invocation"), timeout=TIMEOUT)
 def context(stage):
     for place, trace in enumerate(TRACES):
+        time.sleep(APART * place)
         event, qualified = {"do": "context", "value": SLEEP}, place == 0
         answer = stage.invoke(event, qualified=qualified, trace=trace)
         seen = answer.value if isinstance(answer.value, dict) else {}
@@ -34,17 +39,17 @@ def context(stage):
         arn = stage.arn + (":$LATEST" if qualified else "")
         stage.check("function_arn", seen.get("functionArn") == arn,
                     f"{shown(seen.get('functionArn'))} in place of {arn}")
-        judge_time(stage, seen.get("remaining"))
+        judge_time(stage, seen.get("remaining"), request)
         judge_trace(stage, place, seen.get("traceId"))
 
 
-def judge_time(stage, remaining):
+def judge_time(stage, remaining, request):
     """Two looks at the remaining time, in milliseconds."""
     numbers = isinstance(remaining,
                          list) and len(remaining) == 2 and all(isinstance(each, (int, float)) for each in remaining)
     came = f"remaining milliseconds before and after {SLEEP} ms: {shown(remaining)}, of {stage.timeout * 1000}"
-    # (from 0 at the worst, on a machine that is busy with other things, to the whole timeout)
-    stage.check("deadline", numbers and 0 < remaining[0] <= stage.timeout * 1000 + 1, came)
+    fault = remaining_fault(stage, remaining, request)
+    stage.check("deadline", numbers and not fault, fault or came)
     stage.check("remaining_time", numbers and remaining[0] - remaining[1] >= SLEEP - 5, came)
 
 

@@ -1,163 +1,109 @@
-"""Errors: of an invocation, of an Init, and answers that are refusals."""
+"""Errors of an invocation."""
+import re
+
 from .. import pages
-from ..clock import CLOCK
-from ..kit import Missing, scenarios_of
+from ..again import MESSAGE, TYPE, context_fault, fault_after, usable
+from ..kit import scenarios_of
 from ..stage import shown
-from .payloads import LIMIT
 
 SCENARIOS = []
 scenario = scenarios_of(SCENARIOS)
 
-TYPE, MESSAGE = "OutOfCheese", "no cheese left, says Müller"
 HEADER = "lambda-runtime-function-error-type"
-ENDS = 3  # seconds in which a process that has to end promptly has ended
-REPORTED = 5  # seconds beyond an Init's own time
+REPORTED = 5  # seconds in which a report has come
+# Messages of characters that encoders treat in their own ways. (A NUL ends a text in some languages.)
+MESSAGES = {
+    "quotes": "it said \"no\", and 'no' again",
+    "line ends": "first line\nsecond line\r\nthird line, \"quoted\"",
+    "backslashes": "C:\\temp\\new, a\\\"b",
+    "control characters": "a tab\t, an escape \u001b[31m, a bell \u0007, a delete \u007f",
+    "other letters": "Gr\u00fc\u00dfe, \u4e16\u754c, \U0001f680, e\u0301, \u2028",
+    "braces": "{\"errorMessage\": \"inner\"}, ${HOME}, %s %d, <b>&amp;</b>",
+    "a long one": "cheese " * 400,
+    "nothing": "",
+}
+TRACES = ("Root=1-5759e98a-bd862e3fe1be46a994272793;Parent=53995c3f42cd8ad8;Sampled=1",
+          "Root=1-5759e98b-bd862e3fe1be46a994272793;Parent=53995c3f42cd8ad8;Sampled=1",
+          "Root=1-5759e98c-bd862e3fe1be46a994272793;Parent=53995c3f42cd8ad8;Sampled=0")
 
 
 @scenario(
     ("error_reported", pages.INVOKE_ERROR, "an error of the handler is sent to invocation/ID/error, not to response"),
     ("error_message", pages.INVOKE_ERROR, "its report has the error's message as \"errorMessage\""),
-    ("error_type", pages.INVOKE_ERROR, "its report has the error's type as \"errorType\""),
-    ("stack_trace", pages.INVOKE_ERROR, "\"stackTrace\" is a list of texts; without it, a NOTE"),
+    ("error_type", pages.INVOKE_ERROR, "its report has the error's type as \"errorType\", or as a word of it"),
+    ("stack_trace", pages.INVOKE_ERROR, "\"stackTrace\" is a list; without it, a NOTE"),
     ("error_header", pages.INVOKE_ERROR,
-     "Lambda-Runtime-Function-Error-Type names the type; it is not required: without it, a NOTE"))
+     "Lambda-Runtime-Function-Error-Type names a category and a reason; Lambda accepts any text: without it, or with "
+     "another type, a NOTE"))
 def errors(stage):
     answer = stage.invoke({"do": "fail", "type": TYPE, "message": MESSAGE})
     report, came = answer.report, f"the caller received {shown(answer.body)}"
     proxy = stage.environment.proxy
     proxy.wait(lambda: any(one.kind in ("error", "response") and one.ended for one in proxy.exchanges), REPORTED)
     exchange = stage.environment.saw("error", 0)
-    stage.check("error_reported", exchange is not None and answer.failed,
-                "error" if exchange else "no request to invocation/ID/error, but " + ", ".join(
-                    f"{one.method} {one.path}" for one in proxy.of("response")))
+    reported = exchange is not None and answer.failed
+    others = ", ".join(f"{one.method} {one.path}" for one in proxy.of("response"))
+    stage.check("error_reported", reported, "error" if exchange else f"no request to invocation/ID/error, but {others}")
+    if not reported:  # (one cause, one FAIL)
+        return stage.jury.rest("NOTE", "no error is reported")
     stage.check("error_message", report.get("errorMessage") == MESSAGE, came)
-    stage.check("error_type", isinstance(report.get("errorType"), str) and report["errorType"].split(".")[-1] == TYPE,
-                came)
-    judge_trace(stage, report.get("stackTrace"))
-    judge_header(stage, exchange)
+    stage.check("error_type", names_the_type(report.get("errorType")), came)
+    judge_trace(stage, report)
+    return judge_header(stage, exchange)
 
 
-def judge_trace(stage, trace):
+def names_the_type(value):
+    """Whether the type is a word of this: languages name it with its module, or in brackets."""
+    words = re.split(r"[^A-Za-z0-9_]+", value) if isinstance(value, str) else []
+    return any(word in (TYPE, TYPE + "Error", TYPE + "Exception") for word in words)
+
+
+def judge_trace(stage, report):
+    trace = report.get("stackTrace")
     if trace is None:
-        return stage.note("stack_trace", "it reports none")
-    lines = isinstance(trace, list) and all(isinstance(line, str) for line in trace)
-    return stage.check("stack_trace", lines, shown(trace))
+        others = sorted(name for name in report if "trace" in name.lower() and report[name])
+        return stage.note("stack_trace", f"it reports {others[0]} in its place" if others else "it reports none")
+    return stage.check("stack_trace", isinstance(trace, list) and all(isinstance(line, (str, dict)) for line in trace),
+                       shown(trace))
 
 
 def judge_header(stage, exchange):
-    value = exchange.request.headers.get(HEADER) if exchange else None
+    value = exchange.request.headers.get(HEADER)
     if not value:
         return stage.note("error_header", "it sends none")
-    return stage.check("error_header", value.split(".")[-1] == TYPE, f"{value}, for an error of type {TYPE}")
+    if not names_the_type(value):
+        return stage.note("error_header", f"{value}, for an error of type {TYPE}")
+    return stage.check("error_header", True, "")
 
 
 @scenario(
-    ("after_error", pages.INVOKE_ERROR, "after an error of the handler the same process takes the next invocation"))
+    ("error_texts", pages.INVOKE_ERROR,
+     f"a message with {', '.join(MESSAGES)} in it reaches the caller as it is, each as an error of its own"), lasts=2)
+def error_texts(stage):
+    for name, message in MESSAGES.items():
+        usable(stage)
+        answer = stage.invoke({"do": "fail", "type": TYPE, "message": message})
+        came = answer.report.get("errorMessage")
+        fits = came == message or (not message and came in (None, TYPE))  # (some languages have no empty message)
+        if not answer.failed or not fits:
+            return stage.check("error_texts", False, f"{name}: {shown(message)} came as {shown(answer.body)}")
+    return stage.check("error_texts", True, "")
+
+
+@scenario(
+    ("after_error", pages.INVOKE_ERROR,
+     "after an error of the handler the next invocations have their own outputs, errors, identifiers, deadlines and "
+     "traces"),
+    ("same_process", pages.INVOKE_ERROR,
+     "it is the same process that takes the next invocation after an error; one that ends, and is replaced by Lambda, "
+     "is a SHOULD"))
 def error_then_output(stage):
+    before = [context_fault(stage, trace) for trace in TRACES[:2]]
     stage.invoke({"do": "fail", "type": TYPE, "message": MESSAGE})
-    first = stage.environment.process
-    answer = stage.later(stage.invoke, {"do": "echo", "value": "after the error"})
-    while not answer.done() and not first.ended:
-        first.wait(0.02)
-    if first.ended and not answer.done():
-        return stage.check("after_error", False, first.how_it_ended())
-    return stage.check("after_error", answer.result().body == b'"after the error"', shown(answer.result().body))
-
-
-def init_fails(stage, report_check):
-    """An Init that cannot succeed is reported: that report's exchange; None, with the check judged, if there is
-    none."""
-    environment = stage.environment
-    process, proxy = environment.process, environment.proxy
-    end = CLOCK.now() + stage.patience + REPORTED
-    while not (process.ended or proxy.of("next")
-               or any(one.ended for one in proxy.of("init_error"))) and CLOCK.now() < end:
-        proxy.wait(lambda: any(one.kind == "next" or one.answered for one in proxy.exchanges), 0.05)
-    exchange = environment.saw("init_error", 1)
-    if exchange:
-        report = exchange.json()
-        report = report if isinstance(report, dict) else {}
-        right = bool(report.get("errorMessage")) and bool(report.get("errorType")) and exchange.status == 202
-        stage.check(report_check, right, f"{exchange.status} for {shown(exchange.request.body)}")
-        return exchange
-    if proxy.of("next"):
-        answer = stage.invoke({"do": "echo", "value": 1})
-        if answer.failed:
-            stage.check(report_check, False,
-                        f"it asked for an invocation, and only that one failed: {shown(answer.body)}")
-        else:
-            stage.note(report_check, "it takes invocations all the same: it does not look at _HANDLER")
-    else:
-        stage.check(report_check, False, f"no request to init/error; {stage.said()}")
-    return None
-
-
-@scenario(
-    ("init_error", pages.INIT_ERROR,
-     "an error while the handler is loaded is sent to init/error with \"errorMessage\" and \"errorType\""),
-    ("init_error_ends", pages.INITIALIZATION_TASKS, "after init/error the process exits"), handler="failing.handler")
-def failing_init(stage):
-    exchange = init_fails(stage, "init_error")
     process = stage.environment.process
-    if exchange:
-        return stage.check("init_error_ends", process.wait(ENDS), f"{ENDS} s after its report {process.how_it_ended()}")
-    if "init_error" in stage.jury.verdicts and stage.environment.proxy.of("next"):
-        return stage.note("init_error_ends", "no Init failed")
-    return stage.check("init_error_ends", process.ended, process.how_it_ended())
-
-
-@scenario(
-    ("missing_handler", pages.INIT_ERROR, "a handler that cannot be found is an error of the Init, sent to init/error"),
-    handler="missing.handler")
-def handler_that_is_missing(stage):
-    init_fails(stage, "missing_handler")
-
-
-@scenario(
-    ("broken_handler", pages.INIT_ERROR, "a handler that does not compile is an error of the Init, sent to init/error"),
-    handler="broken.handler")
-def handler_that_is_broken(stage):
-    init_fails(stage, "broken_handler")
-
-
-def asks_again(stage, name, exchange):
-    """After a refusal a runtime asks for its next invocation. That it ends instead, no document forbids."""
-    environment, refused = stage.environment, exchange.status
-    if environment.asked_after(exchange, REPORTED):
-        return stage.check(name, True, "")
-    if environment.process.ended:
-        return stage.note(name, f"after {refused} {environment.process.how_it_ended()}, which no document forbids")
-    again = len(environment.proxy.of("response")) - 1
-    return stage.check(name, False, f"after {refused} it did not ask for its next invocation within {REPORTED} s"
-                                    + (f", and sent {again} more responses" if again > 0 else ""))
-
-
-@scenario(
-    ("too_large", pages.RESPONSE,
-     "after a response that is too large (413) it asks for the next invocation; an end instead is a NOTE"),
-    lasts=3)
-def response_too_large(stage):
-    answer = stage.later(stage.invoke, {"do": "large", "value": LIMIT - 1})
-    exchange = stage.environment.saw("response", 15)
-    if exchange is None:
-        raise Missing(f"no response of {LIMIT + 1:,} bytes was sent within 15 s")
-    answer.result()
-    if exchange.status != 413:
-        raise Missing(f"its response had {len(exchange.request.body):,} bytes in place of {LIMIT + 1:,}")
-    asks_again(stage, "too_large", exchange)
-
-
-@scenario(
-    ("late_response", pages.INVOKE_FAILURES,
-     "after a response that is too late (403) it asks for the next invocation; an end instead is a NOTE"),
-    timeout=1, lasts=3)
-def response_too_late(stage):
-    stage.idle()
-    answer = stage.invoke({"do": "sleep", "value": 1000 * stage.timeout + 300})
-    if not answer.failed:
-        raise Missing(
-            f"a handler that sleeps beyond its timeout of {stage.timeout} s was answered: {shown(answer.body)}")
-    exchange = stage.environment.saw("response", REPORTED) or stage.environment.saw("error", 0)
-    if exchange is None:
-        raise Missing(f"it sent no response, not even a late one ({stage.environment.process.how_it_ended()})")
-    asks_again(stage, "late_response", exchange)
+    fault = fault_after(stage, "after the error")
+    if process.ended:
+        stage.should("same_process", f"after it has reported the error {process.how_it_ended()}")
+    stage.check("same_process", True, "")
+    fault = fault or (context_fault(stage, TRACES[2]) if not any(before) else None)
+    return stage.check("after_error", not fault, fault)

@@ -4,15 +4,15 @@ import signal
 from .. import pages
 from ..clock import CLOCK
 from ..kit import Missing, scenarios_of
-from ..proxy import Rule
+from ..exchanges import Rule
 from ..stage import shown
 
 SCENARIOS = []
 scenario = scenarios_of(SCENARIOS)
 
 SHUTDOWN_SECONDS = 2  # that Lambda's Shutdown phase has
-SPARE = 0.5  # seconds for a machine that is busy with other things
 ENDS = 3  # seconds in which a process that has to end promptly has ended
+SENDS = 12  # seconds in which it has answered an invocation
 CONTAINER_ERROR = b'{"errorMessage":"Environment is shutting down","errorType":"ContainerError"}'
 
 
@@ -21,8 +21,11 @@ CONTAINER_ERROR = b'{"errorMessage":"Environment is shutting down","errorType":"
      "the first Next comes within the Init phase's limit (--init-seconds, 10 by default)"))
 def first_next(stage):
     environment, limit = stage.environment, stage.tools.options.init_seconds
-    seconds = environment.proxy.of("next")[0].since - environment.process.begun
-    stage.check("init_in_time", seconds <= limit, f"after {seconds:.2f} s, of {limit:g}", f"after {seconds:.2f} s")
+    seconds = environment.proxy.of("next")[0].begun - environment.process.begun
+    own = environment.own
+    own.real = seconds  # (it was looked at only now and then)
+    passed = min(seconds, own.seconds) <= limit
+    stage.in_time("init_in_time", passed, own, limit, f"after {seconds:.2f} s, of {limit:g}", f"after {seconds:.2f} s")
 
 
 def ends(stage, name, since, seconds=ENDS):
@@ -31,8 +34,8 @@ def ends(stage, name, since, seconds=ENDS):
     seen = len(stage.environment.proxy.exchanges)
     ended = process.wait(seconds)
     more = len(stage.environment.proxy.exchanges) - seen
-    stage.check(name, ended, f"{seconds:g} s after {since} {process.how_it_ended()}"
-                + (f", and made {more} more requests" if more else ""))
+    stage.in_time(name, ended, process.own, seconds, f"{seconds:g} s after {since} {process.how_it_ended()}"
+                  + (f", and made {more} more requests" if more else ""))
 
 
 @scenario(
@@ -45,15 +48,34 @@ def container_error_at_next(stage):
     ends(stage, "ends_at_500", "500")
 
 
+def container_error_at(stage, kind, name, event):
+    """The environment is at its end: each answer from then on is the container error."""
+    proxy, process = stage.environment.proxy, stage.environment.process
+    proxy.rule = Rule(kind, reply=(500, CONTAINER_ERROR))
+    proxy.then = Rule("next", reply=(500, CONTAINER_ERROR))
+    stage.later(stage.invoke, event)
+    exchange = stage.environment.saw(kind, SENDS)
+    if exchange is None:
+        raise Missing(f"it sent no {kind}")
+    ends(stage, name, f"500 at its {kind}")
+    if process.ended and (later := [one for one in proxy.of("next") if one.begun > exchange.answered]):
+        stage.should(name, f"it asked {len(later)} times for an invocation before it ended")
+
+
 @scenario(
     ("ends_at_500_response", pages.RESPONSE,
-     "after 500 at its response, which is not recoverable, the process exits promptly"), timeout=3)
+     "after 500 at its response, which is not recoverable, the process exits promptly; one that asks again first, and "
+     "exits at the next 500, is a SHOULD"), timeout=3)
 def container_error_at_response(stage):
-    stage.environment.proxy.rule = Rule("response", reply=(500, CONTAINER_ERROR))
-    stage.later(stage.invoke, {"do": "echo", "value": 1})
-    if stage.environment.saw("response", stage.patience) is None:
-        raise Missing("it sent no response")
-    ends(stage, "ends_at_500_response", "500")
+    container_error_at(stage, "response", "ends_at_500_response", {"do": "echo", "value": 1})
+
+
+@scenario(
+    ("ends_at_500_error", pages.INVOKE_ERROR,
+     "after 500 at its error, which is not recoverable, the process exits promptly; one that asks again first, and "
+     "exits at the next 500, is a SHOULD"), timeout=3)
+def container_error_at_error(stage):
+    container_error_at(stage, "error", "ends_at_500_error", {"do": "fail", "type": "OutOfCheese", "message": "none"})
 
 
 @scenario(
@@ -63,7 +85,7 @@ def terminated(stage):
     stage.output({"do": "echo", "value": 1})
     stage.idle()
     stage.environment.process.signal(signal.SIGTERM)
-    ends(stage, "ends_at_sigterm", "SIGTERM", SHUTDOWN_SECONDS + SPARE)
+    ends(stage, "ends_at_sigterm", "SIGTERM", SHUTDOWN_SECONDS)
 
 
 @scenario(

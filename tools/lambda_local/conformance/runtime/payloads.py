@@ -2,7 +2,10 @@
 import json
 
 from .. import pages
+from ..again import fault_after
 from ..kit import Missing, scenarios_of
+from ..manners import Manner
+from ..exchanges import as_json
 from ..stage import compact, shown
 
 SCENARIOS = []
@@ -14,6 +17,29 @@ ESCAPES = r'"\"\\\/\b\f\n\r\t\u0000\u00e9\u4e16\ud83d\ude80\u2028"'
 NUMBERS = ["0", "-1", "1.50", "1e3", "0.1", "9007199254740993", "12345678901234567890", "-1.7976931348623157e308",
            "5e-324"]
 DEPTH = 100
+PRELUDE_END = b"\0" * 8  # behind the JSON object with which a stream for HTTP begins
+TEXTS = (TEXT, "Gr\u00fc\u00dfe", "\u00e9", "\u4e16\u754c", "\U0001f680",
+         "na\u00efve caf\u00e9 \u2014 \u201cd\u00e9j\u00e0 vu\u201d")
+MIXED = "a\u00fc\u4e16\U0001f680b\u00e9\u754c\U0001f30dc"  # (its length in bytes has no small divisor)
+LONG, PART = 300_000, 4093  # bytes
+KINDS = {
+    "snake_case_name": 1, "camelCaseName": 2, "PascalCaseName": 3, "kebab-case-name": 4, "SCREAMING_NAME": 5, "ID": 6,
+    "URLOfId": 7, "name with spaces": 8, "a.dotted.name": 9, "$dollar": 10, "@at": 11, "_underscore_": 12, "0": 13,
+    "10": 14, "gr\u00f6\u00dfe": 15, "\u540d\u524d": 16, "/slash/": 17, "a:colon": 18, "class": 19, "type": 20,
+    "#text": 21, "null_member": None, "empty_text": "", "empty_list": [], "empty_object": {}, "false": False,
+    "true": True, "zero": 0, "nulls": [None, None],
+    "nested": {"null": None, "Inner_Name": {"deepEr": [{"x_y": None}]}}, "date": "2024-01-15",
+    "time": "2024-01-15T10:30:00Z", "milliseconds": "2024-01-15T10:30:00.000+00:00",
+    "offset": "2024-01-15T10:30:00.120+02:00", "old_date": "/Date(1705314600000)/", "us_date": "01/15/2024",
+    "clock": "10:30", "duration": "PT1H", "digits": "0123", "decimal": "1.50", "exponent": "1e5",
+    "long": "12345678901234567890", "plus": "+1", "hex": "0x1F", "not_a_number": "NaN", "infinity": "Infinity",
+    "word": "true", "no": "no", "nil": "null", "undefined": "undefined", "base64": "SGVsbG8=",
+    "uuid": "C0FFEE00-0000-4000-8000-00000000ABCD", "url": "https://example.com/a/b?c=d&e=%20f#g",
+    "markup": "<b>&amp; \"quoted\" 'single'</b>", "json": "{\"a\":[1,null]}", "spaces": "  both  ", "only_space": " ",
+    "lines": "one\ntwo\r\nthree\n", "tab": "\t", "bom": "\ufefftext", "separators": "\u2028\u2029",
+    "backslash": "C:\\dir\\new", "template": "${x} #{y} {{z}} %s %d $1", "combining": "e\u0301",
+    "emoji": "\U0001f468\u200d\U0001f469\u200d\U0001f467", "right_to_left": "\u05e9\u05dc\u05d5\u05dd",
+}
 
 
 def received(stage, name, event, expected):
@@ -46,8 +72,31 @@ def small_payloads(stage):
 @scenario(
     ("utf8", pages.JSON_TEXTS, "text beyond ASCII reaches the handler, and its caller, as the UTF-8 that was sent"))
 def text(stage):
-    received(stage, "utf8", {"do": "echo", "value": TEXT}, TEXT)
+    for value in TEXTS:
+        received(stage, "utf8", {"do": "echo", "value": value}, value)
     received(stage, "utf8", {"do": "bytes", "value": TEXT}, list(TEXT.encode()))
+
+
+@scenario(
+    ("long_text", pages.JSON_TEXTS,
+     f"so does a text of {LONG:,} bytes whose letters have one to four of them, of which the ends of what is read at "
+     "once fall into each place"))
+def long_text(stage):
+    stage.environment.proxy.manner = Manner(kinds=("next",), part=PART, pause=0.001)
+    for shift in range(2):
+        value = "x" * shift + MIXED * (LONG // len(MIXED.encode()))
+        received(stage, "long_text", {"do": "echo", "value": value}, value)
+
+
+@scenario(
+    ("kinds", pages.NEXT,
+     "an event whose names and values are of each kind that serializers treat in their own way is returned as it is: "
+     "names in each case, null, empty members, texts that look like dates, numbers, addresses or markup"))
+def kinds_of_members(stage):
+    received(stage, "kinds", {"do": "echo", "value": KINDS}, KINDS)
+    received(stage, "kinds", KINDS, KINDS)
+    received(stage, "kinds", {"do": "echo", "value": [KINDS, [], {}, [[]], None, "", [None]]},
+             [KINDS, [], {}, [[]], None, "", [None]])
 
 
 @scenario(
@@ -57,12 +106,19 @@ def escaped(stage):
 
 
 @scenario(
-    ("nesting", pages.JSON_NESTING, f"an event of {DEPTH} lists and objects inside one another is returned as it is"))
+    ("nesting", pages.JSON_NESTING,
+     f"an event of {DEPTH} lists and objects inside one another is returned as it is, or refused as an error (a NOTE)"))
 def nested(stage):
     value = 1
     for level in range(DEPTH):
         value = [value] if level % 2 else {"in": value}
-    received(stage, "nesting", {"do": "echo", "value": value}, value)
+    answer = stage.invoke({"do": "echo", "value": value})
+    if answer.failed:
+        fault = fault_after(stage, "after a deep event")
+        if not fault:
+            return stage.note("nesting", f"it reports an error, as its parser may limit depth: {shown(answer.body)}")
+        return stage.check("nesting", False, fault)
+    return stage.check("nesting", is_json(answer.body, value), f"the caller received {shown(answer.body)}")
 
 
 @scenario(
@@ -137,7 +193,9 @@ def streamed(stage):
         if is_json(answer.body, whole):
             return stage.note("stream", "it does not stream: the response came whole")
         return stage.check("stream", False, f"the caller received {shown(answer.body)}")
-    right = mode.lower() == "streaming" and exchange.request.chunked and answer.body in (whole.encode(), compact(whole))
+    prelude, zeros, rest = answer.body.partition(PRELUDE_END)
+    body = rest if zeros and isinstance(as_json(prelude), dict) else answer.body
+    right = mode.lower() == "streaming" and exchange.request.chunked and body in (whole.encode(), compact(whole))
     return stage.check("stream", right,
                        f"mode {shown(mode)}, {'in chunks' if exchange.request.chunked else 'not in chunks'}, "
                        f"and the caller received {shown(answer.body)}")

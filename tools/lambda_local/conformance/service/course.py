@@ -113,6 +113,7 @@ class Course:
                            and any(given.answer.kind == "deliver" for given in before))
         over = {given.call for given in before}
         parted = False
+
         # (a delivery first, which makes an identifier known, and then the call itself)
         def order(place):
             return place not in here or here[place].answer.kind != "deliver", place != step, place

@@ -1,0 +1,73 @@
+"""Whether a runtime is of use again: after a failure, as Lambda uses it again."""
+import time
+
+from .kit import Missing
+from .stage import shown
+
+TYPE, MESSAGE = "OutOfCheese", "no cheese left, says M\u00fcller"
+SLACK = 100  # milliseconds between a look at a clock here and one in the handler, beyond what the exchanges show
+
+
+def usable(stage):
+    """Starts a process that has ended anew, as Lambda does; Missing if none comes to wait for an invocation."""
+    for is_last in (False, True):
+        for environment in stage.environments:
+            if environment.process.ended:
+                environment.revive()
+        try:
+            return stage.idle()
+        except Missing:  # (it may have ended only now)
+            if is_last or not any(environment.process.ended for environment in stage.environments):
+                raise
+    return None
+
+
+def fault_after(stage, word="again", process=None):
+    """What is wrong with an output, an error and an output after one another, in words; none if they are right. If a
+    process is given, the first output is to be its own."""
+    try:
+        if process and process.ended:
+            return f"it asked for its next invocation, and then {process.how_it_ended()}"
+        usable(stage)
+        for place in (1, 2):
+            text = f"{word} {place}"
+            output = stage.output({"do": "echo", "value": text})
+            if output != text:
+                return f"a later caller received {shown(output)} in place of {shown(text)}"
+            if place == 1:
+                answer = stage.invoke({"do": "fail", "type": TYPE, "message": word})
+                if not answer.failed or answer.report.get("errorMessage") != word:
+                    return f"a later caller received {shown(answer.body)} in place of the error {word}"
+                usable(stage)
+    except Missing as missing:
+        return f"a later invocation: {missing}"
+    return None
+
+
+def context_fault(stage, trace):
+    """What is wrong with what the handler sees of its invocation; none if all is right."""
+    answer = stage.invoke({"do": "context", "value": 0}, trace=trace)
+    seen = answer.value if not answer.failed and isinstance(answer.value, dict) else {}
+    pairs = (("request identifier", seen.get("requestId"), answer.headers.get("x-amzn-requestid")),
+             ("trace", seen.get("traceId"), trace))
+    for name, came, wanted in pairs:
+        if came != wanted:
+            return f"the handler sees the {name} {shown(came)} in place of {wanted}"
+    return remaining_fault(stage, seen.get("remaining"), answer.headers.get("x-amzn-requestid"))
+
+
+def remaining_fault(stage, remaining, request):
+    """What is wrong with the remaining time that the handler saw first: it is the deadline less the moment of that
+    look, which is between the delivery and the response."""
+    polls = [one for one in stage.environment.proxy.of("next") if one.delivered == request]
+    sent = [one for one in stage.environment.proxy.of("response") if one.request_id.lower() == request]
+    if not polls or not sent:
+        return None
+    deadline = int(polls[-1].reply.headers["lambda-runtime-deadline-ms"])
+    offset = time.time() - time.monotonic()
+    most, least = (deadline - 1000 * (moment + offset) for moment in (polls[-1].answered, sent[0].begun))
+    first = remaining[0] if isinstance(remaining, list) and remaining else None
+    if not isinstance(first, (int, float)) or isinstance(first, bool) or not least - SLACK <= first <= most + SLACK:
+        return (f"the remaining milliseconds are {shown(first)}: until {deadline} they were between {least:.0f} and "
+                f"{most:.0f}")
+    return None

@@ -1,0 +1,133 @@
+"""What the proxy records of a request and its reply, and what a rule has it do to them."""
+import json
+import re
+import time
+
+from ..service import EXTENSION, RUNTIME
+from .manners import Manner
+
+ENOUGH = 300  # bytes of what comes behind a request
+
+KINDS = {
+    ("GET", RUNTIME + "invocation/next"): "next",
+    ("POST", RUNTIME + "init/error"): "init_error",
+    ("POST", EXTENSION + "register"): "register",
+    ("GET", EXTENSION + "event/next"): "event",
+    ("POST", EXTENSION + "init/error"): "extension_init_error",
+    ("POST", EXTENSION + "exit/error"): "extension_exit_error",
+    ("PUT", "/2022-07-01/telemetry"): "telemetry",
+    ("PUT", "/2020-08-15/logs"): "telemetry",
+}
+
+
+class Exchange:
+    """A request and its reply. Times are those of `time.monotonic`, and None for what has not come."""
+
+    def __init__(self, connection, peer, request):
+        self.connection, self.peer = connection, peer  # the connection's number, from 1, and the peer's port
+        self.begun = time.monotonic()
+        self.asked = self.answered = None  # the request is whole; the reply is
+        self.left = None  # one of the two has gone before that
+        self.method, _, rest = request.start.partition(" ")
+        self.path = rest.partition(" ")[0]
+        self.request, self.reply = request, None
+        self.by_rule = None  # a rule with `close` may still be set while the exchange is open
+        self.behind = b""  # what came behind the request and is not the beginning of another one
+        self.kind, self.request_id = self._kind()
+
+    def _kind(self):
+        if (self.method, self.path) in KINDS:
+            return KINDS[self.method, self.path], None
+        words = self.path.split("/")
+        if (self.method == "POST" and self.path.startswith(RUNTIME + "invocation/")
+                and words[-1] in ("response", "error")):
+            return words[-1], words[-2]
+        return "other", None
+
+    @property
+    def status(self):
+        """The reply's status; None if there is none."""
+        return int(self.reply.start.split(" ")[1]) if self.reply else None
+
+    @property
+    def delivered(self):
+        """The request identifier of the invocation that this poll was answered with; None if it was not."""
+        return (self.reply.headers.get("lambda-runtime-aws-request-id")
+                if self.kind == "next" and self.status == 200 else None)
+
+    @property
+    def ended(self):
+        """When the exchange was over; None if it is open."""
+        return self.answered or self.left
+
+    @property
+    def refused(self):
+        return self.status is not None and self.status >= 400
+
+    def __str__(self):
+        """As a line: the request, its status, and the body of a refusal."""
+        body = bytes(self.reply.body[:ENOUGH]).decode(errors="replace").strip() if self.refused else ""
+        came = self.status or ("the connection ended before the answer" if self.left else "no answer: it waits")
+        return f"{self.method} {self.path} -> {came} {body}".strip()
+
+    def faults(self):
+        """What the connection shows that the one who made the request may not know, as lines."""
+        length = self.request.headers.get("content-length")
+        if self.behind:
+            yield (f"{self.method} {self.path}: behind the body, of Content-Length {length or 0}, come the bytes "
+                   f"{shown_bytes(self.behind)}: is the length that of the body in bytes, and not in characters?")
+        if self.left and not self.asked:
+            declared = f"of Content-Length {length}" if length else "without its last chunk" * self.request.chunked
+            yield (f"{self.method} {self.path}: the body is cut short: {len(self.request.body)} bytes came {declared}, "
+                   f"and then the connection ended")
+
+    def json(self):
+        """The request's body as JSON; None if it is none."""
+        return as_json(self.request.body)
+
+    def reply_json(self):
+        return as_json(self.reply.body) if self.reply else None
+
+
+def as_json(body):
+    try:
+        return json.loads(bytes(body))
+    except ValueError:
+        return None
+
+
+class Rule:
+    """What the proxy does to a request of a kind: answers in the service's place by a status and a body (`decide` gives
+    them for the exchange), never answers (`holds`), ends the connection after these seconds without an answer, or
+    closes it after the reply. `manner` is how the reply is written."""
+
+    def __init__(self, kind, reply=None, close=False, headers=(), decide=None, holds=False, ends_after=None,
+                 manner=None):
+        self.kind, self.reply, self.close, self.headers, self.decide = kind, reply, close, headers, decide
+        self.holds, self.ends_after, self.manner = holds, ends_after, manner or Manner()
+
+    @property
+    def stands_in(self):
+        """Whether the service does not see the request."""
+        return bool(self.reply or self.decide or self.holds or self.ends_after is not None)
+
+    def bytes(self, exchange=None):
+        status, body = self.decide(exchange) if self.decide else self.reply
+        lines = [f"HTTP/1.1 {status} Rule", "Content-Type: application/json", f"Content-Length: {len(body)}"]
+        lines += [f"{name}: {value}" for name, value in self.headers]
+        return ("\r\n".join(lines) + "\r\n\r\n").encode() + body
+
+    def did(self, exchange):
+        if self.holds:
+            return "did not answer it"
+        if self.ends_after is not None:
+            return f"ended the connection after {self.ends_after:g} s without an answer"
+        if self.reply or self.decide:
+            return f"answered it {exchange.status or self.reply[0]}"
+        return "ended the connection after the answer"
+
+
+def shown_bytes(data, most=40):
+    """Bytes as they may be printed."""
+    text = re.sub(r"[^ -~]", lambda found: repr(found[0])[1:-1], bytes(data[:most]).decode("latin-1"))
+    return text + (".." if len(data) > most else "")

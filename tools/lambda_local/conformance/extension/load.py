@@ -1,0 +1,42 @@
+"""Many events, one after the other."""
+import time
+
+from .. import leaks, pages
+from ..kit import NOTE, Missing, scenarios_of
+
+SCENARIOS = []
+scenario = scenarios_of(SCENARIOS)
+
+EVENTS = 500
+SECONDS = 8  # that they may take
+PATIENCE = 15  # seconds more, for as long as memory grows
+CHECKS = {"memory": "memory", "descriptors": "descriptors", "threads": "threads", "processes": "children",
+          "zombies": "zombies"}
+
+
+@scenario(
+    ("many_events", pages.EXTENSION_INVOKE,
+     f"it takes {EVENTS} events, one after the other, or as many as there are in {SECONDS} s"),
+    ("memory", pages.REUSE, "they leave nothing in memory: what it takes stops growing"),
+    ("descriptors", pages.REUSE, "they leave no descriptors open"),
+    ("threads", pages.REUSE, "nor threads"),
+    ("children", pages.REUSE, "nor processes that run"),
+    ("zombies", pages.REUSE, "nor ended ones that are not waited for"),
+    ("files", pages.REUSE, "nor large files; a small one for each event is a SHOULD"),
+    lasts=10, drawn=False)
+def many_events(stage):
+    stage.begin()
+    stage.idle()
+    if not stage.registered_for("INVOKE"):
+        return stage.jury.rest(NOTE, "it does not register for INVOKE")
+    since, process = time.time() - 1, stage.environment.process
+
+    def once(number):
+        if stage.invoke(str(number).encode()).failed or process.ended:
+            raise Missing(f"it did not take event {number + 1}: {stage.said()}")
+    looks = leaks.repeat(process, once, EVENTS, SECONDS, PATIENCE)
+    stage.event("INVOKE", looks.done)
+    stage.check("many_events", not process.ended, stage.said(), f"{looks.done} events")
+    leaks.judge(stage, looks, CHECKS, EVENTS)
+    requests = [event["requestId"].encode() for event in map(stage.body_of, stage.events("INVOKE")[-200:])]
+    return leaks.judge_files(stage, "files", [stage.identifier.encode(), *requests], since, looks.done)

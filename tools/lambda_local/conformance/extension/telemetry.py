@@ -1,0 +1,134 @@
+"""The Telemetry API that the kit offers: it judges each subscription by the page, and answers as Lambda does."""
+import json
+import urllib.parse
+
+from .. import pages
+from ..kit import Missing, scenarios_of
+from ..stage import shown
+
+SCENARIOS = []
+scenario = scenarios_of(SCENARIOS)
+
+VERSIONS = {"/2022-07-01/telemetry": ("2022-07-01", "2022-12-13", "2025-01-29"),
+            "/2020-08-15/logs": ("2020-08-15", "2021-03-18")}
+TYPES = ("platform", "function", "extension")
+BUFFERING = {"maxItems": (1000, 10_000), "maxBytes": (262_144, 1_048_576), "timeoutMs": (25, 30_000)}
+HOSTS = ("sandbox.localdomain", "sandbox")
+LAMBDAS_PORT = 9001
+ACCEPTED = b'"OK"'
+
+
+def fault_of(exchange, identifier, is_late):
+    """What is wrong with a subscription, in words; none if it is right."""
+    if identifier is None:
+        return "it subscribes before it has registered"
+    if exchange.request.headers.get("lambda-extension-identifier") != identifier:
+        return "its Lambda-Extension-Identifier is not the one that its registration was answered with"
+    if is_late:
+        return "it subscribes after its first Next, when its Init is over"
+    asked = exchange.json()
+    if not isinstance(asked, dict):
+        return f"its body is not a JSON object: {shown(exchange.request.body)}"
+    return next(filter(None, (fault_in_version(exchange, asked), fault_in_types(asked.get("types")),
+                              fault_in_destination(asked.get("destination")),
+                              fault_in_buffering(asked.get("buffering")))), None)
+
+
+def fault_in_version(exchange, asked):
+    versions, version = VERSIONS[exchange.path], asked.get("schemaVersion")
+    is_optional = exchange.path == "/2020-08-15/logs"
+    if version not in versions and not (version is None and is_optional):
+        return f"\"schemaVersion\" is {shown(version)}, and not one of {', '.join(versions)}"
+    return None
+
+
+def fault_in_types(types):
+    if not isinstance(types, list) or not types or not set(map(str, types)) <= set(TYPES):
+        return f"\"types\" is {shown(types)}, and not a list of some of {', '.join(TYPES)}"
+    return None
+
+
+def fault_in_destination(destination):
+    if not isinstance(destination, dict):
+        return f"\"destination\" is {shown(destination)}, and not an object"
+    protocol = destination.get("protocol")
+    if protocol == "TCP":
+        port = destination.get("port")
+        return None if is_port(port) else f"the port of its destination is {shown(port)}"
+    if protocol != "HTTP":
+        return f"the protocol of its destination is {shown(protocol)}, and not HTTP or TCP"
+    address = destination.get("URI")
+    try:
+        found = urllib.parse.urlsplit(address if isinstance(address, str) else "")
+        right = found.scheme == "http" and found.hostname in HOSTS and is_port(found.port)
+    except ValueError:
+        right = False
+    return None if right else (
+        f"the URI of its destination is {shown(address)}, and not http://{HOSTS[0]}:PORT with a port other than "
+        f"{LAMBDAS_PORT}")
+
+
+def is_port(port):
+    return isinstance(port, int) and 0 < port < 65536 and port != LAMBDAS_PORT
+
+
+def fault_in_buffering(buffering):
+    if buffering is None:
+        return None
+    if not isinstance(buffering, dict):
+        return f"\"buffering\" is {shown(buffering)}, and not an object"
+    for name, (least, most) in BUFFERING.items():
+        value = buffering.get(name, least)
+        if isinstance(value, bool) or not isinstance(value, int) or not least <= value <= most:
+            return f"\"{name}\" of its buffering is {shown(value)}, and not a number from {least:,} to {most:,}"
+    return None
+
+
+class Telemetry:
+    """Answers subscriptions, and keeps what is wrong with each."""
+
+    def __init__(self, stage):
+        self._stage, self.faults, self.asked = stage, [], 0
+
+    def decide(self, exchange):
+        proxy = self._stage.environment.proxy
+        registered = [one for one in proxy.of("register") if one.status == 200]
+        identifier = registered[-1].reply.headers.get("lambda-extension-identifier") if registered else None
+        is_late = bool(registered) and any(one.begun > registered[-1].begun for one in proxy.of("event"))
+        fault = fault_of(exchange, identifier, is_late)
+        self.asked += 1
+        if fault:
+            self.faults.append(fault)
+            return 400, json.dumps({"errorType": "ValidationError", "errorMessage": fault}).encode()
+        return 200, ACCEPTED
+
+
+@scenario(
+    ("telemetry", pages.TELEMETRY,
+     "if it subscribes to telemetry, it does so between its registration and its first Next, with its identifier, "
+     "\"schemaVersion\", \"types\" and a \"destination\" that Lambda takes"))
+def subscription(stage):
+    stage.start()
+    environment = stage.environment
+    if not environment.asked(kind="event") and not stage.telemetry.faults:
+        raise Missing(f"it did not ask for an event: {stage.said()}")
+    if stage.registered_for("INVOKE") and environment.proxy.of("event"):  # (it may subscribe late)
+        stage.play()
+        stage.idle()
+        stage.invoke(b"1")
+        stage.idle()
+    if not stage.telemetry.asked:
+        return stage.note("telemetry", "it asks for none")
+    faults = stage.telemetry.faults
+    return stage.check("telemetry", not faults, faults and faults[0], f"{stage.telemetry.asked} right")
+
+
+@scenario(
+    ("without_telemetry", pages.TELEMETRY, "if there is no Telemetry API (404) it goes on without it"), telemetry=False)
+def no_telemetry(stage):
+    stage.begin()
+    stage.idle()
+    answer = stage.invoke(b"1")
+    asked = stage.environment.proxy.of("telemetry")
+    stage.check("without_telemetry", answer.body == b"1", f"the caller received {shown(answer.body)}",
+                f"refused {len(asked)} times" if asked else "it asks for none")

@@ -1,0 +1,69 @@
+"""Inits that cannot succeed: what is reported, and what becomes of the process."""
+from .. import pages
+from ..clock import CLOCK
+from ..kit import scenarios_of
+from ..stage import shown
+
+SCENARIOS = []
+scenario = scenarios_of(SCENARIOS)
+
+ENDS = 3  # seconds in which a process that has to end promptly has ended
+REPORTED = 5  # seconds beyond an Init's own time
+
+
+def init_fails(stage, report_check):
+    """An Init that cannot succeed is reported: that report's exchange; None, with the check judged, if there is
+    none."""
+    environment = stage.environment
+    process, proxy = environment.process, environment.proxy
+    end = CLOCK.now() + stage.patience + REPORTED
+    while not (process.ended or proxy.of("next")
+               or any(one.ended for one in proxy.of("init_error"))) and CLOCK.now() < end:
+        proxy.wait(lambda: any(one.kind == "next" or one.answered for one in proxy.exchanges), 0.05)
+    exchange = environment.saw("init_error", 1)
+    if exchange:
+        report = exchange.json()
+        report = report if isinstance(report, dict) else {}
+        right = bool(report.get("errorMessage")) and bool(report.get("errorType")) and exchange.status == 202
+        stage.check(report_check, right, f"{exchange.status} for {shown(exchange.request.body)}")
+        return exchange
+    if proxy.of("next"):
+        answer = stage.invoke({"do": "echo", "value": 1})
+        if answer.failed:
+            stage.check(report_check, False,
+                        f"it asked for an invocation, and only that one failed: {shown(answer.body)}")
+        else:
+            stage.note(report_check, "no Init fails here: its handler is compiled in, or it does not look at _HANDLER")
+    else:
+        stage.check(report_check, False, f"no request to init/error; {stage.said()}")
+    return None
+
+
+@scenario(
+    ("init_error", pages.INIT_ERROR,
+     "an error while the handler is loaded is sent to init/error with \"errorMessage\" and \"errorType\""),
+    ("init_error_ends", pages.INITIALIZATION_TASKS, "after init/error the process exits"), handler="failing.handler")
+def failing_init(stage):
+    exchange = init_fails(stage, "init_error")
+    process = stage.environment.process
+    if exchange:
+        ended = process.wait(ENDS)
+        return stage.in_time("init_error_ends", ended, process.own, ENDS,
+                             f"{ENDS} s after its report {process.how_it_ended()}")
+    if "init_error" in stage.jury.verdicts and stage.environment.proxy.of("next"):
+        return stage.note("init_error_ends", "no Init failed")
+    return stage.check("init_error_ends", process.ended, process.how_it_ended())
+
+
+@scenario(
+    ("missing_handler", pages.INIT_ERROR, "a handler that cannot be found is an error of the Init, sent to init/error"),
+    handler="missing.handler")
+def handler_that_is_missing(stage):
+    init_fails(stage, "missing_handler")
+
+
+@scenario(
+    ("broken_handler", pages.INIT_ERROR, "a handler that does not compile is an error of the Init, sent to init/error"),
+    handler="broken.handler")
+def handler_that_is_broken(stage):
+    init_fails(stage, "broken_handler")
