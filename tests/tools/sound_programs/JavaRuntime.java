@@ -34,7 +34,8 @@ public class JavaRuntime {
   static Reply byClient(String method, String path, String body, String errorType) throws Exception {
     HttpRequest.Builder request = HttpRequest.newBuilder(URI.create(API + path));
     if (errorType != null) request.header("Lambda-Runtime-Function-Error-Type", errorType);
-    request.method(method, body == null ? HttpRequest.BodyPublishers.noBody() : HttpRequest.BodyPublishers.ofString(body));
+    request.method(method, body == null ? HttpRequest.BodyPublishers.noBody()
+        : HttpRequest.BodyPublishers.ofString(body));
     HttpResponse<String> reply = client.send(request.build(), HttpResponse.BodyHandlers.ofString());
     Map<String, String> headers = new LinkedHashMap<>();
     reply.headers().map().forEach((name, values) -> headers.put(name.toLowerCase(), values.get(0)));
@@ -57,7 +58,8 @@ public class JavaRuntime {
       if (name != null) headers.put(name.toLowerCase(), values.get(0));
     });
     try (InputStream stream = status < 400 ? connection.getInputStream() : connection.getErrorStream()) {
-      return new Reply(status, headers, stream == null ? "" : new String(stream.readAllBytes(), StandardCharsets.UTF_8));
+      byte[] read = stream == null ? new byte[0] : stream.readAllBytes();
+      return new Reply(status, headers, new String(read, StandardCharsets.UTF_8));
     }
   }
 
@@ -144,7 +146,8 @@ public class JavaRuntime {
     isNew = words.length > 0 && words[0].equals("new");
     if (isNew) client = HttpClient.newBuilder().version(HttpClient.Version.HTTP_1_1).build();
     if (!"conformance.handler".equals(System.getenv("_HANDLER"))) {
-      ask("POST", "init/error", report(new Exception("there is no handler " + System.getenv("_HANDLER"))), "Runtime.NoHandler");
+      Exception fault = new Exception("there is no handler " + System.getenv("_HANDLER"));
+      ask("POST", "init/error", report(fault), "Runtime.NoHandler");
       System.exit(1);
     }
     while (true) {
