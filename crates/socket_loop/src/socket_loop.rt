@@ -57,14 +57,14 @@ impl SocketLoop {
         })
     }
 
-    /// Watches a socket in place of the one before, and makes it a stream. The socket does not block:
-    /// one that `mio` has accepted doesn't. A stream from before then waits forever once it is not
-    /// ready, so it has to be dropped first.
+    /// Watches a socket in place of the one before, and makes it a stream. A stream from before then
+    /// waits forever once it is not ready, so it has to be dropped first.
     ///
     /// # Errors
     /// If an allocation fails, or the machine refuses to watch the socket, which is then closed. The
     /// loop can be used as before.
     pub fn watch<R: AllocGlobal>(&mut self, rt: &R, socket: TcpStream) -> io::Result<Stream> {
+        socket.set_nonblocking(true)?;
         let mut socket = mio::net::TcpStream::from_std(socket);
         let both = Interest::READABLE | Interest::WRITABLE;
         self.poll.registry().register(&mut socket, OF_SOCKET, both)?;
