@@ -9,6 +9,7 @@ import os
 import subprocess
 import sys
 import tempfile
+import time
 
 ROOT = os.path.dirname(os.path.dirname(os.path.dirname(os.path.realpath(__file__))))
 TOOLS = os.path.join(ROOT, "tools")
@@ -294,6 +295,17 @@ def wrong_templates():
     if HAS_YAML:
         made, said = made_of("Resources:\n  A: [\n")
         check("no YAML", (made, "template.yaml: line 3, column 1: " in said or said), (2, True))
+        bomb = "m0: &m0 {a: 1, b: 2}\n" + "".join(
+            f"m{n}: &m{n} {{<<: [{', '.join([f'*m{n - 1}'] * 10)}]}}\n" for n in range(1, 8))
+        begun = time.monotonic()
+        made, said = made_of(bomb)
+        check("merge keys that grow tenfold at each level are refused",
+              (made, "template.yaml: its merge keys (<<) bring more than 100,000 members" in said,
+               time.monotonic() - begun < 60), (2, True, True))
+        made, said = made_of("a: " + "[" * 200 + "]" * 200 + "\n")
+        check("200 levels are refused", (made, "template.yaml: it is nested too deep" in said), (2, True))
+        made, said = made_of('Resources:\n  "A\\e[2J": {Type: AWS::Serverless::Function, Properties: {Runtime: x}}\n')
+        check("a name reaches no terminal", ("\x1b" in said, "A\\x1b[2J" in said), (False, True))
     done = subprocess.run([FROM_TEMPLATE, "/no/such/file"], stderr=subprocess.PIPE, text=True)
     check("no file", (done.returncode, done.stderr),
           (2, "from_template: /no/such/file: No such file or directory: name a template\n"))

@@ -10,8 +10,11 @@ ROOT = os.path.dirname(os.path.dirname(os.path.dirname(os.path.realpath(__file__
 sys.path[:0] = [os.path.join(ROOT, "tools"), os.path.join(ROOT, "tests", "library")]
 import counted  # noqa: E402
 from counted import check  # noqa: E402
-from lambda_local.history import Answer, Entry, Follower, count_in, entries_of, opened, request_identifier  # noqa: E402
-from lambda_local.service import Service, ask  # noqa: E402
+from lambda_local.history import (  # noqa: E402
+    Answer, Entry, Follower, NotHistory, count_in, entries_of, opened, request_identifier)
+from lambda_local.json_reader import NotJson  # noqa: E402
+from lambda_local.rerun.record import parsed  # noqa: E402
+from lambda_local.service import Fault, Service, ask  # noqa: E402
 
 REQUEST = "00000000-0000-8000-8001-000000000001"
 # One function, one environment: a poll, an invocation, its response, and the end of a Busy whose runtime does not ask
@@ -36,6 +39,55 @@ def texts():
     check("an identifier of a count", request_identifier(0, 1, 1), REQUEST)
     check("the version takes the place of the salt's bits 12 to 15", request_identifier(0x0123456789ABCDEF, 2, 255),
           "01234567-89ab-8def-8002-0000000000ff")
+
+
+def refused(read, *words):
+    """The fault of a reader over something, which must be its own."""
+    try:
+        read(*words)
+    except (NotHistory, NotJson, Fault) as fault:
+        return str(fault)
+    return "is read"
+
+
+CONFIGURATION = ('{"account":"123456789012","accountLimit":1000,"functions":[{"extensions":[EXTENSIONS],'
+                 '"handler":"a.b","name":"NAME","ports":[1],"timeout":3}],"invokePort":9,"leastRemainder":100,'
+                 '"maxEntries":1000,"region":"us-east-1","salt":0}')
+# Lines that no history has, each by a word of what is wrong.
+WRONG_LINES = {"a call that is none": "1 dance 1", "no moment": "x next 1", "a field too few": "1 response 1",
+               "a field too many": "1 stop 2", "an environment of 5,000 digits": "1 next " + "9" * 5000,
+               "a number of another script": "1 next \u0661", "an expiry without an environment": "## 1 expire",
+               "an answer that is none": "1 next 1\n# 0 0 dances",
+               "a delivery without its body": "1 next 1\n# 0 0 deliver 1",
+               "an identifier that is none": "1 next 1\n# 0 0 registered x"}
+
+
+def wrong_histories():
+    for name, line in WRONG_LINES.items():
+        seen = refused(lambda text: list(entries_of(text.split("\n"))), line)
+        check(f"{name} is refused", seen.startswith("this is not a"), True)
+    check("a comment is none", [entry.number for entry in entries_of(["# 1", "1 next 1", "# 0", "#", "# x y z"])], [0])
+    for name, text in {"nothing": "", "5,000 levels": "form 2\n" + "[" * 5000, "a list": "form 2\n[]"}.items():
+        check(f"an opening of {name} is refused", refused(opened, text) != "is read", True)
+
+
+def recorded(line="", extensions='"x"', name="f"):
+    """What is said of a recorded history with this line, or this configuration."""
+    opening = CONFIGURATION.replace("EXTENSIONS", extensions).replace("NAME", name)
+    return refused(parsed, f"form 2\n{opening}\n{line}\n".encode(), "F")
+
+
+def wrong_recordings():
+    served = "\n# 0 0 throttled X"
+    check("a recording with a trace", recorded("1 invoke f - =Root=1-2;Sampled=0 ={}" + served), "is read")
+    check("a trace that would be two headers", recorded("1 invoke f - =a%0d%0ab:%20c ={}" + served),
+          "F: entry 0: 'a\\r\\nb: c' is not a trace: no header has it")
+    shape = "F: configuration: BadShape: a member is missing or of another type; docs/formats.md lists them"
+    check("an extension that is a number", recorded(extensions="5"), shape)
+    check("half a character in a name", recorded(name="\\ud83d"), shape)
+    check("5,000 levels", recorded(extensions="[" * 5000 + "]" * 5000).startswith("F: configuration: NotJson"), True)
+    check("an answer that is none", recorded("1 tick\n# 0 0 dances"),
+          "F: this is not an answer of a history: '# 0 0 dances'")
 
 
 class Fake(http.server.BaseHTTPRequestHandler):
@@ -107,4 +159,4 @@ def real():
 
 
 if __name__ == "__main__":
-    sys.exit(counted.run(texts, follows, real))
+    sys.exit(counted.run(texts, wrong_histories, wrong_recordings, follows, real))

@@ -20,7 +20,7 @@ ROOT = os.path.dirname(os.path.dirname(os.path.dirname(os.path.realpath(__file__
 sys.path[:0] = [os.path.join(ROOT, "tools"), os.path.join(ROOT, "tests", "library")]
 import counted  # noqa: E402
 from counted import check  # noqa: E402
-from lambda_local.json_reader import NotJson, depth_of, read_json  # noqa: E402
+from lambda_local.json_reader import NotJson, is_deeper, read_json  # noqa: E402
 from lambda_local.outgoing import header_value, printable, printable_output  # noqa: E402
 from lambda_local.service import Fault, Service, ask  # noqa: E402
 from lambda_local.up.log import Log  # noqa: E402
@@ -69,13 +69,14 @@ def reports():
         check(f"a report with {name} is a line", set(seen), {dict, str})
     check("and none of them takes long", time.monotonic() - begun < 10, True)
     check("a type for a header", kind_in(b'{"errorType":"Runtime.Bad"}', "X"), "Runtime.Bad")
-    for body in (json.dumps({"errorType": "Ошибка"}).encode(), b'{"errorType":"a\\r\\nb: c"}', b"[", b"[1]", b"{}",
-                 b'{"errorType":" "}', b'{"errorType":"' + b"a" * 2000 + b'"}'):
+    for body in (json.dumps({"errorType": "Ошибка"}).encode(), b'{"errorType":"a\\r\\nb: c"}', b"[", b"[1]",
+                 b"{}", b'{"errorType":" "}', b'{"errorType":"' + b"a" * 2000 + b'"}'):
         check(f"{body[:24]} has none", kind_in(body, "X"), "X")
 
 
 def jsons():
-    check("100 levels are read", depth_of(read_json("[" * 100 + "]" * 100)), 100)
+    deep = read_json("[" * 100 + "]" * 100)
+    check("100 levels are read", (is_deeper(deep, 99), is_deeper(deep, 100)), (True, False))
     for name, text in {"101 levels": "[" * 101 + "]" * 101, "a million levels": b"[" * 1_000_000, "NaN": "NaN",
                        "no UTF-8": b'"\xff"', "nothing": b"", "two values": "1 2"}.items():
         try:
@@ -91,10 +92,10 @@ def hostile_reports():
     up.until("[up] ready")
     for body in HOSTILE.values():
         answered(f"{up.endpoint}/2015-03-31/functions/f/invocations", json.dumps({"report": body.hex()}).encode())
-    check("each hostile report has its line", until(lambda: up.count(r"\[f/1\] \S+ error ") == len(HOSTILE), 20),
+    check("each hostile report has its line", until(lambda: up.count(r"\[f/1\] \S+ error ") == len(HOSTILE), 120),
           True)
     up.invoke()
-    check("and an invocation after them has its own", up.until(" ok ", 20), True)
+    check("and an invocation after them has its own", up.until(" ok ", 120), True)
     check("none of them is a trace", (up.has("Traceback"), up.has("could not")), (False, False))
     check("nothing is left of them", up.end(), (0, []))
 
@@ -103,8 +104,8 @@ def foreign_names():
     """An Init that fails by an exception whose name is of letters that no header has."""
     app = 'class Ошибка(Exception):\n    pass\nraise Ошибка("нет")\n'
     up = Up(functions=[{"name": "f", "runtime": "python", "handler": "app.run", "timeout": 1}], app=app)
-    check("a failed Init with a Cyrillic name is told", up.until("Init failed Ошибка", 20), True)
-    check("it is started again after a pause", up.until("started again in 2 s", 30), True)
+    check("a failed Init with a Cyrillic name is told", up.until("Init failed Ошибка", 120), True)
+    check("it is started again after a pause", up.until("started again in 2 s", 120), True)
     answer, took = up.invoke()
     check("a caller in a pause hears the report at once", (answer, took < 1.9), ("Ошибка", True))
     check("the thread that tells goes on", up.has("cannot go on"), False)
@@ -162,7 +163,7 @@ def dropped_lines():
     begun = time.monotonic()
     for number in range(100_000):
         log("f/1", f"line {number} " + "x" * 90)
-    check("100,000 lines that no one reads take no time", time.monotonic() - begun < 20, True)
+    check("100,000 lines that no one reads take no time", time.monotonic() - begun < 60, True)
     lines, reader = [], None
 
     def read():
@@ -259,7 +260,7 @@ def forged_lines():
                 f"def run(event):\n    print({message!r} + '\\r\\x1b[2K')\n    raise E({message!r})\n")
     up.until("[up] ready")
     up.invoke()
-    check("an invocation with forged lines has a line", up.until(" error ", 20), True)
+    check("an invocation with forged lines has a line", up.until(" error ", 120), True)
     check("nothing is left of it", up.end(), (0, []))
     check("a line that it forges has its own source before it",
           [line for line in up.lines if "forged" in line and re.match(r"\S+ \[(?!f/1\])", line)], [])

@@ -9,15 +9,44 @@ An entry never changes once it is there: the answers that a call gave, also to e
 import http.client
 import io
 import json
+import re
 from collections import Counter
 from typing import NamedTuple, Optional, Tuple
 from urllib.parse import unquote_to_bytes
+
+from .json_reader import read_json
 
 OPENING = b"form 2\n"
 EXPIRE = "expire"
 OF_FUNCTIONS = ("invoke", "reserve")
 OF_ENVIRONMENTS = ("next", "response", "failure", "response-too-large", "init-failure", "register", "ext-next",
                    "ext-init-failure", "ext-exit-failure", "spindown", EXPIRE)
+
+
+class NotHistory(ValueError):
+    """Which line is none of a history."""
+
+
+class Fields(NamedTuple):
+    """The fields of a call after its name: how many, and how many of the first are numbers."""
+    count: int
+    numbers: int
+
+
+FIELDS_OF_CALLS = {
+    "invoke": Fields(4, 0), "next": Fields(1, 1), "response": Fields(3, 2), "failure": Fields(3, 2),
+    "response-too-large": Fields(2, 2), "init-failure": Fields(2, 1), "register": Fields(4, 1),
+    "ext-next": Fields(2, 2), "ext-init-failure": Fields(3, 2), "ext-exit-failure": Fields(3, 2),
+    "withdraw": Fields(1, 1), "spindown": Fields(1, 1), "stop": Fields(0, 0), "tick": Fields(0, 0),
+    "reserve": Fields(2, 0), EXPIRE: Fields(1, 1)}
+FIELDS_OF_ANSWERS = {
+    "deliver": 3, "tell": 3, "shutdown": 3, "registered": 1, "output": 1, "error": 1, "timeout": 0, "init-timeout": 0,
+    "too-large-output": 0, "throttled": 1, "stopped": 0, "withdrawn": 0, "reserved": 1, "unreserved": 0, "accepted": 0,
+    "done": 0, "refused": 1}
+IDENTIFIERS = {"deliver": 1, "tell": 2, "shutdown": 1, "registered": 1, **dict.fromkeys(
+    ("output", "error", "throttled", "reserved", "refused"), 0)}  # how many of an answer's first fields are one
+IDENTIFIER = re.compile(r"[0-9a-f]{8}-[0-9a-f]{4}-[0-9a-f]{4}-[0-9a-f]{4}-[0-9a-f]{12}")
+MOST_DIGITS = 18
 
 
 class Answer(NamedTuple):
@@ -91,13 +120,14 @@ def request_identifier(salt, function, count):
 
 
 def entries_of(lines, first=0):
-    """Returns the entries of the lines after a history's opening, which begin with entry number `first`."""
+    """Returns the entries of the lines after a history's opening, which begin with entry number `first`. NotHistory if
+    a line is none of a history; empty lines and comments are skipped."""
     number, head, answers = first - 1, None, []
     for line in lines:
         if line.startswith("# "):
-            _, _, ticket, kind, *fields = line.split(" ")
-            answers.append(Answer(int(ticket), kind, tuple(fields)))
-        elif line:
+            if head and (answer := answer_of(line)):
+                answers.append(answer)
+        elif line and (not line.startswith("#") or line.startswith("## ")):
             if head:
                 yield entry_of(number, head, answers)
             number, head, answers = number + 1, line, []
@@ -105,19 +135,46 @@ def entries_of(lines, first=0):
         yield entry_of(number, head, answers)
 
 
+def answer_of(line):
+    """The answer in a line that begins with `# `; none if it is a comment."""
+    words = line.split(" ")
+    if len(words) < 4 or not (is_number(words[1]) and is_number(words[2])):
+        return None
+    _, _, ticket, kind, *fields = words
+    if FIELDS_OF_ANSWERS.get(kind) != len(fields) or not all(map(IDENTIFIER.fullmatch, fields[:IDENTIFIERS.get(kind)])):
+        raise NotHistory(f"this is not an answer of a history: {shown(line)}")
+    return Answer(int(ticket), kind, tuple(fields))
+
+
 def entry_of(number, head, answers):
     words = head.split(" ")
     if words[0] == "##":
         del words[0]
-    return Entry(number, int(words[0]), words[1], tuple(words[2:]), tuple(answers))
+    moment, kind, *fields = words if len(words) > 1 else ("", "")
+    wanted = FIELDS_OF_CALLS.get(kind)
+    if wanted is None or len(fields) != wanted.count or not (is_number(moment)
+                                                            and all(map(is_number, fields[:wanted.numbers]))):
+        raise NotHistory(f"this is not a call of a history: {shown(head)}")
+    return Entry(number, int(moment), kind, tuple(fields), tuple(answers))
+
+
+def is_number(word):
+    return word.isdecimal() and word.isascii() and len(word) <= MOST_DIGITS
+
+
+def shown(line):
+    return ascii(line if len(line) <= 80 else line[:77] + "..")
 
 
 def opened(history):
     """The configuration and the entries of a whole history's text."""
     lines = history.split("\n")
     if lines[0] != "form 2" or len(lines) < 2:
-        raise ValueError("a history begins with the line `form 2` and a line with the configuration")
-    return json.loads(lines[1]), entries_of(lines[2:])
+        raise NotHistory("a history begins with the line `form 2` and a line with the configuration")
+    configuration = read_json(lines[1])
+    if not isinstance(configuration, dict):
+        raise NotHistory(f"this is not a configuration: {shown(lines[1])}")
+    return configuration, entries_of(lines[2:])
 
 
 def parked(history):
@@ -141,7 +198,7 @@ def sized_entries(lines, number):
         if held and not line.startswith(b"# "):
             yield from ((entry, size) for entry in entries_of(held, number))
             held, size, number = [], 0, number + 1
-        held.append(line.decode("ascii").rstrip("\n"))
+        held.append(line.decode("ascii", "replace").rstrip("\n"))
         size += len(line)
     if held:
         yield from ((entry, size) for entry in entries_of(held, number))

@@ -10,13 +10,16 @@ class NotJson(ValueError):
     """Why this is not JSON, or more of it than is read here."""
 
 
-def depth_of(value: object) -> int:
-    """How deep arrays and objects are in one another; looks at level after level, without a call for each."""
-    depth, level = 0, [value]
-    while nested := [one for one in level if isinstance(one, (list, dict))]:
-        depth += 1
-        level = [member for one in nested for member in (one.values() if isinstance(one, dict) else one)]
-    return depth
+def is_deeper(value: object, levels: int) -> bool:
+    """Whether arrays and objects are in one another for more levels than that. It looks at level after level, without a
+    call for each, and once at what occurs in several places of one."""
+    level = {id(value): value}
+    for _ in range(levels + 1):
+        nested = [one for one in level.values() if isinstance(one, (list, dict))]
+        if not nested:
+            return False
+        level = {id(member): member for one in nested for member in (one.values() if isinstance(one, dict) else one)}
+    return True
 
 
 def refused(constant: str) -> object:
@@ -34,6 +37,6 @@ def read_json(given: Union[str, bytes], deepest: int = DEEPEST, longest: int = L
         raise NotJson("it is nested too deep, or too long") from None
     except ValueError as fault:
         raise NotJson(str(fault)) from None
-    if text.count("[") + text.count("{") > deepest and depth_of(value) > deepest:
+    if text.count("[") + text.count("{") > deepest and is_deeper(value, deepest):
         raise NotJson(f"it is nested too deep: {deepest} levels are the most")
     return value

@@ -1,9 +1,13 @@
 """A template as dictionaries and lists, from JSON or YAML with CloudFormation's tags."""
-import json
 import sys
 
+from ..json_reader import NotJson, is_deeper, read_json
 from .telling import Fault, tell
 
+LONGEST = 16 << 20  # bytes of a template (CloudFormation takes 1 MB)
+DEEPEST = 100  # levels of one (an expression has 50: `values`)
+MERGE = "tag:yaml.org,2002:merge"
+MOST_MERGED = 100_000  # members that merge keys bring: `<<: [*a, *a]` doubles them at each level
 WITHOUT_PREFIX = ("Ref", "Condition")  # of the short forms, such as !Ref; the others are Fn::
 
 
@@ -21,13 +25,42 @@ def yaml_loader(yaml):
         return {name: construct(node, deep=True)}
 
     Loader.add_multi_constructor("!", written_out)
+    Loader.flatten_mapping = counting_merges(Loader.flatten_mapping, yaml)
     return Loader
+
+
+def counting_merges(flatten, yaml):
+    """Returns what merges the keys `<<` of a mapping node into it, and refuses more members than a template has."""
+    counts = {}  # by loader, of which there is one for each template
+
+    def count(loader, node, level):
+        """Merges what is below a node first, so that its length is known, and adds that."""
+        for one in node.value if isinstance(node, yaml.SequenceNode) else [node]:
+            if isinstance(one, yaml.MappingNode):  # (of another, yaml says that it is none)
+                merge(loader, one, level + 1)
+                counts[loader] = counts.get(loader, 0) + len(one.value)
+                if counts[loader] > MOST_MERGED:
+                    raise Fault(f"its merge keys (<<) bring more than {MOST_MERGED:,} members")
+
+    def merge(loader, node, level=0):
+        if level > DEEPEST:
+            raise Fault("its merge keys (<<) are nested too deep")
+        given = [value for key, value in node.value if key.tag == MERGE]
+        for value in given:
+            count(loader, value, level)
+        if given:
+            flatten(loader, node)
+
+    def merged(loader, node):
+        merge(loader, node)
+        flatten(loader, node)
+    return merged
 
 
 def parsed(path, text):
     try:
-        return json.loads(text)
-    except (ValueError, RecursionError):
+        return read_json(text, DEEPEST)
+    except NotJson:
         pass
     try:
         import yaml
@@ -35,12 +68,19 @@ def parsed(path, text):
         tell(f"{path} is no JSON, and the YAML reader is not installed: pip install pyyaml")
         sys.exit(4)
     try:
-        return yaml.load(text, yaml_loader(yaml))
+        whole = yaml.load(text, yaml_loader(yaml))
+        if is_deeper(whole, DEEPEST):
+            raise Fault("it is nested too deep")
+        return whole
+    except Fault as fault:
+        raise Fault(f"{path}: {fault}") from None
     except yaml.MarkedYAMLError as fault:
         mark = fault.problem_mark or fault.context_mark
         where = f"line {mark.line + 1}, column {mark.column + 1}: " if mark else ""
         raise Fault(f"{path}: {where}{fault.problem or fault.context}: write YAML or JSON") from None
-    except (yaml.YAMLError, ValueError, TypeError, RecursionError) as fault:
+    except RecursionError:
+        raise Fault(f"{path}: it is nested too deep") from None
+    except (yaml.YAMLError, ValueError, TypeError, AttributeError, KeyError, IndexError, OverflowError) as fault:
         raise Fault(f"{path}: it is neither YAML nor JSON: {' '.join(str(fault).split())}") from None
 
 
@@ -48,11 +88,13 @@ def read(path):
     """The template, which is an object."""
     try:
         with open(path, encoding="utf-8") as file:
-            text = file.read()
+            text = file.read(LONGEST + 1)
     except OSError as fault:
         raise Fault(f"{path}: {fault.strerror}: name a template") from None
     except UnicodeDecodeError:
         raise Fault(f"{path}: it is no text: name a template") from None
+    if len(text) > LONGEST:
+        raise Fault(f"{path}: it is longer than {LONGEST:,} bytes: name a template")
     whole = parsed(path, text)
     if not isinstance(whole, dict):
         raise Fault(f"{path} is no template: it must have Resources, or functions")

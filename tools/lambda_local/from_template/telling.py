@@ -1,6 +1,5 @@
 """What the tool says on standard error."""
-import sys
-
+from .. import outgoing
 from ..usage import called
 
 
@@ -9,7 +8,7 @@ class Fault(Exception):
 
 
 def tell(line):
-    print(f"from_template: {called(str(line))}", file=sys.stderr)
+    outgoing.tell(f"from_template: {called(str(line))}")
 
 
 def shown(value):

@@ -1,13 +1,15 @@
 """The invocations of a history, each with its answer."""
 import io
-import json
+import re
 from collections import Counter
 from typing import Dict, List, NamedTuple, Optional
 
-from ..history import count_in, decoded, entries_of
+from ..history import NotHistory, count_in, decoded, entries_of
 from ..service import Fault
 from ..timeline.read import Lines, history_entries, read_configuration
 
+# The value of a header (RFC 9110, section 5.5), of letters, marks and spaces.
+TRACE = re.compile(r"(?:[!-~\x80-\xff](?:[\t -~\x80-\xff]*[!-~\x80-\xff])?)?")
 ANSWERED = ("output", "error", "timeout", "init-timeout", "too-large-output")  # by a function, or in its place
 
 
@@ -58,13 +60,26 @@ def parsed(text, path):
             pass
     except Fault as fault:
         raise Fault(2, f"{path}: {fault}") from None
-    entries = list(entries_of(text.decode("ascii", "surrogateescape").replace("\r\n", "\n").split("\n")[2:]))
+    try:
+        entries = list(entries_of(text.decode("ascii", "surrogateescape").replace("\r\n", "\n").split("\n")[2:]))
+    except NotHistory as fault:
+        raise Fault(2, f"{path}: {fault}") from None
     names = configuration.names
     timeouts = {name: timeout // 1000 for name, timeout in zip(names, configuration.timeouts)}
-    return Recording(json.loads(configuration.line)["salt"], timeouts, list(invocations_of(entries)))
+    return Recording(configuration.salt, timeouts, list(invocations_of(entries, path)))
 
 
-def invocations_of(entries):
+def trace_of(field, number, path):
+    """The trace of an Invoke, which is sent again as a header: what no header has is refused."""
+    if field == "-":
+        return None
+    trace = decoded(field).decode("latin-1")
+    if not TRACE.fullmatch(trace):
+        raise Fault(2, f"{path}: entry {number}: {trace[:60]!r} is not a trace: no header has it")
+    return trace
+
+
+def invocations_of(entries, path):
     answers = {answer.ticket: (entry.number, answer) for entry in entries for answer in entry.answers}
     counts = Counter()
     for entry in entries:
@@ -74,7 +89,7 @@ def invocations_of(entries):
         end, answer = answers.get(entry.number, (None, None))
         _, qualifier, trace, _ = entry.fields
         yield Invocation(entry.number, entry.function, counts[entry.function], qualifier == "q",
-                         None if trace == "-" else decoded(trace).decode("latin-1"), entry.body,
+                         trace_of(trace, entry.number, path), entry.body,
                          answer.kind if answer else "open", answer.body if answer else None, end)
 
 

@@ -1,17 +1,19 @@
 """Reads histories and scripts: lines, the configuration, calls, and the answers that belong to them."""
-import json
 import re
 import sys
 from urllib.parse import unquote_to_bytes
 
+from ..configuration import is_list_of, is_text, is_whole
+from ..json_reader import NotJson, read_json
 from ..service import Fault
 
 LONGEST_LINE = 20_000_000
 SHOWN_OF_A_PAYLOAD = 160
-NUMBER = re.compile(rb"0|[1-9][0-9]*")
+MOST_ENVIRONMENTS = 256
+NUMBER = re.compile(rb"0|[1-9][0-9]{0,18}")
 BAD_ESCAPE = re.compile(rb"%(?![0-9A-Fa-f]{2})")
-ANSWER = re.compile(rb"# ([0-9]+) ([0-9]+) (.+)", re.DOTALL)
-EXPIRY = re.compile(rb"## ([0-9]+) expire ([0-9]+)")
+ANSWER = re.compile(rb"# ([0-9]{1,18}) ([0-9]{1,18}) (.+)", re.DOTALL)
+EXPIRY = re.compile(rb"## ([0-9]{1,18}) expire ([0-9]{1,18})")
 # The fields after a call's name: E an environment, F a function, N a number, = a text, and a set of words.
 FIELDS = {
     b"invoke": ("F", {b"q", b"-"}, "=-", "="),
@@ -52,30 +54,44 @@ def shown(text):
     return plain[:SHOWN_OF_A_PAYLOAD] + ("\u2026" if more else "")
 
 
+def functions_of(members):
+    """What a configuration says of its functions, if all of it has the types that the program gives it."""
+    functions = members["functions"]
+    for function in functions:
+        timeout, ports, extensions = function.get("timeout", 3), function["ports"], function.get("extensions", [])
+        reserved = function.get("reserved", 0)
+        if not (is_text(function["name"]) and is_whole(timeout, 1 << 32) and isinstance(ports, list)
+                and len(ports) <= MOST_ENVIRONMENTS and is_list_of(is_text)(extensions)
+                and (reserved is None or is_whole(reserved, 1 << 32))):
+            raise TypeError
+    return functions
+
+
 class Configuration:
     """What the drawing needs of the configuration; the program checks the rest."""
 
     def __init__(self, line, form_2):
         self.line = line
         try:
-            members = json.loads(line)
-        except ValueError:
+            members = read_json(line)
+        except NotJson:
             raise Fault(2, "configuration: NotJson: the first line of a script is its configuration, or 'form 2' with "
-                           "the configuration in the second one; docs/formats.md has both")
+                           "the configuration in the second one; docs/formats.md has both") from None
         try:
-            functions = members["functions"]
+            functions = functions_of(members)
             self.names = [function["name"] for function in functions]
+            self.numbers = {name.encode(): f for f, name in enumerate(self.names)}
             self.owners = [f for f, function in enumerate(functions) for _ in function["ports"]]
             self.timeouts = [1000 * function.get("timeout", 3) for function in functions]
             self.expected = [list(function.get("extensions", [])) for function in functions]
             self.reserved = [function.get("reserved") for function in functions]
-            self.most = members.get("maxEntries", 1_000_000)
-            if not all(isinstance(n, int) for n in self.timeouts + [self.most]):
+            self.most, self.salt = members.get("maxEntries", 1_000_000), members.get("salt", 0)
+            if not (is_whole(self.most, 1 << 64) and is_whole(self.salt, 1 << 64)):
                 raise TypeError
-            self.numbers = {name.encode(): f for f, name in enumerate(self.names)}
-        except (KeyError, TypeError, AttributeError):
+        except (KeyError, TypeError, AttributeError, ValueError):
             raise Fault(
-                2, "configuration: BadShape: a member is missing or of another type; docs/formats.md lists them")
+                2, "configuration: BadShape: a member is missing or of another type; docs/formats.md lists them"
+            ) from None
         # The service writes every member, a person few of them: that distinguishes a history from a script.
         self.is_of_a_history = form_2 and members.keys() >= {
             "account", "accountLimit", "functions", "invokePort", "leastRemainder", "maxEntries", "region", "salt"

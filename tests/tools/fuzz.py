@@ -1,0 +1,314 @@
+#!/usr/bin/env python3
+"""Gives each reader of the tools bytes that nobody would write: UP.json, reports of failures, histories and scripts,
+templates, results of events and what functions print. A reader may refuse by its own fault, in words; nothing else may
+be raised, no line may have a control character, and none may take long. A part that a failure is minimised to is kept
+in tests/tools/fuzz.cases, and tried first from then on.
+
+usage: tests/tools/fuzz.py [--hours N] [--seed N] [PART ..]
+  --hours N  go on for so long (a minute); --seed N  begin with this seed (printed; the days since 1970)
+Without hypothesis (Debian: python3-hypothesis) only the kept cases are tried. Ends with 'N passed, M failed'."""
+import argparse
+import base64
+import contextlib
+import io
+import json
+import os
+import re
+import sys
+import tempfile
+import time
+
+ROOT = os.path.dirname(os.path.dirname(os.path.dirname(os.path.realpath(__file__))))
+sys.path[:0] = [os.path.join(ROOT, "tools"), os.path.join(ROOT, "tests", "library")]
+import counted  # noqa: E402
+from counted import check  # noqa: E402
+from lambda_local import from_template, history, outgoing  # noqa: E402
+from lambda_local.configuration import explained, mistakes  # noqa: E402
+from lambda_local.from_template import command as template_command  # noqa: E402
+from lambda_local.from_template.telling import Fault as TemplateFault  # noqa: E402
+from lambda_local.front.events import read as read_result  # noqa: E402
+from lambda_local.front.payload import Unmappable, reply_of  # noqa: E402
+from lambda_local.json_reader import NotJson, read_json  # noqa: E402
+from lambda_local.life import Life  # noqa: E402
+from lambda_local.rerun import record  # noqa: E402
+from lambda_local.service import Fault  # noqa: E402
+from lambda_local.timeline import read as timeline_read  # noqa: E402
+from lambda_local.up import members, output, reports  # noqa: E402
+
+try:
+    from hypothesis import HealthCheck, Phase, given, seed, settings
+    from hypothesis import strategies as some
+except ImportError:
+    some = None
+CASES = os.path.join(ROOT, "tests", "tools", "fuzz.cases")
+SHRINKING = 30.0  # seconds for making a failure small
+LONGEST_SECONDS = 20.0  # of one input, on a machine that does much else
+CONTROL = re.compile("[\x00-\x08\x0a-\x1f\x7f-\x9f\ud800-\udfff]")
+REQUEST = "00000000-0000-8000-8001-000000000001"
+HISTORY = (b'form 2\n{"account":"123456789012","accountLimit":1000,"functions":[{"extensions":["x"],"handler":"a.b",'
+           b'"name":"f","ports":[1],"timeout":3}],"invokePort":9,"leastRemainder":100,"maxEntries":1000,'
+           b'"region":"us-east-1","salt":0}\n1 register 1 =x is a\n'
+           b'# 0 0 registered 00000000-0000-8000-a001-000000000001\n2 next 1\n3 invoke f - =Root=1 ={}\n'
+           b'# 2 1 deliver ' + REQUEST.encode() + b' 4000 ={}\n9 response 1 1 =1\n# 3 2 output =1\n# 3 3 accepted\n'
+           b'## 4000 expire 1\n4001 stop\n# 5 5 accepted\n')
+UP = (b'{"functions":[{"name":"f","command":["true"],"environments":2,"timeout":5,"variables":{"A":"b"},"extensions":'
+      b'{"x":"true"},"url":{"cors":{"allowOrigins":["*"]}}}],"routes":{"GET /a/{id}":"f"},"asynchronous":'
+      b'{"retries":1,"onFailure":"f"},"account":"123456789012","salt":7}')
+TEMPLATE = (b"Parameters: {P: {Type: String, Default: x}}\nResources:\n  F: &f\n    Type: AWS::Serverless::Function\n"
+            b"    Properties: {Handler: a.b, Runtime: python3.12, Environment: {Variables: {A: !Sub '${P}-${F.Arn}', "
+            b"B: !Join ['', [a, !Ref P]]}}, Events: {E: {Type: HttpApi, Properties: {Path: /a, Method: get}}}}\n"
+            b"  G:\n    <<: *f\n")
+REPORT = (b'{"errorType":"E","errorMessage":"m","stackTrace":["  File \\"app.py\\", line 2, in run\\n"],"trace":'
+          b'["at f (a.js:1:2)",{"path":"m.go","line":3}]}')
+RESULT = (b'{"statusCode":200,"headers":{"a":"b"},"multiValueHeaders":{"c":["d"]},"cookies":["e=f"],"body":"x",'
+          b'"isBase64Encoded":false}')
+
+
+# ---- the readers: each takes bytes, and raises nothing ---------------------------------------------------------------
+
+
+def is_a_line(text):
+    """What a person would read has no control character."""
+    shown = outgoing.printable(text)
+    assert not CONTROL.search(shown), shown
+
+
+def of_up(data):
+    with contextlib.suppress(Fault):
+        members.load(written("up.json", data))
+    with contextlib.suppress(NotJson):
+        whole = read_json(data)
+        for mistake in mistakes(whole):
+            is_a_line(mistake)
+        if isinstance(whole, dict) and not list(mistakes(whole)):
+            for name in ("BadTimeout", "BadPort", "DuplicatePort", "BadExtension", "RemainderTooSmall"):
+                is_a_line(explained(name, whole))
+
+
+def of_reports(data):
+    report = reports.Report(data, "/at")
+    for line in (str(report), report.place, *report.lines):
+        is_a_line(line)
+    json.dumps(report.members)
+    assert outgoing.HEADER_VALUE.fullmatch(reports.kind_in(data, "X"))
+
+
+def of_histories(data):
+    """By the timeline, by recorded calls, and by what follows a service."""
+    with contextlib.suppress(Fault):
+        lines = timeline_read.Lines(io.BytesIO(data))
+        configuration, form_2 = timeline_read.read_configuration(lines)
+        with contextlib.redirect_stderr(io.StringIO()):
+            for _ in timeline_read.history_entries(lines, configuration, form_2):
+                pass
+    with contextlib.suppress(Fault), contextlib.redirect_stderr(io.StringIO()):
+        record.parsed(data, "a history")
+    with contextlib.suppress(history.NotHistory, NotJson):
+        configuration, entries = history.opened(data.decode("latin-1"))
+        life = Life(json.loads(HISTORY.split(b"\n")[1]))
+        for entry in entries:
+            for event in life.take(entry):
+                str(event)
+
+
+def of_templates(data):
+    with contextlib.suppress(TemplateFault), contextlib.redirect_stderr(io.StringIO()) as said:
+        template_command.up_of(written("template.yaml", data))
+    for line in said.getvalue().splitlines():
+        is_a_line(line)
+
+
+def of_results(data):
+    """What a function gives for an HTTP request, and what is recorded of an event."""
+    json.dumps(read_result(data))
+    with contextlib.suppress(Unmappable):
+        reply_of(data)
+
+
+def of_output(data):
+    stream, lines = io.BytesIO(data), []
+    stream.read1 = lambda most: stream.read(7)
+    output.read_lines(stream, lines.append)
+    for line in lines:
+        shown = outgoing.printable_output(line)
+        assert not CONTROL.search(outgoing.COLOUR.sub("", shown)), shown
+        assert len(line) <= output.LONGEST_LINE + output.AT_ONCE
+
+
+FOLDER = tempfile.TemporaryDirectory()
+
+
+def written(name, data):
+    path = os.path.join(FOLDER.name, name)
+    with open(path, "wb") as file:
+        file.write(data)
+    return path
+
+
+PARTS = {"up": (of_up, UP), "reports": (of_reports, REPORT), "histories": (of_histories, HISTORY),
+         "templates": (of_templates, TEMPLATE), "results": (of_results, RESULT),
+         "output": (of_output, b"a\r\n\x1b[1mb")}
+assert from_template.main
+
+
+def fault_of(reader, data):
+    """What is wrong with a reader over these bytes; nothing if it holds."""
+    begun = time.monotonic()
+    try:
+        reader(data)
+    except (Exception, SystemExit) as fault:
+        return f"{type(fault).__name__}: {fault}"[:300]
+    took = time.monotonic() - begun
+    return f"takes {took:.0f} s" if took > LONGEST_SECONDS else ""
+
+
+# ---- what they are given ---------------------------------------------------------------------------------------------
+
+WORDS = [b"\0", b"\r\n", b"\n", b"\x1b[2J", b'"\\ud83d"', b"\xff", b"\xc2\x9b", b"\xe2\x80\xae", b"[" * 200,
+         b'{"a":' * 150, b"9" * 30, b"9" * 5000, b"-1", b"1e999", b"NaN", b"null", b"true", b"[]", b"{}", b'""', b"%",
+         b"%0d%0a", b"%zz", b"# ", b"## ", b" ", b"=", b"-", b"<<: *f", b"&a [*a]", b"*f", b"!Sub ", b"!Ref ", b"${",
+         b"../", b"/" * 9, b"1.5", b'"name":', b'"ports":', b'"extensions":[5]', b"18446744073709551616", b"{", b"}",
+         b"[", b"]", b",", b":", b'"']
+
+
+def mutated(original):
+    """The original with some of its bytes left out, doubled, or replaced by words that readers stumble over."""
+    change = some.tuples(some.integers(0, len(original)), some.integers(0, 30),
+                         some.one_of(some.sampled_from(WORDS), some.binary(max_size=6)))
+
+    def applied(changes):
+        data = original
+        for at, length, word in changes:
+            at = min(at, len(data))
+            data = data[:at] + word + data[at + length:]
+        return data
+    return some.lists(change, min_size=1, max_size=6).map(applied)
+
+
+def value():
+    """What JSON can say, also where a member of another type is expected."""
+    leaf = some.one_of(some.none(), some.booleans(), some.integers(), some.floats(), some.text(max_size=8),
+                       some.sampled_from(["f", "\0", "\ud83d", "\x1b[2J", "a\r\nb: c", "=", "é", "a" * 5000]))
+    return some.recursive(leaf, lambda inner: some.one_of(
+        some.lists(inner, max_size=4), some.dictionaries(some.text(max_size=5), inner, max_size=4)), max_leaves=12)
+
+
+def replaced(original):
+    """A JSON document in which one of its values is another one."""
+    whole = json.loads(original)
+    paths = list(paths_of(whole))
+
+    def applied(choice):
+        path, new = choice
+        copy = json.loads(original)
+        if not path:
+            return json.dumps(new).encode()
+        inner = copy
+        for step in path[:-1]:
+            inner = inner[step]
+        inner[path[-1]] = new
+        return json.dumps(copy).encode()
+    return some.tuples(some.sampled_from(paths), value()).map(applied)
+
+
+def paths_of(whole, path=()):
+    yield path
+    for step, inner in whole.items() if isinstance(whole, dict) else (
+            enumerate(whole) if isinstance(whole, list) else ()):
+        yield from paths_of(inner, (*path, step))
+
+
+def inputs_of(original):
+    kinds = [mutated(original), some.binary(max_size=200)]
+    if original.startswith(b"{"):
+        kinds += [replaced(original), replaced(original)]
+    return some.one_of(kinds)
+
+
+def fuzz(name, end, first_seed):
+    """Runs rounds with one seed after the other until the time is over. The number of inputs."""
+    reader, original = PARTS[name]
+    tried, number = 0, first_seed
+    while time.monotonic() < end:
+        seen = []
+
+        @seed(number)
+        @settings(max_examples=100, deadline=None, database=None, suppress_health_check=list(HealthCheck),
+                  phases=(Phase.generate, Phase.shrink), print_blob=False)
+        @given(inputs_of(original))
+        def round_of_inputs(data):
+            nonlocal tried
+            if time.monotonic() > (end + SHRINKING if seen else end):
+                return
+            tried += 1
+            if fault := fault_of(reader, data):
+                seen.append((data, fault))
+                raise AssertionError(fault)
+        try:
+            round_of_inputs()
+        except Exception:  # (also hypothesis' own, if the time was over while it shrank)
+            if not seen:
+                raise
+            data, fault = min(seen, key=lambda one: len(one[0]))
+            keep(name, data)
+            check(f"{name}, seed {number}: {data[:200]!r}", fault, "")
+            return tried
+        number += 1
+    check(f"{name}: {tried} inputs, seeds {first_seed} to {number - 1}", "", "")
+    return tried
+
+
+# ---- the cases that are kept -----------------------------------------------------------------------------------------
+
+
+def kept():
+    """Each case of the file: the part, and its bytes."""
+    if os.path.exists(CASES):
+        with open(CASES, encoding="ascii") as file:
+            for line in file:
+                if not line.startswith("#") and line.strip():
+                    name, data = line.split()
+                    yield name, base64.b64decode(data)
+
+
+def keep(name, data):
+    if (name, data) not in list(kept()):
+        with open(CASES, "a", encoding="ascii") as file:
+            file.write(f"{name} {base64.b64encode(data).decode()}\n")
+
+
+def cases(names):
+    for name, data in kept():
+        if name in names:
+            check(f"{name}, kept: {data[:60]!r}", fault_of(PARTS[name][0], data), "")
+
+
+def arguments():
+    parser = argparse.ArgumentParser(description=__doc__, formatter_class=argparse.RawDescriptionHelpFormatter)
+    parser.add_argument("--hours", type=float, default=1 / 60)
+    parser.add_argument("--seed", type=int, default=int(time.time() // 86400))
+    parser.add_argument("parts", nargs="*", metavar="PART", help=", ".join(PARTS))
+    chosen = parser.parse_args()
+    for name in chosen.parts:
+        if name not in PARTS:
+            parser.error(f"there is no part {name}: there are {', '.join(PARTS)}")
+    return chosen
+
+
+def main():
+    chosen = arguments()
+    names = chosen.parts or list(PARTS)
+    for name in names:
+        check(f"{name}: what is right is read", fault_of(*PARTS[name]), "")
+    cases(names)
+    if some is None:
+        print("hypothesis is not here (Debian: apt-get install python3-hypothesis): only the kept cases are tried")
+        return counted.end()
+    for left, name in zip(range(len(names), 0, -1), names):
+        share = 3600 * chosen.hours / len(names)
+        fuzz(name, time.monotonic() + share, chosen.seed)
+    return counted.end()
+
+
+if __name__ == "__main__":
+    sys.exit(main())
