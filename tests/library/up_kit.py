@@ -63,14 +63,16 @@ def until(condition, seconds):
 
 
 class Up:
-    """`members` are those of a function `f`, or `functions` are all; `whole` has those of UP.json, `files` more
-    files."""
+    """`members` are those of a function `f`, or `functions` are all; `whole` has those of UP.json, `files` more files,
+    and `prepare` is called with the folder."""
 
-    def __init__(self, *options, command=(), files={}, functions=None, whole={}, environ=None, app=HANDLER, **members):
+    def __init__(self, *options, command=(), files={}, functions=None, whole={}, environ=None, app=HANDLER,
+                 prepare=lambda at: None, **members):
         self.folder = tempfile.TemporaryDirectory()
         self.at = os.path.realpath(self.folder.name)
         for name, text in {"app.py": app, **files}.items():
             self.write(name, text)
+        prepare(self.at)
         function = {"name": "f", "command": BREAKABLE, "variables": {"GREETING": "hello"}, "timeout": 1, **members}
         self.write("up.json", json.dumps({"functions": functions or [function], **whole}))
         self.lines, self.endpoint = [], None

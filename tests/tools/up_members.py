@@ -26,18 +26,18 @@ def told(text, folder, *options):
 
 
 # Members of the function greet, whose command is `true`, and what is said after "up: up.json: function greet: ".
+ENVIRONMENTS = 'environments must be a whole number from 1 to 256, or an object with "min" and "max", not '
 OF_FUNCTION = {
     "a member that nobody knows": ({"timeuot": 5}, "unknown member timeuot, did you mean timeout?"),
     "one that is like no other": ({"zzz": 1}, "unknown member zzz; there are command, directory, environments, "
-                                              "extensions, handler, memory, name, ports, reserved, runtime, timeout, "
-                                              "url, variables, watch"),
+                                              "extensions, handler, init, layers, memory, name, ports, python, "
+                                              "reserved, runtime, timeout, url, variables, watch"),
     "a text for a number": ({"timeout": "5"}, 'timeout must be a whole number of seconds, from 1 to 900, not "5"'),
     "a broken number": ({"memory": 1.5}, "memory must be a whole number of MB, not 1.5"),
     "true for a number": ({"reserved": True}, "reserved must be a whole number, not true"),
-    "a text for environments": ({"environments": "2"}, 'environments must be a whole number from 1 to 256, not "2"'),
-    "no environment": ({"environments": 0}, "environments must be a whole number from 1 to 256, not 0"),
-    "a billion environments": ({"environments": 10**9},
-                               "environments must be a whole number from 1 to 256, not 1000000000"),
+    "a text for environments": ({"environments": "2"}, ENVIRONMENTS + '"2"'),
+    "no environment": ({"environments": 0}, ENVIRONMENTS + "0"),
+    "a billion environments": ({"environments": 10**9}, ENVIRONMENTS + "1000000000"),
     "a list for an object": ({"variables": ["A=1"]},
                              'variables must be an object of texts, numbers, true or false, not ["A=1"]'),
     "a variable that is null": ({"variables": {"A": None}},

@@ -35,12 +35,31 @@ class Generation(phases.Members):
         self.report: Optional[bytes] = None  # the body of the failure that closed it
 
 
+class Invocation:
+    def __init__(self, function, identifier, moment):
+        self.function, self.identifier, self.moment = function, identifier, moment
+        self.environment: Optional["Environment"] = None  # where it was delivered
+        self.delivered: Optional[int] = None
+        self.is_over = False  # it was answered
+
+    @property
+    def waits(self):
+        """Whether it was admitted, and no runtime has it yet."""
+        return self.delivered is None and not self.is_over
+
+
 class Environment:
     """An environment, from 1, of a function; `place` is its place among that function's own, from 1."""
 
     def __init__(self, number, function, place, expected):
         self.number, self.function, self.place, self.expected = number, function, place, expected
         self.generation, self.before = Generation(), None
+        self.bound: Optional[Invocation] = None  # the invocation that was placed here last before it was delivered
+
+    @property
+    def is_bound(self):
+        """Whether an invocation waits for the end of its Init."""
+        return self.bound is not None and self.bound.waits
 
     @property
     def name(self):
@@ -51,13 +70,6 @@ class Environment:
         count = count_in(identifier)
         return next((generation for generation in (self.generation, self.before)
                      if generation and count in generation.extensions), None)
-
-
-class Invocation:
-    def __init__(self, function, identifier, moment):
-        self.function, self.identifier, self.moment = function, identifier, moment
-        self.environment: Optional[Environment] = None  # where it was delivered
-        self.delivered: Optional[int] = None
 
 
 class Ended(NamedTuple):
@@ -111,6 +123,8 @@ class Life:
         if environment:
             self._note(environment, entry)
         yield from self._answered(entry)
+        if entry.kind == "invoke":
+            self._bind(self.invocations.get(entry.number))
         if entry.kind == "withdraw":
             self._is_over(int(entry.fields[0]))
         concerned = [environment] if environment else []
@@ -131,6 +145,18 @@ class Life:
         identifier = request_identifier(self.salt, self.numbers[function], self._counts[function])
         invocation = Invocation(function, identifier, entry.moment)
         self.invocations[entry.number] = self._identified[identifier] = invocation
+
+    def _bind(self, invocation):
+        """An invocation that is not delivered at once is placed where the service does it: on the first environment
+        that starts and has none, else on the first such one that closes."""
+        if invocation is None or not invocation.waits:
+            return
+        free = [environment for environment in self.environments.values()
+                if environment.function == invocation.function and not environment.is_bound]
+        starting = [environment for environment in free if not (environment.generation.is_ready
+                                                                or environment.generation.closes)]
+        for environment in (starting or [one for one in free if one.generation.closes])[:1]:
+            environment.bound = invocation
 
     def _note(self, environment, entry):
         """What a call says of the one who makes it."""
@@ -173,6 +199,7 @@ class Life:
         invocation = self.invocations.pop(answer.ticket, None)
         if invocation is None:
             return  # (the answer to another call: a reservation after a stop)
+        invocation.is_over = True
         self._identified.pop(invocation.identifier, None)
         body = answer.body if answer.kind in ("output", "error") else None
         yield Ended(entry.moment, invocation, invocation.environment or self.environments.get(entry.environment),

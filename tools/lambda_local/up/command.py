@@ -8,9 +8,14 @@
                                             command after -- is run once it has left it
 
 UP.json is a service's configuration (docs/formats.md) in which each function has more members:
-  runtime        "python" or "node": the bundled runtime serves `handler`, such as "app.handler"
+  runtime        "python" or "node" (or Lambda's names, such as "python3.12"): the bundled runtime serves `handler`,
+                 such as "app.handler"
+  python         the interpreter of "runtime": "python" (default: the one that runs this tool)
   command        in its place, what starts another runtime: a list of words, or a text that is split as a shell would
-  environments   how many it has, if no `ports` are given (default: 1)
+  environments   how many it has, if no `ports` are given (default: 1); or {"min": 1, "max": 10}: those beyond min are
+                 started when invocations wait for them, and end after {"idle": 60} seconds without work
+  init           how many seconds its Init may take (default: Lambda's 10)
+  layers         folders and .zip files, as layers have them
   variables      an object: environment variables of its processes
   directory      where they run (default: the folder of UP.json)
   memory         what AWS_LAMBDA_FUNCTION_MEMORY_SIZE says (default: 128)
@@ -56,6 +61,16 @@ def seconds_of(text):
 seconds_of.__name__ = "number of seconds"
 
 
+def names_of(text):
+    names = [name.strip() for name in text.split(",")]
+    if not all(names):
+        raise ValueError
+    return names
+
+
+names_of.__name__ = "list of names of functions, separated by commas"
+
+
 def parser():
     made = parser_of("up", __doc__, USAGE)
     made.add_argument("up", metavar="UP.json")
@@ -64,8 +79,11 @@ def parser():
     made.add_argument("--history", metavar="FILE",
                       help="save the history there, payloads and all (if a command fails, it is saved as "
                                                         "lambda_local.history.txt by default)")
-    made.add_argument("--ready", metavar="SECONDS", type=float, default=60,
-                      help="wait at most so long for all environments (60)")
+    made.add_argument("--only", metavar="F,G", type=names_of, help="leave all other functions out")
+    made.add_argument("--ready", metavar="SECONDS", type=seconds_of,
+                      help="wait at most so long for all environments (60, or longer if an \"init\" is)")
+    made.add_argument("--allow-unready", action="store_true",
+                      help="run the command though functions cannot be started or their Init fails")
     made.add_argument("--drain", metavar="SECONDS", type=seconds_of, default=5,
                       help="at the end wait at most so long for asynchronous invocations (5)")
     made.add_argument("--salt", metavar="N", type=salt_of,

@@ -30,7 +30,10 @@ class Environment(threading.Thread):
         self.generation, self.identifier = 0, None  # of tools/up in this generation
         self.restarts, self.hurry = restarts, threading.Event()
         self.reporting, self.report, self.tried = threading.Lock(), None, set()  # what callers hear in a pause
-        self.last_report = b"{}"
+        self.last_report, self.reported = b"{}", None  # the last generation that ended by this tool's own report
+        # One beyond the function's least number is started once it is wanted.
+        self.is_extra = watch.environment(number).place > function.least
+        self.is_started, self.wanted = not self.is_extra, threading.Event()
 
     def say(self, line, **members):
         self.log(self.name, f"-- {line}", **members)
@@ -64,9 +67,10 @@ class Environment(threading.Thread):
 
     def one_generation(self):
         """Whether another one follows."""
+        self.wait_until_wanted()
         self.wait_out_pause()
         self.identifier = None
-        if self.stopping.is_set() or self.function.debug and not self.begin_unseen():
+        if self.stopping.is_set() or self.begins_unseen and not self.begin_unseen():
             return not self.stopping.is_set()
         self.identifier = self.register()
         if self.identifier is None:
@@ -76,7 +80,7 @@ class Environment(threading.Thread):
             waiting.request("GET", EXTENSION + "event/next", headers=self.me())
             try:
                 self.start_extensions()
-                if not self.function.debug:
+                if not self.begins_unseen:
                     self.start_runtime()
             except OSError as fault:
                 self.ended_by(f"Runtime could not be started: {fault}", "Runtime.ExitError", self.identifier)
@@ -84,6 +88,30 @@ class Environment(threading.Thread):
             return self.attend(waiting)
         finally:
             waiting.close()
+
+    @property
+    def begins_unseen(self):
+        """Whether its Init may take longer than the service allows: the service hears of it once it is over."""
+        return self.function.debug or self.function.init is not None
+
+    def wait_until_wanted(self):
+        if not self.is_extra:
+            return
+        self.is_started = False
+        self.wanted.wait()
+        self.wanted.clear()
+        self.is_started = True
+
+    def begin(self):
+        """An invocation is bound to it."""
+        self.say("is started: no other environment is free")
+        self.is_started = True
+        self.wanted.set()
+
+    def wake(self):
+        """At the end it waits for nothing any more."""
+        self.hurry.set()
+        self.wanted.set()
 
     def me(self):
         return {"Lambda-Extension-Identifier": self.identifier}
@@ -118,26 +146,39 @@ class Environment(threading.Thread):
         self.runtime = Process(self.name, self.function.command, self.function.directory, self.variables, self.log)
 
     def begin_unseen(self):
-        """For a debugger: this tool's registration would start Init's clock, so it waits for the runtime's first
-        Next."""
+        """For a debugger, or an Init that may take long: this tool's registration would start Init's clock, so it waits
+        for the runtime's first Next."""
         try:
             self.start_runtime()
         except OSError as fault:
             self.say(str(fault), level="error")
             self.restarts.note(True)
             return False
-        self.say("may stop in its Init as long as it likes until it is invoked")
+        limit = None if self.function.debug else self.function.init
+        if limit is None:
+            self.say("may stop in its Init as long as it likes until it is invoked")
         while not self.stopping.is_set():
             self.watch.refresh()
             if self.watch.environment(self.number).generation.poll is not None:
                 return True
-            if self.runtime.ended(0.2):
-                reason = reason_of(self.runtime.status())
-                self.end(0)
-                self.say(f"Init failed: {reason}", level="error", kind="exit")
-                self.fail_init(self.remember(reason, "Runtime.ExitError"))
-                self.restarts.note(True)
-                return False
+            if self.runtime.ended(0.1):
+                return self.fail_unseen(reason_of(self.runtime.status()), "Runtime.ExitError")
+            if limit is not None and time.monotonic() - self.runtime.begun > limit:
+                return self.fail_unseen(f"Init timed out after {limit} s", "Init.Timeout")
+        return False
+
+    def fail_unseen(self, reason, kind):
+        """Ends an Init of which the service knows nothing. (What the runtime has reported itself comes first.)"""
+        self.end(0)
+        before = self.watch.environment(self.number).before
+        if before and before.report and before is not self.reported:
+            self.last_report = before.report
+        else:
+            self.say(f"Init failed: {reason}", level="error", kind="exit")
+            self.remember(reason, kind)
+        self.fail_init(self.last_report)
+        self.reported = self.watch.environment(self.number).before
+        self.restarts.note(True)
         return False
 
     def attend(self, waiting):

@@ -1,9 +1,12 @@
 """UP.json: a service's configuration in which each function says how its processes are started."""
+import difflib
 import os
 import shlex
 import shutil
+import sys
 
-from ..configuration import OF_FUNCTION, OF_SERVICE, Kind, is_list_of, is_text, is_whole, mistakes, named, shown
+from ..configuration import (OF_FUNCTION, OF_SERVICE, Kind, is_list_of, is_text, is_whole, mistakes, mistakes_of, named,
+                             shown)
 from ..front import settings
 from ..json_reader import NotJson, read_json
 from ..outgoing import is_for_the_system, is_name_of_variable
@@ -12,13 +15,15 @@ from ..service import Fault
 from ..usage import called
 from ..variables import OF_FUNCTION as VARIABLES
 from ..variables import text_of
+from . import layers, programs
 from .processes import program_of
 
 NAME = "lambda_local.up"  # under which tools/up registers
 LONGEST = 16 << 20  # bytes of UP.json
 MOST_EXTENSIONS = 9  # the tenth is tools/up
 DEBUG_TIMEOUT = 900
-RUNTIMES = {"python": ("python3", "runtime.py"), "node": ("node", "runtime.mjs")}
+LONGEST_INIT = 900  # seconds
+IDLE_SECONDS = 60  # after which an environment beyond the least number ends
 
 
 def is_command(value):
@@ -31,10 +36,24 @@ def is_extensions(value):
     return is_list_of(is_text)(value)
 
 
+def is_count(value):
+    return is_whole(value, 257) and value > 0
+
+
+OF_ENVIRONMENTS = {
+    "min": Kind(lambda value: is_whole(value, 257), "a whole number from 0 to 256"),
+    "max": Kind(is_count, "a whole number from 1 to 256"),
+    "idle": Kind(lambda value: is_whole(value, 86401) and value > 0, "a whole number of seconds, from 1 to 86400"),
+}
 OWN = {
     "command": Kind(is_command, "a text, or a list of texts"),
-    "runtime": Kind(lambda value: is_text(value) and value in RUNTIMES, '"python" or "node"'),
-    "environments": Kind(lambda value: is_whole(value, 257) and value > 0, "a whole number from 1 to 256"),
+    "runtime": Kind(programs.is_runtime, '"python" or "node"'),
+    "python": Kind(lambda value: is_text(value) and value != "", "a text: a Python interpreter"),
+    "environments": Kind(lambda value: is_count(value) or isinstance(value, dict),
+                         "a whole number from 1 to 256, or an object with \"min\" and \"max\""),
+    "init": Kind(lambda value: is_whole(value, LONGEST_INIT + 1) and value > 0,
+                 "a whole number of seconds, from 1 to 900"),
+    "layers": Kind(is_list_of(is_text), "a list of folders and .zip files"),
     "variables": VARIABLES,
     "directory": Kind(is_text, "a text: a folder"),
     "memory": Kind(lambda value: is_whole(value, 1 << 32), "a whole number of MB"),
@@ -54,26 +73,39 @@ def words_of(command, where):
 
 
 class Function:
-    """A function of UP.json, and its part of the service's configuration."""
+    """A function of UP.json, and its part of the service's configuration. If it may be unready, what cannot be started
+    is a note in place of a fault."""
 
-    def __init__(self, member, path, debug=False):
-        self.name, self.debug = member["name"], debug
-        self.where = f"{path}: function {self.name}"
-        self.directory = os.path.join(os.path.dirname(os.path.abspath(path)), member.get("directory", ""))
+    def __init__(self, member, path, debug=False, may_be_unready=False):
+        self.name, self.debug, self.may_be_unready, self.notes = member["name"], debug, may_be_unready, []
+        self.where, base = f"{path}: function {self.name}", os.path.dirname(os.path.abspath(path))
+        self.directory = os.path.join(base, member.get("directory", ""))
         if not os.path.isdir(self.directory):
-            raise Fault(2, f"{self.where}: directory: there is no folder {self.directory}")
+            self._refuse(2, f"directory: there is no folder {self.directory}")
+        for name in ("watch", "layers"):
+            for path in member.get(name, []):
+                if not is_for_the_system(path):
+                    raise Fault(2, f"{self.where}: {name}: {shown(path)}: no path has a NUL, or half a character")
+        self.init = member.get("init")
+        self.layers = layers.folders_of(member.get("layers", []), base, self.where)
         self.variables = self._variables(member.get("variables", {}))
         self.memory = member.get("memory", 128)
         self.watch = [os.path.join(self.directory, name) for name in member.get("watch", ["."])]
-        for name in member.get("watch", []):
-            if not is_for_the_system(name):
-                raise Fault(2, f"{self.where}: watch: {shown(name)}: no path has a NUL, or half a character")
-        self.handler = member.get("handler", "index.handler")
+        self.handler, self.member = member.get("handler", "index.handler"), member
         self.command = self._command(member)
         self.extensions = self._extensions(member.get("extensions", {}))
         self.expected = list(self.extensions) + ([NAME] if self.command else [])
         self._look()
         self.part = self._part(member)
+        self._scale(member)
+        if self.layers:
+            self.variables.update(layers.variables_of(self.layers, self.variables, self._versions(member)))
+
+    def _refuse(self, status, sentence):
+        """What cannot be started now, and may be mended while all else runs."""
+        if not self.may_be_unready:
+            raise Fault(status, f"{self.where}: {sentence}")
+        self.notes.append(sentence)
 
     def _variables(self, given):
         variables = {name: text_of(value) for name, value in given.items()}
@@ -88,18 +120,29 @@ class Function:
 
     def _command(self, member):
         if "runtime" not in member:
+            if "python" in member:
+                raise Fault(2, f"{self.where}: python is for \"runtime\": \"python\": leave it out")
             return words_of(member["command"], f"{self.where}: command") if "command" in member else None
         if "command" in member:
             raise Fault(2, f"{self.where}: it has a runtime and a command: leave one of the two out")
-        program, file = RUNTIMES[member["runtime"]]
+        file = programs.FILES[programs.language_of(member["runtime"])]
         path, what = bundled(file), f'"runtime": "{member["runtime"]}"'
         if path is None:
             raise Fault(4, f"{self.where}: {what} needs {file}, which is not in the examples that come with tools/up: "
                            f"write a command")
-        if not shutil.which(program):
-            raise Fault(4, f"{self.where}: {what} needs the program {program}, which is not on PATH: install it, or "
-                           f"write a command")
+        program, note = programs.program_of_runtime(member["runtime"], member.get("python"), self.directory, self.where)
+        self.notes += [note] if note else []
+        if not shutil.which(program_of(program, self.directory)):
+            self._refuse(4, f"{what} needs the program {program}, which is not on PATH: install it, or write a command")
         return [program, path]
+
+    def _versions(self, member):
+        """The versions of the interpreters, for the folders of layers that have them in their names."""
+        of = {language: (program, language) for language, program in (("python", sys.executable), ("node", "node"))}
+        if "runtime" in member:
+            language = programs.language_of(member["runtime"])
+            of[language] = (program_of(self.command[0], self.directory), language)
+        return {language: programs.version_of(*words) for language, words in of.items()}
 
     def _extensions(self, given):
         """Returns the words of each extension's command by its name; None for one that is started by hand."""
@@ -115,16 +158,34 @@ class Function:
             for word in words:
                 if not is_for_the_system(word):
                     raise Fault(2, f"{self.where}: {shown(word)}: no word of a command has a NUL, or half a character")
-            if not shutil.which(program_of(words[0], self.directory)):
-                raise Fault(4, f"{self.where}: {words[0]} is not a program (looked for in "
-                               f"{self.directory if '/' in words[0] else 'PATH'})")
+            if words is not self.command or "runtime" not in self.member:
+                if not shutil.which(program_of(words[0], self.directory)):
+                    self._refuse(4, f"{words[0]} is not a program (looked for in "
+                                    f"{self.directory if '/' in words[0] else 'PATH'})")
+
+    def _scale(self, member):
+        """How many environments are started at once, and after which time without work a further one ends. All others
+        are started once an invocation waits for one."""
+        given = member.get("environments")
+        self.least, self.idle = len(self.part["ports"]), None
+        if not isinstance(given, dict):
+            return
+        if not self.command:
+            raise Fault(2, f"{self.where}: environments: you start its runtimes yourself: write a number")
+        most = given.get("max", max(1, given.get("min", 1)))
+        self.least, self.idle = min(given.get("min", 1), len(self.part["ports"])), given.get("idle", IDLE_SECONDS)
+        if given.get("min", 1) > most:
+            raise Fault(2, f"{self.where}: environments: min is {given['min']}, which is more than max, {most}")
 
     def _part(self, member):
         part = {name: value for name, value in member.items() if name in OF_FUNCTION}
-        part.setdefault("ports", [0] * member.get("environments", 1))
-        if "environments" in member and member["environments"] != len(part["ports"]):
-            raise Fault(2, f"{self.where}: {len(part['ports'])} ports for {member['environments']} environments: leave "
-                           f"one of the two out")
+        count = member.get("environments", 1)
+        if isinstance(count, dict):
+            count = count.get("max", max(1, count.get("min", 1)))
+        part.setdefault("ports", [0] * count)
+        if "environments" in member and count != len(part["ports"]):
+            raise Fault(2, f"{self.where}: {len(part['ports'])} ports for {count} environments: leave one of the two "
+                           "out")
         if self.debug:
             part.update(ports=part["ports"][:1], timeout=DEBUG_TIMEOUT)
             if part.get("reserved", 0) > 1:
@@ -143,17 +204,47 @@ def read(path):
         raise Fault(2, f"{path}: {fault.strerror}: name a file as `{usage}` describes it") from None
     except NotJson as fault:
         raise Fault(2, f"{path}: this is no JSON: {fault}") from None
-    for looked in (mistakes(whole, AT_THE_TOP, MEMBERS, ["functions"], ["name"]), settings.mistakes(whole)):
+    for looked in (mistakes(whole, AT_THE_TOP, MEMBERS, ["functions"], ["name"]), mistakes_inside(whole),
+                   settings.mistakes(whole)):
         for mistake in looked:
             raise Fault(2, f"{path}: {mistake}")
     return whole
 
 
-def load(path, debug=None, salt=None):
+def mistakes_inside(whole):
+    if not whole["functions"]:
+        yield "functions: there is no function: write at least one"
+    for member in whole["functions"]:
+        if isinstance(member.get("environments"), dict):
+            where = f"function {member['name']}: environments: "
+            yield from mistakes_of(member["environments"], OF_ENVIRONMENTS, where)
+
+
+def limited(whole, names, path):
+    """UP.json with these functions alone, and with what leads to them."""
+    there = [member["name"] for member in whole["functions"]]
+    for name in names:
+        if name not in there:
+            near = difflib.get_close_matches(name, there, 1, 0.6)
+            raise Fault(2, f"--only {name}: {path} has no such function" + (
+                f", did you mean {near[0]}?" if near else f"; there are {', '.join(there)}"))
+    found = {**whole, "functions": [member for member in whole["functions"] if member["name"] in names]}
+    if "routes" in whole:
+        found["routes"] = {route: of for route, of in whole["routes"].items()
+                           if (of["function"] if isinstance(of, dict) else of) in names}
+    given = whole.get("asynchronous")
+    if isinstance(given, dict) and given.get("onFailure") not in (None, *names):
+        found["asynchronous"] = {name: value for name, value in given.items() if name != "onFailure"}
+    return found
+
+
+def load(path, debug=None, salt=None, only=None, may_be_unready=False):
     """Returns the service's configuration, the functions of UP.json, one of which may be for a debugger, and what is in
     front of them."""
     whole = read(path)
-    functions = [Function(member, path, member["name"] == debug) for member in whole["functions"]]
+    if only is not None:
+        whole = limited(whole, only, path)
+    functions = [Function(member, path, member["name"] == debug, may_be_unready) for member in whole["functions"]]
     if debug and not any(function.debug and function.command for function in functions):
         raise Fault(2, f"--debug {debug}: {path} has no such function with a command")
     own = {name: value for name, value in whole.items() if name in OF_SERVICE}

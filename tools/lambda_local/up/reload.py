@@ -70,7 +70,7 @@ class Reload(threading.Thread):
     def changed(self, function, paths):
         self.log("up", f"{function.name} begins anew: {os.path.relpath(paths[0])} changed")
         for environment in self.environments:
-            if environment.function is function:
+            if environment.function is function and environment.is_started:
                 self.due[environment] = environment.generation
                 environment.hurry.set()
 

@@ -17,11 +17,13 @@ from .reload import Reload
 from .reports import Report
 from .restarts import Restarts
 from .run import Run
+from .scaling import BETWEEN_LOOKS, Scaling
 from .supervised import BROKEN, Supervisor, told
 from .watch import Watch
 
 SAVED = "lambda_local.history.txt"
 NAMED = 8  # environments in one line
+READY_SECONDS = 60  # for all environments, if no other time is asked for
 LAST_SECONDS = 20.0  # for all threads at the end
 
 
@@ -34,7 +36,10 @@ class Session:
         GUARD.adopt_orphans(self.guard_lost)
         self.has_guard = True
         salt = options.salt
-        configuration, self.functions, front = load(options.up, options.debug, salt)
+        configuration, self.functions, front = load(options.up, options.debug, salt, options.only,
+                                                    options.allow_unready)
+        self.patience = options.ready or max([READY_SECONDS, *(function.init + READY_SECONDS // 2 for function
+                                                               in self.functions if function.init)])
         self.front = Front(front, options.up, options.drain, log)
         if salt is None and "salt" not in configuration:
             configuration["salt"] = int(1000 * time.time()) << 16  # so that no two runs have the same identifiers
@@ -47,6 +52,9 @@ class Session:
         self.watch = Watch(self.service, Lines(log, self.functions), log, self.stopping)
         self.environments = list(self.make_environments())
         self.watch.hooks = [environment.answer_callers for environment in self.environments]
+        if any(environment.is_extra for environment in self.environments):
+            self.watch.hooks.append(Scaling(self.environments, self.watch, self.service).look)
+            self.watch.between_looks = BETWEEN_LOOKS
         self.threads = [self.watch, *self.environments]
         self.clients = surroundings.Clients(log, self.stopping)
         if options.reload:
@@ -60,6 +68,8 @@ class Session:
         for function, part in zip(self.functions, self.service.configuration["functions"]):
             if function.debug:
                 self.say(f"{function.name}: one environment and a timeout of {part['timeout']} s, for the debugger")
+            for note in function.notes:
+                self.say(f"{function.name}: {note}", level="warning")
             for port in part["ports"]:
                 number += 1
                 here = self.watch.environment(number)
@@ -124,10 +134,11 @@ class Session:
     def late(self):
         """The environments whose Init is not over, and those of them that are waited for: if no command is to be run,
         one that is debugged and one that a changed file must mend may take any time."""
-        late = [environment for environment in self.environments
-                if not self.watch.environment(environment.number).generation.is_ready]
+        late = [environment for environment in self.environments if not environment.is_extra
+                and not self.watch.environment(environment.number).generation.is_ready]
         if self.options.command:
-            return late, late
+            return late, [environment for environment in late
+                          if not (self.options.allow_unready and environment.restarts.early)]
         return late, [environment for environment in late
                       if not (environment.function.debug or environment.restarts.needs_a_change)]
 
@@ -138,12 +149,16 @@ class Session:
             self.watch.refresh()
             (late, awaited), passed = self.late(), time.monotonic() - begun
             if not awaited:
-                self.say(f"ready but for {self.names(late)}" if late else "ready", kind="ready")
+                self.say(f"ready but for {self.names(late)}" if late else "ready", kind="ready",
+                         level="warning" if late and self.options.command else "info")
                 return True
             hurried = [environment for environment in awaited if not environment.function.debug]
-            if hurried and passed > self.options.ready:
-                raise Fault(5, f"not ready after {self.options.ready:g} s: "
-                            + "; ".join(map(self.lateness, hurried[:NAMED])))
+            if hurried and passed > self.patience:
+                said = f"not ready after {self.patience:g} s: " + "; ".join(map(self.lateness, hurried[:NAMED]))
+                if not self.options.allow_unready:
+                    raise Fault(5, said)
+                self.say(said, level="warning", kind="ready")
+                return True
             if passed > tell_at:
                 tell_at = 2 * tell_at
                 self.say(f"waits for {self.names(hurried or awaited)}{'' if hurried else ', which is being debugged'}")
@@ -207,7 +222,7 @@ class Session:
             self.step("saving the history", self.save)
         self.stopping.set()
         for environment in self.environments:
-            environment.hurry.set()
+            environment.wake()
         status, counts = self.step("the stop", self.service.stop) or (4, "")
         self.step("the end of the front", self.front.end)
         self.join()

@@ -28,11 +28,12 @@ class Watch(threading.Thread):
         self.life, self.follower, self.lock = Life(service.configuration), Follower(service.port), threading.RLock()
         self.most = service.configuration.get("maxEntries", 1_000_000)
         self.warnings, self.hooks, self.mute, self.look_at = set(), [], None, 0.0
+        self.between_looks = 0.1  # seconds
 
     def run(self):
         took = 0.0
         # A service that gives its whole history each time is asked seldom enough.
-        while not self.stopping.wait(max(0.1, 10 * took)):
+        while not self.stopping.wait(max(self.between_looks, 10 * took)):
             begun = time.monotonic()
             self.refresh()
             took = time.monotonic() - begun

@@ -1,0 +1,38 @@
+"""Environments beyond a function's least number: each is started once an invocation is bound to it, and ends after a
+while without work."""
+import time
+
+from ..service import ask
+
+# Seconds between two looks at the history, if there are environments that may have to be started.
+BETWEEN_LOOKS = 0.03
+
+
+class Scaling:
+    """Looks after the environments of all functions that have a least number and a greater one."""
+
+    def __init__(self, environments, watch, service):
+        self.environments = [environment for environment in environments if environment.is_extra]
+        self.watch, self.service, self.last = watch, service, {}
+
+    def look(self):
+        now = time.monotonic()
+        for environment in self.environments:
+            here = self.watch.environment(environment.number)
+            if not environment.is_started:
+                self.last.pop(environment, None)
+                if here.is_bound:
+                    environment.begin()
+            elif here.generation.is_ready:
+                self.look_at_idle(environment, here, now)
+
+    def look_at_idle(self, environment, here, now):
+        """One that had no work for long enough is spun down; if it works just now, the service refuses (409)."""
+        work = (here.generation, here.generation.deliveries)
+        seen, since = self.last.get(environment, (None, now))
+        if seen != work or now - since < environment.function.idle:
+            self.last[environment] = (work, since if seen == work else now)
+            return
+        self.last[environment] = (work, now)
+        if ask(self.service.port, "POST", f"/_local/env/{environment.number}/spindown")[0] == 202:
+            environment.say(f"ends, since it had no work for {environment.function.idle} s")
