@@ -21,7 +21,7 @@ import types
 import urllib.error
 import urllib.request
 
-from .configuration import OF_FUNCTION, Kind, is_whole, mistakes_of
+from .configuration import OF_FUNCTION, Kind, is_whole, mistakes_of, shown
 from .paths import ROOT
 from .sandbox import Sandbox
 from .service import RUNTIME, Service, program_path
@@ -35,6 +35,7 @@ MEMBERS = {**{name: kind for name, kind in OF_FUNCTION.items() if name != "name"
            "ports": Kind(lambda value: isinstance(value, list) and all(is_whole(port, 1 << 16) for port in value),
                          "a list of ports, 0 for a free one")}
 OPENER = urllib.request.build_opener(urllib.request.ProxyHandler({}))  # (the service is on this machine)
+DRAIN_SECONDS = 5  # for events at the end
 FAULTS_KEPT = 100  # the newest of those that no invoke has asked for
 PAUSE = 0.02  # seconds, until an environment that was reset is asked again
 
@@ -180,27 +181,56 @@ class Runtime(threading.Thread):
             return "error", json.dumps(report)
 
 
+def front_of(asynchronous, members):
+    """What takes invocations of the type Event, by the members of UP.json's "asynchronous"; None if none is wanted."""
+    if asynchronous is None or asynchronous is False:
+        return None
+    from .front.front import Front  # (asyncio takes a while to import, and few tests need it)
+    from .front.settings import OF_ASYNCHRONOUS, Address, Settings, asynchronous_of
+    if asynchronous is not True and not isinstance(asynchronous, dict):
+        raise ValueError(f"asynchronous must be True, or a dict such as {{\"retries\": 0}}, not {asynchronous!r}")
+    given = {} if asynchronous is True else asynchronous
+    for mistake in mistakes_of(given, OF_ASYNCHRONOUS, "asynchronous: "):
+        raise ValueError(mistake)
+    if given.get("onFailure", next(iter(members))) not in members:
+        raise ValueError(f"asynchronous: onFailure: there is no function {shown(given['onFailure'])}")
+    functions = tuple({"name": name, **own} for name, own in members.items())
+    made = Settings(0, asynchronous_of(given), {}, {}, Address(), functions, os.getcwd())
+    return Front(made, "start()", DRAIN_SECONDS, tell_of_events)
+
+
+def tell_of_events(who, text, level="info", **_members):
+    """What is lost or goes wrong with events."""
+    if level in ("warning", "error"):
+        print(f"[{who}] {text}", file=sys.stderr)
+
+
 class LambdaLocal:
     """A service of these functions: `timeout`, `reserved`, `environments`, `variables` .. of a function by `functions`.
     `patches` is pytest's MonkeyPatch, or what makes the same changes and undoes them."""
 
-    service, sandbox, endpoint_url, stopped, log = None, None, None, False, ""
+    service, sandbox, front, endpoint_url, stopped, log = None, None, None, None, False, ""
 
-    def __init__(self, functions=None, program=None, patches=None, keep_credentials=False, **handlers):
+    def __init__(self, functions=None, program=None, patches=None, keep_credentials=False, asynchronous=None,
+                 **handlers):
         self.program, self.patches, self.runtimes, self.faults = program, patches, [], {}
         if functions or handlers:
-            self.start(functions, keep_credentials, **handlers)
+            self.start(functions, keep_credentials, asynchronous, **handlers)
 
-    def start(self, functions=None, keep_credentials=False, **handlers):
+    def start(self, functions=None, keep_credentials=False, asynchronous=None, **handlers):
+        """`asynchronous` is True, or a dict with the members of UP.json's: invocations of the type Event are taken."""
         if self.service:
             raise RuntimeError("it has been started: name all functions in one start(), or make another LambdaLocal()")
         members = {**dict.fromkeys(handlers, {}), **(functions or {})}
         if not members:
             raise ValueError("start() needs a function: start(NAME=handler)")
         parts = [function_of(name, member, handlers.get(name)) for name, member in members.items()]
-        variables = variables_of(members)
+        variables, front = variables_of(members), front_of(asynchronous, members)
         configuration = {"account": "123456789012", "region": "us-east-1", "functions": [part for part, _ in parts]}
         self.service = Service(configuration, self.program or prepared(program_path()))
+        if front:
+            front.serve(self.service)
+            self.front = front
         self.endpoint_url = self.service.endpoint_url
         self.sandbox = Sandbox(self.service, variables, keep_credentials, self.patches)
         for (_, memory), part in zip(parts, self.service.configuration["functions"]):
@@ -274,9 +304,9 @@ class LambdaLocal:
         return self.service.history() if self.service and not self.stopped else self.log
 
     def settled(self, seconds=5):
-        """Waits until nothing is in flight; whether it came to that."""
+        """Waits until nothing is in flight and no event is left; whether it came to that."""
         end = time.monotonic() + seconds
-        while self.stats()["inFlight"]:
+        while self.front and self.front.queue.count or self.stats()["inFlight"]:
             if time.monotonic() > end:
                 return False
             time.sleep(0.005)
@@ -286,6 +316,9 @@ class LambdaLocal:
         """Stops it, and checks its counts and that its history replays to itself."""
         if self.service is None or self.stopped:
             return
+        if self.front:
+            self.front.drain(self.has_ended)
+            self.front.end()
         try:
             self.log, stats = self.service.history(), self.service.stats()
         except (OSError, http.client.HTTPException):

@@ -1,26 +1,113 @@
 """Begins a function's environments anew when its files change."""
+import fnmatch
 import http.client
 import os
+import re
 import threading
+import time
 
 from ..service import ask
 
-SKIPPED = {"__pycache__", "node_modules"}
+SKIPPED = {"__pycache__", "node_modules", "venv", "dist", "build", "target"}
+ENVIRONMENT = "pyvenv.cfg"  # what a virtual environment of Python has
 BETWEEN_LOOKS = 0.5  # seconds
+MOST_IGNORED = 1 << 20  # bytes of a .gitignore
+
+
+class Ignored:
+    """What the .gitignore files of a folder and of those above it leave out. (** in a pattern counts as one *.)"""
+
+    def __init__(self, patterns=()):
+        self.patterns = patterns
+
+    def below(self, folder):
+        """The same with the file of this folder."""
+        try:
+            with open(os.path.join(folder, ".gitignore"), encoding="utf-8", errors="replace") as file:
+                lines = file.read(MOST_IGNORED).splitlines()
+        except OSError:
+            return self
+        return Ignored((*self.patterns, *filter(None, (pattern_of(line, folder) for line in lines))))
+
+    def has(self, path, is_folder):
+        found = False
+        for is_taken_back, of_folders, folder, pattern in self.patterns:
+            if is_folder or not of_folders:
+                name = os.path.basename(path) if folder is None else os.path.relpath(path, folder)
+                if fnmatch.fnmatchcase(name, pattern):
+                    found = not is_taken_back
+        return found
+
+
+def pattern_of(line, folder):
+    """Whether it takes back what others ignore, whether it is of folders alone, where it is anchored, and its text."""
+    line = line.rstrip()
+    if not line or line.startswith("#"):
+        return None
+    is_taken_back, line = line.startswith("!"), line.lstrip("!")
+    of_folders, text = line.endswith("/"), line.strip("/")
+    is_anchored = "/" in line.rstrip("/") and not text.startswith("**/")
+    return (is_taken_back, of_folders, folder if is_anchored else None, text[3:] if text.startswith("**/") else text)
+
+
+class Files:
+    """The watched files of a function, hidden ones left out, those that its .gitignore names, and folders that hold
+    packages or what was built. What its handler or its command names is watched in any case."""
+
+    def __init__(self, function):
+        self.paths = tuple(function.watch)
+        words = [function.handler, *(function.command or ())]
+        self.named = frozenset(part for word in words for part in re.split(r"[/:]", word) if part)
+
+    @property
+    def key(self):
+        """Functions with the same key have the same files."""
+        return self.paths, self.named
+
+    def times(self):
+        """The time of each file."""
+        seen = {}
+        for path in self.paths:
+            if os.path.isfile(path):
+                note(seen, path)
+            elif os.path.isdir(path):
+                self.walk(path, Ignored(), seen)
+        return seen
+
+    def walk(self, folder, ignored, seen):
+        ignored = ignored.below(folder)
+        try:
+            entries = list(os.scandir(folder))
+        except OSError:
+            return  # (it has gone)
+        for entry in entries:
+            if entry.name.startswith(".") or entry.name.endswith(".pyc"):
+                continue
+            is_folder = entry.is_dir(follow_symlinks=False)
+            if entry.name not in self.named and ignored.has(entry.path, is_folder):
+                continue
+            if not is_folder:
+                note(seen, entry.path)
+            elif not self.is_skipped(entry):
+                self.walk(entry.path, ignored, seen)
+
+    def is_skipped(self, entry):
+        if entry.name in self.named:
+            return False
+        return entry.name in SKIPPED or os.path.exists(os.path.join(entry.path, ENVIRONMENT))
 
 
 def times(paths):
-    """The times of all files below these paths, hidden ones left out."""
-    seen = {}
-    for path in paths:
-        if os.path.isfile(path):
-            note(seen, path)
-        for folder, folders, names in os.walk(path):
-            folders[:] = [name for name in folders if name not in SKIPPED and not name.startswith(".")]
-            for name in names:
-                if not name.startswith(".") and not name.endswith(".pyc"):
-                    note(seen, os.path.join(folder, name))
-    return seen
+    """The times of all files below these paths."""
+    return Files(Paths(paths)).times()
+
+
+class Paths:
+    """Paths to watch, of no function."""
+    handler, command = "", ()
+
+    def __init__(self, watch):
+        self.watch = watch
 
 
 def is_output(seen):
@@ -45,27 +132,43 @@ def note(seen, path):
 
 
 class Reload(threading.Thread):
-    """Looks at the times of the watched files twice a second."""
+    """Looks at the times of the watched files twice a second, more seldom if that takes long. Functions that have the
+    same files are looked at once."""
 
-    def __init__(self, environments, service, stopping, log):
+    def __init__(self, environments, service, stopping, log, path):
         super().__init__(name="reload")
         self.environments, self.service, self.stopping, self.log = environments, service, stopping, log
+        self.path = path  # of UP.json
         self.due = {}  # the environments to be spun down, with their generation when the file changed
 
     def run(self):
         functions = {environment.function.name: environment.function for environment in self.environments}
-        seen = {name: times(function.watch) for name, function in functions.items()}
-        while not self.stopping.wait(BETWEEN_LOOKS):
+        files = {name: Files(function) for name, function in functions.items()}
+        seen, own, took = self.look(files), times([self.path]), 0.0
+        while not self.stopping.wait(max(BETWEEN_LOOKS, 4 * took)):
+            begun = time.monotonic()
+            now, own_now = self.look(files), times([self.path])
+            took = time.monotonic() - begun
             for name, function in functions.items():
-                now = times(function.watch)
-                if now != seen[name]:
-                    self.changed(function, sorted(path for path in now.keys() | seen[name].keys()
-                                                  if now.get(path) != seen[name].get(path)))
-                    seen[name] = now
+                if now[name] != seen[name]:
+                    self.changed(function, sorted(path for path in now[name].keys() | seen[name].keys()
+                                                  if now[name].get(path) != seen[name].get(path)))
+            if own_now != own:
+                self.log("up", f"{self.path} has changed: start anew to use it", level="warning", kind="reload")
+            seen, own = now, own_now
             try:
                 self.spin_down()
             except (OSError, http.client.HTTPException):
                 return  # (the service has ended)
+
+    def look(self, files):
+        """The times of each function's files. UP.json is none of them: its changes are told apart."""
+        found, own = {}, os.path.realpath(self.path)
+        for each in files.values():
+            if each.key not in found:
+                found[each.key] = {path: moment for path, moment in each.times().items()
+                                   if os.path.realpath(path) != own}
+        return {name: found[each.key] for name, each in files.items()}
 
     def changed(self, function, paths):
         self.log("up", f"{function.name} begins anew: {os.path.relpath(paths[0])} changed")

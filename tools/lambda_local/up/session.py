@@ -58,7 +58,7 @@ class Session:
         self.threads = [self.watch, *self.environments]
         self.clients = surroundings.Clients(log, self.stopping)
         if options.reload:
-            self.threads.append(Reload(self.environments, self.service, self.stopping, log))
+            self.threads.append(Reload(self.environments, self.service, self.stopping, log, options.up))
 
     def say(self, line, **members):
         self.log("up", line, **members)
