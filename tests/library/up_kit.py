@@ -43,6 +43,15 @@ def children(pid):
     return found
 
 
+def command_of(pid):
+    """The words of a process's command line; nothing if it has gone."""
+    try:
+        with open(f"/proc/{pid}/cmdline") as file:
+            return file.read()
+    except OSError:
+        return ""
+
+
 def lives(pid):
     """Whether there is such a process that has not ended."""
     try:
@@ -80,6 +89,8 @@ class Up:
                                         env=environ, stdin=subprocess.DEVNULL, stderr=subprocess.PIPE,
                                         stdout=subprocess.PIPE, text=True, start_new_session=True)
         atexit.register(self.process.kill)  # (if a check fails on the way; what it has started goes with it)
+        self.reading = threading.Event()  # (cleared, what it writes is not read)
+        self.reading.set()
         self.reader = threading.Thread(target=self.read, daemon=True)
         self.reader.start()
 
@@ -92,6 +103,7 @@ class Up:
 
     def read(self):
         for line in self.process.stderr:
+            self.reading.wait()
             self.lines.append(line.rstrip())
             if found := re.search(r"AWS_ENDPOINT_URL_LAMBDA=(http://[0-9.:]+)", line):
                 self.endpoint = found[1]

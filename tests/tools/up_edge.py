@@ -27,7 +27,7 @@ from lambda_local.up.log import Log  # noqa: E402
 from lambda_local.up.output import LONGEST_LINE, read_lines  # noqa: E402
 from lambda_local.up.reports import Report, kind_in  # noqa: E402
 from ports import free_range  # noqa: E402
-from up_kit import RUNTIME, TOOLS, Up, children, lives, until  # noqa: E402
+from up_kit import RUNTIME, TOOLS, Up, children, command_of, lives, until  # noqa: E402
 
 # A runtime that answers an invocation with the report, in hexadecimal, that its event has; otherwise it responds.
 REPORTING = f'''#!{sys.executable}
@@ -392,14 +392,6 @@ def kill(pid):
         os.kill(pid, signal.SIGKILL)
     except ProcessLookupError:
         pass
-
-
-def command_of(pid):
-    try:
-        with open(f"/proc/{pid}/cmdline") as file:
-            return file.read()
-    except OSError:
-        return ""
 
 
 def end_by(up, pid):
