@@ -260,7 +260,15 @@ def checks():
                                  ("another text", "hello\n", "line 1 must be `form 2`"),
                                  ("nothing", "", "line 1 must be `form 2`"),
                                  ("a call that is none", history + "5000 nothing\n",
-                                  f"script: line {len(history.splitlines()) + 1}")):
+                                  f"script: line {len(history.splitlines()) + 1}"),
+                                 ("and it is shown", history + "5000 nothing\n",
+                                  "is not a call: `5000 nothing`: after its moment it must have one of invoke, next"),
+                                 ("a line without a moment", history + "next 1\n",
+                                  "is not a call: `next 1`: it must begin with its moment"),
+                                 ("a call with wrong fields", history + "5000 next \x1b[2J\n",
+                                  "`5000 next ?[2J`: docs/formats.md has the fields of next"),
+                                 ("a configuration with a fault", history.replace('"timeout":2', '"timeout":902'),
+                                  "line 1, the configuration: function f: timeout must be from 1 to 900 seconds")):
             status, output, said = run(root, "check", "-", stdin=text)
             check(f"{name} is refused with a line", (status, output, said.count("\n"), word in said), (2, "", 1, True))
         status, output, said = run(root, "check", "no such file")

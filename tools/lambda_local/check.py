@@ -12,6 +12,7 @@ import re
 import subprocess
 import sys
 
+from .reasons import sentence
 from .service import Fault, program_path
 from .usage import parser_of
 
@@ -40,7 +41,9 @@ def replay(program, lines, path):
         raise Fault(4, f"{program}: {fault.strerror}: name a program by --program or LAMBDA_LOCAL_PROGRAM") from None
     if done.returncode:
         said = done.stderr.decode(errors="replace").strip().split("\n")[-1] or "nothing was said"
-        raise Fault(2 if done.returncode == 2 else 4, f"{path}: the replay ended with status {done.returncode}: {said}")
+        if done.returncode == 2:
+            raise Fault(2, f"{path}: {sentence(said, lines)}")
+        raise Fault(4, f"{path}: the replay ended with status {done.returncode}: {said}")
     return done.stdout.split(b"\n")[:-1]
 
 
