@@ -44,6 +44,13 @@ SHOWS_AS = {
     "queues-invokes": {"invoke throttled connection"},
     "keeps-extensions": {"ext-next Unknown status", "ext-next Unknown connection", "ext-exit-failure Unknown status"},
     "refuses-otherwise": {"response State refusal", "failure State refusal"},
+    "handles-errors": {"invoke error function-error", "invoke error-of-init function-error",
+                       "invoke error-of-extension function-error", "invoke timeout function-error"},
+    "loses-the-version": {"invoke output executed-version", "invoke error executed-version"},
+    "invents-request-ids": {"invoke output request-id", "invoke error request-id"},
+    "sends-plain-text": {"register registered content-type", "next deliver content-type"},
+    "tells-the-account": {"register registered member-accountId"},
+    "loses-the-qualifier": {"next deliver qualifier"},
     "breaks-down": {"response-too-large TooLarge connection", "invoke too-large-output connection"},
 }
 

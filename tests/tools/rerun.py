@@ -118,6 +118,19 @@ def compares():
     check("names with signs of a pointer", told(b'{"a/b":{"m~n":1}}', b'{"a/b":{"m~n":2}}'), ["/a~1b/m~0n: 1 -> 2"])
     check("no JSON", (told(b"\xff", b"\xff"), told(b"one", b"two")), ([], ["the whole: one -> two"]))
     check("a long value", len(told(b'"' + b"x" * 999 + b'"', b"1")[0]) < 150)
+    check("equal bytes that are no value", told(b"[NaN]", b"[NaN]"), [])
+    check("numbers beyond binary64", told(b"[1e400]", b"[1e401]"), ['/0: "1E+400" -> "1E+401"'])
+    check("a name twice", (told(b'{"a":1,"a":2}', b'{"a":1,"a":2}'), told(b'{"a":1,"a":2}', b'{"a":3,"a":2}')),
+          ([], ['the whole: {"a":1,"a":2} -> {"a":3,"a":2}']))
+    check("half of a pair", told(b'"\\ud8001"', b'"\\ud8002"'), ['the whole: "\\ud8001" -> "\\ud8002"'])
+    check("bytes that a terminal would obey", told(b"\x1b[31m", b"\x07"), ["the whole: \\x1b[31m -> \\x07"])
+    long = b"x" * 500
+    check("long ones that differ at the end", told(long + b"1", long + b"2"),
+          [f"the whole: from letter 480 on, ..{'x' * 20}1 -> ..{'x' * 20}2"])
+    check("the member named *", (told(b'{"*":1,"a":1}', b'{"*":2,"a":2}', "/~*"), told(b'{"*":1}', b'{"*":2}', "/*")),
+          (["/a: 1 -> 2"], []))
+    check("an escape that is none", fault_of(compare.pointer_of, "/a~2"),
+          "2: --ignore /a~2: ~ is written ~0, / within a name ~1, and the member * alone ~*")
     deep = b"[" * 120 + b"1" + b"]" * 120
     check("deep ones", told(deep, deep.replace(b"1", b"2")), ["/0" * 120 + ": 1 -> 2"])
     then, now = (b'{"time":1,"items":[{"id":1,"n":1},{"id":2,"n":2}],"a/b":1}',
@@ -127,6 +140,17 @@ def compares():
     check("an ignored member that is absent", told(b'{"time":1}', b"{}", "/time"), [])
     check("a pointer that is none", fault_of(compare.pointer_of, "time"),
           "2: --ignore time: a JSON pointer begins with /, such as /time or /items/*/id")
+
+
+def errors():
+    def told(then, now, exact=False):
+        invocation = made(1, b"1", 2)._replace(kind="error", body=then)
+        return report.judged(invocation, "error", now, 0.1, [], exact).lines
+    then = b'{"errorType":"E","errorMessage":"m","requestId":"1","stackTrace":["a"]}'
+    now = b'{"errorType":"E","errorMessage":"m","requestId":"2","stackTrace":["b"]}'
+    check("errors of the same type and message are equal", told(then, now), [])
+    check("unless they are to be exact", told(then, now, True), ['/requestId: "1" -> "2"', '/stackTrace/0: "a" -> "b"'])
+    check("those of another message are not", told(then, now.replace(b'"m"', b'"n"')), ['/errorMessage: "m" -> "n"'])
 
 
 def reports():
@@ -139,9 +163,10 @@ def reports():
     check("the verdicts", [result.verdict for result in results],
           ["equal", "changed", "failed now", "failed then", "equal", "changed", "changed"])
     check("the report", report.text_of(results, recording), [
-        'changed: call 2, f: the whole: "one" -> "two"', "failed now: call 2, f: timeout",
-        'failed then: call 3, f: then error {"errorType":"E"}, now output 5',
-        'changed: call 3, f: /errorType: "E" -> "F"', 'changed: call 3, f: error {"errorType":"E"} -> timeout',
+        'changed: call 2, f: the whole: "one" -> "two"', '  its event: {"n":1}', "failed now: call 2, f: timeout",
+        '  its event: {"n":1}', 'failed then: call 3, f: then error {"errorType":"E"}, now output 5', "  its event: 2",
+        'changed: call 3, f: /errorType: "E" -> "F"', "  its event: 2",
+        'changed: call 3, f: error {"errorType":"E"} -> timeout', "  its event: 2",
         "7 invocations: 2 equal, 3 changed, 1 failed now, 1 failed then; not sent: 1 throttled, 1 without an answer"])
 
 
@@ -271,10 +296,12 @@ def reruns():
               (0, ["3 invocations: 3 equal"], ""))
         seen = run("--ignore", "/parts/*/id", "--junit", report_file, "--update", history, up_json(folder, "new"))
         check("changed functions", (seen[0], [line.partition(":")[0] for line in seen[1]], seen[2]),
-              (1, ["changed", "failed now", "failed then", "3 invocations"], ""))
+              (1, ["changed", "  its event", "failed now", "  its event", "failed then", "  its event",
+                   "3 invocations"], ""))
         check("what has changed", seen[1][0].partition(", f: ")[2], '/mode: "old" -> "new"')
-        check("what fails", seen[1][1].partition(", f: ")[2], 'error {"errorType": "E", "errorMessage": "new"}')
-        check("the counts", seen[1][3], "3 invocations: 1 changed, 1 failed now, 1 failed then")
+        check("its event", seen[1][1], '  its event: {"n": 0, "fails": "never"}')
+        check("what fails", seen[1][2].partition(", f: ")[2], 'error {"errorType": "E", "errorMessage": "new"}')
+        check("the counts", seen[1][6], "3 invocations: 1 changed, 1 failed now, 1 failed then")
         cases = list(ElementTree.parse(report_file).iter("testcase"))
         check("the report for CI", [(each.get("classname"), each.find("failure") is not None) for each in cases],
               [("f", True)] * 3)
@@ -380,5 +407,5 @@ def marker():
 
 
 if __name__ == "__main__":
-    parts = (records, compares, reports, plays, reruns, marker, faults)
+    parts = (records, compares, errors, reports, plays, reruns, marker, faults)
     sys.exit(counted.run(*[part for part in parts if len(sys.argv) == 1 or part.__name__ in sys.argv[1:]]))

@@ -210,6 +210,7 @@ class LambdaLocal:
     `patches` is pytest's MonkeyPatch, or what makes the same changes and undoes them."""
 
     service, sandbox, front, endpoint_url, stopped, log = None, None, None, None, False, ""
+    salt = None  # of request identifiers; the service's own if there is none
 
     def __init__(self, functions=None, program=None, patches=None, keep_credentials=False, asynchronous=None,
                  **handlers):
@@ -227,6 +228,8 @@ class LambdaLocal:
         parts = [function_of(name, member, handlers.get(name)) for name, member in members.items()]
         variables, front = variables_of(members), front_of(asynchronous, members)
         configuration = {"account": "123456789012", "region": "us-east-1", "functions": [part for part, _ in parts]}
+        if self.salt is not None:
+            configuration["salt"] = self.salt
         self.service = Service(configuration, self.program or prepared(program_path()))
         if front:
             front.serve(self.service)

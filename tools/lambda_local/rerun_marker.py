@@ -4,7 +4,9 @@
     def test_yesterday(lambda_local):
         lambda_local.start(orders=app.handler)
 
-The file is looked for beside the test. `one_by_one=True` sends them one after the other. docs/rerun.md says more."""
+The file is looked for beside the test. `one_by_one=True` sends them one after the other, `exact=True` compares whole
+error reports. docs/rerun.md says more."""
+import contextlib
 import os
 
 import pytest
@@ -14,9 +16,25 @@ FIXTURES = ("lambda_local", "lambda_local_session")
 
 
 def pytest_configure(config):
-    config.addinivalue_line("markers", f"{NAME}(history, ignore=(), one_by_one=False): after the test, sends the "
-                                       "invocations of this history again to the functions that it started, and "
-                                       "compares their outputs")
+    config.addinivalue_line("markers", f"{NAME}(history, ignore=(), one_by_one=False, exact=False): after the test, "
+                                       "sends the invocations of this history again to the functions that it started, "
+                                       "and compares their outputs")
+
+
+@pytest.hookimpl(tryfirst=True)
+def pytest_pyfunc_call(pyfuncitem):
+    """Before the test: a service that it starts has the history's salt, and so the same request identifiers."""
+    marker = pyfuncitem.get_closest_marker(NAME)
+    starts = pyfuncitem.funcargs.get(FIXTURES[0])
+    if marker and marker.args and starts is not None and starts.service is None:
+        from .rerun.record import read
+        from .service import Fault
+        with contextlib.suppress(Fault):  # (which is told after the test)
+            starts.salt = read(path_of(pyfuncitem, marker.args[0])).salt
+
+
+def path_of(item, history):
+    return os.path.join(os.path.dirname(str(item.fspath)), history)
 
 
 @pytest.hookimpl(trylast=True)
@@ -28,7 +46,7 @@ def pytest_runtest_call(item):
         again(item, *marker.args, **marker.kwargs)
 
 
-def again(item, history, ignore=(), one_by_one=False):
+def again(item, history, ignore=(), one_by_one=False, exact=False):
     from .rerun.again import rerun  # (only tests with the marker need it)
     from .rerun.compare import pointer_of
     from .rerun.record import read
@@ -39,8 +57,8 @@ def again(item, history, ignore=(), one_by_one=False):
         pytest.fail(f"{NAME}: start the functions in the test, by its fixture lambda_local or lambda_local_session",
                     pytrace=False)
     try:
-        recording = read(os.path.join(os.path.dirname(str(item.fspath)), history))
-        results, _ = rerun(service, recording, [pointer_of(text) for text in ignore], one_by_one)
+        recording = read(path_of(item, history))
+        results, _ = rerun(service, recording, [pointer_of(text) for text in ignore], one_by_one, exact=exact)
         words = [] if all(result.verdict == EQUAL for result in results) else [history, *text_of(results, recording)]
     except Fault as fault:
         words = [str(fault)]

@@ -17,9 +17,10 @@ NOT_FOUND = Reply(404, {"errorMessage": "no such path", "errorType": "NotFound"}
 
 
 def of_caller(life, method, path, headers, body):
+    path, _, query = path.partition("?")
     if (method, path) != ("POST", INVOKE):
         return NOT_FOUND
-    return life.invoke(body, headers.get("x-amzn-trace-id"))
+    return life.invoke(body, headers.get("x-amzn-trace-id"), query == "Qualifier=$LATEST")
 
 
 def of_environment(life, method, path, headers, body):
@@ -49,7 +50,8 @@ async def serve(life, routes, reader, writer):
             reply = routes(life, method, path, headers, body)
             reply = await reply if asyncio.isfuture(reply) else reply
             lines = [f"HTTP/1.1 {reply.status} Status", f"Content-Length: {len(reply.body)}",
-                     "Content-Type: application/json", *(f"{name}: {value}" for name, value in reply.headers.items())]
+                     f"Content-Type: {life.content_type}",
+                     *(f"{name}: {value}" for name, value in reply.headers.items())]
             writer.write("\r\n".join(lines).encode() + b"\r\n\r\n" + reply.body)
             await writer.drain()
     except (asyncio.IncompleteReadError, ConnectionError):

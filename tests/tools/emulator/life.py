@@ -26,6 +26,12 @@ FAULTS = {
     "keeps-extensions": "an extension of an earlier generation is still known",
     "refuses-otherwise": "a call in the wrong phase is refused with another status",
     "breaks-down": "a response that is too large ends the process",
+    "handles-errors": "an error of the function is marked as Handled",
+    "loses-the-version": "an answer to an Invoke has no X-Amz-Executed-Version",
+    "invents-request-ids": "an answer to an Invoke has another request identifier than the invocation",
+    "sends-plain-text": "answers have the Content-Type text/plain",
+    "tells-the-account": "a registration is answered with accountId, which it did not ask for",
+    "loses-the-qualifier": "an invocation with a qualifier has the ARN without it",
 }
 
 
@@ -35,8 +41,8 @@ class Extension:
 
 
 class Invocation:
-    def __init__(self, payload, trace):
-        self.id, self.payload, self.trace = str(uuid.uuid4()), payload, trace
+    def __init__(self, payload, trace, arn):
+        self.id, self.payload, self.trace, self.arn = str(uuid.uuid4()), payload, trace, arn
         self.caller = asyncio.get_running_loop().create_future()
 
 
@@ -57,6 +63,7 @@ UNKNOWN, ACCEPTED = refusal(403, "Extension.UnknownExtensionIdentifier"), Reply(
 class Life:
     def __init__(self, timeout, faults):
         self.timeout, self.faults = timeout, faults
+        self.content_type = "text/plain" if "sends-plain-text" in faults else "application/json"
         self.phase, self.invocation, self.answered = "starting", None, False
         self.poll, self.extensions, self.earlier, self.queue = None, {}, {}, []
         self.timer, self.deadline, self.late = None, 0, None
@@ -92,7 +99,7 @@ class Life:
         self.phase, self.invocation, self.answered = "busy", invocation, False
         self._clock(self.timeout, self._timed_out)
         headers = {"Lambda_Runtime_Aws_Request_Id": invocation.id, "Lambda_Runtime_Deadline_Ms": self.deadline,
-                   "Lambda_Runtime_Invoked_Function_Arn": ARN,
+                   "Lambda_Runtime_Invoked_Function_Arn": invocation.arn,
                    "Lambda_Runtime_Trace_Id": invocation.trace or f"Root={uuid.uuid4()}"}
         if "drops-deadline" in self.faults:
             del headers["Lambda_Runtime_Deadline_Ms"]
@@ -101,7 +108,7 @@ class Life:
             if "INVOKE" in one.events and one.poll:
                 self._answer_extension(one, {
                     "eventType": "INVOKE", "deadlineMs": self.deadline, "requestId": invocation.id,
-                    "invokedFunctionArn": ARN, "tracing": {"type": "X-Amzn-Trace-Id", "value": ""}})
+                    "invokedFunctionArn": invocation.arn, "tracing": {"type": "X-Amzn-Trace-Id", "value": ""}})
 
     def _timed_out(self):
         self.late = self.invocation.id
@@ -122,8 +129,14 @@ class Life:
     def _tell_caller(self, body, failed):
         if failed and "loses-error-type" in self.faults:
             body = json.dumps({name: value for name, value in json.loads(body).items() if name != "errorType"}).encode()
-        flag = {"X_Amz_Function_Error": "Unhandled"} if failed and "hides-function-error" not in self.faults else {}
-        resolve(self.invocation.caller, Reply(200, body, X_Amz_Executed_Version="$LATEST", **flag))
+        headers = {"X_Amz_Executed_Version": "$LATEST", "x_amzn_RequestId": self.invocation.id}
+        if failed and "hides-function-error" not in self.faults:
+            headers["X_Amz_Function_Error"] = "Handled" if "handles-errors" in self.faults else "Unhandled"
+        if "loses-the-version" in self.faults:
+            del headers["X_Amz_Executed_Version"]
+        if "invents-request-ids" in self.faults:
+            headers["x_amzn_RequestId"] = str(uuid.uuid4())
+        resolve(self.invocation.caller, Reply(200, body, **headers))
 
     def _close(self, reason):
         self.phase, self.reason, self.invocation, self.answered = "closing", reason, None, False
@@ -170,8 +183,9 @@ class Life:
 
     # ---- calls: each gives a reply, or a future of one ----
 
-    def invoke(self, payload, trace):
-        invocation = Invocation(payload or b"{}", trace)
+    def invoke(self, payload, trace, qualified):
+        arn = ARN + (":$LATEST" if qualified and "loses-the-qualifier" not in self.faults else "")
+        invocation = Invocation(payload or b"{}", trace, arn)
         if self.phase == "idle":
             self._deliver(invocation)
         elif self.phase != "busy" and not self.invocation and "throttles-early" not in self.faults:
@@ -243,7 +257,9 @@ class Life:
         self.extensions[identifier] = Extension(name, events)
         self._contact()
         told = {"functionName": "test_function", "functionVersion": "$LATEST", "handler": "app.run"}
-        return Reply(200, {**told, **({"accountId": "012345678912"} if wants_account else {})},
+        if wants_account or "tells-the-account" in self.faults:
+            told["accountId"] = "012345678912"
+        return Reply(200, told,
                      Lambda_Extension_Identifier=identifier)
 
     def ext_next(self, identifier):

@@ -5,17 +5,23 @@ import time
 from .clock import CLOCK
 
 CALM = 1.3  # times as long as usual a little work may take before it matters whether the machine or the program is slow
-LISTED = 0.5  # seconds for which a list of processes is used again
+LISTED = 2.0  # seconds for which a list of processes is used again
+BRIEF = 1.0  # seconds in which it does not matter yet
 PAGE = os.sysconf("SC_PAGE_SIZE")
 
 
 def fields(path):
     """The words of a `stat` file behind the command's name, from the state on; nothing if the process is gone."""
     try:
-        with open(path) as file:
-            return file.read().rpartition(")")[2].split()
-    except (OSError, UnicodeDecodeError):
+        descriptor = os.open(path, os.O_RDONLY)
+    except OSError:
         return []
+    try:
+        return os.read(descriptor, 1024).rpartition(b")")[2].decode().split()
+    except OSError:
+        return []
+    finally:
+        os.close(descriptor)
 
 
 def numbers():
@@ -99,7 +105,9 @@ class OwnTime:
         now = time.monotonic()
         passed, self._at = now - self._at, now
         self.real += passed
-        self.seconds += passed if CLOCK.slowness() < CALM or self._asleep(now) else passed / CLOCK.slowness()
+        slowness = CLOCK.slowness()
+        is_whole = slowness < CALM or (self.real > BRIEF and self._asleep(now))
+        self.seconds += passed if is_whole else passed / slowness
         return self.seconds
 
     def _asleep(self, now):

@@ -7,9 +7,12 @@ from .record import find, parsed
 from .report import judged
 
 
-def rerun(service, recording, pointers=(), one_by_one=False, is_over=lambda: False):
+def rerun(service, recording, pointers=(), one_by_one=False, is_over=lambda: False, exact=False):
     """Sends what was recorded to a service that is ready. Gives the results and the service's history."""
     served = [each for each in recording.invocations if each.was_served]
+    names = {function["name"] for function in service.configuration["functions"]}
+    if missing := sorted({each.function for each in served} - names):
+        raise Fault(2, f"there is no function {missing[0]}, which the history invokes")
     sent = play(service.port, served, recording.timeouts, one_by_one, is_over)
     try:
         history = service.history()
@@ -23,5 +26,5 @@ def rerun(service, recording, pointers=(), one_by_one=False, is_over=lambda: Fal
         if kind == "stopped":
             raise Fault(
                 2, f"the service has ended while call {then.ticket} of {then.function} was sent again: it was stopped")
-        results.append(judged(then, kind, body, made.seconds, pointers))
+        results.append(judged(then, kind, body, made.seconds, pointers, exact))
     return results, history

@@ -3,6 +3,7 @@
   lambda_local rerun history.txt UP.json                          with the concurrency that was recorded
   lambda_local rerun --one-by-one history.txt UP.json             each once the one before it is answered
   lambda_local rerun --ignore /time --ignore '/items/*/id' ..     but for these members of an output, whatever they are
+  lambda_local rerun --exact history.txt UP.json                  compares whole error reports, with their stacks
   lambda_local rerun --update history.txt UP.json                 writes the new history over the old one
 
 HISTORY is what GET /_local/history gives, and what `lambda_local up --history FILE` saves. UP.json is that of
@@ -32,6 +33,8 @@ def options_of():
     parser.add_argument("--one-by-one", action="store_true", help="never two invocations at once")
     parser.add_argument("--ignore", metavar="POINTER", action="append", default=[],
                         help="leave this member of outputs out of the comparison; * is any member (may be repeated)")
+    parser.add_argument("--exact", action="store_true",
+                        help="compare error reports as a whole, and not by type and message alone")
     parser.add_argument("--update", action="store_true", help="write the new history over HISTORY")
     parser.add_argument("--junit", metavar="FILE", help="write a report for CI systems")
     parser.add_argument("--ready", metavar="SECONDS", type=float, default=60,
@@ -59,7 +62,8 @@ def run(options):
     recording = read(options.history)
     functions = Functions(options.up, recording, options.program, options.ready, options.verbose)
     results, history = functions.used(
-        lambda: rerun(functions.service, recording, pointers, options.one_by_one, functions.happened.is_set))
+        lambda: rerun(functions.service, recording, pointers, options.one_by_one, functions.happened.is_set,
+                      options.exact))
     print("\n".join(text_of(results, recording)))
     if options.junit:
         write_junit(options.junit, results)
@@ -71,6 +75,7 @@ def run(options):
 def main():
     """Runs again what the command line names."""
     options = options_of()
+    sys.stdout.reconfigure(errors="backslashreplace")
     try:
         return run(options)
     except Fault as fault:

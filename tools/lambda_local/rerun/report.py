@@ -3,10 +3,13 @@ from collections import Counter
 from typing import List, NamedTuple
 
 from ..junit import Suite
-from .compare import differences, shown
+from .compare import differences, of_reports, shown
 from .record import Invocation
 
 EQUAL, CHANGED, FAILED_NOW, FAILED_THEN = "equal", "changed", "failed now", "failed then"
+
+
+EVENT = 80  # letters of an event
 
 
 class Result(NamedTuple):
@@ -21,8 +24,9 @@ def words_of(kind, body):
     return kind if body is None else f"{kind} {shown(body)}"
 
 
-def judged(then, kind, body, seconds, pointers):
-    """A recorded invocation beside the `kind` and the body of its answer now."""
+def judged(then, kind, body, seconds, pointers, exact=False):
+    """A recorded invocation beside the `kind` and the body of its answer now. Errors are compared by type and message,
+    unless they are to be exact."""
     failed = [each != "output" for each in (then.kind, kind)]
     if failed == [False, True]:
         return Result(then, FAILED_NOW, [words_of(kind, body)], seconds)
@@ -31,7 +35,8 @@ def judged(then, kind, body, seconds, pointers):
                       seconds)
     if then.kind != kind:
         return Result(then, CHANGED, [f"{words_of(then.kind, then.body)} -> {words_of(kind, body)}"], seconds)
-    lines = [str(each) for each in differences(then.body or b"", body or b"", pointers)]
+    compared = of_reports if kind == "error" and not exact else differences
+    lines = [str(each) for each in compared(then.body or b"", body or b"", pointers)]
     return Result(then, CHANGED if lines else EQUAL, lines, seconds)
 
 
@@ -50,6 +55,7 @@ def text_of(results, recording):
             head = f"{result.verdict}: call {result.invocation.ticket}, {result.invocation.function}"
             lines += [f"{head}: {result.lines[0]}"] if len(result.lines) == 1 else [
                 f"{head}:", *(f"  {line}" for line in result.lines)]
+            lines.append(f"  its event: {shown(result.invocation.payload, EVENT)}")
     counts = Counter(result.verdict for result in results)
     words = ", ".join(f"{counts[verdict]} {verdict}" for verdict in (EQUAL, CHANGED, FAILED_NOW, FAILED_THEN)
                       if counts[verdict])

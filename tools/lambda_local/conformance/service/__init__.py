@@ -18,9 +18,10 @@ import time
 
 from ...service import Fault, program_path
 from ...usage import parser_of
+from ..clock import CLOCK
 from ..run import Parser, ended_by_signal, seconds
 from .calls import Call
-from .course import ANSWER_SECONDS, Course, Unrecoverable
+from .course import ANSWER_SECONDS, SURELY, Course, Unrecoverable
 from .known import KnownDifferences
 from .minimise import Undecided, confirmed, minimised
 from .oracle import FRESH, WARM, Oracle
@@ -32,6 +33,7 @@ from .tested import tested_by
 USUAL_TIMEOUT = 3  # seconds, as a function has it by default
 MOST_TIMEOUT = 10  # seconds: with a longer one, the sequences with a timeout are left out
 FRESH_SHARE = 0.75  # of the random sequences begin with a fresh environment
+INIT_ERROR_ROUTE = "POST /2018-06-01/runtime/init/error"
 BATCH = 20  # random sequences that are made at once
 
 
@@ -46,7 +48,7 @@ class Run:
         self.generator, self.reported, self.begun = Generator(random.Random(options.seed)), set(), time.monotonic()
 
     def prepare(self):
-        """Finds out whether a Runtime API answers, and the function's timeout."""
+        """Finds out whether a Runtime API answers, and the function's timeout. Returns whether sequences can begin."""
         look_for(self.tested.invoke)
         status = self.course.ask(Call("init-failure", "", ("={}",)), {}, ANSWER_SECONDS)
         place = ":".join(map(str, self.tested.runtime))
@@ -54,14 +56,22 @@ class Run:
             raise Fault(2, f"{place}: POST /2018-06-01/runtime/init/error is not answered "
                            f"within {ANSWER_SECONDS:.0f} s")
         if status not in (202, 403):
-            raise Fault(2, f"{place}: POST /2018-06-01/runtime/init/error is answered {status}: "
-                           "no Runtime API listens there")
+            if not self._has_runtime_api():
+                raise Fault(2, f"{place}: POST /2018-06-01/runtime/init/error is answered {status}: "
+                               "no Runtime API listens there")
+            self.report.missing(INIT_ERROR_ROUTE, status)
+            return False
         self.course.restore()
         found = self.course.learn_timeout()
         if found:
             self.course.timeout = self.oracle.timeout = found
         self.report.write(f"conformance service {self.options.invoke}: seed {self.options.seed}, "
                           f"the function's timeout is {self.oracle.timeout} s")
+        return True
+
+    def _has_runtime_api(self):
+        """Whether Next waits, or is answered as only a Runtime API does."""
+        return self.course.ask(Call("next"), {}, SURELY) in (0, 200, 202, 403, 500)
 
     def everything(self):
         with_timeouts = self.oracle.timeout <= MOST_TIMEOUT
@@ -79,8 +89,9 @@ class Run:
         """Random sequences until their share of the number or of the time is used up."""
         wanted = self.options.sequences
         made, count = 0, round(wanted * until) - round(wanted * share) if wanted else None
+        begun = time.monotonic()
         while not self.over() and (made < count if wanted
-                                   else time.monotonic() - self.begun < self.options.seconds * until):
+                                   else time.monotonic() - begun < self.options.seconds * (until - share)):
             plans = plans_of(self.generator.sequences(start, BATCH), self.oracle)
             made += self.play(plans[:count - made] if wanted else plans, True)
 
@@ -168,6 +179,7 @@ def main(words):
                            "where the tested service listens")
     for number in (signal.SIGTERM, signal.SIGINT, signal.SIGHUP):
         signal.signal(number, ended_by_signal)
+    CLOCK.start()
     try:
         report = Report(options.junit)
         whole = Run(options, report)
@@ -180,8 +192,8 @@ def run(whole, report, options):
     """The exit status. What the service does not survive ends the run, with what was found until then."""
     try:
         look_for(whole.tested.runtime)
-        whole.prepare()
-        whole.everything()
+        if whole.prepare():
+            whole.everything()
     except (OSError, Unrecoverable) as fault:
         why = f"does not answer any more: {fault.strerror or fault}" if isinstance(fault, OSError) else (
             "comes to no fresh environment by a failed Init or a timeout: end what is connected to it, and have it "

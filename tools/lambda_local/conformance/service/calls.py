@@ -1,7 +1,8 @@
 """The calls of a sequence, by labels in place of identifiers, as a line of text and as a line of a script.
 
   next
-  invoke a ={"n":1}          a label for the invocation, and its payload; with a trace: `invoke a trace=TRACE =..`
+  invoke a ={"n":1}          a label for the invocation, and its payload; with a trace: `invoke a trace=TRACE =..`;
+                             with the qualifier $LATEST: `invoke a q =..`
   response a ="done"         also `failure a =REPORT`, `response-too-large a`; the label ? is an identifier that was
   never given init-failure =REPORT
   register x =NAME is -      a label for the extension, its name, its events (i, s, is or -), `a` if it asks for the
@@ -40,14 +41,19 @@ class Call(NamedTuple):
         word = next((field for field in self.fields if field.startswith("trace=")), "")
         return decoded(word[len("trace"):]).decode() if word else None
 
+    @property
+    def qualified(self):
+        return self.kind == "invoke" and "q" in self.fields
+
     def script(self, environment, function, counts):
         """Returns its line in a script, without the moment. `counts` has the count of each label."""
-        texts = " ".join(field for field in self.fields if not field.startswith("trace="))
+        texts = " ".join(field for field in self.fields
+                         if not field.startswith("trace=") and not (self.qualified and field == "q"))
         if self.kind == "register" and len(self.fields) == 2:
             texts += " -"
         if self.kind == "invoke":
             trace = next((field[len("trace"):] for field in self.fields if field.startswith("trace=")), "-")
-            return f"invoke {function} - {trace} {texts}"
+            return f"invoke {function} {'q' if self.qualified else '-'} {trace} {texts}"
         if self.kind == "wait":
             return "tick"
         count = counts.get((self.kind in OF_EXTENSIONS, self.label), UNKNOWN_COUNT)

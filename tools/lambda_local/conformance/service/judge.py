@@ -2,6 +2,7 @@
 import json
 from typing import NamedTuple
 
+from ..clock import CLOCK
 from ..pages import (EXTENSION_EXIT_ERROR, EXTENSION_INIT_ERROR, EXTENSION_NEXT, INIT_ERROR, INIT_PHASE, INVOKE_ERROR,
                      NEXT, REGISTER, RESPONSE, Page)
 
@@ -10,13 +11,15 @@ INVOKE = Page("AWS Lambda API Reference, Invoke", "Response Elements",
 PAGES = {"invoke": INVOKE, "next": NEXT, "response": RESPONSE, "response-too-large": RESPONSE, "failure": INVOKE_ERROR,
          "init-failure": INIT_ERROR, "register": REGISTER, "ext-next": EXTENSION_NEXT,
          "ext-init-failure": EXTENSION_INIT_ERROR, "ext-exit-failure": EXTENSION_EXIT_ERROR}
-TOLERANCE = 1500  # milliseconds that a deadline may differ by
+TOLERANCE, MOST_TOLERANCE = 400, 1500  # milliseconds that a deadline may differ by, on a calm and on a busy machine
+JSON = "application/json"
 STATUSES = {"deliver": 200, "tell": 200, "shutdown": 200, "registered": 200, "accepted": 202, "output": 200,
             "error": 200, "timeout": 200, "init-timeout": 200, "too-large-output": 200, "throttled": 429, "State": 403,
             "Replaced": 403, "BadId": 400, "Unknown": 403, "TooLarge": 413, "Container": 500, "NameInUse": 403,
             "TooMany": 403}
 FUNCTION_ERRORS = ("error", "timeout", "init-timeout", "too-large-output")
 TEXT = "a text of the service's own"
+NOT_ASKED, QUALIFIED = "no accountId, which was not asked for", ":$LATEST"
 
 
 class Aspect(NamedTuple):
@@ -63,6 +66,9 @@ class Judge:
             name = "refusal" if both_refuse else "status" if exchange.status else "connection"
             return [Aspect(name, exchange.ended or shown(exchange), f"{wanted} {label}", not both_refuse)]
         found = []
+        content = exchange.headers.get("content-type", "")
+        if wanted < 400 and exchange.body and content.split(";")[0].strip().lower() != JSON:
+            found.append(Aspect("content-type", repr(content) if content else "no content-type", JSON))
         judged = getattr(self, "_" + given.answer.kind.replace("-", "_"), None)
         for name, theirs, ours in judged(given, exchange) if judged else ():
             if theirs != ours:
@@ -83,6 +89,9 @@ class Judge:
         yield self._deadline(header(exchange, "lambda-runtime-deadline-ms"), given, exchange)
         arn = header(exchange, "lambda-runtime-invoked-function-arn")
         yield "function-arn", arn, a_text(arn)
+        if not isinstance(arn, Missing):
+            unqualified = arn[:-len(QUALIFIED)] if arn.endswith(QUALIFIED) else arn
+            yield "qualifier", arn, unqualified + (QUALIFIED if invoke.qualified else "")
         trace = header(exchange, "lambda-runtime-trace-id")
         yield "trace-id", trace, invoke.trace or trace
         yield "payload", exchange.body, invoke.body or b"{}"
@@ -119,14 +128,27 @@ class Judge:
         for name in ("functionName", "functionVersion", "handler", *(["accountId"] if asks else [])):
             value = told.get(name, Missing(f"no {name}"))
             yield "member-" + name, value, a_text(value)
+        if not asks:
+            yield "member-accountId", told.get("accountId", NOT_ASKED), NOT_ASKED
+
+    def _of_invoke(self, given, exchange):
+        """What each answer to an Invoke has that a function gave, or that stands in its place."""
+        version = header(exchange, "x-amz-executed-version")
+        yield "executed-version", version, "$LATEST"
+        known = self.ids.get((False, self.plan.sequence.calls[given.call].label))
+        told = exchange.headers.get("x-amzn-requestid")
+        if known and told:
+            yield "request-id", told, known
 
     def _output(self, given, exchange):
+        yield from self._of_invoke(given, exchange)
         flag = header(exchange, "x-amz-function-error")
         yield "function-error", flag, Missing("no x-amz-function-error") if not isinstance(flag, Missing) else flag
         yield "output", exchange.body, given.answer.body
 
     def _error(self, given, exchange):
         yield self._flag(exchange)
+        yield from self._of_invoke(given, exchange)
         report, ours = exchange.body, given.answer.body
         # (of an extension: docs/differences.md)
         yield "report", report, report if given.cause.startswith("ext-") else ours
@@ -154,14 +176,15 @@ class Judge:
     @staticmethod
     def _flag(exchange):
         flag = header(exchange, "x-amz-function-error")
-        return "function-error", flag, flag if flag in ("Unhandled", "Handled") else "Unhandled"
+        return "function-error", flag, "Unhandled"
 
     @staticmethod
     def _deadline(value, given, exchange):
         """A deadline in Unix milliseconds, by the service's clock, which is this one's up to a little."""
         number = int(value) if str(value).isdigit() else None
         ours = exchange.wall + given.remaining
-        fits = number is not None and abs(number - ours) <= TOLERANCE
+        tolerance = min(MOST_TOLERANCE, TOLERANCE * CLOCK.slowness() ** 2)
+        fits = number is not None and abs(number - ours) <= tolerance
         return "deadline", value, value if fits else f"about {ours:.0f}"
 
 

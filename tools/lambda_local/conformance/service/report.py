@@ -3,6 +3,7 @@ import os
 
 from ... import junit
 from ...service import Fault
+from ..pages import INIT_ERROR
 from .judge import page_of
 from .oracle import WARM
 
@@ -33,6 +34,15 @@ class Report:
         self.suite.case("conformance service", f"{name}: {' '.join(difference.words)}", seconds, failure=title,
                         details="\n".join(details))
 
+    def missing(self, route, status):
+        """A route of the Runtime API that is not there, without which no sequence has a known beginning."""
+        self.differences += 1
+        title = f"init-failure accepted status: {route} is answered {status} instead of 202"
+        page = f"page      {INIT_ERROR}"
+        for line in (f"DIFFERENCE  {title}", f"      {page}", "      (no sequence can be played without it)"):
+            self.write(line)
+        self.suite.case("conformance service", "init-failure accepted status", 0.0, failure=title, details=page)
+
     def finish(self, course, seconds):
         """The last lines and the file: the exit status."""
         for why, count in sorted(course.known.met.items()):
@@ -46,6 +56,9 @@ class Report:
                    f"differences in {seconds:.1f} s")
         if self.path:
             self.suite.write(self.path)
+        if not self.differences and not self.random:
+            self.write("no random sequence was played: this says little about the service")
+            return 2
         return 1 if self.differences else 0
 
 

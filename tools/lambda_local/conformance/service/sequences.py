@@ -10,6 +10,13 @@ one invocation
   next
   invoke a ={"n":1}
   response a ={"n":2}
+a qualified invocation
+  register x =probe i
+  ext-next x
+  next
+  invoke a q ={"n":1}
+  ext-next x
+  response a =2
 an error
   register x =probe -
   ext-next x

@@ -22,7 +22,8 @@ class Tested(NamedTuple):
         """The address, method, path, headers and body of a call. `ids` has the identifier of each label."""
         if call.kind == "invoke":
             headers = [("Content-Type", "application/json"), *([("X-Amzn-Trace-Id", call.trace)] if call.trace else [])]
-            return self.invoke, "POST", self.path, headers, call.body
+            path = self.path + ("?Qualifier=$LATEST" if call.qualified else "")
+            return self.invoke, "POST", path, headers, call.body
         return (self.runtime, *from_environment(call, ids))
 
 

@@ -5,6 +5,7 @@ import select
 import socket
 import time
 
+from ..clock import CLOCK
 from ..messages import Malformed, Message
 
 LEAST_SETTLE, MOST_SETTLE = 0.002, 0.1  # seconds after which a request that is not answered is taken for one that waits
@@ -76,13 +77,14 @@ class Wire:
 
     def collect(self, wanted=(), seconds=0.0):
         """Reads until all that is wanted is over or the time is up; without a wish, for as long as that."""
-        end = time.monotonic() + seconds
+        now = CLOCK.now if wanted else time.monotonic  # (what is wanted may be late if this machine is busy)
+        end = now() + seconds
         while True:
-            left = max(0.0, end - time.monotonic())
+            left = max(0.0, end - now())
             ready = select.select(list(self.open), [], [], left)[0]
             for connection in ready:
                 self._read(connection)
-            if (wanted and all(exchange.over for exchange in wanted)) or (not ready and time.monotonic() >= end):
+            if (wanted and all(exchange.over for exchange in wanted)) or (not ready and now() >= end):
                 return
 
     def _read(self, connection):
