@@ -11,6 +11,8 @@ from ..history import request_identifier
 NAMED = re.compile(r"(?:.*:)?function:([^:]+)(?::[^:]+)?|([^:]+)(?::[^:]+)?")
 PATH = re.compile(r"/2015-03-31/functions/([^/?]+)/invocations(?:\?.*)?")
 
+HALF = re.compile(rb"\\u[dD][89a-fA-F]")  # what may be one
+
 
 def target_of(function):
     return f"/2015-03-31/functions/{function}/invocations"
@@ -40,28 +42,44 @@ class Event:
     def __init__(self, identifier, function, target, headers, payload):
         self.identifier, self.function, self.target, self.headers = identifier, function, target, headers
         self.payload, self.since, self.attempts, self.throttles = payload, time.monotonic(), 0, 0
-        self.result = None  # of the last attempt: what the function reported
+        self.result = None  # of the last attempt: what the function reported, if its record needs it and it is kept
+        self.is_running = self.has_failed = False
+
+    @property
+    def size(self):
+        """The bytes that are held for it."""
+        return len(self.payload) + len(self.result or b"")
 
     @property
     def age(self):
         return time.monotonic() - self.since
 
     def record(self, condition, arn):
-        """What the destination gets."""
+        """What the destination gets. Payload and result stand in it as they are: it is hardly longer than both."""
         moment = datetime.now(timezone.utc).isoformat(timespec="milliseconds").replace("+00:00", "Z")
-        record = {"version": "1.0", "timestamp": moment,
-                  "requestContext": {"requestId": self.identifier, "functionArn": arn, "condition": condition,
-                                     "approximateInvokeCount": self.attempts},
-                  "requestPayload": read(self.payload)}
+        members = {"version": json.dumps("1.0").encode(), "timestamp": json.dumps(moment).encode(),
+                   "requestContext": json.dumps({"requestId": self.identifier, "functionArn": arn,
+                                                 "condition": condition,
+                                                 "approximateInvokeCount": self.attempts}).encode(),
+                   "requestPayload": in_json(self.payload)}
+        if self.has_failed:
+            members["responseContext"] = json.dumps({"statusCode": 200, "executedVersion": "$LATEST",
+                                                     "functionError": "Unhandled"}).encode()
         if self.result is not None:
-            record["responseContext"] = {"statusCode": 200, "executedVersion": "$LATEST", "functionError": "Unhandled"}
-            record["responsePayload"] = read(self.result)
-        return json.dumps(record).encode()
+            members["responsePayload"] = in_json(self.result)
+        return b"{" + b", ".join(b'"%b": %b' % (name.encode(), value) for name, value in members.items()) + b"}"
 
 
-def read(body):
-    """A body as JSON has it, else its text."""
+def in_json(body):
+    """A body as it stands if it is JSON, else its text as JSON has it. Halves of surrogate pairs, which the service
+    does not take, are replaced."""
     try:
-        return json.loads(body)
+        value = json.loads(body.decode(), parse_constant=refuse)
+        return json.dumps(value, ensure_ascii=False).encode(errors="replace") if HALF.search(body) else body
     except (ValueError, RecursionError):
-        return body.decode(errors="replace")
+        return json.dumps(body.decode(errors="replace"), ensure_ascii=False).encode()
+
+
+def refuse(constant):
+    """NaN and Infinity, which Python reads, are not JSON."""
+    raise ValueError(constant)

@@ -1,5 +1,6 @@
 """Everything in front of the functions of one run: its ports, and the thread that serves them."""
 import asyncio
+import contextlib
 import socket
 import threading
 import time
@@ -9,9 +10,10 @@ from .client import Client
 from .gateway import Api, Url
 from .invoke import InvokePort
 from .management import Management
-from .places import Places, places_for, raised_limit
+from .places import Places, places_for
 from .server import Server
 
+BETWEEN_TELLS = 60.0  # seconds, of the same fault
 TRIES = 5  # for a free port, which another program can take between looking and listening
 
 
@@ -46,7 +48,7 @@ class Front(threading.Thread):
         self.urls = {function: listener_at(address.port, f"url of function {function}", path)
                      for function, address in settings.urls.items()}
         self.routing = listener_at(settings.api.port, "api", path) if settings.routes else None
-        self.loop, self.ending = asyncio.new_event_loop(), threading.Event()
+        self.loop, self.told = asyncio.new_event_loop(), {}
 
     def addresses(self):
         """Each address, whose it is and in which words."""
@@ -59,7 +61,7 @@ class Front(threading.Thread):
         """Begins to answer, by this service."""
         self.service, configuration = service, service.configuration
         self.client = Client(service.port)
-        self.places = Places(places_for(raised_limit(), sum(len(one["ports"]) for one in configuration["functions"])))
+        self.places = Places(places_for(sum(len(one["ports"]) for one in configuration["functions"])))
         port = InvokePort(self.client, self.settings.asynchronous, configuration, self.drain_seconds, self.log)
         self.queue, identifiers = port.queue, port.identifiers
         urls = {function: url_of(listener) for function, listener in self.urls.items()}
@@ -76,6 +78,7 @@ class Front(threading.Thread):
 
     def run(self):
         asyncio.set_event_loop(self.loop)
+        self.loop.set_exception_handler(self.tell)
         for server in self.servers:
             self.loop.run_until_complete(server.start())
         self.loop.run_forever()
@@ -86,6 +89,14 @@ class Front(threading.Thread):
         self.client.close()
         self.loop.run_until_complete(self.loop.shutdown_asyncgens())
         self.loop.close()
+
+    def tell(self, _loop, context):
+        """A fault of a callback, or of a task that nobody awaits: in one line, and the same one not again soon."""
+        what, now = f"{context['message']}: {context.get('exception')!r}"[:300], time.monotonic()
+        if now - self.told.get(what, -BETWEEN_TELLS) >= BETWEEN_TELLS:
+            self.told = {text: then for text, then in self.told.items() if now - then < BETWEEN_TELLS}
+            self.told[what] = now
+            self.log("up", f"the front: {what}", level="error")
 
     def drain(self, is_over):
         """Waits until no event is left, its time is over, or the service has ended."""
@@ -99,5 +110,6 @@ class Front(threading.Thread):
 
     def end(self):
         """Once the service has ended."""
-        self.loop.call_soon_threadsafe(self.loop.stop)
+        with contextlib.suppress(RuntimeError):  # (it has failed, and its loop is closed)
+            self.loop.call_soon_threadsafe(self.loop.stop)
         self.join()

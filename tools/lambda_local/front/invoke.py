@@ -2,7 +2,7 @@
 import json
 
 from .errors import of_json, of_service, of_user, stopped, throttled
-from .events import Event, Identifiers, function_of
+from .events import Event, Identifiers, function_of, refuse
 from .held import Full as NoRoom, Held
 from .http import Reply, TooLong, first
 from .origins import BROKEN_BODY, FOREIGN_CODING, further_hosts, refusal_of
@@ -107,7 +107,3 @@ def is_json(payload):
     except ValueError:
         return False
     return True
-
-
-def refuse(constant):
-    raise ValueError(constant)

@@ -11,19 +11,17 @@ A_REQUEST = 2  # descriptors: its own connection, and one to the service
 OTHER_DESCRIPTORS, AN_ENVIRONMENT = 128, 6
 
 
-def raised_limit():
-    """The descriptors that this process may have, as many as it may ask for."""
+def places_for(environments):
+    """How many places there are, so that this process has descriptors for all of them. It may have more if it asks, and
+    asks for no more than that, since what it starts has the same limit."""
+    others = OTHER_DESCRIPTORS + AN_ENVIRONMENT * environments
     soft, hard = resource.getrlimit(resource.RLIMIT_NOFILE)
-    if hard == resource.RLIM_INFINITY:
-        return soft
-    resource.setrlimit(resource.RLIMIT_NOFILE, (hard, hard))
-    return hard
-
-
-def places_for(descriptors, environments):
-    """How many places there are, so that there are descriptors for all of them."""
-    left = descriptors - OTHER_DESCRIPTORS - AN_ENVIRONMENT * environments
-    return max(LEAST, min(MOST, left // A_REQUEST - RESERVE))
+    wanted = others + A_REQUEST * (MOST + RESERVE)
+    if soft != resource.RLIM_INFINITY and soft < wanted:
+        soft = wanted if hard == resource.RLIM_INFINITY else min(wanted, hard)
+        resource.setrlimit(resource.RLIMIT_NOFILE, (soft, hard))
+    left = wanted if soft == resource.RLIM_INFINITY else soft
+    return max(LEAST, min(MOST, (left - others) // A_REQUEST - RESERVE))
 
 
 class Places:

@@ -10,7 +10,7 @@ from .events import Event, target_of
 from .http import Malformed, first
 from .wire import Gone
 
-MOST_EVENTS, MOST_BYTES = 1000, 64 << 20  # that wait or run
+MOST_EVENTS, MOST_BYTES = 1000, 64 << 20  # that wait or run: payloads, and the results that records will have
 FIRST_PAUSE, LONGEST_PAUSE = 0.05, 5.0  # seconds, after a throttle; each further one in a row doubles it
 LAST_SECONDS = 1  # for the answers of a service that has ended
 GROWS_AFTER = 8  # successes in a row, until one more event of a function is tried at once
@@ -53,13 +53,33 @@ class Queue:
     def count(self):
         return len(self.events)
 
-    def put(self, event, always=False):
-        """Raises Full if there is no room, unless the event must be taken."""
-        if not always and (self.count >= MOST_EVENTS or self.size + len(event.payload) > MOST_BYTES):
+    def put(self, event):
+        """Raises Full if there is no room."""
+        if self.count >= MOST_EVENTS or self.size + event.size > MOST_BYTES:
             raise Full
         self.events[event.identifier] = event
-        self.size += len(event.payload)
+        self.size += event.size
         self.enqueue(event)
+
+    def keep_result(self, event, result):
+        """Keeps what a failed function reported for the record, if there will be one, and room for it."""
+        self.drop_result(event)
+        event.has_failed = True
+        if not self.goes_on(event):
+            return
+        if self.size + len(result) > MOST_BYTES:
+            return self.say(event, f"has a result of {len(result)} bytes, which its record will not have: "
+                                   f"{self.size} bytes are held", "warning", "result")
+        event.result = result
+        self.size += len(result)
+
+    def drop_result(self, event):
+        self.size -= len(event.result or b"")
+        event.result, event.has_failed = None, False
+
+    def goes_on(self, event):
+        """Whether its record has a destination. (A destination that fails has none.)"""
+        return bool(self.settings.on_failure) and event.function != self.settings.on_failure
 
     def enqueue(self, event, at_the_front=False):
         lane = self.lanes[event.function]
@@ -93,14 +113,18 @@ class Queue:
             lane.running -= 1
             self.given_up(event, "EventAgeExceeded", f"is older than {self.settings.oldest:g} s")
             return self.go_on(lane)
+        event.is_running = True
         try:
             status, headers, body = await self.client.ask("POST", event.target, event.headers, event.payload)
         except Unreached:
-            lane.running -= 1
+            lane.running, event.is_running = lane.running - 1, False
             return self.postpone(lane, event, "cannot be sent, since the service takes no connection")
         except (Gone, Malformed):
             status, headers, body = None, [], b""
-        lane.running -= 1
+        except Exception as fault:  # (of the front's own)
+            self.say(event, f"could not be sent: {fault!r}", "error", "fault")
+            status, headers, body = None, [], b""
+        lane.running, event.is_running = lane.running - 1, False
         if status == 500 and is_stop(body):
             return  # (what is left is reported at the end)
         if status == 429:
@@ -125,7 +149,7 @@ class Queue:
         event.attempts += 1
         invocation = first(headers, "x-amzn-requestid")
         if status is None:
-            event.result = None
+            self.drop_result(event)
             self.failed(event, "has no outcome, since the service broke its connection off")
         elif status != 200:
             self.say(event, f"is refused: {status} {body.decode(errors='replace')[:200]}", "error", "refused",
@@ -136,7 +160,7 @@ class Queue:
                      + (f", attempt {event.attempts}" if event.attempts > 1 else ""), "ok", "ok", invocation)
             self.forget(event)
         else:
-            event.result = body
+            self.keep_result(event, body)
             self.failed(event, "failed", invocation)
 
     def failed(self, event, what, invocation=None):
@@ -149,20 +173,31 @@ class Queue:
         asyncio.get_running_loop().call_later(delay, self.enqueue, event)
 
     def given_up(self, event, condition, why, invocation=None):
-        """The destination gets its record; a destination's own failure ends here."""
-        destination = self.settings.on_failure
-        goes_on = destination and event.function != destination
-        self.say(event, f"{why}: " + (f"its record goes to {destination}" if goes_on else "it is dropped"), "error",
-                 condition, invocation)
+        """The destination gets its record, which takes the place of the event; a destination's own failure ends
+        here."""
+        goes_on = self.goes_on(event)
+        self.say(event, f"{why}: " + (f"its record goes to {self.settings.on_failure}" if goes_on else "it is dropped"),
+                 "error", condition, invocation)
         self.forget(event)
         if goes_on:
-            record = event.record(condition, f"{self.arn}{event.function}:$LATEST")
+            self.put_record(event, condition)
+
+    def put_record(self, event, condition):
+        arn, destination = f"{self.arn}{event.function}:$LATEST", self.settings.on_failure
+        try:
+            for result in (event.result, None):
+                event.result = result
+                record = event.record(condition, arn)
+                if self.size + len(record) <= MOST_BYTES:
+                    break
             made = Event(self.identifiers.next(destination), destination, target_of(destination), [], record)
-            self.put(made, always=True)
+            self.put(made)
+        except Full:
+            self.say(event, f"has no record, for which there is no room: {self.size} bytes are held", "error", "lost")
 
     def forget(self, event):
         if self.events.pop(event.identifier, None):
-            self.size -= len(event.payload)
+            self.size -= event.size
 
     def say(self, event, text, level, status, invocation=None):
         self.log(event.function, f"event {event.identifier} {text}", level=level, kind="event", function=event.function,
@@ -189,4 +224,5 @@ class Queue:
             task.cancel()
         await asyncio.gather(*self.tasks, return_exceptions=True)
         for event in self.events.values():
-            self.say(event, f"is lost by the stop, after {event.attempts} attempts", "error", "lost")
+            running = f", while attempt {event.attempts + 1} runs" if event.is_running else ""
+            self.say(event, f"is lost by the stop, after {event.attempts} attempts{running}", "error", "lost")

@@ -3,6 +3,7 @@ import re
 from typing import Any, Dict, NamedTuple, Optional, Tuple
 
 from ..configuration import PORT, Kind, is_list_of, is_text, is_whole, mistakes_of, shown
+from ..http1 import is_token
 from .routes import Route, WrongRoute
 
 DELAYS = (1.0, 2.0)  # seconds; Lambda's are 60 and 120
@@ -23,9 +24,12 @@ OF_ASYNCHRONOUS = {
                        "a whole number of seconds, from 1 to 21600"),
     "onFailure": Kind(is_text, "a text: the name of a function"),
 }
+NAMES = Kind(is_list_of(lambda value: is_text(value) and is_token(value)), "a list of names, such as x-name or *")
+ORIGINS = Kind(is_list_of(lambda value: is_text(value) and re.fullmatch("[!-+--~]+", value) is not None),
+               "a list of origins, such as https://shop.example or *")
 OF_CORS = {
-    "allowCredentials": YES, "allowHeaders": TEXTS, "allowMethods": TEXTS, "allowOrigins": TEXTS,
-    "exposeHeaders": TEXTS,
+    "allowCredentials": YES, "allowHeaders": NAMES, "allowMethods": NAMES, "allowOrigins": ORIGINS,
+    "exposeHeaders": NAMES,
     "maxAge": Kind(lambda value: is_whole(value, 86401), "a whole number of seconds, up to 86400"),
 }
 OBJECT = Kind(lambda value: isinstance(value, dict), "an object")

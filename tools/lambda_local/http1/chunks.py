@@ -8,7 +8,7 @@ LINE = re.compile(rb"([0-9A-Fa-f]+)([ \t]*)(?:;([\t -~\x80-\xff]*))?\r\n")
 BEGUN_LINE = re.compile(rb"(?:[0-9A-Fa-f]+[ \t]*(?:;[\t -~\x80-\xff]*)?\r?)?")
 PLAIN_LINE = re.compile(rb"([1-9A-Fa-f][0-9A-Fa-f]{0,7})\r\n")
 MOST_DIGITS = 16  # without leading zeros
-AT_ONCE = 64 << 10  # bytes of a body that are read before others have their turn
+AT_ONCE = 128 << 10  # bytes of a body that are read before others have their turn
 SMALL = 16  # bytes of a chunk; of these a run is read at once
 LEAST_RUN = 4
 
@@ -26,7 +26,8 @@ class Chunks:
         """Takes chunks off the buffer, or a part of one, up to the last one. Returns their data; none if more bytes are
         needed."""
         parts: List[bytes] = []
-        text, at, begun = bytes(buffer[:AT_ONCE]), 0, -1
+        with memoryview(buffer) as view:
+            text, at, begun = bytes(view[:AT_ONCE]), 0, -1
         while at > begun and not self.is_over:
             begun = at
             if self.left is None:
@@ -93,16 +94,17 @@ class Chunks:
 
 def run_of_equal(text: bytes, at: int, width: int, size: int, parts: List[bytes]) -> int:
     """Takes chunks that have the same line as the one before this place, which was small. Returns the place after them.
-    They are compared as columns, since each byte of their lines and ends is the same in all of them; each time twice as
-    many. So a body in chunks of one byte costs about as much as its bytes on the wire."""
-    frame = [(place, text[at - width + place]) for place in (*range(width - size - 2), width - 2, width - 1)]
-    count = LEAST_RUN
-    while (end := at + count * width) <= len(text):
-        if any(text[at + place:end:width] != bytes((byte,)) * count for place, byte in frame):
-            break
-        data = bytearray(count * size)
+    They are taken as columns, each time four times as many, and compared with what such chunks are: so a body in chunks
+    of one byte costs a few nanoseconds a byte."""
+    unit, content, wanted = text[at - width:at], width - size - 2, LEAST_RUN
+    while (count := min(wanted, (len(text) - at) // width)) >= LEAST_RUN:
+        end = at + count * width
+        made, data = bytearray(unit * count), bytearray(count * size)
         for place in range(size):
-            data[place::size] = text[at + width - size - 2 + place:end:width]
+            column = text[at + content + place:end:width]
+            made[content + place::width] = data[place::size] = column
+        if made != text[at:end]:
+            break
         parts.append(bytes(data))
-        at, count = end, 2 * count
+        at, wanted = end, 4 * wanted
     return at

@@ -5,11 +5,13 @@ from typing import Callable, List, Optional
 from .chunks import Chunks
 from .events import CLOSED, NEED_DATA, PAUSED, Data, EndOfMessage, Event, Limits, Malformed, Request, Response
 from .framing import UNTIL_CLOSE, of_request, of_response
-from .syntax import BEGUN_FIELD, BEGUN_REQUEST_LINE, BEGUN_STATUS_LINE, REQUEST_LINE, STATUS_LINE, fields_of, target_of
+from .syntax import (BEGUN_FIELD, BEGUN_REQUEST_LINE, BEGUN_STATUS_LINE, ONE_FIELD, ONE_REQUEST_LINE, ONE_STATUS_LINE,
+                     REQUEST_LINE, STATUS_LINE, fields_of, is_utf8, target_of)
 
 PIECE = 256 << 10  # bytes of a body that are given at once
 LOOKED_AT = 4 << 10  # bytes of a line that has not ended; so a slow peer costs no more than its bytes
 END = re.compile(rb"\n\r?\n")
+EMPTY_LINES = re.compile(rb"(?:\r?\n)+")
 
 
 class Reader:
@@ -20,7 +22,9 @@ class Reader:
         self.limits, self.buffer, self.ended = limits, bytearray(), False
         self.fault: Optional[Malformed] = None
         self._step: Callable[[], Event] = self._head
-        self._seen = self._blank = 0  # bytes of the head in which its end is not; of the empty lines before it
+        # bytes of the head in which its end is not; those of its lines that are whole; of the empty lines before it
+        self._seen = self._lines = self._blank = 0
+        self._fields, self._is_bare = 0, False  # how many of these lines there are; whether an empty one has no CR
         self._left = 0  # of a body with a length
         self._chunks = Chunks(limits.extensions)
 
@@ -42,7 +46,8 @@ class Reader:
     def next_message(self) -> None:
         """Begins the next one, after EndOfMessage."""
         assert self._step == self._over
-        self._step, self._seen, self._blank = self._head, 0, 0
+        self._step, self._blank, self._is_bare = self._head, 0, False
+        self._forget_lines()
 
     @property
     def has_begun(self) -> bool:
@@ -60,34 +65,49 @@ class Reader:
         self._skip_empty_lines()
         most = self.limits.head - self._blank
         found = END.search(self.buffer, max(0, self._seen - 2), max(0, most))
+        if found and self._is_bare:
+            raise Malformed(400, "each line of a head must end with CR LF")
         if found:
-            text = self.buffer[:found.end()].decode("latin-1")
-            del self.buffer[:found.end()]
-            return self._message(text)
+            return self._message(self._take(found.end()).decode("latin-1"))
         if len(self.buffer) >= most:
             is_long_line = b"\n" not in self.buffer[:max(0, most)]
             raise Malformed(414 if is_long_line else 431, "the head is too long")
-        self._look_at(self.begun_line)
-        self._seen = len(self.buffer)
+        self._look_at(True)
         return self._cut_short(CLOSED if not self.buffer and not self._blank else None)
 
     def _skip_empty_lines(self) -> None:
-        """Those before a request are ignored (RFC 9112, section 2.2)."""
-        while self.buffer[:2] == b"\r\n" and self._blank < self.limits.head:
-            end = len(self.buffer) - len(self.buffer.lstrip(b"\r\n"))
-            if self.buffer[:end] != b"\r\n" * (end // 2) + b"\r" * (end % 2):
-                raise Malformed(400, "each line of a head must end with CR LF")
-            self._blank += end - end % 2
-            del self.buffer[:end - end % 2]
+        """Those before a request are ignored (RFC 9112, section 2.2). If one ends with LF alone, the head is refused
+        once it is whole, as any of its lines would be."""
+        found = EMPTY_LINES.match(self.buffer)
+        if found:
+            end = found.end()
+            self._is_bare = self._is_bare or 2 * self.buffer.count(b"\n", 0, end) > end
+            self._blank += end
+            del found, self.buffer[:end]
 
-    def _look_at(self, of_first_line: "re.Pattern[str]") -> None:
-        """Malformed if the line that has not ended cannot become one of a head, nor can the first one."""
-        begun = self.buffer.rfind(b"\n") + 1
-        if len(self.buffer) - begun > LOOKED_AT:
-            return
-        pattern = BEGUN_FIELD if begun else of_first_line
-        if not pattern.fullmatch(self.buffer[begun:].decode("latin-1")) and self.buffer != b"\r":
+    def _look_at(self, has_first_line: bool) -> None:
+        """Malformed if what has come of a head, or of trailers, cannot become one. Each line is looked at once more
+        when it has ended, and that is all."""
+        self._seen = len(self.buffer)
+        while (end := self.buffer.find(b"\n", self._lines) + 1) > 0:
+            line = self.buffer[self._lines:end].decode("latin-1")
+            is_first = has_first_line and not self._lines
+            if not (self._is_first_line(line) if is_first else ONE_FIELD.fullmatch(line)):
+                raise Malformed(400, "what came is not a line of a head")
+            self._fields += not is_first
+            self._lines = end
+        if self._fields > self.limits.fields:
+            raise Malformed(431, f"there are more than {self.limits.fields} fields")
+        line = self.buffer[self._lines:self._lines + LOOKED_AT].decode("latin-1")
+        pattern = self.begun_line if has_first_line and not self._lines else BEGUN_FIELD
+        if len(line) < LOOKED_AT and not pattern.fullmatch(line) and line != "\r":
             raise Malformed(400, "what came is not the beginning of a head")
+
+    def _is_first_line(self, line: str) -> bool:
+        raise NotImplementedError
+
+    def _forget_lines(self) -> None:
+        self._seen = self._lines = self._fields = 0
 
     def _message(self, text: str) -> Event:
         raise NotImplementedError
@@ -123,24 +143,22 @@ class Reader:
             return Data(data)
         if not self._chunks.is_over:
             return self._cut_short()
-        self._seen, self._step = 0, self._trailers
+        self._forget_lines()
+        self._step = self._trailers
         return self._trailers()
 
     def _trailers(self) -> Event:
         most = self.limits.trailers
-        end: Optional[int] = None
         if self.buffer[:1] in (b"\r", b"\n"):
-            end = 2 if len(self.buffer) > 1 or self.buffer == b"\n" else None
-        elif found := END.search(self.buffer, max(0, self._seen - 2), most):
-            end = found.end()
-        if end is not None:
-            headers = fields_of(self._take(end).decode("latin-1"), 0, self.limits.fields)
-            return self._end(headers)
+            end = 2 if len(self.buffer) > 1 or self.buffer == b"\n" else 0
+        else:
+            found = END.search(self.buffer, max(0, self._seen - 2), most)
+            end = found.end() if found else 0
+        if end:
+            return self._end(fields_of(self._take(end).decode("latin-1"), 0, self.limits.fields))
         if len(self.buffer) >= most:
             raise Malformed(431, "the trailers are too long")
-        if self.buffer:
-            self._look_at(BEGUN_FIELD)
-        self._seen = len(self.buffer)
+        self._look_at(False)
         return self._cut_short()
 
     def _take(self, count: int) -> bytes:
@@ -175,6 +193,9 @@ class CutShort(Malformed):
 
 
 class RequestReader(Reader):
+    def _is_first_line(self, line: str) -> bool:
+        return ONE_REQUEST_LINE.fullmatch(line) is not None and is_utf8(line)
+
     def _message(self, text: str) -> Event:
         line = REQUEST_LINE.match(text)
         if not line:
@@ -194,6 +215,9 @@ class ResponseReader(Reader):
     def __init__(self, limits: Limits = Limits()) -> None:
         super().__init__(limits)
         self.method = "GET"
+
+    def _is_first_line(self, line: str) -> bool:
+        return ONE_STATUS_LINE.fullmatch(line) is not None
 
     def _message(self, text: str) -> Event:
         line = STATUS_LINE.match(text)

@@ -26,6 +26,10 @@ VERSION = (*"HTTP/1", r"\.", "[01]")
 BEGUN_REQUEST_LINE = begun(NAME, " ", "[!-~\x80-\xff]+", " ", *VERSION, "\r")
 BEGUN_STATUS_LINE = begun(*VERSION, " ", "[1-5]", "[0-9]", "[0-9]", f"(?: {VALUE})?", "\r")
 BEGUN_FIELD = re.compile(f"\r?|{NAME}|{NAME}:{VALUE}\r?")
+# The same lines where their head is not whole, so that nothing is said yet of a line feed without CR
+ONE_FIELD = re.compile(f"{NAME}:{VALUE}\r?\n")
+ONE_REQUEST_LINE = re.compile(REQUEST_LINE.pattern.replace("\r", "\r?"))
+ONE_STATUS_LINE = re.compile(STATUS_LINE.pattern.replace("\r", "\r?"))
 
 # A target's parts, each with the bytes that the crate `http` takes in it: those of WHATWG's URL standard.
 PATH = re.compile(r'[!"$-;=@-_a-~\x80-\xff]*')
@@ -61,6 +65,13 @@ def is_token(text: str) -> bool:
 
 def is_field_value(text: str) -> bool:
     return re.fullmatch(VALUE, text) is not None
+
+
+def is_utf8(text: str) -> bool:
+    try:
+        return text.isascii() or text.encode("latin-1").decode() != ""
+    except UnicodeDecodeError:
+        return False
 
 
 def first(headers: Headers, name: str) -> Optional[str]:
@@ -100,7 +111,7 @@ def wrong_field(text: str, at: int, most: int) -> Malformed:
     for _ in range(most + 1):
         found = FIELD.match(text, at)
         if not found:
-            return wrong_line(text[at:text.index("\n", at) + 1])
+            return wrong_line(text[at:text.find("\n", at) + 1])
         at = found.end()
     return Malformed(431, f"there are more than {most} fields")
 
@@ -108,7 +119,7 @@ def wrong_field(text: str, at: int, most: int) -> Malformed:
 def wrong_line(line: str) -> Malformed:
     if not line.endswith("\r\n"):
         return Malformed(400, "each line of a head must end with CR LF")
-    if line[0] in " \t":
+    if line[:1] in " \t":
         return Malformed(400, "a header is folded over two lines")
     name, colon, _ = line.partition(":")
     if not colon or not is_token(name):
@@ -121,11 +132,8 @@ def wrong_line(line: str) -> Malformed:
 
 def target_of(text: str) -> Target:
     """Raises Malformed if it is not a target in one of its four forms."""
-    if not text.isascii():
-        try:
-            text.encode("latin-1").decode()
-        except UnicodeDecodeError:
-            raise Malformed(400, "the target is not UTF-8") from None
+    if not is_utf8(text):
+        raise Malformed(400, "the target is not UTF-8")
     if text == "*" or text.startswith("/"):
         return path_of(None, text)
     found = SCHEME.match(text) if len(text) > 3 else None

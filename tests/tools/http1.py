@@ -1,0 +1,380 @@
+#!/usr/bin/env python3
+"""Checks the reader of HTTP/1.1: a table of RFC 9112's cases, requests that are nearly HTTP, which the service and
+`h11` read too, and what small pieces cost. Needs Debian's python3-h11 for one of them. The program is
+LAMBDA_LOCAL_PROGRAM, else ./lambda_local. Ends with 'N passed, M failed'.
+
+usage: tests/tools/http1.py [--count N] [--seed N] [PART..]   (default: 10000 requests, another seed each time)"""
+import concurrent.futures
+import json
+import os
+import random
+import re
+import subprocess
+import sys
+import tempfile
+import time
+import urllib.parse
+from collections import Counter
+
+ROOT = os.path.dirname(os.path.dirname(os.path.dirname(os.path.realpath(__file__))))
+sys.path[:0] = [os.path.join(ROOT, "tools"), os.path.join(ROOT, "tests", "library")]
+import counted  # noqa: E402
+from counted import check  # noqa: E402
+from events_kit import READY, READY_SECONDS, behind  # noqa: E402
+from http_mutants import BROKEN, TAKEN, answers_to, messages_of, mutants, outcome_of, own_outcome  # noqa: E402
+from lambda_local.front.origins import refusal_of  # noqa: E402
+from lambda_local.http1 import (NEED_DATA, CutShort, Data, Malformed, Request, RequestReader, Response,  # noqa: E402
+                                ResponseReader, Unwritable, request_head, response_head)
+from lambda_local.service import free_ports  # noqa: E402
+from up_kit import Up  # noqa: E402
+
+COUNT, SEED = 10_000, random.randrange(1 << 32)
+AT_ONCE = 8  # connections to the service
+MOST_SHOWN = 5
+APP = "def run(event, context): return event\n"
+
+
+def cases():
+    """The table: a name, the bytes, and what a server makes of them."""
+    with open(os.path.join(ROOT, "tests", "library", "rfc9112.txt")) as file:
+        blocks = [block.splitlines() for block in file.read().split("\n\n")]
+    for name, data, wanted in (block for block in blocks if not block[0].startswith("#")):
+        yield name, data.strip().encode().decode("unicode_escape").encode("latin-1"), wanted.strip()[1:].strip()
+
+
+def made_of(data, sizes):
+    """What our reader makes of these bytes in pieces of these sizes, in the table's words."""
+    words = []
+    for request, body in messages_of(data, sizes):
+        refused = refusal_of(request, ()) if request else None
+        if refused:
+            words.append(str(refused.status))
+        elif request:
+            line = f"{request.method} {request.parts.origin_form}"
+            words.append(BROKEN if isinstance(body, Malformed) else f"{line} {body.decode()}".strip())
+        elif not isinstance(body, CutShort):
+            words.append(str(body.status))
+    return ", ".join(words)
+
+
+def table():
+    for name, data, wanted in cases():
+        seen = {made_of(data, sizes) for sizes in ((len(data),), (1,), (2, 3), (7, 1))}
+        check(f"{name}, whole and in pieces", seen, {wanted})
+
+
+class Serving:
+    """The service alone, with one function."""
+
+    def __enter__(self):
+        self.folder = tempfile.TemporaryDirectory()
+        self.port, port = free_ports(2, ())
+        path = os.path.join(self.folder.name, "configuration.json")
+        with open(path, "w") as file:
+            json.dump({"account": "123456789012", "region": "us-east-1", "invokePort": self.port,
+                       "functions": [{"name": "f", "ports": [port]}]}, file)
+        program = os.environ.get("LAMBDA_LOCAL_PROGRAM") or os.path.join(ROOT, "lambda_local")
+        self.process = subprocess.Popen([program, "serve", path], stderr=subprocess.PIPE, stdout=subprocess.DEVNULL)
+        while self.process.stderr.readline().strip() not in (b"listening", b""):
+            pass
+        return self
+
+    def __exit__(self, *_):
+        self.process.kill()
+        self.process.wait()
+        self.process.stderr.close()
+        self.folder.cleanup()
+
+    def outcomes(self, requests):
+        with concurrent.futures.ThreadPoolExecutor(AT_ONCE) as pool:
+            yield from pool.map(lambda data: outcome_of(answers_to(self.port, data)), requests)
+
+
+def table_of_the_service():
+    """The service makes of each case of the table what it says."""
+    with Serving() as service:
+        names = list(cases())
+        for (name, data, _), seen in zip(names, service.outcomes([data for _, data, _ in names])):
+            check(f"the service: {name}", seen, own_outcome(data))
+
+
+# What the service takes, and our reader refuses, with its reason.
+OF_THE_SERVICE = (
+    ("more than 16 KiB of zeros and blanks around the sizes of chunks: a line has a longest length",
+     lambda data: re.search(rb"[0 \t]{1000}", data)),
+)
+
+
+def mutated():
+    """The service and our reader take the same of them, and refuse the same with the same status."""
+    requests, counts, wrong = mutants(COUNT, SEED), Counter(), []
+    with Serving() as service:
+        for data, seen in zip(requests, service.outcomes(requests)):
+            own = own_outcome(data)
+            listed = own != seen and next((reason for reason, applies in OF_THE_SERVICE if applies(data)), None)
+            counts["differ, listed" if listed else "differ" if own != seen else "taken" if own[:1] == [TAKEN]
+                   else "refused" if own else "cut"] += 1
+            if own != seen and not listed:
+                wrong.append((data, own, seen))
+    print(f"     {COUNT} requests, seed {SEED}: {dict(counts)}", flush=True)
+    check("the service and our reader agree", (len(wrong), wrong[:MOST_SHOWN]), (0, []))
+    check("both kinds are among them", min(counts["taken"], counts["refused"]) > COUNT / 10)
+
+
+def behind_the_front():
+    """What the front answers to them has the service's statuses."""
+    up = Up(*READY, functions=[{"name": "f", "runtime": "python", "handler": "app.run"}], app=APP,
+            whole={"asynchronous": True})
+    up.until("[up] ready", READY_SECONDS)
+    ports = [urllib.parse.urlsplit(address).port for address in (up.endpoint, behind(up))]
+    requests, wrong, counts = mutants(COUNT // 10, SEED + 1), [], Counter()
+    with concurrent.futures.ThreadPoolExecutor(AT_ONCE) as pool:
+        for data, seen in zip(requests, pool.map(lambda data: [outcome_of(answers_to(port, data)) for port in ports],
+                                                 requests)):
+            counts["taken" if seen[1][:1] == [TAKEN] else "refused" if seen[1] else "cut"] += 1
+            if seen[0] != seen[1]:
+                wrong.append((data, *seen))
+    print(f"     {COUNT // 10} requests: {dict(counts)}", flush=True)
+    check("the front answers them as the service", (len(wrong), wrong[:MOST_SHOWN]), (0, []))
+    check("it ends in order, and leaves nothing", up.end(), (0, []))
+
+
+# ---- h11 -------------------------------------------------------------------------------------------------------------
+
+
+def head_of(data):
+    return re.split(rb"\r?\n\r?\n", data, maxsplit=1)[0] + b"\r\n"
+
+
+def values(data, name):
+    return [line.partition(b":")[2].strip(b" \t") for line in re.split(rb"\r?\n", head_of(data))[1:]
+            if line.lower().startswith(name + b":")]
+
+
+# Where the two differ, with the reason.
+OF_H11 = (
+    ("h11 takes a line that ends with LF alone", lambda data: re.search(rb"(?<!\r)\n", data)),
+    ("h11 joins folded headers", lambda data: re.search(rb"\n[ \t]", data)),
+    ("h11 lets Transfer-Encoding stand with Content-Length",
+     lambda data: values(data, b"transfer-encoding") and values(data, b"content-length")),
+    ("h11 takes Transfer-Encoding in HTTP/1.0",
+     lambda data: values(data, b"transfer-encoding") and b"HTTP/1.0" in head_of(data)),
+    ("h11 lets CONNECT have content", lambda data: data.startswith(b"CONNECT ")),
+    ("h11 takes a list in Content-Length, and compares texts: 005 is not 5",
+     lambda data: any(re.search(rb",|^0.", value) for value in values(data, b"content-length"))),
+    ("h11 refuses each other coding with the head; here the front does, in the service's order",
+     lambda data: [value.lower() for value in values(data, b"transfer-encoding")] not in ([], [b"chunked"])),
+    ("h11 takes other versions", lambda data: not re.search(rb" HTTP/1\.[01]\r\n", head_of(data))),
+    ("h11 takes control characters in values and extensions",
+     lambda data: re.search(rb"[\x01-\x08\x0b\x0c\x0e-\x1f\x7f]|\r(?!\n)", data)),
+    ("h11 takes each visible byte in a target and no other; the service reads a URI",
+     lambda data: not re.match(rb"\S+ (?:\*|/[!$-;=@-_a-z|~?]*|http://[a-z0-9*]+(?::[0-9]+)?(?:/\S*)?|"
+                               rb"[a-z0-9]+:[0-9]+) ", data)),
+    ("h11 takes no blank before an extension (RFC 9112, section 7.1.1: BWS)",
+     lambda data: re.search(rb"\n[0-9A-Fa-f]+[ \t]+;", data)),
+    ("h11 reads the framing of trailers, which have none",
+     lambda data: values(data, b"transfer-encoding") and re.search(rb"(?i)\n0\r\n.*(transfer-encoding|content-length)",
+                                                                   data, re.S)),
+)
+
+
+def by_h11(h11, data):
+    """The first request with its body, as h11 reads it; None if it takes none."""
+    connection, request, body = h11.Connection(h11.SERVER, max_incomplete_event_size=1 << 16), None, b""
+    try:
+        connection.receive_data(data)
+        connection.receive_data(b"")
+        while True:
+            event = connection.next_event()
+            if isinstance(event, h11.Request):
+                request = event
+            elif isinstance(event, h11.Data):
+                body += bytes(event.data)
+            elif isinstance(event, h11.EndOfMessage):
+                return request.method, request.target, body
+            else:
+                return None
+    except h11.RemoteProtocolError:
+        return None
+
+
+def against_h11():
+    try:
+        import h11
+    except ImportError:
+        return print("skip there is no h11 (Debian: python3-h11)")
+    counts, wrong = Counter(), []
+    for data in mutants(COUNT, SEED + 2):
+        data = re.sub(rb"^(?:\r\n)+", b"", data)  # (h11 takes no empty line before a request: RFC 9112, section 2.2)
+        request, body = next(iter(messages_of(data)), (None, None))
+        own = ((request.method.encode(), request.target.encode("latin-1"), body) if isinstance(body, bytes) else None)
+        seen = by_h11(h11, data)
+        listed = own != seen and next((reason for reason, applies in OF_H11 if applies(data)), None)
+        counts[listed or ("differ" if own != seen else "taken" if own else "refused")] += 1
+        if own != seen and not listed:
+            wrong.append((data, own, seen))
+    print(f"     {COUNT} requests, seed {SEED + 2}: {counts.pop('taken')} taken, {counts.pop('refused')} refused, of "
+          f"both; the others: {json.dumps(counts, indent=1)}", flush=True)
+    check("h11 and our reader agree, but for what is listed", (len(wrong), wrong[:MOST_SHOWN]), (0, []))
+
+
+# ---- responses, writing, limits --------------------------------------------------------------------------------------
+
+
+def responses():
+    for name, method, data, wanted in (
+            ("a length", "GET", b"HTTP/1.1 200 OK\r\nContent-Length: 2\r\n\r\nhi", (200, b"hi", True)),
+            ("chunks", "GET", b"HTTP/1.1 200\r\nTransfer-Encoding: chunked\r\n\r\n2\r\nhi\r\n0\r\n\r\n",
+             (200, b"hi", True)),
+            ("until the end", "GET", b"HTTP/1.1 200 OK\r\n\r\nhi", (200, b"hi", False)),
+            ("no content", "GET", b"HTTP/1.1 204 No Content\r\n\r\n", (204, b"", True)),
+            ("to a HEAD", "HEAD", b"HTTP/1.1 200 OK\r\nContent-Length: 5\r\n\r\n", (200, b"", True)),
+            ("after 100 Continue", "GET",
+             b"HTTP/1.1 100 Continue\r\n\r\nHTTP/1.1 200 OK\r\nContent-Length: 0\r\n\r\n", (200, b"", True)),
+            ("one that ends the connection", "GET",
+             b"HTTP/1.1 200 OK\r\nConnection: close\r\nContent-Length: 0\r\n\r\n",
+             (200, b"", False)),
+            ("HTTP/1.0", "GET", b"HTTP/1.0 200 OK\r\nContent-Length: 0\r\n\r\n", (200, b"", False)),
+            ("cut in its body", "GET", b"HTTP/1.1 200 OK\r\nContent-Length: 5\r\n\r\nhi", "malformed"),
+            ("no status", "GET", b"HTTP/1.1 OK\r\n\r\n", "malformed"),
+            ("another protocol", "GET", b"SSH-2.0-OpenSSH_9.2\r\n\r\n", "malformed"),
+            ("a switch of protocols", "GET", b"HTTP/1.1 101 Switching\r\nUpgrade: h2c\r\n\r\n", "malformed")):
+        check(f"a response: {name}", {read_response(method, data, size) for size in (len(data), 1)}, {wanted})
+
+
+def read_response(method, data, size):
+    reader, response, body, at = ResponseReader(), None, b"", 0
+    reader.method = method
+    try:
+        while True:
+            event = reader.next_event()
+            if event is NEED_DATA:
+                reader.receive(data[at:at + size])
+                at += size
+            elif isinstance(event, Response):
+                response = event
+            elif isinstance(event, Data):
+                body += event.data
+            else:
+                return response.status, body, response.keeps_alive
+    except Malformed:
+        return "malformed"
+
+
+def writing():
+    for name, value in (("X", "a\r\nY: b"), ("X", "a\nb"), ("X", "\0"), ("X\r\nY", "a"), ("X Y", "a"), ("", "a"),
+                        ("X", "a\r\n\r\nHTTP/1.1 200 OK"), ("X: a\r\nY", "b")):
+        for head in (lambda: request_head("GET", "/", [("Host", "a"), (name, value)]),
+                     lambda: response_head("HTTP/1.1", 200, "OK", [(name, value), ("Content-Length", "0")])):
+            check(f"{name!r}: {value!r} is not written", refuses(head))
+    for method, target in (("G T", "/"), ("GET", "/ HTTP/1.1\r\nX: y"), ("GET", ""), ("GET", "/a b"), ("", "/")):
+        check(f"{method!r} {target!r} is not written", refuses(lambda: request_head(method, target, [])))
+    check("what can be is", request_head("GET", "/x?y", [("Host", "a"), ("X", "\xe9")]),
+          b"GET /x?y HTTP/1.1\r\nHost: a\r\nX: \xe9\r\n\r\n")
+
+
+def refuses(head):
+    try:
+        head()
+    except Unwritable:
+        return True
+    return False
+
+
+def limits():
+    """Those of the service: a head of 65,536 bytes and 100 fields; 16 KiB of extensions, and of trailers."""
+    line, chunked = b"GET /x HTTP/1.1\r\n", b"POST /x HTTP/1.1\r\nHost: a\r\nTransfer-Encoding: chunked\r\n\r\n"
+
+    def long(size):
+        return line + b"Host: a\r\nX: " + b"x" * (size - len(line) - len(b"Host: a\r\nX: \r\n\r\n")) + b"\r\n\r\n"
+
+    cases = [
+        ("a head of 65,536 bytes", long(65536), TAKEN), ("one byte more", long(65537), "431"),
+        ("a head that does not end", long(70000)[:-4], "431"),
+        ("100 fields", line + b"Host: a\r\n" + b"X: y\r\n" * 99 + b"\r\n", TAKEN),
+        ("101 fields", line + b"Host: a\r\n" + b"X: y\r\n" * 100 + b"\r\n", "431"),
+        ("a request line that does not end", b"GET /" + b"x" * 65536, "414"),
+        ("one that is too long", b"GET /" + b"x" * 65536 + b" HTTP/1.1\r\nHost: a\r\n\r\n", "414"),
+        ("empty lines without end", b"\r\n" * 40000, "414"),
+        ("16 KiB of extensions", chunked + b"1;" + b"x" * 16384 + b"\r\nx\r\n0\r\n\r\n", TAKEN),
+        ("one byte more of them", chunked + b"1;" + b"x" * 16384 + b"\r\nx\r\n0;y\r\n\r\n", BROKEN),
+        ("16 KiB of trailers", chunked + b"0\r\nX: " + b"x" * (16384 - 7) + b"\r\n\r\n", TAKEN),
+        ("one byte more of those", chunked + b"0\r\nX: " + b"x" * (16384 - 6) + b"\r\n\r\n", BROKEN),
+        ("101 trailers", chunked + b"0\r\n" + b"X: y\r\n" * 101 + b"\r\n", BROKEN)]
+    with Serving() as service:
+        for (name, data, wanted), seen in zip(cases, service.outcomes([data for _, data, _ in cases])):
+            check(name, (own_outcome(data), seen), ([wanted], [wanted]))
+    check("17 KiB of zeros before a size, which the service takes",
+          own_outcome(chunked + b"0" * 17000 + b"1\r\nx\r\n0\r\n\r\n"), [BROKEN])
+
+
+# ---- cost ------------------------------------------------------------------------------------------------------------
+
+
+def seconds_to_read(data, size):
+    """The processor time in which our reader reads these bytes, in pieces of this size."""
+    begun, reader = time.process_time(), RequestReader()
+    for at in range(0, len(data), size):
+        reader.receive(data[at:at + size])
+        while isinstance(reader.next_event(), (Request, Data)):
+            pass
+    return time.process_time() - begun
+
+
+def linear():
+    """Four times as much takes some four times as long, whatever comes, and in the smallest pieces."""
+    chunked = b"POST /x HTTP/1.1\r\nHost: a\r\nTransfer-Encoding: chunked\r\n\r\n"
+    for name, made, count, size in (
+            ("chunks of one byte", lambda count: chunked + b"1\r\nx\r\n" * count, 50_000, 65536),
+            ("chunks of one and two bytes", lambda count: chunked + b"1\r\nx\r\n2\r\nyy\r\n" * count, 3_000, 65536),
+            ("chunks that come byte by byte", lambda count: chunked + b"1\r\nx\r\n" * count, 500, 1),
+            ("a long header byte by byte", lambda count: b"GET / HTTP/1.1\r\nX: " + b"x" * count, 3_000, 1),
+            ("empty headers byte by byte", lambda count: b"GET / HTTP/1.1\r\n" + b"a:\r\n" * count, 24, 1),
+            ("blanks in a header", lambda count: b"GET / HTTP/1.1\r\nHost: a\r\nX: a" + b" " * count + b"b\r\n\r\n",
+             15_000, 65536),
+            ("empty lines byte by byte", lambda count: b"\r\n" * count, 1_000, 1)):
+        small, large = (min(seconds_to_read(made(times * count), size) for _ in range(3)) for times in (1, 4))
+        check(f"{name}: {small * 1000:.1f} ms, four times as much {large * 1000:.1f} ms", large < 10 * small + 0.01)
+
+
+def small_chunks():
+    """A body in chunks of one byte through the front, beside the same body whole, and others meanwhile."""
+    up = Up(*READY, functions=[{"name": "f", "runtime": "python", "handler": "app.run"}], app=APP,
+            whole={"asynchronous": True})
+    up.until("[up] ready", READY_SECONDS)
+    size, port = 2_400_000, urllib.parse.urlsplit(up.endpoint).port
+    whole = b"POST /x HTTP/1.1\r\nHost: a\r\nContent-Length: %d\r\n\r\n" % size + b"x" * size
+    chunks = b"POST /x HTTP/1.1\r\nHost: a\r\nTransfer-Encoding: chunked\r\n\r\n" + b"1\r\nx\r\n" * size + b"0\r\n\r\n"
+    taken = {}
+    for name, data in (("whole", whole), ("in chunks", chunks)):
+        begun = processor_seconds(up.process.pid)
+        check(f"a body {name} is read", {outcome_of(answers_to(port, data))[0] for _ in range(10)}, {TAKEN})
+        taken[name] = processor_seconds(up.process.pid) - begun
+    print(f"     seconds of processor time for ten bodies of {size} bytes: {taken}", flush=True)
+    check("one-byte chunks take at most ten times as long", taken["in chunks"] <= 10 * max(taken["whole"], 0.05))
+    with concurrent.futures.ThreadPoolExecutor(4) as pool:
+        sending, longest = [pool.submit(answers_to, port, chunks) for _ in range(4)], 0.0
+        while not all(one.done() for one in sending):
+            begun = time.monotonic()
+            up.get("/_local/stats")
+            longest = max(longest, time.monotonic() - begun)
+    check(f"others are answered meanwhile, within {longest:.2f} s", longest < 3)
+    check("it ends in order, and leaves nothing", up.end(), (0, []))
+
+
+def processor_seconds(pid):
+    with open(f"/proc/{pid}/stat") as file:
+        words = file.read().rpartition(")")[2].split()
+    return (int(words[11]) + int(words[12])) / os.sysconf("SC_CLK_TCK")
+
+
+if __name__ == "__main__":
+    parts = {part.__name__: part for part in (table, table_of_the_service, mutated, behind_the_front, against_h11,
+                                              responses, writing, limits, linear, small_chunks)}
+    words = sys.argv[1:]
+    for name in ("--count", "--seed"):
+        if name in words:
+            at = words.index(name)
+            globals()[name[2:].upper()] = int(words[at + 1])
+            del words[at:at + 2]
+    sys.exit(counted.run(*(parts[name] for name in words or parts)))
