@@ -17,6 +17,7 @@ import time
 ROOT = os.path.dirname(os.path.dirname(os.path.dirname(os.path.realpath(__file__))))
 sys.path[:0] = [os.path.join(ROOT, "tests", "library")]
 import counted  # noqa: E402
+import stub_kits  # noqa: E402
 import trees  # noqa: E402
 from counted import check  # noqa: E402
 from trees import RELEASED, copied, plain, program, release, text_of, write  # noqa: E402
@@ -24,8 +25,8 @@ from trees import RELEASED, copied, plain, program, release, text_of, write  # n
 OTHER_USER = 65534
 SOURCE = "crates/lambda_local/src/main.rt"
 UNPACKED = "unpacked the released program of these sources, once"
-NO_PROGRAM = "there is no proved program of these sources"
-NO_BUILD = "no proved build of these sources was made here"
+NO_PROGRAM = "there is no program of these sources"
+OTHER_LOGIC = "has another logic"
 TOOLS = ("check", "conformance", "from_template", "rerun", "timeline", "up")
 COMMANDS = ("serve", "replay", "path", "build", "stamp", *TOOLS)
 
@@ -119,7 +120,7 @@ def notices():
         status, output, said = run(root, "path")
         check("a source of the same size and time is noticed", (status, output, NO_PROGRAM in said), (4, "", True))
         status, output, said = run(root, "serve", "examples/service.json")
-        check("and without a kit nothing is served", (status, NO_BUILD in said), (4, True))
+        check("and nothing is served", (status, output, NO_PROGRAM in said, said.count("\n")), (4, "", True, 1))
         write(path, before.encode())
         check("once it is back, so is the program", first_call(root), (0, True, ""))
         more = os.path.join(root, "crates", "lambda_local", "src", "more.rt")
@@ -135,26 +136,31 @@ def notices():
 
 
 def kits():
-    """The kit's rt on the path: a folder with bin/rt and KIT-ID, as the kit has them."""
-    with copied() as root, tempfile.TemporaryDirectory() as kit:
-        write(f"{kit}/bin/rt", b'#!/bin/sh\necho asked >>"$KIT_ASKED"\ncat "$(dirname "$0")/../KIT-ID"\n', 0o755)
-        write(f"{kit}/KIT-ID", b"rattle-kit-0 logic 0\n")
-        asked = os.path.join(kit, "asked")
-        with_kit = {"PATH": f"{kit}/bin:/usr/bin:/bin", "KIT_ASKED": asked}
-        status, right, said = first_call(root, **with_kit)
-        check("with the kit that proved it", (status, right, UNPACKED in said), (0, True, True))
-        first_call(root, **with_kit)
-        before = text_of(asked)
-        check("a further start", first_call(root, **with_kit), (0, True, ""))
-        check("does not ask the kit", text_of(asked), before)
-        check("without the kit it starts too", first_call(root), (0, True, ""))
-        check("and with it again", first_call(root, **with_kit), (0, True, ""))
-        write(f"{kit}/KIT-ID", b"rattle-kit-1 logic 1\n")
-        status, output, said = run(root, "path", **with_kit)
-        check("another kit is noticed", (status, NO_PROGRAM in said), (4, True))
+    """The kit's rt on the path: a program is of its sources, whichever kit is here. Another logic is told once."""
+    with copied() as root, tempfile.TemporaryDirectory() as folder:
+        kit = stub_kits.StubKit(folder, "the kit that proved it")
+        first_call(root)
+        first_call(root)
+        notes = os.path.join(root, os.path.dirname(RELEASED), "looked_at")
+        for name in ("the kit that proved it", "a kit of another letter"):
+            kit = stub_kits.StubKit(folder, name)
+            check(f"{name} says nothing", first_call(root, PATH=kit.path), (0, True, ""))
+            before = os.stat(notes)
+            check("nor later", first_call(root, PATH=kit.path), (0, True, ""))
+            check("the choice is known", os.stat(notes).st_mtime_ns, before.st_mtime_ns)
+        check("without a kit it starts too", first_call(root), (0, True, ""))
+        check("and the choice is known", os.stat(notes).st_mtime_ns, before.st_mtime_ns)
+        kit = stub_kits.StubKit(folder, "a kit of another logic")
+        status, right, said = first_call(root, PATH=kit.path)
+        check("another logic is told", (status, right, OTHER_LOGIC in said, said.count("\n")), (0, True, True, 1))
+        check("once", first_call(root, PATH=kit.path), (0, True, ""))
+        check("also after a start without it", (first_call(root), first_call(root, PATH=kit.path)),
+              ((0, True, ""), (0, True, "")))
         release(root, program(), "rattle-kit-1 logic 1")
-        status, right, said = first_call(root, **with_kit)
-        check("and takes a release that it proved", (status, right, UNPACKED in said), (0, True, True))
+        os.remove(os.path.join(root, RELEASED))
+        status, right, said = first_call(root, PATH=kit.path)
+        check("a release that it proved is taken without that", (status, right, OTHER_LOGIC in said), (0, True, False))
+        check("no kit was asked for anything", kit.asked(), [])
 
 
 def builds():
@@ -165,23 +171,24 @@ def builds():
         proves, room = os.path.join(kit, "proves"), os.path.join(kit, "room")
         os.mkdir(room)
         variables = plain(PATH=f"{kit}/bin:/usr/bin:/bin", KIT_PROVES=proves, TMPDIR=room)
-        words = [os.path.join(root, "lambda_local"), "serve", "examples/service.json"]
-        child = subprocess.Popen(words, cwd=root, env=variables, stderr=subprocess.PIPE, text=True)
-        try:
-            check("without a program of this kit one is proved first",
-                  "proving the program and the" in child.stderr.readline())
-            end = time.monotonic() + 60
-            while not (os.path.exists(proves) and text_of(proves).endswith("\n")) and time.monotonic() < end:
-                time.sleep(0.05)
-            rt = int(text_of(proves))
-            child.terminate()
-            check("TERM ends the build", child.wait(60), 128 + signal.SIGTERM)
-            check("and the kit's process", os.path.exists(f"/proc/{rt}"), False)
-            check("and nothing is left", os.listdir(room), [])
-        finally:
-            child.kill()
-            child.wait()
-            child.stderr.close()
+        for words, begins in ((["build"], "proving the program and the"), (["build", "--quick"], "without proof")):
+            child = subprocess.Popen([os.path.join(root, "lambda_local"), *words], cwd=root, env=variables,
+                                     stderr=subprocess.PIPE, text=True)
+            try:
+                check(f"{' '.join(words)} says what it does", begins in child.stderr.readline())
+                end = time.monotonic() + 60
+                while not (os.path.exists(proves) and text_of(proves).endswith("\n")) and time.monotonic() < end:
+                    time.sleep(0.05)
+                rt = int(text_of(proves))
+                child.terminate()
+                check("TERM ends the build", child.wait(60), 128 + signal.SIGTERM)
+                check("and the kit's process", os.path.exists(f"/proc/{rt}"), False)
+                check("and nothing is left", os.listdir(room), [])
+                os.remove(proves)
+            finally:
+                child.kill()
+                child.wait()
+                child.stderr.close()
 
 
 def other_users():

@@ -52,8 +52,8 @@ def copied():
         yield root
 
 
-def package(root, *words):
-    return run([sys.executable, os.path.join(root, "tools", "package"), *words], cwd=root)
+def package(root, *words, **variables):
+    return run([sys.executable, os.path.join(root, "tools", "package"), *words], cwd=root, **variables)
 
 
 def bytes_of(path):
@@ -86,7 +86,7 @@ def made():
 
 
 def refusals():
-    with copied() as root:
+    with copied() as root, tempfile.TemporaryDirectory() as folder_of_given:
         for name in ("lambda_local.history.txt", "out.json", "tests/mine.py", "my/up.json"):
             write(os.path.join(root, name), b"")
         check("other files of its user do not matter", package(root, "--wheel")[0], 0)
@@ -104,13 +104,47 @@ def refusals():
         write(os.path.join(root, "crates", "lambda_local", "src", "mine.rt"), b"")
         commit_all(root)
         status, output, said = package(root)
-        seen = (status, output, said.count("\n"), "no proved program of these sources" in said)
-        check("without a program of these sources", seen, (4, "", 1, True))
+        seen = (status, output, said.count("\n"), "there is no program of these sources" in said,
+                "lambda_local build' proves and builds one, here in about" in said)
+        check("without a program of these sources", seen, (4, "", 1, True, True))
         check("nothing is left behind", glob.glob(os.path.join(root, "*.gz*")), [])
+        given = os.path.join(folder_of_given, "given")
+        for name, data, mode, word in (("one that is not there", None, 0, "is not a program"),
+                                       ("one that does not start", b"\x7fELF", 0o755, "not a program that starts here"),
+                                       ("one that answers otherwise", b"#!/bin/sh\n", 0o755, "does not answer")):
+            if data is not None:
+                write(given, data, mode)
+            status, output, said = package(root, LAMBDA_LOCAL_PROGRAM=given)
+            seen = (status, output, word in said.splitlines()[-1], glob.glob(os.path.join(root, "*.gz*")))
+            check(f"a program that is named: {name}", seen, (1 if "answers" in name else 4, "", True, []))
     with tempfile.TemporaryDirectory() as folder:
         root = copy_tree(os.path.join(folder, "tree"), program())
         status, output, said = package(root)
         check("a tree that is no checkout", (status, output, "clone the repository first" in said), (2, "", True))
+
+
+def given():
+    """A program that is named: packaged as it is, beside a program of these sources."""
+    with copied() as root, tempfile.TemporaryDirectory() as folder:
+        other = os.path.join(folder, "other")
+        write(other, bytes_of(program()) + b"more", 0o755)  # (what follows an ELF file's sections does not matter)
+        sum_is = f"program {hashlib.sha256(bytes_of(other)).hexdigest()}"
+        told = [sum_is, "given by LAMBDA_LOCAL_PROGRAM, not proved here"]
+        status, output, said = package(root, "--archive", "--wheel", folder, LAMBDA_LOCAL_PROGRAM=other)
+        check("its sum is said, and that it was given", (status, said.splitlines()),
+              (0, [f"package: {line}" for line in told]))
+        archive, wheel = output.split()
+        subprocess.run(["tar", "-C", folder, "-xzf", archive], check=True)
+        launcher = os.path.join(archive.replace(".tar.gz", ""), "lambda_local")
+        subprocess.run([sys.executable, "-m", "zipfile", "-e", wheel, f"{folder}/wheel"], check=True)
+        os.chmod(f"{folder}/wheel/lambda_local/bin/lambda_local", 0o755)
+        for name, words, path in (("the archive", [launcher], ""),
+                                  ("the wheel", [sys.executable, "-m", "lambda_local"], f"{folder}/wheel")):
+            status, output, said = run([*words, "--version"], PYTHONPATH=path)
+            check(f"{name} says both by --version", (status, output.splitlines()[1:]), (0, told))
+            check(f"{name} replays by it", answers(words, PYTHONPATH=path))
+        status, output, said = run([launcher, "stamp"])
+        check("the archive has no stamp", (status, output, said.count("\n"), "was given" in said), (4, "", 1, True))
 
 
 def commit_all(root):
@@ -306,4 +340,4 @@ def end():
 
 
 if __name__ == "__main__":
-    sys.exit(counted.run(made, refusals, archive, wheel, plugin, deb, jobs, end))
+    sys.exit(counted.run(made, refusals, given, archive, wheel, plugin, deb, jobs, end))

@@ -227,7 +227,7 @@ def wrong_uses():
 
 def launcher():
     """The launcher is asked once a process for its program."""
-    from lambda_local import in_process
+    from lambda_local import service as service_module
     own = os.path.join(ROOT, "lambda_local")
     if not os.access(own, os.X_OK):
         return print("skip there is no launcher here")
@@ -240,7 +240,7 @@ def launcher():
             file.write(f'#!/bin/sh\necho "$1" >> "$0.started"\n[ "$1" = path ] && echo {program} && exit\nexec '
                        f'{program} "$@"\n')
         os.chmod(fake, 0o755)
-        before, in_process.ROOT = in_process.ROOT, folder
+        before, service_module.LAUNCHER = service_module.LAUNCHER, os.path.realpath(fake)
         given = os.environ.pop("LAMBDA_LOCAL_PROGRAM", None)
         try:
             os.environ["LAMBDA_LOCAL_PROGRAM"] = fake
@@ -254,7 +254,7 @@ def launcher():
                 check("the launcher is asked once", file.read().split(), ["path"])
             print(f"     a service, a call and a stop take {1000 * sorted(times)[2]:.0f} ms (median of five)")
         finally:
-            in_process.ROOT = before
+            service_module.LAUNCHER = before
             if given:
                 os.environ["LAMBDA_LOCAL_PROGRAM"] = given
             else:

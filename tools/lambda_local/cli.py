@@ -42,7 +42,7 @@ def show_version(program):
         return
     print(" ".join(["lambda_local", *dict(stamp).get("version", "").split()]))
     for name, text in stamp:
-        if name in ("sources", "kit", "program", "gate"):
+        if name in ("sources", "kit", "program", "gate", "given"):
             print(name, text)
 
 

@@ -7,12 +7,9 @@ A function has one environment, or as many as its member `environments` says: it
 A handler takes the event, or the event and its context, as Lambda calls it; `context.headers` are those of the
 invocation. Until the end, the process has the variables of a function, dummy credentials and the service's address: a
 client of Lambda calls the service, and no client of boto3 reaches AWS. `keep_credentials=True` lets them."""
-import functools
 import http.client
 import inspect
 import json
-import os
-import subprocess
 import sys
 import threading
 import time
@@ -22,9 +19,8 @@ import urllib.error
 import urllib.request
 
 from .configuration import OF_FUNCTION, Kind, is_whole, mistakes_of, shown
-from .paths import ROOT
 from .sandbox import Sandbox
-from .service import RUNTIME, Service, program_path
+from .service import RUNTIME, Service
 from .variables import OF_FUNCTION as VARIABLES
 from .variables import of_function, text_of
 
@@ -48,16 +44,6 @@ class FunctionError(Exception):
         super().__init__(f"{report.get('errorType')}: {report.get('errorMessage')}" if isinstance(report, dict)
                          else str(report))
         self.report = report
-
-
-@functools.lru_cache(maxsize=None)
-def prepared(program):
-    """The program that the launcher starts: the launcher reads all sources at each start, and once is enough."""
-    if os.path.realpath(program) != os.path.join(ROOT, "lambda_local"):
-        return program
-    told = subprocess.run([program, "path"], stdout=subprocess.PIPE, text=True)
-    path = told.stdout.strip()
-    return path if told.returncode == 0 and os.access(path, os.X_OK) else program
 
 
 def function_of(name, members, handler):
@@ -230,7 +216,7 @@ class LambdaLocal:
         configuration = {"account": "123456789012", "region": "us-east-1", "functions": [part for part, _ in parts]}
         if self.salt is not None:
             configuration["salt"] = self.salt
-        self.service = Service(configuration, self.program or prepared(program_path()))
+        self.service = Service(configuration, self.program)
         if front:
             front.serve(self.service)
             self.front = front

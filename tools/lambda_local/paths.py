@@ -6,6 +6,7 @@ import sys
 
 PACKAGE = os.path.dirname(os.path.realpath(__file__))
 ROOT = os.path.dirname(os.path.dirname(PACKAGE))
+LAUNCHER = os.path.join(ROOT, "lambda_local")  # of a checkout, or of a package of it
 
 
 def bundled(name):
@@ -26,7 +27,7 @@ def bundled_module(name):
 def own_program():
     """The program that was installed with the tools, else the launcher of the checkout."""
     installed = os.path.join(PACKAGE, "bin", "lambda_local")
-    return installed if os.path.isfile(installed) else os.path.join(ROOT, "lambda_local")
+    return installed if os.path.isfile(installed) else LAUNCHER
 
 
 def tool(name):

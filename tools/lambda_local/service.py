@@ -1,8 +1,10 @@
 """A `lambda_local serve` of one's own, on free ports: what the tools have in common.
 
-The program is the one given, else LAMBDA_LOCAL_PROGRAM, else the one that was installed with the tools, else the
-repository's ./lambda_local. Free ports are the system's or, if LAMBDA_LOCAL_PORTS=FIRST-LAST is set, of that range."""
+The program is the one given, else LAMBDA_LOCAL_PROGRAM, else the one that was installed with the tools, else the one
+that the repository's ./lambda_local finds: none is proved or built for a tool. Free ports are the system's or, if
+LAMBDA_LOCAL_PORTS=FIRST-LAST is set, of that range."""
 import contextlib
+import functools
 import http.client
 import json
 import os
@@ -12,6 +14,7 @@ import shutil
 import signal
 import socket
 import subprocess
+import sys
 import tempfile
 import threading
 import time
@@ -19,12 +22,14 @@ import time
 from .configuration import explained
 from .guard import GUARD
 from .history import parked  # noqa: F401 (for those who ask a service)
-from .paths import own_program
+from .paths import LAUNCHER, own_program
 
 RUNTIME = "/2018-06-01/runtime/"
 EXTENSION = "/2020-01-01/extension/"
 TAKEN_SECONDS = 5.0  # for the status of a process that has ended
 NO_NETWORK = "network: failed"  # the program's line if it cannot listen on a port
+# Before the program's words: a connection takes three descriptors.
+RAISED = ("/bin/sh", "-c", 'ulimit -n "$(ulimit -Hn)" 2>/dev/null; exec "$@"', "sh")
 
 
 class Fault(Exception):
@@ -35,11 +40,44 @@ class Fault(Exception):
         self.status = status
 
 
+class NoProgram(Fault):
+    """There is no program to start: status 4 in every tool."""
+
+    def __init__(self, message):
+        super().__init__(4, message)
+
+
 def program_path(given=None):
+    """The program that a tool starts."""
     found = given or os.environ.get("LAMBDA_LOCAL_PROGRAM") or own_program()
-    if not shutil.which(found):
-        raise Fault(4, f"{found} is not a program: name one by --program or LAMBDA_LOCAL_PROGRAM")
+    path = shutil.which(found)
+    if not path:
+        raise NoProgram(f"{found} is not a program: name one by --program or LAMBDA_LOCAL_PROGRAM")
+    if os.path.realpath(path) == LAUNCHER:
+        found = launched(path)
+    if found.endswith(".unproved"):
+        tell_unproved(found)
     return found
+
+
+@functools.lru_cache(maxsize=None)
+def launched(launcher):
+    """The program that the launcher finds: it is asked once a process. What it says beside that is passed on."""
+    variables = {name: value for name, value in os.environ.items() if name != "LAMBDA_LOCAL_PROGRAM"}
+    done = subprocess.run([launcher, "path"], stdin=subprocess.DEVNULL, capture_output=True, text=True,
+                          errors="replace", env=variables)
+    said = [line.replace("lambda_local: ", "", 1) for line in done.stderr.splitlines()]
+    if done.returncode:
+        raise NoProgram(said[-1] if said else f"{launcher} path ended with status {done.returncode}")
+    for line in said:
+        print(f"lambda_local: {line}", file=sys.stderr)
+    return done.stdout.rstrip("\n")
+
+
+@functools.lru_cache(maxsize=None)
+def tell_unproved(program):
+    print(f"lambda_local: {program} is not proved: './lambda_local build' proves and builds the program",
+          file=sys.stderr)
 
 
 def ask(port, method, path, body=None, headers={}, timeout=30):
@@ -203,7 +241,7 @@ class Service:
         self.lines = []
         # (in a session of its own, so that a terminal's Ctrl-C does not end it out of order)
         with undisturbed():
-            command, pipe = GUARD.announcing([self.program, "serve", path])
+            command, pipe = GUARD.announcing([*RAISED, self.program, "serve", path])
             self.process = subprocess.Popen(command, stdin=pipe, stdout=subprocess.PIPE, stderr=subprocess.PIPE,
                                             text=True, errors="replace", start_new_session=True)
             self.listening = threading.Event()
@@ -264,7 +302,7 @@ class Service:
         return self.process.returncode, counts
 
     def _kill_group(self):
-        """If the launcher is building the program, it cleans up when it is asked to end."""
+        """(a program that is a script of somebody's cleans up when it is asked to end)"""
         for number in (signal.SIGTERM, signal.SIGKILL):
             if self.process.poll() is None:
                 with contextlib.suppress(subprocess.TimeoutExpired, ProcessLookupError):

@@ -7,10 +7,11 @@
   --deb      for `apt install`
   FOLDER     where they go (default: the current folder)
 
-The program is the one that ./lambda_local starts: built here, or unpacked from release/; if there is none of these
-sources, it is proved and built first. What proved it is said on standard error and stands in each package; the paths of
-the packages are written on standard output. The same commit and program give the same bytes. Files that the checkout
-has beside the commit do not matter, unless they lie where packaged files or sources do.
+The program is the one that ./lambda_local starts: built here, or unpacked from release/; none is proved or built for a
+package. What proved it is said on standard error and stands in each package. LAMBDA_LOCAL_PROGRAM names another: then
+its sha256 stands there, and that it was given, not proved here. The paths of the packages are written on standard
+output. The same commit and program give the same bytes. Files that the checkout has beside the commit do not matter,
+unless they lie where packaged files or sources do.
 
 Exit statuses: 2 for a fault in the arguments or in the checkout; 4 if there is no program or a file cannot be
 written."""

@@ -1,4 +1,4 @@
-"""What a package is made of: the files of the last commit, and the proved program of its sources."""
+"""What a package is made of: the files of the last commit, and the program of its sources."""
 import hashlib
 import io
 import os
@@ -12,6 +12,7 @@ PACKAGED = ("lambda_local", "README.md", "CHANGELOG.md", "LICENSE", "docs", "exa
 # which only a checkout has
 MAKERS = ("tools/package", "tools/packages/", "tools/release", "tools/proof_costs", "tools/library/crate_list.py")
 PROVED = ("crates.txt", "HANDLES", ":(glob)crates/*/src/**", ":(glob)crates/*/specs/**", ":(glob)crates/*/proofs/**")
+LAUNCHER = os.path.join(ROOT, "lambda_local")
 STAMP = ("sources", "kit", "program", "gate")  # the lines of what proved a program
 TRIAL, ANSWER = "examples/first_call.txt", "crates/lambda_local/stdout"
 
@@ -42,7 +43,9 @@ def is_executable(mode):
 
 
 class Source:
-    """The last commit with the proved program of its sources."""
+    """The last commit with the proved program of its sources, or with the program that is given."""
+
+    is_given = False
 
     def __init__(self, say):
         self.say = say
@@ -53,7 +56,7 @@ class Source:
             "--format=%H%n%ct%n%cn <%ce>%n%cd+g%h").decode().split("\n")[:4]
         self.moment = int(self.moment)
         self._refuse_changes()
-        path = self._find_program()
+        path = os.path.abspath(self._find_program())
         self.program = read(path)
         self.proved = f"version {self.version}\ncommit {self.commit}\n{self._what_proved(path)}".encode()
         self._try(path)
@@ -67,29 +70,33 @@ class Source:
             names = ", ".join([line[3:] for line in changed[:5]] + [".."] * (len(changed) > 5))
             raise Fault(2, f"commit first, or move away what does not belong here; not committed: {names}")
 
-    @staticmethod
-    def _find_program():
-        """The program that ./lambda_local starts. Without one it is proved and built, if the kit is here."""
-        launcher = os.path.join(ROOT, "lambda_local")
+    def _find_program(self):
+        """The program that is given, else the one that ./lambda_local starts: none is proved or built for a package."""
+        given = os.environ.get("LAMBDA_LOCAL_PROGRAM")
+        if given and not shutil.which(given):
+            raise Fault(4, f"{given} is not a program: LAMBDA_LOCAL_PROGRAM names another")
+        if given and os.path.realpath(shutil.which(given)) != LAUNCHER:
+            self.is_given = True
+            return shutil.which(given)
         plain = {name: value for name, value in os.environ.items() if name != "LAMBDA_LOCAL_PROGRAM"}
-
-        def find():
-            return subprocess.run([launcher, "path"], env=plain, stdout=subprocess.PIPE, stderr=subprocess.PIPE,
-                                  text=True)
-
-        found = find()
-        if found.returncode and shutil.which("rt"):
-            subprocess.run([launcher, "build"], env=plain, stdout=subprocess.DEVNULL)
-            found = find()
+        found = subprocess.run([LAUNCHER, "path"], env=plain, stdout=subprocess.PIPE, stderr=subprocess.PIPE, text=True)
         if found.returncode:
             raise Fault(
                 4, (found.stderr.strip().splitlines() or ["there is no program"])[-1].replace("lambda_local: ", ""))
-        return found.stdout.rstrip("\n")
+        path = found.stdout.rstrip("\n")
+        if path.endswith(".unproved"):
+            raise Fault(4, f"the program of these sources is not proved: './lambda_local build' proves and builds it, "
+                           f"and LAMBDA_LOCAL_PROGRAM={path} packages it as it is")
+        return path
 
     def _what_proved(self, path):
         """The lines on what proved the program, which are said too."""
-        lines = [line for line in read(path + ".proved").decode().splitlines() if line.split(" ")[0] in STAMP]
-        if f"program {hashlib.sha256(self.program).hexdigest()}" not in lines:
+        sum_is = f"program {hashlib.sha256(self.program).hexdigest()}"
+        if self.is_given:
+            lines = [sum_is, "given by LAMBDA_LOCAL_PROGRAM, not proved here"]
+        else:
+            lines = [line for line in read(path + ".proved").decode().splitlines() if line.split(" ")[0] in STAMP]
+        if sum_is not in lines:
             raise Fault(4, f"{path} is not the program that {path}.proved tells of: './lambda_local build' makes both")
         for line in lines:
             self.say(line)
@@ -98,10 +105,13 @@ class Source:
     @staticmethod
     def _try(path):
         """Without this machine's settings, as its users will start it."""
-        got = subprocess.run([path], input=read(TRIAL), stdout=subprocess.PIPE, stderr=subprocess.DEVNULL, env={},
-                             cwd="/").stdout
+        try:
+            got = subprocess.run([path], input=read(TRIAL), stdout=subprocess.PIPE, stderr=subprocess.DEVNULL, env={},
+                                 cwd="/").stdout
+        except OSError as fault:
+            raise Fault(4, f"{path}: {fault.strerror}: this is not a program that starts here") from None
         if got != read(ANSWER):
-            raise Fault(1, f"the program does not answer {TRIAL} as it should")
+            raise Fault(1, f"the program does not answer {TRIAL} as it should: {path}")
 
     @staticmethod
     def _read_commit():

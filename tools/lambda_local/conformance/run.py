@@ -11,7 +11,7 @@ from .process import Processes, program_of
 from .report import Report
 from .stage import Stage, Tools, patient
 from ..guard import GUARD
-from ..service import Fault
+from ..service import Fault, NoProgram
 from ..usage import parser_of as parser_of_tool
 
 
@@ -99,6 +99,8 @@ def play(name, registry, options, command, title, stage=Stage):
         for verdicts in kit.run_all([one for one in chosen if one is not registry[0]], open_stage, at_once()):
             report.add_all(verdicts, only)
         return report.finish(time.monotonic() - begun)
+    except NoProgram:
+        raise
     except Fault as fault:
         raise Fault(2, str(fault)) from None
     except SystemExit as end:  # by a signal: nothing is left running, and no scenario is waited for

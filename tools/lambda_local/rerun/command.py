@@ -12,12 +12,12 @@ docs/rerun.md has an example.
 
 Each invocation is equal; changed, with what differs by JSON pointer; failed now (with what), or failed then.
 Exit statuses: 0, all are equal; 1, something differs; 2, a fault in the arguments or the files, or the functions could
-not be run to the end."""
+not be run to the end; 4, there is no program to start."""
 import os
 import sys
 import tempfile
 
-from ..service import Fault
+from ..service import Fault, NoProgram
 from ..usage import called, parser_of
 from .again import rerun
 from .compare import pointer_of
@@ -80,4 +80,4 @@ def main():
         return run(options)
     except Fault as fault:
         print(f"rerun: {fault}", file=sys.stderr)
-        return fault.status if fault.status > 128 else 2
+        return fault.status if fault.status > 128 or isinstance(fault, NoProgram) else 2

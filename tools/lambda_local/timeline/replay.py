@@ -1,13 +1,9 @@
 """Replays by the program: the answers to a script, and what a history's replay answers otherwise."""
-import os
 import subprocess
 import tempfile
 
-from ..paths import ROOT
 from ..service import Fault, program_path
 from .read import ANSWER, shown
-
-LAUNCHER = os.path.join(ROOT, "lambda_local")
 
 
 class Replay:
@@ -57,16 +53,11 @@ class Spooled:
 
 
 def ready_program():
-    """The program, if one is here: a checkout's launcher would build one first."""
+    """The program, if one is here."""
     try:
-        found = program_path()
-        if os.path.realpath(found) != LAUNCHER:
-            return found
-        variables = {name: value for name, value in os.environ.items() if name != "LAMBDA_LOCAL_PROGRAM"}
-        done = subprocess.run([found, "path"], stdin=subprocess.DEVNULL, capture_output=True, text=True, env=variables)
-    except (Fault, OSError):
+        return program_path()
+    except Fault:
         return None
-    return done.stdout.strip() if done.returncode == 0 else None
 
 
 def difference(path, replay):
