@@ -1,0 +1,58 @@
+"""The cases of a table of scripts, in the form that docs/checks.md describes under "Adding a case"."""
+from typing import NamedTuple
+
+
+class Case(NamedTuple):
+    """A case: its script, and what replaying that gives."""
+
+    name: str
+    script: bytes
+    gives: str
+
+
+def plain(line):
+    """A line of a part, without the escape in front of what would begin another."""
+    return line[1:] if line.startswith("\\") else line
+
+
+def bytes_of(kind, words, lines):
+    """What a part adds to its case's script."""
+    whole = "".join(line + "\n" for line in lines).encode()
+    if kind == "script":
+        return whole
+    if kind == "open":
+        return whole[:-1]
+    if kind == "repeat":
+        return whole * int(words[0])
+    if kind == "bytes":
+        return bytes.fromhex("".join(words))
+    if kind == "signs":
+        return b"#" * int(words[0])
+    raise ValueError(f"no part of a script is {kind!r}")
+
+
+def cases_of(path):
+    """The cases of a table, in order."""
+    with open(path, encoding="utf-8", newline="\n") as file:
+        blocks = file.read().split("\n== ")[1:]
+    for block in blocks:
+        name, *lines = block.split("\n")
+        if lines and not lines[-1]:
+            lines.pop()  # (the end of the table, or the empty line before the next case)
+        yield case_of(name, lines)
+
+
+def case_of(name, lines):
+    script, parts = b"", []
+    for line in lines:
+        if line.startswith("-- "):
+            kind, *words = line[3:].split(" ")
+            parts.append((kind, words, []))
+        else:
+            parts[-1][2].append(plain(line))
+    for kind, words, of_part in parts[:-1]:
+        script += bytes_of(kind, words, of_part)
+    kind, _, given = parts[-1]
+    if kind != "gives":
+        raise ValueError(f"{name}: its last part is {kind!r}, not 'gives'")
+    return Case(name, script, "".join(line + "\n" for line in given))
