@@ -14,7 +14,7 @@ RELEASED = "crates/lambda_local/out/lambda_local"  # where a released program is
 def plain(**more):
     """This environment, in which no program is named and no kit is on the path."""
     kept = {name: value for name, value in os.environ.items()
-            if name not in ("LAMBDA_LOCAL_PROGRAM", "XDG_CACHE_HOME", "PYTHONPATH")}
+            if name not in ("LAMBDA_LOCAL_PROGRAM", "XDG_CACHE_HOME", "XDG_STATE_HOME", "PYTHONPATH")}
     return {**kept, "PATH": "/usr/bin:/bin", **more}
 
 

@@ -10,6 +10,7 @@ client of Lambda calls the service, and no client of boto3 reaches AWS. `keep_cr
 import http.client
 import inspect
 import json
+import os
 import sys
 import threading
 import time
