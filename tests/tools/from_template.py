@@ -115,8 +115,9 @@ def cdk():
     case("CDK", template, {
         "F1": {"name": "F1", "handler": "bootstrap", "environments": 1, "command": ["./bootstrap"],
                "directory": "asset.1"},
-        "orders-Shop": {"name": "orders-Shop", "handler": "bootstrap", "environments": 1, "command": ["./bootstrap"]},
-    }, "F1: there is no ", "asset.1/bootstrap yet: build it", "orders-Shop: leaves out Code, which is no folder here",
+        "orders-Shop": {"name": "orders-Shop", "handler": "bootstrap", "environments": 1},
+    }, "F1: there is no ", "orders-Shop: has no command, since its code is not here",
+        "asset.1/bootstrap yet: build it", "orders-Shop: leaves out Code, which is no folder here",
     name="Shop.template.json", folders=["asset.1"])
     case("CDK, a folder that is not there yet", {"Resources": {"F1": asset}}, {"F1": {
         "name": "F1", "handler": "bootstrap", "environments": 1, "command": ["./bootstrap"], "directory": "asset.1"}},
@@ -223,8 +224,9 @@ def code():
         "Properties": {"InlineCode": "x", "Runtime": "python3.12", "Handler": "index.x"}}}}
     case("InlineCode", sam_inline, {"F": {"name": "F", "handler": "index.x", "environments": 1}},
          "its code is in the template")
-    case("code far away", function_of(CodeUri="s3://far/away"), made_function(),
-         "leaves out CodeUri, which is no folder here")
+    far = {name: value for name, value in made_function()["F"].items() if name not in ("runtime", "command")}
+    case("code far away", function_of(CodeUri="s3://far/away"), {"F": far},
+         "leaves out CodeUri, which is no folder here", "F: has no command, since its code is not here")
     case("code of CloudFormation's package", function_of(Code="src"), made_function(directory="src"))
     case("Node without its client", function_of(Runtime="nodejs20.x", Handler="a.b"),
          {"F": {"name": "F", "environments": 1, "handler": "a.b", "runtime": "node"}})

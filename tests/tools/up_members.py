@@ -32,6 +32,7 @@ OF_FUNCTION = {
     "one that is like no other": ({"zzz": 1}, "unknown member zzz; there are command, directory, environments, "
                                               "extensions, handler, init, layers, memory, name, ports, python, "
                                               "reserved, runtime, timeout, url, variables, watch"),
+    "what others call it": ({"environment": {"A": "x"}}, "unknown member environment, did you mean variables?"),
     "a text for a number": ({"timeout": "5"}, 'timeout must be a whole number of seconds, from 1 to 900, not "5"'),
     "a broken number": ({"memory": 1.5}, "memory must be a whole number of MB, not 1.5"),
     "true for a number": ({"reserved": True}, "reserved must be a whole number, not true"),

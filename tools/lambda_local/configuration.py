@@ -41,6 +41,12 @@ REQUIRED = ("account", "region", "functions")
 REQUIRED_OF_FUNCTION = ("name", "ports")
 
 
+# What others call a member, where no name is near.
+MEANT = {"environment": "variables", "env": "variables", "envVars": "variables", "code": "directory",
+         "codeUri": "directory", "layer": "layers", "memorySize": "memory", "concurrency": "reserved",
+         "reservedConcurrency": "reserved"}
+
+
 def shown(value):
     """A value as its file has it, cut short."""
     text = json.dumps(value, ensure_ascii=False)
@@ -56,7 +62,7 @@ def mistakes_of(members, kinds, where, required=()):
     """What is wrong with the members of an object, one sentence each."""
     for name, value in members.items():
         if name not in kinds:
-            near = difflib.get_close_matches(name, kinds, 1, 0.6)
+            near = [MEANT[name]] if MEANT.get(name) in kinds else difflib.get_close_matches(name, kinds, 1, 0.6)
             yield f"{where}unknown member {named(name)}" + (
                 f", did you mean {near[0]}?" if near else f"; there are {', '.join(sorted(kinds))}")
         elif not kinds[name].accepts(value):

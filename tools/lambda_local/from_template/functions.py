@@ -55,6 +55,8 @@ def names_of(listed, scope):
 class Maker:
     """Makes one function."""
 
+    is_elsewhere = False  # its code is not among the files here
+
     def __init__(self, name, properties, scope, base):
         self.name, self.properties, self.scope, self.base = name, properties, scope, base
         self.made = {"name": name}
@@ -162,6 +164,7 @@ class Maker:
         if code is None:
             return
         if not isinstance(code, str) or "://" in code or "\0" in code:
+            self.is_elsewhere = True
             return self.tell(f"leaves out {name}, which is no folder here")
         at = os.path.join(self.base, code)
         if os.path.isfile(at):
@@ -177,6 +180,9 @@ class Maker:
         if self.is_inline():
             return self.tell("has no command, since its code is in the template: write it into a file of its "
                              "folder, and give it a \"command\" or a \"runtime\"")
+        if self.is_elsewhere:
+            return self.tell("has no command, since its code is not here: write its folder as \"directory\", and a "
+                             "\"command\" or a \"runtime\"")
         runtime, handler = self.known("Runtime"), self.made.get("handler", "index.handler")
         runtime = runtime if isinstance(runtime, str) else ""
         if runtime.startswith("python"):

@@ -70,6 +70,10 @@ class Lines:
         late = [f"its extension {name}, which must "
                 f"{'ask for its next event' if generation.named(name) else 'register by this name'}"
                 for name in generation.missing(environment.expected) if name != NAME]
+        others = [extension.name for extension in generation.extensions.values()
+                  if extension.name != NAME and extension.name not in environment.expected]
+        if late and others:
+            late[-1] += f" ({', '.join(others)} has registered)"
         if generation.poll is None:
             late.append("its runtime, which must ask for its next invocation")
         return "which waited for " + (" and ".join(late) or "tools/up")
