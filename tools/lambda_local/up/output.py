@@ -1,6 +1,6 @@
 """What a process prints, in lines of a bounded length."""
 import codecs
-from typing import Callable, Protocol
+from typing import Callable, List, Protocol
 
 LONGEST_LINE = 256 << 10  # characters; a longer line is written in parts of that length (as Lambda's log does)
 AT_ONCE = 64 << 10  # bytes
@@ -14,8 +14,9 @@ class Readable(Protocol):
 def read_lines(stream: Readable, take: Callable[[str], None]) -> None:
     """Gives each line to `take`, without its end, until the stream ends. Keeps no more than a line's greatest length:
     what has no line feed costs no memory."""
-    decoder, parts, length = codecs.getincrementaldecoder("utf-8")("replace"), [], 0
-    is_last = False
+    decoder = codecs.getincrementaldecoder("utf-8")("replace")
+    parts: List[str] = []
+    length, is_last = 0, False
     while not is_last:
         data = stream.read1(AT_ONCE)
         is_last = not data

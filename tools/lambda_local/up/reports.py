@@ -64,7 +64,7 @@ class Report:
         body = body or b""
         found = members_of(body)
         self.is_read = found is not None
-        members = {"errorMessage": body.decode(errors="replace")} if found is None else found
+        members: Dict[str, object] = {"errorMessage": body.decode(errors="replace")} if found is None else found
         self.kind = shortened(text_of(members.get("errorType")))
         self.message = text_of(members.get("errorMessage"))[:LONGEST_MEMBER]
         self.frames = frames_of(members)
