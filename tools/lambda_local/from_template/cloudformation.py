@@ -1,7 +1,7 @@
 """The functions of a SAM or CloudFormation template, also one that CDK or Serverless writes."""
 import re
 
-from .telling import shown, tell
+from .telling import Grouped, shown, tell
 from .values import Scope, Unknown, members_of
 
 FUNCTION, SAM_FUNCTION = "AWS::Lambda::Function", "AWS::Serverless::Function"
@@ -56,16 +56,17 @@ def is_wanted(key, resource, scope):
 
 def listed(template, stack):
     """Each function's logical id and properties, and the scope of their expressions."""
-    scope, found = Scope(template, stack), []
+    scope, found, left = Scope(template, stack), [], Grouped("leaves out {names}, {line}")
     shared = members_of(members_of(template, "Globals"), "Function")
     for key, resource in template["Resources"].items():
         kind = resource.get("Type") if isinstance(resource, dict) else shown(resource)
         if isinstance(kind, str) and TAKEN_LATER.fullmatch(kind):
             continue
         if kind not in (FUNCTION, SAM_FUNCTION):
-            tell(f"leaves out {key}, {kind}")
+            left.add(str(key), str(kind))
         elif is_wanted(key, resource, scope):
             properties = properties_of(key, resource, shared)
             if properties is not None:
                 found.append((str(key), properties))
+    left.say()
     return found, scope

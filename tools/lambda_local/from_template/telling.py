@@ -11,6 +11,24 @@ def tell(line):
     outgoing.tell(f"from_template: {called(str(line))}")
 
 
+class Grouped:
+    """Lines about functions and resources: what is the same of several is said once, with all their names."""
+
+    def __init__(self, written="{names}: {line}"):
+        self.written, self.names = written, {}
+
+    def add(self, name, line):
+        names = self.names.setdefault(line, [])
+        if name not in names:
+            names.append(name)
+
+    def say(self):
+        """Says what was added, in the order in which it came first."""
+        for line, names in self.names.items():
+            tell(self.written.format(names=", ".join(names), line=line))
+        self.names = {}
+
+
 def shown(value):
     """A value in a sentence, cut short."""
     text = str(value) if isinstance(value, str) else repr(value)

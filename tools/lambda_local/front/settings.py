@@ -201,7 +201,9 @@ def asynchronous_of(given):
 
 def settings_of(whole, folder=""):
     """Returns the settings in a valid UP.json, which is in this folder."""
-    asynchronous = asynchronous_of(whole.get("asynchronous"))
+    # (a schedule sends events)
+    sends = any("schedule" in member for member in whole["functions"])
+    asynchronous = asynchronous_of(whole.get("asynchronous", sends))
     urls = {member["name"]: address_of(member["url"]) for member in whole["functions"]
             if member.get("url") or member.get("url") == {}}
     api = whole.get("api", {})

@@ -22,6 +22,8 @@ UP.json is a service's configuration (docs/formats.md) in which each function ha
   extensions     an object: the name by which an extension registers, and its command; or null: you start it yourself
   watch          files and folders for --reload (default: its directory)
   url            true: a port that turns HTTP requests into events of a Function URL
+  queue          an object: the "url" of an SQS queue whose messages invoke it
+  schedule       when it is invoked by itself, such as "rate(5 minutes)"
 At the top, "asynchronous": true takes invocations of the type Event, and "routes" is an HTTP or REST API
 (docs/events.md).
 `account` and `region` may be absent; so may ports and `invokePort`: then free ones are used. A function without a

@@ -15,7 +15,7 @@ from ..service import Fault
 from ..usage import called
 from ..variables import OF_FUNCTION as VARIABLES
 from ..variables import text_of
-from . import layers, programs
+from . import layers, programs, sources
 from .processes import program_of
 
 NAME = "lambda_local.up"  # under which tools/up registers
@@ -61,7 +61,7 @@ OWN = {
     "extensions": Kind(is_extensions,
                        "an object: the name by which each registers, and its command, or null if you start it"),
 }
-MEMBERS = {**OF_FUNCTION, **OWN, **settings.OF_FUNCTION}
+MEMBERS = {**OF_FUNCTION, **OWN, **settings.OF_FUNCTION, **sources.OF_FUNCTION}
 AT_THE_TOP = {**OF_SERVICE, **settings.AT_THE_TOP}
 
 
@@ -205,7 +205,7 @@ def read(path):
     except NotJson as fault:
         raise Fault(2, f"{path}: this is no JSON: {fault}") from None
     for looked in (mistakes(whole, AT_THE_TOP, MEMBERS, ["functions"], ["name"]), mistakes_inside(whole),
-                   settings.mistakes(whole)):
+                   settings.mistakes(whole), sources.mistakes(whole)):
         for mistake in looked:
             raise Fault(2, f"{path}: {mistake}")
     return whole

@@ -13,11 +13,14 @@ from . import surroundings
 from .environments import Environment
 from .lines import Lines
 from .members import load
+from .queues import pollers_of
 from .reload import Reload
 from .reports import Report
 from .restarts import Restarts
 from .run import Run
 from .scaling import BETWEEN_LOOKS, Scaling
+from .schedules import Schedules
+from .sources import queues_of, refuse_aws
 from .supervised import BROKEN, Supervisor, told
 from .watch import Watch
 
@@ -38,6 +41,8 @@ class Session:
         salt = options.salt
         configuration, self.functions, front = load(options.up, options.debug, salt, options.only,
                                                     options.allow_unready)
+        queues = queues_of(front.functions)
+        refuse_aws(options.up, queues, options.keep_credentials)
         self.patience = options.ready or max([READY_SECONDS, *(function.init + READY_SECONDS // 2 for function
                                                                in self.functions if function.init)])
         self.front = Front(front, options.up, options.drain, log)
@@ -56,7 +61,9 @@ class Session:
             self.watch.hooks.append(Scaling(self.environments, self.watch, self.service).look)
             self.watch.between_looks = BETWEEN_LOOKS
         self.threads = [self.watch, *self.environments]
-        self.clients = surroundings.Clients(log, self.stopping)
+        self.clients, self.ending = surroundings.Clients(log, self.stopping), threading.Event()
+        self.sources = [Schedules(front.functions, self.service, self.ending, log),
+                        *pollers_of(queues, self.service, options.keep_credentials, self.ending, log)]
         if options.reload:
             self.threads.append(Reload(self.environments, self.service, self.stopping, log, options.up))
 
@@ -115,7 +122,8 @@ class Session:
         threading.Thread(target=lambda: (self.service.process.wait(), self.happened.set()), daemon=True).start()
         try:
             if self.wait_until_ready():
-                self.clients.start()
+                for thread in (self.clients, *self.sources):
+                    thread.start()
                 if self.options.command:
                     status = self.run_command()
                 else:
@@ -215,6 +223,7 @@ class Session:
     def finish(self, failed):
         """Stops the service and all processes in order; the service's status. The history is saved if that is asked, or
         the command failed."""
+        self.ending.set()
         self.step("waiting for events", lambda: self.front.drain(lambda: self.service.process.poll() is not None))
         gone = self.service.process.poll() is not None
         self.step("reading the history", self.watch.refresh)
@@ -241,7 +250,7 @@ class Session:
     def join(self):
         """Waits for all threads: the guard ends what one leaves that does not end."""
         end = time.monotonic() + LAST_SECONDS
-        for thread in [*self.threads, self.clients]:
+        for thread in [*self.threads, self.clients, *self.sources]:
             if thread.ident is not None:
                 thread.join(max(0.0, end - time.monotonic()))
                 if thread.is_alive():

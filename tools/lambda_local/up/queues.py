@@ -1,0 +1,252 @@
+"""A queue as an event source (Developer Guide, "Using Lambda with Amazon SQS"): its messages invoke the function in
+batches, and are deleted if it succeeds; what it reports in `batchItemFailures` stays. The queue is another server of
+SQS's API, which boto3 asks; how long messages are invisible, and where they go in the end, is its own business."""
+import base64
+import http.client
+import json
+import os
+import sys
+import threading
+import time
+from typing import Any, Dict, Iterator, List, NamedTuple, Optional
+from urllib.parse import urlsplit
+
+from ..json_reader import NotJson, read_json
+from ..service import ask
+from .log import Log
+from .sources import MOST_AT_ONCE, Queue
+
+POLL_SECONDS = 1  # for which a queue holds a poll; as long may the end take
+MOST_POLLERS = 5  # of a function (Lambda begins with as many)
+MOST_BYTES = 4 << 20  # of a batch's messages; an event has at most 6 MiB
+FIRST_PAUSE, LONGEST_PAUSE = 1.0, 30.0  # seconds, after a fault of the queue; each further one doubles it
+FIRST_RETRY, LONGEST_RETRY, MOST_THROTTLES = 0.05, 2.0, 30  # seconds; after that many throttles a batch is given back
+INVOKE_SECONDS = 1000  # longer than any invocation and its Init
+
+
+class NoClient(Exception):
+    """boto3 is not here."""
+
+
+def client_of(queue: Queue, region: str, keeps_credentials: bool) -> Any:
+    """A client of this queue's server. Without the user's credentials it reads no configuration of theirs, and goes
+    past their proxies."""
+    try:
+        import botocore.session  # type: ignore  # (what boto3 is made of)
+        from botocore.config import Config  # type: ignore
+    except ImportError:
+        raise NoClient from None
+    settings: Dict[str, Any] = {"connect_timeout": 2, "read_timeout": POLL_SECONDS + 10, "retries": {"max_attempts": 0}}
+    if keeps_credentials:
+        return botocore.session.Session().create_client("sqs", region_name=region, endpoint_url=queue.endpoint,
+                                                        config=Config(**settings))
+    own: Dict[str, Any] = {"profile": (None, [], None, None), "config_file": (None, None, os.devnull, None),
+                           "credentials_file": (None, None, os.devnull, None)}
+    return botocore.session.Session(session_vars=own).create_client(
+        "sqs", region_name=region, endpoint_url=queue.endpoint, aws_access_key_id="local",
+        aws_secret_access_key="local", config=Config(proxies={}, **settings))
+
+
+# ---- events ----------------------------------------------------------------------------------------------------------
+
+
+def attribute_of(given: Dict[str, Any]) -> Dict[str, Any]:
+    """A message's own attribute."""
+    found: Dict[str, Any] = {"stringListValues": [], "binaryListValues": [], "dataType": str(given.get("DataType", ""))}
+    if "StringValue" in given:
+        found["stringValue"] = str(given["StringValue"])
+    if isinstance(given.get("BinaryValue"), bytes):
+        found["binaryValue"] = base64.b64encode(given["BinaryValue"]).decode()
+    return found
+
+
+def record_of(message: Dict[str, Any], arn: str, region: str) -> Dict[str, Any]:
+    return {
+        "messageId": message["MessageId"], "receiptHandle": message["ReceiptHandle"], "body": message.get("Body", ""),
+        "attributes": {str(name): str(value) for name, value in message.get("Attributes", {}).items()},
+        "messageAttributes": {name: attribute_of(value)
+                              for name, value in message.get("MessageAttributes", {}).items()},
+        "md5OfBody": message.get("MD5OfBody", ""), "eventSource": "aws:sqs", "eventSourceARN": arn, "awsRegion": region}
+
+
+def failures_in(result: bytes, identifiers: List[str]) -> Optional[List[str]]:
+    """The messages that a result says have failed; none if it says so in a form that fails the whole batch (Developer
+    Guide, "Implementing partial batch responses"). A result that says nothing of it is a success."""
+    try:
+        value = read_json(result)
+    except NotJson:
+        return []
+    if not isinstance(value, dict) or not value.get("batchItemFailures"):
+        return []
+    given = value["batchItemFailures"]
+    if not isinstance(given, list):
+        return None
+    found = [str(one.get("itemIdentifier")) if isinstance(one, dict) else "" for one in given]
+    return found if all(one in identifiers for one in found) else None
+
+
+# ---- a poller --------------------------------------------------------------------------------------------------------
+
+
+class Invoked(NamedTuple):
+    """What became of a batch."""
+    failed: Optional[List[str]]  # identifiers; none if all did
+    why: str = ""
+
+
+class Poller(threading.Thread):
+    """Takes batches from a queue, one after the other. A function has several of them, as it has environments; a FIFO
+    queue has one, so that its order is kept."""
+
+    def __init__(self, function: str, queue: Queue, service: Any, keeps_credentials: bool, stopping: threading.Event,
+                 log: Log):
+        super().__init__(name=f"queue of {function}", daemon=True)
+        self.function, self.queue, self.service, self.stopping, self.log = function, queue, service, stopping, log
+        self.keeps_credentials, self.region = keeps_credentials, service.configuration["region"]
+        self.pause, self.arn = 0.0, ""
+
+    def say(self, text: str, level: str = "info", **members: Any) -> None:
+        self.log(self.function, f"queue {self.queue.name}: {text}", level=level, kind="queue", function=self.function,
+                 **members)
+
+    def run(self) -> None:
+        try:
+            self.client = client_of(self.queue, self.region, self.keeps_credentials)
+        except NoClient:
+            return self.say(f"it is not polled, since {sys.executable} has no boto3: pip install boto3", "error")
+        except Exception as fault:
+            return self.say(f"it is not polled: {shortened(fault)}", "error")
+        while not self.stopping.is_set():
+            try:
+                batch = self.collected()
+                self.works_again()
+            except Exception as fault:  # (whatever a server answers, and whatever the client makes of it)
+                self.wait_after(fault)
+                continue
+            if batch:
+                self.handle(batch)
+
+    def works_again(self) -> None:
+        if self.pause:
+            self.say("it is polled again")
+        self.pause = 0.0
+
+    def wait_after(self, fault: Exception) -> None:
+        if not self.pause:
+            self.say(f"it cannot be polled: {shortened(fault)}", "error")
+        self.pause = min(LONGEST_PAUSE, 2 * self.pause or FIRST_PAUSE)
+        self.stopping.wait(self.pause)
+
+    # ---- a batch -----------------------------------------------------------------------------------------------------
+
+    def collected(self) -> List[Dict[str, Any]]:
+        """Messages, until a batch is full or its window is over."""
+        found: List[Dict[str, Any]] = []
+        end = None
+        while not self.stopping.is_set():
+            taken = self.received(min(MOST_AT_ONCE, self.queue.batch - len(found)))
+            found += taken
+            if found and end is None:
+                end = time.monotonic() + self.queue.window
+            size = sum(len(str(message.get("Body", ""))) for message in found)
+            if (end is None or len(found) >= self.queue.batch or size >= MOST_BYTES or time.monotonic() >= end):
+                break
+        return found
+
+    def received(self, count: int) -> List[Dict[str, Any]]:
+        answer = self.client.receive_message(
+            QueueUrl=self.queue.url, AttributeNames=["All"], MessageAttributeNames=["All"], MaxNumberOfMessages=count,
+            WaitTimeSeconds=POLL_SECONDS)
+        messages: List[Dict[str, Any]] = answer.get("Messages") or []
+        wrong = [message for message in messages if not ("MessageId" in message and "ReceiptHandle" in message)]
+        if wrong:
+            raise ValueError("its server gives a message without MessageId or ReceiptHandle")
+        if not self.arn:
+            self.arn = self.known_arn()
+        return messages
+
+    def known_arn(self) -> str:
+        """The queue's ARN, by its server or by its address."""
+        account, region = self.service.configuration["account"], self.region
+        parts = [part for part in urlsplit(self.queue.url).path.split("/") if part]
+        by_address = f"arn:aws:sqs:{region}:{parts[-2] if len(parts) > 1 else account}:{self.queue.name}"
+        try:
+            answer = self.client.get_queue_attributes(QueueUrl=self.queue.url, AttributeNames=["QueueArn"])
+            return str(answer["Attributes"]["QueueArn"])
+        except Exception:  # (some servers have no such attribute)
+            return by_address
+
+    def handle(self, batch: List[Dict[str, Any]]) -> None:
+        identifiers = [str(message["MessageId"]) for message in batch]
+        event = {"Records": [record_of(message, self.arn, self.region) for message in batch]}
+        invoked = self.invoke(json.dumps(event, ensure_ascii=False).encode(errors="replace"), identifiers)
+        what = f"a batch of {len(batch)}"
+        if invoked.failed is None:
+            if not self.stopping.is_set():
+                self.say(f"{what} {invoked.why}: its messages stay in the queue", "error", messages=len(batch))
+            return
+        done = [message for message in batch if message["MessageId"] not in invoked.failed]
+        left = self.delete(done)
+        if invoked.failed:
+            self.say(f"{what}: {len(invoked.failed)} failed and stay in the queue", "warning", messages=len(batch),
+                     failed=len(invoked.failed))
+        elif not left:
+            self.say(f"{what} ok", "ok", messages=len(batch))
+
+    def invoke(self, event: bytes, identifiers: List[str]) -> Invoked:
+        pause = FIRST_RETRY
+        for _ in range(MOST_THROTTLES):
+            try:
+                status, headers, body = ask(self.service.port, "POST",
+                                            f"/2015-03-31/functions/{self.function}/invocations", event,
+                                            timeout=INVOKE_SECONDS)
+            except (OSError, http.client.HTTPException) as fault:
+                return Invoked(None, f"has no outcome: {shortened(fault)}")
+            if status != 429:
+                break
+            if self.stopping.wait(pause):
+                return Invoked(None, "is not invoked, since all stops")
+            pause = min(LONGEST_RETRY, 2 * pause)
+        if status != 200:
+            return Invoked(None, f"is answered {status} {body.decode(errors='replace')[:200]}")
+        if "x-amz-function-error" in headers:
+            return Invoked(None, "failed")
+        failed = failures_in(body, identifiers)
+        return Invoked(failed, "failed, since its batchItemFailures name no message of it" if failed is None else "")
+
+    def delete(self, messages: List[Dict[str, Any]]) -> int:
+        """Takes messages out of the queue; how many are left, which is reported."""
+        left, why = 0, ""
+        for part in parts_of(messages):
+            entries = [{"Id": str(number), "ReceiptHandle": message["ReceiptHandle"]}
+                       for number, message in enumerate(part)]
+            try:
+                answer = self.client.delete_message_batch(QueueUrl=self.queue.url, Entries=entries)
+                failed = answer.get("Failed") or []
+                left, why = left + len(failed), str(failed[0].get("Message", ""))[:200] if failed else why
+            except Exception as fault:
+                left, why = left + len(part), shortened(fault)
+        if left:
+            self.say(f"{left} messages were handled and could not be deleted, and so come again: {why}", "error")
+        return left
+
+
+def parts_of(messages: List[Dict[str, Any]]) -> Iterator[List[Dict[str, Any]]]:
+    """As many as a queue deletes at once."""
+    for begin in range(0, len(messages), MOST_AT_ONCE):
+        yield messages[begin:begin + MOST_AT_ONCE]
+
+
+def shortened(fault: Exception) -> str:
+    text = " ".join(f"{type(fault).__name__}: {fault}".split())
+    return text if len(text) <= 300 else text[:300] + ".."
+
+
+def pollers_of(queues: Dict[str, Queue], service: Any, keeps_credentials: bool, stopping: threading.Event,
+               log: Log) -> List[Poller]:
+    found = []
+    environments = {part["name"]: len(part["ports"]) for part in service.configuration["functions"]}
+    for name, queue in queues.items():
+        count = 1 if queue.is_fifo else min(MOST_POLLERS, environments[name])
+        found += [Poller(name, queue, service, keeps_credentials, stopping, log) for _ in range(count)]
+    return found
