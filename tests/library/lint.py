@@ -5,6 +5,7 @@ import os
 import re
 import shutil
 import subprocess
+import tempfile
 
 from checkout import files_of
 
@@ -85,3 +86,16 @@ def is_left_alone(root, finding):
     with open(os.path.join(root, where[1]), encoding="utf-8") as file:
         lines = file.read().split("\n")
     return "# noqa" in lines[int(where[2]) - 1]
+
+
+def checks_of_types(root):
+    """Whether the files of `typed.txt` are as `mypy --strict` has them, if it is here (Debian: mypy)."""
+    mypy = shutil.which("mypy")
+    if not mypy:
+        return
+    with open(os.path.join(root, "tests", "library", "typed.txt"), encoding="utf-8") as file:
+        names = [f"lambda_local/{line.strip()}" for line in file if not line.startswith("#")]
+    ran = subprocess.run([mypy, "--strict", "--python-version", "3.9", "--follow-imports=silent", "--cache-dir",
+                          os.path.join(tempfile.gettempdir(), "lambda_local.mypy"), *names],
+                         cwd=os.path.join(root, "tools"), stdout=subprocess.PIPE, stderr=subprocess.STDOUT, text=True)
+    yield "mypy --strict", ran.stdout.splitlines() if ran.returncode else []
