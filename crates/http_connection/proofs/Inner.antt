@@ -11,11 +11,14 @@ use Rattle.hyper.specs.Message.{Whole, heads_of}
 use Rattle.hyper.specs.Served.{Words, CameFrom, no_piece, last_piece, IsGiven, AreGiven, none_given, next_given, Ties}
 use Rattle.hyper.specs.Served as hyper
 use Rattle.hyper.specs.Served.{IsOnly}
+use Rattle.std.proofs.Math.Logic.{∥∥₁_map}
 use Rattle.hyper.specs.Server.{history}
 use Rattle.hyper.specs.declared.error.Error.{Error}
 use Rattle.hyper.specs.declared.proto.server.ServerConn.{ServerConn}
+use Rattle.http_connection.specs.Wires.{given_by, taken_by}
 use Rattle.http_connection.specs.Written as spec
 use Rattle.http_connection.specs.Written.{Gave, IsWhole, IsBegun, Written}
+use Rattle.http_connection.specs.declared.wire.Wire.{Wire}
 
 zip_push : {A B : Type 0} (P : A → B → Type 0) (xs : List A) (ys : List B) (x : A) (y : B) → AllZip P xs ys → P x y
     → AllZip P (xs ++ x ∷ []) (ys ++ y ∷ [])
@@ -75,17 +78,23 @@ module _ {S N R F G B D X E : Type 0} (calls : S → Request R → F → Type 0)
     ),
   )
 
-  pub written : {A : Type 0} (outcome : Result A Error) (last : ServerConn) (flag : Bool) (in_flight : Option G)
-      (left : Option B) (service : S) → within outer ≡ service
+  pub written : (wire : Wire) (outcome : Option (Result (Unit {0}) Error)) (last : ServerConn) (flag : Bool)
+      (in_flight : Option G) (left : Option B) (service : S) → within outer ≡ service
+      → given_by wire ≡ (history last).received
+      → taken_by wire ≡ (history last).sent
       → Ties words outer (heads_of (history last).taken) (history last).given flag in_flight left
-      → OnOk outcome ((history last).pending ≡ []) → Written yields has (Gave calls gives service) outcome
-  written outcome last flag in_flight left service is ties sent =
-      subst (λ s. Written yields has (Gave calls gives s) outcome) is (record {
+      → IfSome outcome (λ ended. OnOk ended ((history last).pending ≡ []))
+      → Written yields has (Gave calls gives service) wire outcome
+  written wire outcome last flag in_flight left service is given taken ties sent =
+      subst (λ s. Written yields has (Gave calls gives s) wire outcome) is (record {
         last = last;
+        given = given;
+        taken = taken;
         answered = ties.answered;
         later = ties.later;
         came = ties.split;
         whole = all ties.whole;
         begun = begun ties.later left (history last).given.begun ties.begun;
         sent = sent;
+        served = ∥∥₁_map last.holds (λ x. x.served);
       })

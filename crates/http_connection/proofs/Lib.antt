@@ -1,1 +1,3 @@
 mod Inner
+mod Left
+mod Moved

@@ -1,5 +1,5 @@
 -- What passes through a socket whose stream is read ahead, with the proofs of the laws.
-use Rattle.std.proofs.Common.{◌≡◌, ℕ, List, [], ◌++◌, refl, sym, ap, ◌∙◌, append_assoc, append-nil}
+use Rattle.std.proofs.Common.{◌≡◌, ℕ, List, [], ◌++◌, sym, ap, ◌∙◌, append_assoc, append-nil}
 use Rattle.tokio.specs.Io.Moved.{Passes, PassesNothing, PassesInOrder}
 use Rattle.http_connection.specs.declared.socket.Socket.{Socket}
 
@@ -12,10 +12,6 @@ ReadsBehind reads a xs b =
 -- The end is reported only if nothing is left of what was read ahead.
 abbrev pub IsAtEndBehind : {T : Type 0} → (T → Type 0) → Socket T → Type 0
 IsAtEndBehind is_at_end s = (s.ahead.items ≡ []) × is_at_end s.stream
-
--- The stream took the bytes, and what was read ahead is still there.
-abbrev pub WritesPast : {T : Type 0} → Passes T → Passes (Socket T)
-WritesPast writes a xs b = writes a.stream xs b.stream × (b.ahead.items ≡ a.ahead.items)
 
 -- What the stream gave is discarded, and what was read ahead is still there.
 abbrev pub ThrowsAway : {T : Type 0} → Passes T → Socket T → Socket T → Type 0
@@ -33,12 +29,3 @@ ReadsBehind_in_order reads in_order a xs b ys c p q = (
   sym (append_assoc a.ahead.items p.0 q.0) ∙ ap (λ ws. ws ++ q.0) p.2 ∙ append_assoc xs b.ahead.items q.0
       ∙ ap (λ ws. xs ++ ws) q.2 ∙ sym (append_assoc xs ys c.ahead.items),
 )
-
--- A socket may stay as it is: no byte is then written.
-pub WritesPast_nothing : {T : Type 0} (writes : Passes T) → PassesNothing writes → PassesNothing (WritesPast writes)
-WritesPast_nothing writes nothing a = (nothing a.stream, refl)
-
--- Two writes, one after the other, are one write of their bytes in order.
-pub WritesPast_in_order : {T : Type 0} (writes : Passes T) → PassesInOrder writes → PassesInOrder (WritesPast writes)
-WritesPast_in_order writes in_order a xs b ys c p q =
-    (in_order a.stream xs b.stream ys c.stream p.0 q.0, q.1 ∙ p.1)

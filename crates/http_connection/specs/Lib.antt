@@ -1,3 +1,5 @@
 pub mod Ahead
+pub mod Leaves
 pub mod Standing
+pub mod Wires
 pub mod Written

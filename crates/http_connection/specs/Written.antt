@@ -1,5 +1,5 @@
 -- What is written to a connection.
-use Rattle.std.specs.Prelude.{◌≡◌, ◌⊎◌, ℕ, List, [], ◌∷◌, ◌++◌, Some, None, Result, Ok, IfSome, OnOk}
+use Rattle.std.specs.Prelude.{◌≡◌, ◌⊎◌, ℕ, List, [], ◌∷◌, ◌++◌, Option, Some, None, Result, Ok, Err, IfSome, OnOk}
 use Rattle.std.specs.List.{AllZip, concat}
 use Rattle.futures.specs.Runs.{Runs}
 use Rattle.http.specs.Request.{head_of}
@@ -14,8 +14,16 @@ use Rattle.hyper.specs.Fields.{AreAmong}
 use Rattle.hyper.specs.Message.{Whole, heads_of}
 use Rattle.hyper.specs.Served.{frames_of, IsHeadOf, IsBodiless, IsOnly}
 use Rattle.hyper.specs.Server.{history}
+use Rattle.hyper.specs.ServerCore.{IsServed}
 use Rattle.hyper.specs.declared.error.Error.{Error}
 use Rattle.hyper.specs.declared.proto.server.ServerConn.{ServerConn}
+use Rattle.http_connection.specs.Wires.{given_by, taken_by}
+use Rattle.http_connection.specs.declared.wire.Wire.{Wire}
+
+-- How a connection ended, if it ended by itself.
+abbrev pub outcome_of : {A F : Type 0} → Result (Option A) F → Option A
+outcome_of (Ok ended) = ended
+outcome_of (Err fault) = None
 
 -- The service gave this response to a request with this head.
 pub record Gave {S R F B E : Type 0} (calls : S → Request R → F → Type 0) (gives : F → Result (Response B) E → Type 0)
@@ -61,12 +69,15 @@ module _ {B D X : Type 0} (yields : B → Runs (Result (Frame D) X)) (has : D �
     pub begins : Begins (body_of response) pieces
 
   module _ (answers : Asked → Response B → Type 0) where
-    -- What was written to a connection that ended by itself with this outcome: whole responses, one for each of its
-    -- first requests, in their order; after them, at most the beginning of one more response, to the next request.
-    -- `last` is the connection at its end, with all that it took and gave. If the outcome is `Ok`, nothing of that is
-    -- left to send.
-    pub record Written {A : Type 0} (outcome : Result A Error) : Type 0 where
+    -- All that passed through a connection's socket: it gave the bytes of requests, and took whole responses, one for
+    -- each of the first requests, in their order; after them, at most the beginning of one more response, to the next
+    -- request. `last` is the connection as it was left, with the bytes that it read and wrote, all that it made of the
+    -- former, and all of which the latter are the beginning. If it ended by itself and well, nothing is left to send.
+    pub record Written (wire : Wire) (outcome : Option (Result (Unit {0}) Error)) : Type 0 where
       pub last : ServerConn
+      pub given : given_by wire ≡ (history last).received
+      pub taken : taken_by wire ≡ (history last).sent
+      pub served : ∥ IsServed (history last) ∥₁
       pub answered : List Asked
       pub later : List Asked
       pub came : heads_of (history last).taken ≡ answered ++ later
@@ -75,4 +86,4 @@ module _ {B D X : Type 0} (yields : B → Runs (Result (Frame D) X)) (has : D �
           answered (history last).given.ended
       pub begun : IfSome (history last).given.begun
           (λ begun. IsOnly later (λ head. (response : Response B) × answers head response × IsBegun response begun))
-      pub sent : OnOk outcome ((history last).pending ≡ [])
+      pub sent : IfSome outcome (λ ended. OnOk ended ((history last).pending ≡ []))

@@ -1,16 +1,16 @@
 //! A connection, and the signals that end it.
 
-ghost use Rattle.std.specs.Prelude.{◌≡◌, IfOk, IfSome, IsFalse, IsTrue, Some};
+ghost use Rattle.std.specs.Prelude.{◌≡◌, IfErr, IfOk, IfSome, IsSomeAnd};
 ghost use Rattle.futures.specs.Poll.{IfReady, OnPending};
 ghost use Rattle.futures.specs.Task.{IsArmed, Keeps};
 
 use crate::park::Park;
-use crate::wire::Wire;
+use crate::turns::Turns;
+use crate::wire::Holder;
 use connection_state::{Pulse, Signal, Signals};
 use futures::Future;
 use futures::task::{Context, Poll};
-use hyper::server::graceful::GracefulConnection;
-use std::alloc::{AllocError, Global};
+use std::alloc::Global;
 use std::sync::Arc;
 
 /// A connection, and the signals that end it in any state.
@@ -26,14 +26,12 @@ pub(crate) struct Ending<C> {
 
 impl<C: Drop> Ending<C> {
     /// Puts a connection with its signals on the heap: it is large, and each move of it by what
-    /// waits for it would take as much of the stack. (Not inlined for the same reason.)
+    /// waits for it would take as much of the stack. (Not inlined for the same reason.) If the
+    /// allocation fails, the connection is returned.
     #[inline(never)]
-    pub(crate) fn boxed(
-        alloc: Global,
-        conn: C,
-        signals: Signals,
-    ) -> Result<Box<Ending<C>>, AllocError>
-        ensures { IfOk result (λ ending. ending.value.conn ≡ conn) }
+    pub(crate) fn boxed(alloc: Global, conn: C, signals: Signals) -> Result<Box<Ending<C>>, C>
+        ensures boxed { IfOk result (λ ending. ending.value.conn ≡ conn) }
+        ensures returned { IfErr result (λ left. left ≡ conn) }
     {
         let ending = Ending {
             conn,
@@ -41,7 +39,10 @@ impl<C: Drop> Ending<C> {
             is_listening: false,
             is_soft: false,
         };
-        Box::new(alloc, ending).map_err(AllocError::from)
+        match Box::new(alloc, ending) {
+            Ok(ending) => Ok(ending),
+            Err(refused) => Err(refused.value.conn),
+        }
     }
 }
 
@@ -60,14 +61,14 @@ impl<C> Ending<C> {
     }
 }
 
-impl<C: GracefulConnection<Output = hyper::Result<()>>> Ending<C> {
+impl<C: Turns> Ending<C> {
     /// Returns whether a signal ends the connection at once. It makes room if, by its socket, it
     /// served no request when its last turn ended. If the soft signal comes, it ends after the
     /// exchange that has begun. Few connections get a signal, so most turns do not poll for one.
-    fn is_cut_off(&mut self, peer: &Wire, cx: &mut Context<'_>) -> bool
-        requires { C.can_poll self.old.conn }
-        ensures can_poll { C.can_poll self.new.conn }
-        ensures same { (x : _) → C.gives self.new.conn x → C.gives self.old.conn x }
+    fn is_cut_off(&mut self, peer: &Holder, cx: &mut Context<'_>) -> bool
+        requires { C.runs self.old.conn }
+        ensures runs { C.runs self.new.conn }
+        ensures same { (o : _) (io : _) → C.leaves self.new.conn o io → C.leaves self.old.conn o io }
         ensures kept { Keeps cx.old cx.new }
     {
         if self.is_listening && !self.signals.may_have_come() {
@@ -80,24 +81,34 @@ impl<C: GracefulConnection<Output = hyper::Result<()>>> Ending<C> {
             Poll::Ready(Some(Signal::Room)) => peer.is_unserved(),
             Poll::Ready(Some(Signal::Soft)) => {
                 self.is_soft = true;
-                self.conn.graceful_shutdown();
+                self.conn.finish();
                 false
             }
         }
+    }
+
+    /// Takes the connection apart. (Not inlined, so that no turn of it takes stack for that.)
+    #[inline(never)]
+    fn into_io(ending: Box<Ending<C>>) -> C::Io
+        requires { C.runs ending.value.conn }
+        ensures { (o : _) → IfSome o (C.ends ending.value.conn) → C.leaves ending.value.conn o result }
+    {
+        let Ending { conn, .. } = Box::into_inner(ending);
+        conn.into_io()
     }
 }
 
 /// A connection that also ends if its peer does while a request is parked, even with unread bytes
 /// after that request, or if its place is needed while it serves no request. Once it has ended by
 /// itself, it lets its peer read the answer before the socket is closed. It publishes its state,
-/// and gives its outcome if it ended by itself.
+/// and gives its IO, and its outcome if it ended by itself.
 #[derive(Drop)]
 pub(crate) struct Watched<C, O> {
-    ending: Box<Ending<C>>,
-    peer: Wire,
+    // `None` once it has given what it gives.
+    ending: Option<Box<Ending<C>>>,
+    peer: Holder,
     open: O,
     pulse: Arc<Pulse>,
-    has_ended: bool,
     // The outcome, once it has ended by itself, until that is handed on.
     outcome: Option<hyper::Result<()>>,
 }
@@ -107,19 +118,18 @@ impl<C, O> Watched<C, O> {
     /// `pulse` is where it publishes its state.
     pub(crate) fn new(
         ending: Box<Ending<C>>,
-        peer: Wire,
+        peer: Holder,
         open: O,
         pulse: Arc<Pulse>,
     ) -> Watched<C, O>
-        ensures ending { result.ending ≡ ending }
-        ensures open { IsFalse result.has_ended }
+        ensures ending { result.ending ≡ Some ending }
+        ensures open { result.outcome ≡ None }
     {
         Watched {
-            ending,
+            ending: Some(ending),
             peer,
             open,
             pulse,
-            has_ended: false,
             outcome: None,
         }
     }
@@ -128,14 +138,18 @@ impl<C, O> Watched<C, O> {
     /// outcome, or gives it at once if a signal has come. (Not inlined, so that no other turn of a
     /// connection takes steps for it.)
     #[inline(never)]
-    fn poll_end(&mut self, cx: &mut Context<'_>) -> Poll<Option<hyper::Result<()>>>
+    fn poll_end(
+        &mut self,
+        ending: &mut Ending<C>,
+        cx: &mut Context<'_>,
+    ) -> Poll<Option<hyper::Result<()>>>
         ensures value { IfReady result (λ outcome. outcome ≡ self.old.outcome) }
-        ensures same { OnPending result ((self.new.outcome ≡ self.old.outcome)
-            × (self.new.has_ended ≡ self.old.has_ended) × (self.new.ending.value.conn ≡ self.old.ending.value.conn)) }
+        ensures conn { ending.new.conn ≡ ending.old.conn }
+        ensures same { OnPending result (self.new.outcome ≡ self.old.outcome) }
         ensures registered { OnPending result (IsArmed cx.new) }
         ensures kept { Keeps cx.old cx.new }
     {
-        if self.ending.is_told(cx) {
+        if ending.is_told(cx) {
             return Poll::Ready(self.outcome.take());
         }
         let drained = self.peer.poll_drained(cx);
@@ -147,25 +161,43 @@ impl<C, O> Watched<C, O> {
     }
 }
 
-impl<C: GracefulConnection<Output = hyper::Result<()>>, O: Park> Future for Watched<C, O> {
-    ghost use Rattle.std.specs.Prelude.{◌≡◌, IfSome, IsFalse, IsTrue, Some};
-
-    type Output = Option<hyper::Result<()>>;
-
-    ghost can_poll = { λ w. IsFalse w.has_ended → C.can_poll w.ending.value.conn };
-
-    ghost gives = { λ w given. (IsFalse w.has_ended → IfSome given (C.gives w.ending.value.conn))
-        × (IsTrue w.has_ended → IfSome given (λ outcome. w.outcome ≡ Some outcome)) };
-
-    fn poll(&mut self, cx: &mut Context<'_>) -> Poll<Option<hyper::Result<()>>> {
-        if self.has_ended {
-            return self.poll_end(cx);
+impl<C: Turns, O: Park> Watched<C, O> {
+    /// Takes the connection apart before it has given anything.
+    pub(crate) fn into_io(self) -> C::Io
+        requires { IsSomeAnd self.ending (λ ending. C.runs ending.value.conn) }
+        ensures { IfSome self.ending (λ ending. C.leaves ending.value.conn None result) }
+    {
+        let Watched { ending, .. } = self;
+        match ending {
+            Some(ending) => Ending::into_io(ending),
+            None => unreachable!(),
         }
-        if self.ending.is_cut_off(&self.peer, cx) {
+    }
+
+    /// Serves until there is nothing to do. Is ready once the connection has to be taken apart,
+    /// with its outcome if it has ended by itself.
+    fn poll_turn(
+        &mut self,
+        ending: &mut Ending<C>,
+        cx: &mut Context<'_>,
+    ) -> Poll<Option<hyper::Result<()>>>
+        requires runs { C.runs ending.old.conn }
+        requires ended { IfSome self.old.outcome (C.ends ending.old.conn) }
+        ensures runs { C.runs ending.new.conn }
+        ensures same { (o : _) (io : _) → C.leaves ending.new.conn o io → C.leaves ending.old.conn o io }
+        ensures value { IfReady result (λ outcome. IfSome outcome (C.ends ending.new.conn)) }
+        ensures ended { OnPending result (IfSome self.new.outcome (C.ends ending.new.conn)) }
+        ensures registered { OnPending result (IsArmed cx.new) }
+        ensures kept { Keeps cx.old cx.new }
+    {
+        if self.outcome.is_some() {
+            return self.poll_end(ending, cx);
+        }
+        if ending.is_cut_off(&self.peer, cx) {
             return Poll::Ready(None);
         }
         self.peer.begin_turn();
-        match self.ending.conn.poll(cx) {
+        match ending.conn.turn(cx) {
             Poll::Pending => {
                 self.peer.end_turn(&self.pulse);
                 if self.open.is_parked() && self.peer.poll_ended(cx).is_ready() {
@@ -174,10 +206,34 @@ impl<C: GracefulConnection<Output = hyper::Result<()>>, O: Park> Future for Watc
                 Poll::Pending
             }
             Poll::Ready(outcome) => {
+                self.peer.shut_down();
                 self.outcome = Some(outcome);
-                self.has_ended = true;
-                self.poll_end(cx)
+                self.poll_end(ending, cx)
             }
+        }
+    }
+}
+
+impl<C: Turns, O: Park> Future for Watched<C, O> {
+    ghost use Rattle.std.specs.Prelude.{IfSome, IsSomeAnd};
+
+    type Output = (Option<hyper::Result<()>>, C::Io);
+
+    ghost can_poll = { λ w. IsSomeAnd w.ending (λ ending. C.runs ending.value.conn
+        × IfSome w.outcome (C.ends ending.value.conn)) };
+
+    ghost gives = { λ w given. IfSome w.ending (λ ending. C.leaves ending.value.conn given.0 given.1) };
+
+    fn poll(&mut self, cx: &mut Context<'_>) -> Poll<(Option<hyper::Result<()>>, C::Io)> {
+        let Some(mut ending) = self.ending.take() else {
+            unreachable!()
+        };
+        match self.poll_turn(&mut ending, cx) {
+            Poll::Pending => {
+                self.ending = Some(ending);
+                Poll::Pending
+            }
+            Poll::Ready(outcome) => Poll::Ready((outcome, Ending::into_io(ending))),
         }
     }
 }

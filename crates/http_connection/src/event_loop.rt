@@ -1,26 +1,28 @@
 //! The loop that serves connections on one thread, one after the other.
 
-ghost use Rattle.std.specs.Prelude.{IfOk, IfSome};
+ghost use Rattle.std.specs.Prelude.{◌≡◌, IfOk};
 ghost use Rattle.hyper.specs.ServerDispatch.{GivesBodies};
-ghost use Rattle.http_connection.specs.Written.{Gave, Written};
+ghost use Rattle.socket_loop.specs.Halves.{name_of_accepted};
+ghost use Rattle.http_connection.specs.Wires.{IsFresh, name_of};
+ghost use Rattle.http_connection.specs.Written.{Gave, Written, outcome_of};
 
 use crate::ending::{Ending, Watched};
 use crate::noting::{Noting, Pace};
 use crate::park::Park;
-use crate::wire::Wire;
+use crate::turns::Turns;
+use crate::wire::{Holder, Wire};
 use bytes::Bytes;
 use connection_state::{PortKind, Pulse, Signals};
 use http::{Request, Response};
 use http_body::Body;
 use hyper::body::Incoming;
 use hyper::server::conn::http1::Builder;
-use hyper::server::graceful::GracefulConnection;
 use hyper::service::Service;
-use socket_loop::SocketLoop;
-use std::alloc::AllocGlobal;
+use socket_loop::{Accepted, Interrupted, SocketLoop};
+use std::alloc::{AllocError, AllocGlobal};
 use std::hash::RandomState;
 use std::io;
-use std::net::{Net, TcpStream};
+use std::net::Net;
 use std::random::RandomSource;
 use std::sync::{Arc, Wait};
 use std::time::Clock;
@@ -33,14 +35,20 @@ pub struct EventLoop {
     http: Builder,
 }
 
-/// The holders of a connection's socket: the connection, its service, with its pace, and the watch
-/// for the peer's end.
+/// A connection's socket, with the holders of its service and of the watch for the peer's end.
 #[derive(Drop)]
-struct Ends<R> {
+pub struct Ends {
     wire: Wire,
-    noting: Wire,
-    peer: Wire,
-    pace: Pace<R>,
+    noting: Holder,
+    peer: Holder,
+}
+
+/// What became of a connection: its IO, and its outcome if it ended by itself.
+#[derive(Drop)]
+pub struct Ended<I> {
+    pub io: I,
+    /// An error if the connection could not be served, or the machine refused the wait for events.
+    pub outcome: io::Result<Option<hyper::Result<()>>>,
 }
 
 impl EventLoop {
@@ -59,24 +67,34 @@ impl EventLoop {
         Ok(EventLoop { socket_loop, http })
     }
 
-    /// Serves the requests of a connection at a port of this kind, one after the other, until the
-    /// connection ends, a signal ends it, or its peer ends while a request is parked. It blocks its
-    /// thread. Returns the connection's outcome if it ended by itself: what was written to it is
-    /// then what the service gave. If it was cut off, nothing is said about what was written.
+    /// Watches a socket that was accepted.
     ///
     /// # Errors
-    /// If the socket cannot be watched, or an allocation fails: nothing was then read from it. Also
-    /// if the machine refuses the wait for events.
+    /// If the socket cannot be watched, or an allocation fails.
+    pub fn watch<R: AllocGlobal>(&mut self, rt: &R, accepted: Accepted) -> io::Result<Ends>
+        ensures fresh { IfOk result (λ ends. IsFresh ends.wire) }
+        ensures name { IfOk result (λ ends. name_of ends.wire ≡ name_of_accepted accepted) }
+    {
+        let wire = Wire::watch(rt, &mut self.socket_loop, accepted)?;
+        let noting = wire.share()?;
+        let peer = wire.share()?;
+        Ok(Ends { wire, noting, peer })
+    }
+
+    /// Serves the requests of a connection at a port of this kind, one after the other, until the
+    /// connection ends, a signal ends it, or its peer ends while a request is parked. It blocks its
+    /// thread. Returns the socket, and the connection's outcome if it ended by itself. However it
+    /// ended, what was written to the socket is what the service gave.
     pub fn serve<R, V, B, O>(
         &mut self,
         rt: &R,
-        socket: TcpStream,
+        ends: Ends,
         kind: PortKind,
         service: V,
         signals: Signals,
         open: O,
         pulse: Arc<Pulse>,
-    ) -> io::Result<Option<hyper::Result<()>>>
+    ) -> Ended<Wire>
     where
         R: Wait + Clock + AllocGlobal + Copy + Drop,
         V: Service<Request<Incoming<Wire>>, Response = Response<B>>,
@@ -85,71 +103,66 @@ impl EventLoop {
         B::Data: Into<Bytes>,
         B::Error: Into<anyhow::Error>,
         O: Park,
+        requires fresh { IsFresh ends.wire }
         requires can_call { V.can_call service }
         requires bodies { (request : _) (future : _) → V.calls service request future
             → GivesBodies V.Future.gives B.can_poll future }
-        ensures written { IfOk result (λ ended. IfSome ended
-            (Written B.yields B.Data.converts (Gave V.calls V.Future.gives service))) }
+        ensures written { Written B.yields B.Data.converts (Gave V.calls V.Future.gives service) result.io
+            (outcome_of result.outcome) }
+        ensures same { name_of result.io ≡ name_of ends.wire }
     {
-        let Ends {
-            wire,
-            noting,
-            peer,
-            pace,
-        } = self.ends(rt, socket, kind)?;
+        let Ends { wire, noting, peer } = ends;
         let service = Noting {
             service,
             wire: noting,
-            pace,
-        };
-        let conn = self.http.serve_connection(wire, service);
-        let ending = Ending::boxed(rt.alloc(), conn, signals)?;
-        self.wait_for(rt, ending, peer, open, pulse)
-    }
-
-    /// Watches a socket at a port of this kind, and returns its holders. Polls at an environment's
-    /// port are kept to a pace.
-    fn ends<R: AllocGlobal + Copy>(
-        &mut self,
-        rt: &R,
-        socket: TcpStream,
-        kind: PortKind,
-    ) -> io::Result<Ends<R>> {
-        socket.set_nodelay(true)?;
-        let stream = self.socket_loop.watch(rt, socket)?;
-        let wire = Wire::new(rt.alloc(), stream)?;
-        let noting = wire.share()?;
-        let peer = wire.share()?;
-        Ok(Ends {
-            wire,
-            noting,
-            peer,
             pace: Pace {
                 rt: *rt,
                 is_kept: matches!(kind, PortKind::Environment),
             },
-        })
+        };
+        let conn = self.http.serve_connection(wire, service);
+        self.wait_for(rt, conn, signals, peer, open, pulse)
     }
 
-    /// Waits until a connection has ended, and returns its outcome if it ended by itself. The
-    /// connection's type is a parameter here: proofs about `hyper`'s own, nested in the future that
-    /// is waited for, would be large.
+    /// Waits until a connection has ended, and takes it apart. The connection's type is a parameter
+    /// here: proofs about `hyper`'s own, nested in the future that is waited for, would be large.
     fn wait_for<R, C, O>(
         &mut self,
         rt: &R,
-        ending: Box<Ending<C>>,
-        peer: Wire,
+        conn: C,
+        signals: Signals,
+        peer: Holder,
         open: O,
         pulse: Arc<Pulse>,
-    ) -> io::Result<Option<hyper::Result<()>>>
+    ) -> Ended<C::Io>
     where
-        R: Wait,
-        C: GracefulConnection<Output = hyper::Result<()>>,
+        R: Wait + AllocGlobal,
+        C: Turns,
         O: Park,
-        requires { C.can_poll ending.value.conn }
-        ensures { IfOk result (λ ended. IfSome ended (C.gives ending.value.conn)) }
+        requires { C.runs conn }
+        ensures { C.leaves conn (outcome_of result.outcome) result.io }
     {
-        self.socket_loop
+        let ending = match Ending::boxed(rt.alloc(), conn, signals) {
+            Ok(ending) => ending,
+            Err(conn) => {
+                return Ended {
+                    io: conn.into_io(),
+                    outcome: Err(AllocError.into()),
+                };
+            }
+        };
+        match self
+            .socket_loop
             .block_on(rt, Watched::new(ending, peer, open, pulse))
+        {
+            Ok((outcome, io)) => Ended {
+                io,
+                outcome: Ok(outcome),
+            },
+            Err(Interrupted { fault, future }) => Ended {
+                io: future.into_io(),
+                outcome: Err(fault),
+            },
+        }
     }
 }

@@ -10,9 +10,10 @@ mod noting;
 mod park;
 mod socket;
 mod stand;
+mod turns;
 mod wire;
 
-pub use event_loop::EventLoop;
+pub use event_loop::{Ended, Ends, EventLoop};
 pub use machine::Machine;
 pub use park::Park;
 pub use wire::Wire;

@@ -1,6 +1,6 @@
 //! A service over a wire, which notes there that a request is taken up, or its response is ready.
 
-use crate::wire::Wire;
+use crate::wire::Holder;
 use futures::Future;
 use futures::task::{Context, Poll};
 use http::{Method, Request, Response};
@@ -33,7 +33,7 @@ impl<R: Wait + Clock> Pace<R> {
 #[derive(Drop)]
 pub(crate) struct Noting<V, R> {
     pub(crate) service: V,
-    pub(crate) wire: Wire,
+    pub(crate) wire: Holder,
     pub(crate) pace: Pace<R>,
 }
 
@@ -42,7 +42,7 @@ pub(crate) struct Noting<V, R> {
 pub(crate) struct Noted<F> {
     future: F,
     // `None` only if a wire had more than 2^63 holders.
-    wire: Option<Wire>,
+    wire: Option<Holder>,
     // Whether its request is a poll whose refusal is noted.
     is_poll: bool,
 }

@@ -12,7 +12,7 @@ use bytes::BytesMut;
 use futures::task::{Context, Poll};
 use std::alloc::Global;
 use std::io;
-use tokio::io::{AsyncRead, AsyncWrite, poll_read_buf};
+use tokio::io::{AsyncRead, poll_read_buf};
 
 /// The most bytes that are read ahead of the reader.
 const MOST_AHEAD: usize = 65_536;
@@ -26,7 +26,7 @@ const DRAINED_AT_ONCE: usize = 16_384;
 /// A stream, what was read from it and not yet handed on, and the state of its connection.
 #[derive(Drop)]
 pub(crate) struct Socket<T> {
-    stream: T,
+    pub(crate) stream: T,
     ahead: BytesMut,
     input: Input,
     drained: u64,
@@ -36,7 +36,7 @@ pub(crate) struct Socket<T> {
 }
 
 impl<T: Drop> Socket<T> {
-    /// Makes a socket over which nothing has been read or written yet.
+    /// Makes a socket from which nothing has been read yet.
     pub(crate) fn new(alloc: Global, stream: T) -> Socket<T>
         ensures stream { result.stream ≡ stream }
         ensures nothing { result.ahead.items ≡ [] }
@@ -160,38 +160,6 @@ impl<T: AsyncRead> AsyncRead for Socket<T> {
                 Poll::Ready(Ok(count))
             }
         }
-    }
-}
-
-impl<T: AsyncWrite> AsyncWrite for Socket<T> {
-    ghost use Rattle.http_connection.specs.Ahead.{WritesPast, WritesPast_in_order, WritesPast_nothing};
-
-    ghost needs = { λ s. T.needs s.stream };
-
-    ghost writes = { WritesPast T.writes };
-
-    ghost is_flushed = { λ s. T.is_flushed s.stream };
-
-    ghost is_shut_down = { λ s. T.is_shut_down s.stream };
-
-    ghost is_full = { λ s. T.is_full s.stream };
-
-    ghost fails = { λ s. T.fails s.stream };
-
-    ghost writes_nothing = { WritesPast_nothing T.writes T.writes_nothing };
-
-    ghost writes_in_order = { WritesPast_in_order T.writes T.writes_in_order };
-
-    fn poll_write(&mut self, cx: &mut Context<'_>, buf: &[u8]) -> Poll<io::Result<usize>> {
-        self.stream.poll_write(cx, buf)
-    }
-
-    fn poll_flush(&mut self, cx: &mut Context<'_>) -> Poll<io::Result<()>> {
-        self.stream.poll_flush(cx)
-    }
-
-    fn poll_shutdown(&mut self, cx: &mut Context<'_>) -> Poll<io::Result<()>> {
-        self.stream.poll_shutdown(cx)
     }
 }
 

@@ -1,37 +1,79 @@
 //! A connection's socket, shared by its holders.
 
-ghost use Rattle.std.specs.Prelude.{⊤};
+ghost use Rattle.std.specs.Prelude.{◌≡◌, IfOk};
 ghost use Rattle.futures.specs.Poll.{OnPending};
 ghost use Rattle.futures.specs.Task.{IsArmed, Keeps};
 
 use crate::socket::Socket;
 use connection_state::Pulse;
 use futures::task::{Context, Poll};
-use socket_loop::Stream;
-use std::alloc::{AllocError, Global};
+use socket_loop::{Accepted, Passed, Reader, SocketLoop, Writer};
+use std::alloc::{AllocError, AllocGlobal};
 use std::cell::RefCell;
 use std::rc::Rc;
 use std::{io, mem};
 use tokio::io::{AsyncRead, AsyncWrite};
 
-/// A holder of a connection's socket. The holders are the connection itself, its service, the
-/// pending responses, and the watch for the peer's end.
+/// A holder of the half of a connection's socket that reads: the connection's service, the pending
+/// responses, and the watch for the peer's end. It writes nothing.
+#[derive(Drop)]
+pub(crate) struct Holder {
+    socket: Rc<RefCell<Socket<Reader>>>,
+}
+
+/// A connection's socket, as the connection reads from it and writes to it. Contracts see its name,
+/// the bytes that it gave, and those that it took.
 #[derive(Drop)]
 pub struct Wire {
-    socket: Rc<RefCell<Socket<Stream>>>,
+    holder: Holder,
+    writer: Writer,
+    given: Passed,
 }
 
 impl Wire {
-    /// Makes the first holder of a socket. It fails only if an allocation fails.
-    pub(crate) fn new(alloc: Global, stream: Stream) -> io::Result<Wire> {
-        let socket = Rc::new(alloc, RefCell::new(Socket::new(alloc, stream)))?;
-        Ok(Wire { socket })
+    ghost use Rattle.socket_loop.specs.Halves.{name_of_accepted};
+    ghost use Rattle.http_connection.specs.Wires.{IsFresh, name_of};
+
+    /// Watches a socket by this loop.
+    ///
+    /// # Errors
+    /// If the socket cannot be watched, or an allocation fails.
+    pub(crate) fn watch<R: AllocGlobal>(
+        rt: &R,
+        socket_loop: &mut SocketLoop,
+        accepted: Accepted,
+    ) -> io::Result<Wire>
+        ensures fresh { IfOk result IsFresh }
+        ensures name { IfOk result (λ wire. name_of wire ≡ name_of_accepted accepted) }
+    {
+        let (reader, writer) = socket_loop.watch(rt, accepted)?;
+        let alloc = rt.alloc();
+        let socket = Rc::new(alloc, RefCell::new(Socket::new(alloc, reader)))?;
+        Ok(Wire {
+            holder: Holder { socket },
+            writer,
+            given: Passed::new(),
+        })
     }
 
+    /// Makes a holder of its half that reads.
+    pub(crate) fn share(&self) -> Result<Holder, AllocError> {
+        self.holder.share()
+    }
+}
+
+impl Holder {
     /// Makes another holder.
-    pub(crate) fn share(&self) -> Result<Wire, AllocError> {
+    pub(crate) fn share(&self) -> Result<Holder, AllocError> {
         let socket = self.socket.clone()?;
-        Ok(Wire { socket })
+        Ok(Holder { socket })
+    }
+
+    /// Ends this side of the connection.
+    pub(crate) fn shut_down(&self) {
+        if let Ok(socket) = self.socket.try_borrow_mut() {
+            let _ = socket.stream.shut_down();
+        }
     }
 
     /// Notes that a request whose head has come is taken up.
@@ -114,44 +156,50 @@ impl Wire {
 }
 
 impl AsyncRead for Wire {
-    ghost reads = { λ _ _ _. ⊤ };
+    ghost use Rattle.std.specs.Prelude.{⊤};
+    ghost use Rattle.http_connection.specs.Wires.{Gives, Gives_in_order, Gives_nothing};
+
+    ghost reads = { Gives };
 
     ghost is_at_end = { λ _. ⊤ };
 
-    ghost reads_nothing = { λ _. tt };
+    ghost reads_nothing = { Gives_nothing };
 
-    ghost reads_in_order = { λ _ _ _ _ _ _ _. tt };
+    ghost reads_in_order = { Gives_in_order };
 
     fn poll_read(&mut self, cx: &mut Context<'_>, buf: &mut [u8]) -> Poll<io::Result<usize>> {
-        match self.socket.try_borrow_mut() {
-            Ok(mut socket) => socket.poll_read(cx, buf),
-            Err(_) => cx.yield_now(),
+        let Ok(mut socket) = self.holder.socket.try_borrow_mut() else {
+            return cx.yield_now();
+        };
+        let polled = socket.poll_read(cx, buf);
+        if let Poll::Ready(Ok(count)) = &polled {
+            self.given.note(&buf[..*count]);
         }
+        polled
     }
 }
 
 impl AsyncWrite for Wire {
-    ghost writes = { λ _ _ _. ⊤ };
+    ghost use Rattle.socket_loop.specs.Halves.{name_of};
+    ghost use Rattle.http_connection.specs.Wires.{Takes, Takes_in_order, Takes_nothing};
 
-    ghost writes_nothing = { λ _. tt };
+    ghost needs = { λ wire source. source ≡ name_of wire.writer };
 
-    ghost writes_in_order = { λ _ _ _ _ _ _ _. tt };
+    ghost writes = { Takes };
+
+    ghost writes_nothing = { Takes_nothing };
+
+    ghost writes_in_order = { Takes_in_order };
 
     fn poll_write(&mut self, cx: &mut Context<'_>, buf: &[u8]) -> Poll<io::Result<usize>> {
-        match self.socket.try_borrow_mut() {
-            Ok(mut socket) => socket.poll_write(cx, buf),
-            Err(_) => cx.yield_now(),
-        }
+        self.writer.poll_write(cx, buf)
     }
 
-    fn poll_flush(&mut self, _cx: &mut Context<'_>) -> Poll<io::Result<()>> {
-        Poll::Ready(Ok(()))
+    fn poll_flush(&mut self, cx: &mut Context<'_>) -> Poll<io::Result<()>> {
+        self.writer.poll_flush(cx)
     }
 
     fn poll_shutdown(&mut self, cx: &mut Context<'_>) -> Poll<io::Result<()>> {
-        match self.socket.try_borrow_mut() {
-            Ok(mut socket) => socket.poll_shutdown(cx),
-            Err(_) => cx.yield_now(),
-        }
+        self.writer.poll_shutdown(cx)
     }
 }

@@ -1,5 +1,5 @@
 -- What answers in one way answers in another that asks for less.
-use Rattle.std.proofs.Common.{ℕ, List, [], ◌∷◌, Option, Some, None, Result, Ok, Err, IfOk, IfSome}
+use Rattle.std.proofs.Common.{ℕ, List, [], ◌∷◌, Option, Some, None, Result, IfSome}
 use Rattle.std.specs.List.{AllZip}
 use Rattle.futures.specs.Runs.{Runs}
 use Rattle.http.specs.declared.request.Parts.{Parts as Asked}
@@ -11,6 +11,7 @@ use Rattle.hyper.specs.Served.{IsOnly}
 use Rattle.hyper.specs.Server.{history}
 use Rattle.hyper.specs.declared.error.Error.{Error}
 use Rattle.http_connection.specs.Written.{IsWhole, IsBegun, Written}
+use Rattle.http_connection.specs.declared.wire.Wire.{Wire}
 
 module _ {B D X : Type 0} (yields : B → Runs (Result (Frame D) X)) (has : D → List ℕ → Type 0)
     (answers less : Asked → Response B → Type 0)
@@ -29,9 +30,13 @@ module _ {B D X : Type 0} (yields : B → Runs (Result (Frame D) X)) (has : D �
   begun later None x = tt
   begun later (Some b) x = (x.0, x.1, (x.2.0, weaken x.0 x.2.0 x.2.1, x.2.2))
 
-  pub weakened : {A : Type 0} (outcome : Result A Error) → Written yields has answers outcome → Written yields has less outcome
-  weakened outcome x = record {
+  pub weakened : (wire : Wire) (outcome : Option (Result (Unit {0}) Error)) → Written yields has answers wire outcome
+      → Written yields has less wire outcome
+  weakened wire outcome x = record {
     last = x.last;
+    given = x.given;
+    taken = x.taken;
+    served = x.served;
     answered = x.answered;
     later = x.later;
     came = x.came;
@@ -39,10 +44,3 @@ module _ {B D X : Type 0} (yields : B → Runs (Result (Frame D) X)) (has : D �
     begun = begun x.later (history x.last).given.begun x.begun;
     sent = x.sent;
   }
-
--- what holds of each outcome that is given
-pub of_each : {A E : Type 0} {P Q : A → Type 0} (r : Result (Option A) E) → IfOk r (λ o. IfSome o P)
-    → ((x : A) → P x → Q x) → IfOk r (λ o. IfSome o Q)
-of_each (Ok (Some x)) p f = f x p
-of_each (Ok None) p f = p
-of_each (Err e) p f = p

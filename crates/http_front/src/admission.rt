@@ -8,15 +8,15 @@ use crate::gate::Arrival;
 use account_lock::Identity;
 use connection_places::Running;
 use connection_state::{PortKind, Pulse, Signals};
+use socket_loop::Accepted;
 use std::alloc::{AllocError, Global};
-use std::net::TcpStream;
 use std::sync::Arc;
 
 /// Returns a socket at a port of this kind, as its thread watches it, and what is known of it
 /// outside that thread.
 fn newcomer(
     alloc: Global,
-    socket: TcpStream,
+    socket: Accepted,
     kind: PortKind,
 ) -> Result<(Newcomer, Running), AllocError>
     ensures { IfOk result (λ made. made.0.socket ≡ socket) }

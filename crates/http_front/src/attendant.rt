@@ -1,11 +1,13 @@
 //! The thread of a place, which serves one connection after the other.
 
-ghost use Rattle.std.specs.Prelude.{◌≡◌, IfOk, IfSome};
+ghost use Rattle.std.specs.Prelude.{◌≡◌, IfOk};
 ghost use Rattle.std.specs.Arc.{arc_value};
-ghost use Rattle.http_connection.specs.Written.{Written};
+ghost use Rattle.http_connection.specs.Wires.{IsFresh, name_of};
+ghost use Rattle.http_connection.specs.Written.{Written, outcome_of};
 ghost use Rattle.http_front.specs.Attended.{IsAttended};
 ghost use Rattle.http_front.specs.Exchanged.{IsAnswer};
 ghost use Rattle.http_front.specs.Ports.{api_of};
+ghost use Rattle.socket_loop.specs.Halves.{name_of_accepted};
 
 use crate::Side;
 use crate::common::Common;
@@ -20,11 +22,11 @@ use connection_state::{PortKind, Pulse, Signals};
 use decisions::Decide;
 use http_body::Body;
 use http_body_util::{Either, Full};
-use http_connection::{EventLoop, Machine, Park, Wire};
+use http_connection::{Ended, Ends, EventLoop, Machine, Park, Wire};
 use hyper::body::Incoming;
 use long_poll::{Clock, Connection, HistoryBody, OneShotBell, OpenPoll, Service, laws, moment};
+use socket_loop::Accepted;
 use std::alloc::{AllocError, AllocGlobal};
-use std::net::TcpStream;
 use std::sync::{Arc, Mutex, Wait};
 use std::{io, thread, time};
 use usage_ledger::{Keep, Ledgers, Tally, Token};
@@ -47,7 +49,7 @@ impl Park for OpenNext {
 /// An accepted socket, the signals that end its connection, and the pulse that publishes its state.
 #[derive(Drop)]
 pub(crate) struct Newcomer {
-    pub(crate) socket: TcpStream,
+    pub(crate) socket: Accepted,
     pub(crate) signals: Signals,
     pub(crate) pulse: Arc<Pulse>,
 }
@@ -93,10 +95,10 @@ pub(crate) struct Attendant<R, S: Identity, N, K: Keep> {
     pub(crate) patience: u32,
 }
 
-/// Serves a connection at a port of this kind with a front. Returns how it ended, if it ended by
-/// itself: each response that was written is then one with which the front answers its request. The
-/// service and the decider are parameters here: their own types, repeated in each of those that
-/// `hyper` makes of a connection, are too large for a proof.
+/// Serves a connection at a port of this kind with a front. Returns its socket, and how it ended, if
+/// it ended by itself: each response that the socket took is one with which the front answers its
+/// request. The service and the decider are parameters here: their own types, repeated in each of
+/// those that `hyper` makes of a connection, are too large for a proof.
 fn serve_by<
     R: Machine,
     A: Service<K, L>,
@@ -108,24 +110,20 @@ fn serve_by<
 >(
     event_loop: &mut EventLoop,
     rt: &R,
-    newcomer: Newcomer,
+    ends: Ends,
     kind: PortKind,
     front: Front<R, A, D, N, K, L>,
+    signals: Signals,
     open: O,
-) -> io::Result<Option<hyper::Result<()>>>
-    ensures { IfOk result (λ ended. IfSome ended
-        (Written ⟦<Either<Full<Bytes>, HistoryBody<R, A, K, L>> as Body>⟧.yields ⟦<Bytes as Into<Bytes>>⟧.converts
-        (IsAnswer N.Clock ⟦<Incoming<Wire> as Body>⟧.yields ⟦<Bytes as Into<Bytes>>⟧.converts front))) }
+    pulse: Arc<Pulse>,
+) -> Ended<Wire>
+    requires { IsFresh ends.wire }
+    ensures written { Written ⟦<Either<Full<Bytes>, HistoryBody<R, A, K, L>> as Body>⟧.yields ⟦<Bytes as Into<Bytes>>⟧.converts
+        (IsAnswer N.Clock ⟦<Incoming<Wire> as Body>⟧.yields ⟦<Bytes as Into<Bytes>>⟧.converts front)
+        result.io (outcome_of result.outcome) }
+    ensures same { name_of result.io ≡ name_of ends.wire }
 {
-    event_loop.serve(
-        rt,
-        newcomer.socket,
-        kind,
-        front,
-        newcomer.signals,
-        open,
-        newcomer.pulse,
-    )
+    event_loop.serve(rt, ends, kind, front, signals, open, pulse)
 }
 
 impl<
@@ -172,9 +170,9 @@ impl<R: Machine, S: Identity + Drop, N: Clock + Drop, K: Keep> Attendant<R, S, N
     fn attend_in_turn(&self, tools: &mut Tools<S>, first: Visit<S>) -> bool {
         let mut visit = first;
         for _ in self.rt.forever() {
-            if self.attend(tools, visit).is_err() {
+            let Ok(Ended { outcome: Ok(_), .. }) = self.attend(tools, visit) else {
                 return false;
-            }
+            };
             match self.post.next(&self.rt) {
                 Some(next) => visit = next,
                 None => return true,
@@ -184,15 +182,15 @@ impl<R: Machine, S: Identity + Drop, N: Clock + Drop, K: Keep> Attendant<R, S, N
     }
 
     /// Serves a connection, and then withdraws its open Next (Runtime API, Next invocation).
-    /// Returns how it ended, if it ended by itself: each response that was written to it then
+    /// Returns its socket, and how it ended, if it ended by itself: each response that the socket took
     /// answers its request at the connection's own door.
     ///
     /// # Errors
-    /// If the event loop cannot serve another connection.
-    fn attend(&self, tools: &mut Tools<S>, visit: Visit<S>) -> io::Result<Option<hyper::Result<()>>>
+    /// If the connection cannot be served.
+    fn attend(&self, tools: &mut Tools<S>, visit: Visit<S>) -> io::Result<Ended<Wire>>
         ensures { IsAttended ⟦<Either<Full<Bytes>, HistoryBody<R, Account<S, OneShotBell>, K, S>> as Body>⟧.yields
             ⟦<Incoming<Wire> as Body>⟧.yields ⟦<Bytes as Into<Bytes>>⟧.converts
-            self.now.common visit.door S.most result }
+            self.now.common visit.door S.most (name_of_accepted visit.newcomer.socket) result }
     {
         let open = Arc::new(self.rt.alloc(), OpenPoll::new()).map_err(AllocError::from)?;
         let ended = self.serve(tools, visit, &open);
@@ -200,19 +198,19 @@ impl<R: Machine, S: Identity + Drop, N: Clock + Drop, K: Keep> Attendant<R, S, N
         ended
     }
 
-    /// Serves a connection. Returns how it ended, if it ended by itself.
+    /// Serves a connection. Returns its socket, and how it ended, if it ended by itself.
     ///
     /// # Errors
-    /// If the event loop cannot serve another connection.
+    /// If the connection cannot be served.
     fn serve(
         &self,
         tools: &mut Tools<S>,
         visit: Visit<S>,
         open: &Arc<OpenPoll>,
-    ) -> io::Result<Option<hyper::Result<()>>>
+    ) -> io::Result<Ended<Wire>>
         ensures { IsAttended ⟦<Either<Full<Bytes>, HistoryBody<R, Account<S, OneShotBell>, K, S>> as Body>⟧.yields
             ⟦<Incoming<Wire> as Body>⟧.yields ⟦<Bytes as Into<Bytes>>⟧.converts
-            self.now.common visit.door S.most result }
+            self.now.common visit.door S.most (name_of_accepted visit.newcomer.socket) result }
     {
         let Visit { newcomer, door } = visit;
         let kind = door.kind();
@@ -221,15 +219,23 @@ impl<R: Machine, S: Identity + Drop, N: Clock + Drop, K: Keep> Attendant<R, S, N
         let parked = OpenNext {
             open: Arc::try_clone(open)?,
         };
+        let Newcomer {
+            socket,
+            signals,
+            pulse,
+        } = newcomer;
+        let ends = tools.event_loop.watch(&self.rt, socket)?;
         laws::replies(&*front.connection);
-        serve_by(
+        Ok(serve_by(
             &mut tools.event_loop,
             &self.rt,
-            newcomer,
+            ends,
             kind,
             front,
+            signals,
             parked,
-        )
+            pulse,
+        ))
     }
 }
 

@@ -7,8 +7,8 @@ use crate::door::Door;
 use account_lock::Identity;
 use connection_state::PortKind;
 use mio::net::TcpListener;
+use socket_loop::Accepted;
 use std::io;
-use std::net::TcpStream;
 
 /// A port that is listened on, with its door, and whether newcomers may wait at it. A port reports
 /// newcomers once, so this is kept until no newcomer is found at the port.
@@ -23,7 +23,7 @@ pub(crate) struct Gate<S: Identity> {
 /// so that no socket gets the door of another gate.
 #[derive(Drop)]
 pub(crate) struct Arrival<S: Identity> {
-    socket: TcpStream,
+    socket: Accepted,
     door: Door<S>,
 }
 
@@ -50,7 +50,7 @@ impl<S: Identity> Gate<S> {
         let (socket, _) = self.listener.accept()?;
         let door = self.door.share()?;
         Ok(Arrival {
-            socket: TcpStream::from(socket),
+            socket: Accepted::new(socket),
             door,
         })
     }
@@ -70,7 +70,7 @@ impl<S: Identity> Arrival<S> {
     }
 
     /// Returns the socket and the door.
-    pub(crate) fn into_parts(self) -> (TcpStream, Door<S>)
+    pub(crate) fn into_parts(self) -> (Accepted, Door<S>)
         ensures { (result.0 ≡ self.socket) × (result.1 ≡ self.door) }
     {
         let Arrival { socket, door } = self;

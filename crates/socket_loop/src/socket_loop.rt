@@ -1,18 +1,20 @@
 //! The loop.
 
-ghost use Rattle.std.specs.Prelude.{IfOk};
+ghost use Rattle.std.specs.Prelude.{◌≡◌, [], IfErr, IfOk};
 ghost use Rattle.futures.specs.Poll.{IfReady, OnPending};
 
+use crate::accepted::Accepted;
 use crate::counter::open_counter;
+use crate::reader::Reader;
 use crate::ready::Ready;
-use crate::stream::Stream;
+use crate::writer::Writer;
 use futures::Future;
 use futures::task::{Doorbell, Poll, Solo};
 use mio::unix::SourceFd;
 use mio::{Events, Interest, Token};
 use std::alloc::AllocGlobal;
 use std::io;
-use std::net::{Net, TcpStream};
+use std::net::Net;
 use std::os::fd::AsRawFd;
 use std::random::RandomSource;
 use std::rc::Rc;
@@ -38,7 +40,16 @@ pub struct SocketLoop {
     ready: Rc<Ready>,
 }
 
+/// A future that is not ready yet, and why its loop has stopped.
+#[derive(Drop)]
+pub struct Interrupted<F> {
+    pub fault: io::Error,
+    pub future: F,
+}
+
 impl SocketLoop {
+    ghost use Rattle.socket_loop.specs.Halves.{name_of, name_of_accepted, taken_by};
+
     /// Opens a loop that watches no socket yet.
     ///
     /// # Errors
@@ -57,35 +68,52 @@ impl SocketLoop {
         })
     }
 
-    /// Watches a socket in place of the one before, and makes it a stream. A stream from before then
-    /// waits forever once it is not ready, so it has to be dropped first.
+    /// Watches a socket in place of the one before, and makes its halves. What a half from before
+    /// waits for may then never come, so it has to be dropped first. What is written is sent at once.
     ///
     /// # Errors
     /// If an allocation fails, or the machine refuses to watch the socket, which is then closed. The
     /// loop can be used as before.
-    pub fn watch<R: AllocGlobal>(&mut self, rt: &R, socket: TcpStream) -> io::Result<Stream> {
-        socket.set_nonblocking(true)?;
-        let mut socket = mio::net::TcpStream::from_std(socket);
+    pub fn watch<R: AllocGlobal>(
+        &mut self,
+        rt: &R,
+        accepted: Accepted,
+    ) -> io::Result<(Reader, Writer)>
+        ensures nothing { IfOk result (λ halves. taken_by halves.1 ≡ []) }
+        ensures name { IfOk result (λ halves. name_of halves.1 ≡ name_of_accepted accepted) }
+    {
+        let Accepted { mut socket, event } = accepted;
+        socket.set_nodelay(true)?;
         let both = Interest::READABLE | Interest::WRITABLE;
         self.poll.registry().register(&mut socket, OF_SOCKET, both)?;
+        let socket = Rc::new(rt.alloc(), socket)?;
         let ready = Rc::new(rt.alloc(), Ready::new())?;
         self.ready = ready.clone()?;
-        Ok(Stream::new(socket, ready))
+        let reader = Reader::new(socket.clone()?, ready.clone()?);
+        Ok((reader, Writer::new(socket, ready, event)))
     }
 
     /// Polls a future until it is ready, and returns what it gives.
     ///
     /// # Errors
-    /// If the machine refuses the wait for events. The future is then dropped.
-    pub fn block_on<R: Wait, F: Future>(&mut self, rt: &R, mut future: F) -> io::Result<F::Output>
+    /// If the machine refuses the wait for events. The future can then be polled again.
+    pub fn block_on<R: Wait, F: Future>(
+        &mut self,
+        rt: &R,
+        mut future: F,
+    ) -> Result<F::Output, Interrupted<F>>
         requires { F.can_poll future }
-        ensures { IfOk result (F.gives future) }
+        ensures given { IfOk result (F.gives future) }
+        ensures left { IfErr result (λ left. F.can_poll left.future
+            × ((x : _) → F.gives left.future x → F.gives future x)) }
     {
         for _ in rt.forever() {
             if let Poll::Ready(output) = self.poll_once(&mut future) {
                 return Ok(output);
             }
-            self.wait()?;
+            if let Err(fault) = self.wait() {
+                return Err(Interrupted { fault, future });
+            }
         }
         unreachable!()
     }

@@ -1,43 +1,37 @@
-use Rattle.std.proofs.Common.{rules, IfOk, IfSome, OnOk, ◌≡◌, [], Option, Some, None, Result, Ok, Err}
-use Rattle.hyper.specs.Server.{history}
-use Rattle.hyper.specs.ServerLink.{EndsWith}
-use Rattle.hyper.specs.declared.error.Error.{Error}
-use Rattle.hyper.specs.declared.server.link.Link.{Link}
+use Rattle.std.proofs.Common.{rules, ap, ◌∙◌}
 use Rattle.http_connection.proofs.Inner.{written}
+use Rattle.http_connection.proofs.Left.{all_sent}
+use Rattle.http_connection.proofs.Moved.{passed}
 use Rattle.http_connection.proofs.event_loop.EventLoop.serve.Goals as goal
 
--- what holds of each outcome that is given
-lift : {A E : Type 0} {P Q : A → Type 0} (r : Result (Option A) E) → IfOk r (λ o. IfSome o P) → ((x : A) → P x → Q x)
-    → IfOk r (λ o. IfSome o Q)
-lift (Ok (Some x)) p f = f x p
-lift (Ok None) p f = p
-lift (Err e) p f = p
-
-sent : {I A : Type 0} (link : Link I) (outcome : Result A Error) → EndsWith link outcome → OnOk outcome ((history link.core).pending ≡ [])
-sent link (Ok a) ends = ends.0
-sent link (Err e) ends = tt
-
 pub returns : goal.returns
-returns g c = record {
-  written = lift
-      c.wait_for.result
-      c.wait_for.ensures
-      (λ outcome gave.
-      written
-      g.V.Service.calls
-      g.V.Future.Future.gives
-      g.B.Body.yields
-      g.B.Data.Into.converts
-      (λ noting. noting.service)
-      (λ noted. noted.future)
-      gave.0.last.service
-      outcome
-      gave.0.last.link.core
-      gave.0.last.asked.is_head
-      gave.0.last.in_flight
-      gave.0.last.body_rx
-      c.args.service
-      (search rules)
-      gave.0.runs.tied
-      (sent gave.0.last.link outcome gave.0.ends));
-}
+returns g c =
+    let left = c.wait_for.ensures in
+    let last = left.last in
+    let bytes =
+    passed last.link c.args.ends.wire c.wait_for.result.io c.requires.fresh left.runs.tracked
+    (ap (λ log. log.items) left.same.0.0 ∙ c.serve_connection-conn.ensures.new.0.1) left.io_is in
+    record {
+      written =
+          written
+          g.V.Service.calls
+          g.V.Future.Future.gives
+          g.B.Body.yields
+          g.B.Data.Into.converts
+          (λ noting. noting.service)
+          (λ noted. noted.future)
+          last.service
+          c.wait_for.result.io
+          _
+          last.link.core
+          last.asked.is_head
+          last.in_flight
+          last.body_rx
+          c.args.service
+          (search rules)
+          bytes.0
+          bytes.1
+          left.runs.tied
+          (all_sent last.link _ left.ends);
+      same = bytes.2;
+    }

@@ -1,6 +1,6 @@
-use Rattle.std.proofs.Common.{rules, ◌≡◌, subst, sym}
+use Rattle.std.proofs.Common.{rules, ◌≡◌, ◌∙◌, subst, sym}
 use Rattle.std.specs.Arc.{arc_value}
-use Rattle.http_front.proofs.Answering.{of_each, weakened}
+use Rattle.http_front.proofs.Answering.{weakened}
 use Rattle.http_front.proofs.AtDoors.{at_door}
 use Rattle.http_front.specs.Ports.{api_of}
 use Rattle.http_routes.specs.Decisions.{decision}
@@ -14,15 +14,17 @@ returns g c =
     let door = c.args.visit.door in
     let configured : g.S.Identity.config ≡ door.config = search rules in
     let salted : g.S.Identity.salt ≡ door.salt = search rules in
-    let decider : arc_value (arc_value front.connection).decider ≡ door = search rules in
-    of_each c.serve_by.result c.serve_by.ensures (λ outcome written. weakened _ _ _ _
-    (λ head response x. at_door _ _ _ front door g.S.Identity.most
-    (λ call reply token r. subst (λ s. IsReplyAt door.config g.S.Identity.most s call reply token) salted
-    (subst (λ k. IsReplyAt k g.S.Identity.most g.S.Identity.salt call reply token) configured
-    ((rw c.deref-2.ensures at c.replies.ensures) call reply token r)))
-    (λ seen stats then r. subst (λ k. Counts k g.S.Identity.most seen stats then) configured r)
-    (λ seen f count then r. subst (λ k. Reserves k g.S.Identity.most seen f count then) configured r)
-    (λ head body made d. subst (λ side. made ≡ decision side head body) decider d)
-    (arc_value c.args.self.now.common.hosts) head response
-    (arc_value c.args.self.now.common.account) (search rules) (search rules) (search rules) x)
-    outcome written)
+    let decider : arc_value (arc_value front.connection).decider ≡ door = search rules in (
+      c.serve_by.ensures.same ∙ c.in_ok-ends.ensures.name,
+      weakened _ _ _ _
+          (λ head response x. at_door _ _ _ front door g.S.Identity.most
+          (λ call reply token r. subst (λ s. IsReplyAt door.config g.S.Identity.most s call reply token) salted
+          (subst (λ k. IsReplyAt k g.S.Identity.most g.S.Identity.salt call reply token) configured
+          ((rw c.deref-2.ensures at c.replies.ensures) call reply token r)))
+          (λ seen stats then r. subst (λ k. Counts k g.S.Identity.most seen stats then) configured r)
+          (λ seen f count then r. subst (λ k. Reserves k g.S.Identity.most seen f count then) configured r)
+          (λ head body made d. subst (λ side. made ≡ decision side head body) decider d)
+          (arc_value c.args.self.now.common.hosts) head response
+          (arc_value c.args.self.now.common.account) (search rules) (search rules) (search rules) x)
+          c.serve_by.result.io _ c.serve_by.ensures.written,
+    )
