@@ -3,12 +3,13 @@
 ghost use Rattle.std.specs.Prelude.{◌≡◌};
 ghost use Rattle.connection_places.specs.Looks as spec;
 
-use connection_state::{PortKind, Told, has_outstayed};
+use crate::owner::PortOwner;
+use connection_state::{Told, has_outstayed};
 
 /// What was seen of a connection at the last look, and for how many looks it has been so.
 #[derive(Clone, Copy, Drop)]
 pub(crate) struct Observation {
-    pub(crate) kind: PortKind,
+    pub(crate) owner: PortOwner,
     told: Told,
     // Looks without a byte.
     still: u32,
@@ -19,12 +20,12 @@ pub(crate) struct Observation {
 }
 
 impl Observation {
-    /// Returns what is seen of a connection that has just come in at a port of this kind.
-    pub(crate) fn first(kind: PortKind, told: Told) -> Observation
-        ensures { result ≡ spec.first_seen kind told }
+    /// Returns what is seen of a connection that has just come in at a port of this owner.
+    pub(crate) fn first(owner: PortOwner, told: Told) -> Observation
+        ensures { result ≡ spec.first_seen owner told }
     {
         Observation {
-            kind,
+            owner,
             told,
             still: 0,
             whole: 0,
@@ -39,7 +40,7 @@ impl Observation {
     {
         let is_unasked = told.is_unserved() && told.answers == self.told.answers;
         Observation {
-            kind: self.kind,
+            owner: self.owner,
             told,
             still: counted(told.is_same(self.told), self.still, looks),
             whole: counted(told.is_in_stage_of(self.told), self.whole, looks),
@@ -51,27 +52,49 @@ impl Observation {
     pub(crate) fn has_outstayed(self) -> bool
         ensures { result ≡ spec.is_over self }
     {
-        has_outstayed(self.kind, self.told, self.still, self.whole)
+        has_outstayed(self.owner.kind(), self.told, self.still, self.whole)
     }
 
     /// Returns for how many looks the connection has been without a complete request; `None` if it
-    /// may not make room for a newcomer. It may if it came in at the account's port, and either is
-    /// between two requests, or was already sending one at an earlier look.
-    pub(crate) fn spare_looks(self) -> Option<u32>
+    /// may not make room for a newcomer at its own port. It may if it either is between two requests,
+    /// or was already sending one at an earlier look.
+    fn spare_looks(self) -> Option<u32>
         ensures { result ≡ spec.spare_looks self }
     {
-        match self.kind {
-            PortKind::Account if self.told.is_between() => Some(self.unasked),
-            PortKind::Account if self.told.is_unserved() && self.unasked > 0 => Some(self.unasked),
-            _ => None,
+        if self.told.is_between() || self.told.is_unserved() && self.unasked > 0 {
+            Some(self.unasked)
+        } else {
+            None
         }
     }
 
-    /// Returns whether the connection came in at an environment's port.
-    pub(crate) fn is_of_environment(self) -> bool
-        ensures { result ≡ spec.is_of_environment self.kind }
+    /// Returns for how many looks the connection has been without a complete request; `None` if it
+    /// came in at an environment's port, or may not make room for a newcomer at its own.
+    pub(crate) fn looks_of_caller(self) -> Option<u32>
+        ensures { result ≡ spec.looks_of_caller self }
     {
-        matches!(self.kind, PortKind::Environment)
+        match self.owner {
+            PortOwner::Account => self.spare_looks(),
+            PortOwner::Environment(_) => None,
+        }
+    }
+
+    /// Returns the environment at whose port the connection came in, and for how many looks it has
+    /// been without a complete request; `None` if it came in at the account's port, or may not make
+    /// room for a newcomer at the port of this environment. At another port than the newcomer's, it
+    /// may if it serves no request.
+    pub(crate) fn looks_of_environment(self, newcomer: u32) -> Option<(u32, u32)>
+        ensures { result ≡ spec.looks_of_environment newcomer self }
+    {
+        match self.owner {
+            PortOwner::Account => None,
+            PortOwner::Environment(own) if own == newcomer => match self.spare_looks() {
+                Some(looks) => Some((own, looks)),
+                None => None,
+            },
+            PortOwner::Environment(own) if self.told.is_unserved() => Some((own, self.unasked)),
+            PortOwner::Environment(_) => None,
+        }
     }
 }
 

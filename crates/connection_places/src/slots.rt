@@ -3,11 +3,11 @@
 ghost use Rattle.std.specs.Prelude.{◌≡◌, ◌+◌, ◌<◌, nat_lt, vec_len, IfOk, IfErr};
 ghost use Rattle.connection_places.specs.Places.{Places};
 
-use crate::choice::{admits, best_of, reserve_of};
+use crate::choice::{admits, place_for, reserve_of};
 use crate::mailbox::Mailbox;
+use crate::owner::PortOwner;
 use crate::post::{End, Ended, Post, Worker};
 use crate::running::Running;
-use connection_state::PortKind;
 use std::alloc::{AllocError, Global};
 use std::marker::Model;
 use std::sync::{Arc, Mutex, Wait};
@@ -299,10 +299,10 @@ impl<Y: Drop, V: Drop> Slots<Y, V> {
         }
     }
 
-    /// Returns whether a newcomer at a port of this kind may have a place: one in sixteen, up to
-    /// 64, are kept for the account's port.
-    pub fn admits(&self, kind: PortKind) -> bool {
-        admits(self.most, kind, self.slots.as_slice())
+    /// Returns whether a newcomer at a port of this owner may have a place that no connection has:
+    /// one in sixteen, up to 64, are kept for the account's port.
+    pub fn admits(&self, owner: PortOwner) -> bool {
+        admits(self.most, owner, self.slots.as_slice())
     }
 
     /// Looks at each connection, without counting this as a look.
@@ -316,18 +316,21 @@ impl<Y: Drop, V: Drop> Slots<Y, V> {
         }
     }
 
-    /// If no place is left, and some are kept for the account's port, asks one connection at that
-    /// port to make room: the one that has been longest without a complete request. Returns whether
-    /// there is one. It ends if it serves no request when it is asked; its place is free once it
-    /// has ended.
-    pub fn ask_for_room(&mut self) -> bool
+    /// If no place is left for a newcomer at a port of this owner, and some are kept for the
+    /// account's port, asks one connection to make room. Returns whether there is one. It ends if it
+    /// serves no request when it is asked; its place is free once it has ended.
+    ///
+    /// At the account's port, and as long as environments have not used up their share, it is the
+    /// one at the account's port that has been longest without a complete request. For a newcomer at
+    /// an environment's port it is otherwise the longest of the environment's port that holds most.
+    pub fn ask_for_room(&mut self, owner: PortOwner) -> bool
         ensures { self.new ≡ self.old }
     {
-        if self.has_room() || reserve_of(self.most) == 0 {
+        if reserve_of(self.most) == 0 || (self.has_room() && self.admits(owner)) {
             return false;
         }
         self.look_again();
-        let Some((at, _)) = best_of(self.slots.as_slice()) else {
+        let Some(at) = place_for(self.most, owner, self.slots.as_slice()) else {
             return false;
         };
         if let Some(slot) = self.slots.get_mut(at)

@@ -10,11 +10,18 @@ use Rattle.request_guard.specs.declared.refusal.Api.{Api}
 use Rattle.request_guard.specs.declared.refusal.Api.TheVariants.{Lambda, Runtime}
 use Rattle.connection_state.specs.declared.limits.PortKind.{PortKind}
 use Rattle.connection_state.specs.declared.limits.PortKind.TheVariants as limits
+use Rattle.connection_places.specs.declared.owner.PortOwner.{PortOwner}
+use Rattle.connection_places.specs.declared.owner.PortOwner.TheVariants as owner
 
 -- The kind of a port, which sets the limits of its connections.
 abbrev pub kind_of : Port → PortKind
 kind_of Account = limits.Account
 kind_of (Environment e) = limits.Environment
+
+-- Whose port it is, for the place of a connection.
+abbrev pub owner_of : Port → PortOwner
+owner_of Account = owner.Account
+owner_of (Environment e) = owner.Environment e
 
 -- The greatest number of connections at once: one for each poll of all environments, each with its runtime and the
 -- most extensions, and 64 for callers; at least 1,024. (A configuration has up to 256 environments.)

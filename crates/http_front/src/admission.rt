@@ -6,18 +6,18 @@ ghost use Rattle.std.specs.Prelude.{◌≡◌, IfOk};
 use crate::attendant::{Newcomer, Visit};
 use crate::gate::Arrival;
 use account_lock::Identity;
-use connection_places::Running;
-use connection_state::{PortKind, Pulse, Signals};
+use connection_places::{PortOwner, Running};
+use connection_state::{Pulse, Signals};
 use socket_loop::Accepted;
 use std::alloc::{AllocError, Global};
 use std::sync::Arc;
 
-/// Returns a socket at a port of this kind, as its thread watches it, and what is known of it
+/// Returns a socket at a port of this owner, as its thread watches it, and what is known of it
 /// outside that thread.
 fn newcomer(
     alloc: Global,
     socket: Accepted,
-    kind: PortKind,
+    owner: PortOwner,
 ) -> Result<(Newcomer, Running), AllocError>
     ensures { IfOk result (λ made. made.0.socket ≡ socket) }
 {
@@ -29,7 +29,7 @@ fn newcomer(
         signals,
         pulse,
     };
-    Ok((newcomer, Running::new(ender, noted, kind)))
+    Ok((newcomer, Running::new(ender, noted, owner)))
 }
 
 /// Returns the connection of an arrival, to serve at its door, and what is known of it outside its
@@ -40,8 +40,8 @@ pub(crate) fn admit<S: Identity>(
 ) -> Result<(Visit<S>, Running), AllocError>
     ensures { IfOk result (λ made. (made.0.door ≡ arrival.door) × (made.0.newcomer.socket ≡ arrival.socket)) }
 {
-    let kind = arrival.kind();
+    let owner = arrival.owner();
     let (socket, door) = arrival.into_parts();
-    let (newcomer, running) = newcomer(alloc, socket, kind)?;
+    let (newcomer, running) = newcomer(alloc, socket, owner)?;
     Ok((Visit { newcomer, door }, running))
 }

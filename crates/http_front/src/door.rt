@@ -4,11 +4,12 @@ ghost use Rattle.std.specs.Prelude.{◌≡◌, IfOk, IsTrue};
 ghost use Rattle.std.specs.Arc.{arc_value};
 ghost use Rattle.http_front.specs.Ports.{api_of};
 ghost use Rattle.http_routes.specs.Decisions.{IsPortOf};
-ghost use Rattle.http_front.specs.Ports.{kind_of};
+ghost use Rattle.http_front.specs.Ports.{kind_of, owner_of};
 
 use crate::{Port, Side};
 use account_lock::Identity;
 use arn_ids::Checked;
+use connection_places::PortOwner;
 use connection_state::PortKind;
 use request_guard::Api;
 use std::alloc::{AllocError, Global};
@@ -68,6 +69,16 @@ impl<S: Identity> Door<S> {
         match self.port {
             Port::Account => Api::Lambda,
             Port::Environment(_) => Api::Runtime,
+        }
+    }
+
+    /// Returns whose port this is, for the place of a connection.
+    pub(crate) fn owner(&self) -> PortOwner
+        ensures { result ≡ owner_of self.now.port }
+    {
+        match self.port {
+            Port::Account => PortOwner::Account,
+            Port::Environment(environment) => PortOwner::Environment(environment),
         }
     }
 

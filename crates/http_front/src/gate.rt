@@ -1,11 +1,11 @@
 //! A port that is listened on, and the newcomers that arrive at it.
 
 ghost use Rattle.std.specs.Prelude.{◌≡◌, false, IfOk};
-ghost use Rattle.http_front.specs.Ports.{kind_of};
+ghost use Rattle.http_front.specs.Ports.{owner_of};
 
 use crate::door::Door;
 use account_lock::Identity;
-use connection_state::PortKind;
+use connection_places::PortOwner;
 use mio::net::TcpListener;
 use socket_loop::Accepted;
 use std::io;
@@ -62,11 +62,11 @@ impl<S: Identity> Gate<S> {
 }
 
 impl<S: Identity> Arrival<S> {
-    /// Returns the kind of the port.
-    pub(crate) fn kind(&self) -> PortKind
-        ensures { result ≡ kind_of self.now.door.port }
+    /// Returns whose port it is.
+    pub(crate) fn owner(&self) -> PortOwner
+        ensures { result ≡ owner_of self.now.door.port }
     {
-        self.door.kind()
+        self.door.owner()
     }
 
     /// Returns the socket and the door.

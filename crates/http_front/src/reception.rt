@@ -11,8 +11,7 @@ use crate::gate::{Arrival, Gate};
 use crate::ticker::Ticker;
 use crate::{HostFault, Hosted, Notices};
 use account_lock::{Account, Identity};
-use connection_places::Slots;
-use connection_state::PortKind;
+use connection_places::{PortOwner, Slots};
 use http_connection::Machine;
 use long_poll::{Clock, OneShotBell};
 use mio::Poll;
@@ -156,7 +155,7 @@ impl<R: Wait + Threads + time::Clock + Copy + Drop, S: Identity + Drop, N: Drop,
 
     /// Takes a place that no connection has: a free one, or otherwise a new one with a tally of its
     /// own.
-    fn open_place(&mut self) -> Option<usize> {
+    fn free_place(&mut self) -> Option<usize> {
         if let Some(at) = self.slots.take() {
             return Some(at);
         }
@@ -172,15 +171,24 @@ impl<R: Wait + Threads + time::Clock + Copy + Drop, S: Identity + Drop, N: Drop,
         }
     }
 
-    /// Takes the place of a connection that makes room for a newcomer, once that connection has
-    /// ended.
-    fn cleared_place(&mut self) -> Option<usize> {
-        if !self.slots.ask_for_room() {
+    /// Takes a place that no connection has for a newcomer at a port of this owner.
+    fn open_place(&mut self, owner: PortOwner) -> Option<usize> {
+        if self.slots.admits(owner) {
+            self.free_place()
+        } else {
+            None
+        }
+    }
+
+    /// Takes a place for a newcomer at a port of this owner, once a connection that makes room for
+    /// it has ended.
+    fn cleared_place(&mut self, owner: PortOwner) -> Option<usize> {
+        if !self.slots.ask_for_room(owner) {
             return None;
         }
         for _ in 0..LOOKS_FOR_ROOM {
             self.slots.reap(&self.rt);
-            if let Some(at) = self.slots.take() {
+            if let Some(at) = self.open_place(owner) {
                 return Some(at);
             }
             thread::sleep(&self.rt, Duration::from_millis(PAUSE));
@@ -188,14 +196,11 @@ impl<R: Wait + Threads + time::Clock + Copy + Drop, S: Identity + Drop, N: Drop,
         None
     }
 
-    /// Takes a place for a newcomer at a port of this kind.
-    fn place(&mut self, kind: PortKind) -> Option<usize> {
-        if !self.slots.admits(kind) {
-            return None;
-        }
-        match self.open_place() {
+    /// Takes a place for a newcomer at a port of this owner.
+    fn place(&mut self, owner: PortOwner) -> Option<usize> {
+        match self.open_place(owner) {
             Some(at) => Some(at),
-            None => self.cleared_place(),
+            None => self.cleared_place(owner),
         }
     }
 
@@ -322,7 +327,7 @@ impl<
     /// Takes a newcomer in, or closes its connection if there is no place or thread for it.
     fn take_in(&mut self, arrival: Arrival<S>) {
         self.slots.reap(&self.rt);
-        let Some(at) = self.place(arrival.kind()) else {
+        let Some(at) = self.place(arrival.owner()) else {
             return;
         };
         if !self.begin(at, arrival) {
