@@ -1,8 +1,12 @@
 #!/usr/bin/env python3
-"""Checks how tools/lambda_local/service.py waits for the end of what it has started: at once, and no longer than it is
-told, with descriptors of processes and without. The program is LAMBDA_LOCAL_PROGRAM, else ./lambda_local. Ends with
+"""Checks that a service ends at once when it is stopped, and sleeps while it is idle; and how
+tools/lambda_local/service.py waits for the end of what it has started: at once, and no longer than it is told, with
+descriptors of processes and without. The program is LAMBDA_LOCAL_PROGRAM, else ./lambda_local. Ends with
 'N passed, M failed'."""
+import glob
 import os
+import socket
+import statistics
 import subprocess
 import sys
 import threading
@@ -12,7 +16,7 @@ ROOT = os.path.dirname(os.path.dirname(os.path.dirname(os.path.realpath(__file__
 sys.path[:0] = [os.path.join(ROOT, "tools"), os.path.join(ROOT, "tests", "library")]
 import counted  # noqa: E402
 from counted import check  # noqa: E402
-from lambda_local.service import Service, wait_for  # noqa: E402
+from lambda_local.service import RUNTIME, Service, ask, wait_for  # noqa: E402
 
 CONFIGURATION = {"account": "123456789012", "region": "us-east-2", "functions": [{"name": "f", "ports": [0]}]}
 
@@ -71,5 +75,56 @@ def stops():
     print(f"      (it took {1000 * (time.monotonic() - begun):.0f} ms)")
 
 
+def seconds_to_the_end():
+    """From the answer to a stop until the end of the service."""
+    service = Service(CONFIGURATION)
+    try:
+        ask(service.port, "POST", "/_local/stop")
+        begun = time.monotonic()
+        wait_for(service.process, 20)
+        return time.monotonic() - begun
+    finally:
+        service.kill()
+
+
+def ends_at_once():
+    """It takes a few milliseconds; the bound is for a busy machine. A service that looks whether it is over takes 50 ms
+    and more, and less only by chance."""
+    taken = statistics.median(seconds_to_the_end() for _ in range(15))
+    check("a service ends at once after the answer to its stop", taken < 0.03)
+    print(f"      (it took {1000 * taken:.1f} ms, as the median of 15)")
+
+
+def wakes(pid):
+    """How often the threads of a process have gone to sleep so far."""
+    counts = 0
+    for path in glob.glob(f"/proc/{pid}/task/*/status"):
+        with open(path) as file:
+            counts += sum(int(line.split()[1]) for line in file if line.startswith("voluntary_ctxt_switches"))
+    return counts
+
+
+def wakes_in(service, seconds):
+    before = wakes(service.process.pid)
+    time.sleep(seconds)
+    return wakes(service.process.pid) - before
+
+
+def sleeps():
+    service = Service(CONFIGURATION)
+    try:
+        time.sleep(1)
+        check("an idle service does not wake", wakes_in(service, 3), 0)
+        environment = service.configuration["functions"][0]["ports"][0]
+        with socket.create_connection(("127.0.0.1", environment)) as runtime:
+            runtime.sendall(f"GET {RUNTIME}invocation/next HTTP/1.1\r\nHost: h\r\n\r\n".encode())
+            time.sleep(1)
+            woken = wakes_in(service, 3)
+            check("with a connection it wakes once a second", woken in (2, 3, 4), True)
+            print(f"      ({woken} times in 3 s)")
+    finally:
+        service.kill()
+
+
 if __name__ == "__main__":
-    sys.exit(counted.run(waits, waits_without_descriptors, waits_beside_another, stops))
+    sys.exit(counted.run(waits, waits_without_descriptors, waits_beside_another, stops, ends_at_once, sleeps))

@@ -272,6 +272,16 @@ impl<Y: Drop, V: Drop> Slots<Y, V> {
         self.free.len() >= self.slots.len()
     }
 
+    /// Returns whether no place has a connection or a thread.
+    pub fn is_vacant(&self) -> bool {
+        for slot in &self.slots {
+            if slot.running.is_some() || slot.worker.is_some() {
+                return false;
+            }
+        }
+        true
+    }
+
     /// Signals each connection to end: after its exchange, or at once. A signal that was sent
     /// before is not repeated.
     pub fn tell(&mut self, at_once: bool)

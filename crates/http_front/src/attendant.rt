@@ -9,11 +9,12 @@ ghost use Rattle.http_front.specs.Exchanged.{IsAnswer};
 ghost use Rattle.http_front.specs.Ports.{api_of};
 ghost use Rattle.socket_loop.specs.Halves.{name_of_accepted};
 
-use crate::Side;
+use crate::beat::Beat;
 use crate::common::Common;
 use crate::door::Door;
 use crate::front::Front;
 use crate::sides::Sides;
+use crate::{Rousing, Side};
 use account_lock::{Account, Identity};
 use bytes::Bytes;
 use call_model::Call;
@@ -34,14 +35,17 @@ use usage_ledger::{Keep, Ledgers, Tally, Token};
 /// The stack of a thread, in bytes. The deepest chain of calls takes some 80 KB.
 const STACK: usize = 512 * 1024;
 
-/// The note of a connection's open Next, by which its socket's end is watched.
+/// The note of a connection's open Next, by which its socket's end is watched, and what the ticker is
+/// told after each turn of the connection, in which a step may have been made.
 #[derive(Drop)]
 struct OpenNext {
     open: Arc<OpenPoll>,
+    beat: Arc<Beat>,
 }
 
 impl Park for OpenNext {
     fn is_parked(&self) -> bool {
+        self.beat.note_step();
         self.open.ticket().is_some()
     }
 }
@@ -218,6 +222,7 @@ impl<R: Machine, S: Identity + Drop, N: Clock + Drop, K: Keep> Attendant<R, S, N
         let front = self.front(&mut tools.sides, token, door, open)?;
         let parked = OpenNext {
             open: Arc::try_clone(open)?,
+            beat: Arc::try_clone(&self.common.beat)?,
         };
         let Newcomer {
             socket,
@@ -264,13 +269,21 @@ impl<
         let alloc = self.rt.alloc();
         let api = door.api();
         let hosts = Arc::try_clone(&self.common.hosts)?;
+        let rousing = self.rousing()?;
         let Ok(decider) = sides.of(alloc, door) else {
             return Err(AllocError);
         };
         match self.connection(decider, token, open) {
-            Ok(connection) => Ok(Front::new(alloc, api, hosts, connection)),
+            Ok(connection) => Ok(Front::new(alloc, api, hosts, rousing, connection)),
             Err(refused) => Err(refused),
         }
+    }
+
+    /// Returns what the front of a connection does before each request.
+    fn rousing(&self) -> Result<Rousing<R, N>, AllocError> {
+        let clock = Arc::try_clone(&self.common.clock)?;
+        let beat = Arc::try_clone(&self.common.beat)?;
+        Ok(Rousing::new(self.rt, clock, beat))
     }
 
     /// Returns what the exchanges of a connection share, with a token of its own.
@@ -309,8 +322,8 @@ impl<
         Arc::new(alloc, connection).map_err(AllocError::from)
     }
 
-    /// Withdraws the Next whose ticket is noted as open. If that is refused, the Next stays
-    /// pending.
+    /// Withdraws the Next whose ticket is noted as open, and notes that the last step of a connection
+    /// was made. If the Withdraw is refused, the Next stays pending.
     fn withdraw(&self, token: &mut Token<S>, open: &OpenPoll) {
         if let Some(ticket) = open.ticket() {
             let now = moment(&*self.common.clock);
@@ -321,5 +334,6 @@ impl<
                 .account
                 .submit(&self.rt, &mut tally, token, now, withdraw, None);
         }
+        self.common.beat.note_step();
     }
 }

@@ -3,24 +3,25 @@
 ghost use Rattle.std.specs.Prelude.{◌≡◌, IfOk};
 ghost use Rattle.std.specs.Arc.{arc_value};
 
+use crate::Alarm;
+use crate::beat::Beat;
 use account_lock::{Account, Identity};
 use lambda_wire::HeaderMaps;
 use long_poll::OneShotBell;
 use request_guard::Hosts;
 use std::alloc::{AllocError, Global};
 use std::sync::Arc;
-use std::sync::atomic::AtomicBool;
 
 /// What the threads of a host have in common: the account that is served, the clock, the hosts that
-/// are listed in addition to the local ones, the maps of the headers that most replies have, and
-/// whether the service is over.
+/// are listed in addition to the local ones, the maps of the headers that most replies have, and what
+/// they and the ticker tell each other.
 #[derive(Drop)]
 pub(crate) struct Common<S: Identity, N> {
     pub(crate) account: Arc<Account<S, OneShotBell>>,
     pub(crate) clock: Arc<N>,
     pub(crate) hosts: Arc<Hosts>,
     pub(crate) maps: Arc<HeaderMaps>,
-    pub(crate) is_over: Arc<AtomicBool>,
+    pub(crate) beat: Arc<Beat>,
 }
 
 /// Shares a value. It fails only if an allocation fails; the value is then dropped.
@@ -48,13 +49,13 @@ impl<S: Identity + Drop, N: Drop> Common<S, N> {
         let clock = shared(alloc, clock)?;
         let hosts = shared(alloc, hosts)?;
         let maps = shared(alloc, HeaderMaps::open(alloc)?)?;
-        let is_over = shared(alloc, AtomicBool::new(false))?;
+        let beat = shared(alloc, Beat::new(shared(alloc, Alarm::new())?))?;
         Ok(Common {
             account,
             clock,
             hosts,
             maps,
-            is_over,
+            beat,
         })
     }
 
@@ -67,13 +68,13 @@ impl<S: Identity + Drop, N: Drop> Common<S, N> {
         let clock = Arc::try_clone(&self.clock)?;
         let hosts = Arc::try_clone(&self.hosts)?;
         let maps = Arc::try_clone(&self.maps)?;
-        let is_over = Arc::try_clone(&self.is_over)?;
+        let beat = Arc::try_clone(&self.beat)?;
         Ok(Common {
             account,
             clock,
             hosts,
             maps,
-            is_over,
+            beat,
         })
     }
 }

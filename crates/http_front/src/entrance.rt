@@ -15,7 +15,7 @@ use crate::{HostFault, Port};
 use account_lock::Identity;
 use arn_ids::{Checked, Slot};
 use mio::net::TcpListener;
-use mio::{Events, Interest, Poll, Token};
+use mio::{Events, Interest, Poll, Token, Waker};
 use std::alloc::{AllocError, Global};
 use std::io;
 use std::net::{IpAddr, Ipv4Addr, Net, SocketAddr};
@@ -25,11 +25,16 @@ use std::time::Duration;
 /// The most events that one wait reports.
 const MOST_EVENTS: usize = 256;
 
+/// The token of the waker, which is no port's.
+const OF_WAKER: Token = Token(usize::MAX);
+
 /// The ports of a host: the account's, and one of each environment. The token of each is its index.
 #[derive(Drop)]
 pub(crate) struct Entrance<S: Identity> {
     pub(crate) poll: Poll,
     pub(crate) events: Events,
+    // What ends a wait for newcomers.
+    pub(crate) waker: Arc<Waker>,
     pub(crate) gates: Vec<Gate<S>>,
 }
 
@@ -122,9 +127,11 @@ impl<S: Identity> Entrance<S> {
         ensures fault { IfErr result IsOfMachine }
     {
         let poll = Poll::new(net).map_err(at_socket)?;
+        let waker = Waker::new(poll.registry(), OF_WAKER).map_err(at_socket)?;
         Ok(Entrance {
             poll,
             events: Events::with_capacity(alloc, MOST_EVENTS)?,
+            waker: Arc::new(alloc, waker).map_err(AllocError::from)?,
             gates: Vec::new(alloc),
         })
     }
@@ -153,12 +160,12 @@ impl<S: Identity> Entrance<S> {
         Ok(())
     }
 
-    /// Waits until newcomers wait at a port, for at most `round` milliseconds.
+    /// Waits until newcomers wait at a port or the waker is used, for at most `round` if there is a
+    /// limit.
     ///
     /// # Errors
     /// `Network` if the ports fail.
-    pub(crate) fn wait(&mut self, round: u64) -> Result<(), HostFault> {
-        let round = Some(Duration::from_millis(round));
+    pub(crate) fn wait(&mut self, round: Option<Duration>) -> Result<(), HostFault> {
         if let Err(fault) = self.poll.poll(&mut self.events, round)
             && fault.kind() != io::ErrorKind::Interrupted
         {

@@ -4,8 +4,8 @@ ghost use Rattle.std.specs.Prelude.{◌≡◌, IfSome};
 ghost use Rattle.http_front.specs.Courses.{IsExchangeOf, Takes};
 ghost use Rattle.long_poll.specs.Lengths as lengths;
 
-use crate::ResponseFault;
 use crate::responding::Responding;
+use crate::{ResponseFault, Rousing};
 use bytes::Bytes;
 use decisions::Decide;
 use http::request::Parts;
@@ -30,6 +30,7 @@ pub struct Front<R, S: Service<K, L>, D: Decide, N, K: Keep, L: Ledgers> {
     alloc: Global,
     api: Api,
     hosts: Arc<Hosts>,
+    rousing: Rousing<R, N>,
     pub(crate) connection: Arc<Connection<R, S, D, N, K, L>>,
 }
 
@@ -47,6 +48,7 @@ impl<
         alloc: Global,
         api: Api,
         hosts: Arc<Hosts>,
+        rousing: Rousing<R, N>,
         connection: Arc<Connection<R, S, D, N, K, L>>,
     ) -> Front<R, S, D, N, K, L>
         ensures connection { result.connection ≡ connection }
@@ -56,6 +58,7 @@ impl<
             alloc,
             api,
             hosts,
+            rousing,
             connection,
         }
     }
@@ -93,6 +96,7 @@ impl<
         ensures takes { Takes self.now parts body result }
         ensures begins { IfSome result.exchange (λ exchange. IsExchangeOf self.now parts body exchange.value) }
     {
+        self.rousing.prepare(parts.uri.path());
         let is_unread = declares_too_long(&parts);
         if let Some(refusal) = self.hosts.refusal(&parts) {
             return Responding::refused(self.alloc, self.api, is_unread, refusal);

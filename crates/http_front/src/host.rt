@@ -10,7 +10,7 @@ ghost use Rattle.http_front.specs.declared.host_fault.HostFault.TheVariants.{Con
 use crate::entrance::Entrance;
 use crate::reception::Reception;
 use crate::ticker::Ticker;
-use crate::{HostFault, Notices, Plan};
+use crate::{Alarm, HostFault, Notices, Plan};
 use account_lock::{Account, Identity};
 use arn_ids::Checked;
 use http_connection::{EventLoop, Machine};
@@ -144,7 +144,8 @@ impl<
             return Err(HostFault::OutOfMemory);
         };
         let notices = Arc::new(rt.alloc(), notices).map_err(AllocError::from)?;
-        let Ok(ticker) = reception.ticker(Arc::try_clone(&notices)?) else {
+        let waker = Arc::try_clone(&entrance.waker)?;
+        let Ok(ticker) = reception.ticker(Arc::try_clone(&notices)?, waker) else {
             return Err(HostFault::OutOfMemory);
         };
         if !has_room_for_one(&rt) {
@@ -162,6 +163,12 @@ impl<
     /// allocation fails.
     pub fn notices(&self) -> Result<Arc<Notices>, AllocError> {
         Arc::try_clone(&self.notices)
+    }
+
+    /// Returns what wakes the ticker. While no step is made, it rests until its clock reads what is
+    /// due: so a clock that jumps has to wake it. It fails only if an allocation fails.
+    pub fn alarm(&self) -> Result<Arc<Alarm>, AllocError> {
+        self.ticker.alarm()
     }
 
     /// Serves until the service has come to its end: after a Stop, once every environment is off,

@@ -6,7 +6,9 @@
 #![tactic(auto)]
 
 mod admission;
+mod alarm;
 mod attendant;
+mod beat;
 mod common;
 mod door;
 mod entrance;
@@ -20,9 +22,11 @@ mod reception;
 mod responding;
 mod response;
 mod response_fault;
+mod rousing;
 mod sides;
 mod ticker;
 
+pub use alarm::Alarm;
 pub use front::Front;
 pub use host::{Host, Hosted};
 pub use host_fault::HostFault;
@@ -33,3 +37,4 @@ pub use plan::Plan;
 pub use request_guard::{Api, Hosts, Refusal};
 pub use responding::Responding;
 pub use response_fault::ResponseFault;
+pub use rousing::Rousing;

@@ -3,6 +3,7 @@
 ghost use Rattle.std.specs.Prelude.{◌≡◌};
 ghost use Rattle.http_front.specs.Notices.{room_left};
 
+use crate::Alarm;
 use std::sync::atomic::AtomicU64;
 use std::sync::atomic::Ordering::SeqCst;
 
@@ -38,6 +39,8 @@ pub struct Notices {
     most: u64,
     step: u32,
     entries: AtomicU64,
+    /// Rings when the room has changed.
+    pub alarm: Alarm,
 }
 
 impl Notices {
@@ -48,15 +51,21 @@ impl Notices {
             most,
             step,
             entries: AtomicU64::new(0),
+            alarm: Alarm::new(),
         }
     }
 
-    /// Notes how many entries there are.
+    /// Notes how many entries there are. Rings if the room has changed.
     pub(crate) fn note(&self, entries: u64) {
+        let before = self.room();
         self.entries.store(entries, SeqCst);
+        if self.room() > before {
+            self.alarm.ring();
+        }
     }
 
-    /// Returns the room that the journal had at the last check, up to 50 milliseconds ago.
+    /// Returns the room that the journal had at the last check. If a step was made meanwhile, that
+    /// was up to 50 milliseconds ago.
     pub fn room(&self) -> Room {
         room_left(self.entries.load(SeqCst), self.most, self.step)
     }

@@ -14,18 +14,14 @@ use account_lock::{Account, Identity};
 use connection_places::{PortOwner, Slots};
 use http_connection::Machine;
 use long_poll::{Clock, OneShotBell};
-use mio::Poll;
+use mio::{Poll, Waker};
 use request_guard::Hosts;
 use std::alloc::AllocError;
-use std::sync::atomic::Ordering::SeqCst;
 use std::sync::{Arc, Wait};
 use std::thread::Threads;
 use std::time::Duration;
 use std::{io, thread, time};
 use usage_ledger::{Keep, Tally};
-
-/// The longest wait for newcomers, in milliseconds: how often the end of the service is checked.
-const ROUND: u64 = 50;
 
 /// How many milliseconds pass between two attempts.
 const PAUSE: u64 = 1;
@@ -40,12 +36,9 @@ const LOOKS_FOR_ROOM: u32 = 250;
 /// How many seconds pass between two checks of the connections' time limits.
 const BETWEEN_ROUNDS: u64 = 1;
 
-/// How many times it is checked whether all connections have ended softly. With the pauses between,
-/// that takes half a second.
-const LOOKS: u32 = 100;
-
-/// How many milliseconds pass between two of these checks.
-const BETWEEN_LOOKS: u64 = 5;
+/// How many times, a pause apart, it is checked whether all connections have ended softly: that takes
+/// half a second.
+const LOOKS: u32 = 500;
 
 /// Returns whether accepting failed because of the newcomer itself, which has left again or was
 /// closed for want of memory, or because the call was interrupted: other newcomers may still wait.
@@ -139,7 +132,11 @@ impl<R: Wait + Threads + time::Clock + Copy + Drop, S: Identity + Drop, N: Drop,
 > {
     /// Makes the ticker of the same account, with a tally of its own. It fails only if an
     /// allocation fails.
-    pub(crate) fn ticker(&mut self, notices: Arc<Notices>) -> Result<Ticker<R, S, N, K>, AllocError>
+    pub(crate) fn ticker(
+        &mut self,
+        notices: Arc<Notices>,
+        waker: Arc<Waker>,
+    ) -> Result<Ticker<R, S, N, K>, AllocError>
         requires { 2 ≤ self.old.root.held.parts }
     {
         match self.common.share() {
@@ -147,6 +144,7 @@ impl<R: Wait + Threads + time::Clock + Copy + Drop, S: Identity + Drop, N: Drop,
                 rt: self.rt,
                 common,
                 notices,
+                waker,
                 tally: self.root.split(),
             }),
             Err(refused) => Err(refused),
@@ -229,6 +227,19 @@ impl<R: Wait + Threads + time::Clock + Copy + Drop, S: Identity + Drop, N: Drop,
         }
     }
 
+    /// Returns how long to wait for newcomers: until the connections' time limits are checked again;
+    /// `None` if there is neither a connection nor a thread that waits for one.
+    fn round(&self) -> Option<Duration> {
+        if self.slots.is_vacant() {
+            return None;
+        }
+        let between = Duration::from_secs(BETWEEN_ROUNDS);
+        match self.rt.monotonic() {
+            Ok(now) => Some(between.saturating_sub(now.saturating_sub(self.looked))),
+            Err(_fault) => Some(between),
+        }
+    }
+
     /// Ends every connection: softly those that are idle or have been answered, and half a second
     /// later the others at once.
     fn end_connections(&mut self) {
@@ -238,7 +249,7 @@ impl<R: Wait + Threads + time::Clock + Copy + Drop, S: Identity + Drop, N: Drop,
             if self.slots.is_idle() {
                 return;
             }
-            thread::sleep(&self.rt, Duration::from_millis(BETWEEN_LOOKS));
+            thread::sleep(&self.rt, Duration::from_millis(PAUSE));
         }
         self.slots.tell(true);
         let rt = self.rt;
@@ -253,7 +264,7 @@ impl<R: Wait + Threads + time::Clock + Copy + Drop, S: Identity + Drop, N: Drop,
 
     /// Notes that the service is over, ends every connection, and joins all threads.
     pub(crate) fn finish(&mut self) {
-        self.common.is_over.store(true, SeqCst);
+        self.common.beat.end();
         self.slots.dismiss(&self.rt);
         self.end_connections();
         self.slots.join_all(&self.rt);
@@ -367,10 +378,15 @@ impl<
         let rt = self.rt;
         let mut more = false;
         for _ in rt.forever() {
-            if self.common.is_over.load(SeqCst) {
+            if self.common.beat.is_over() {
                 return Ok(());
             }
-            if let Err(fault) = entrance.wait(if more { 0 } else { ROUND }) {
+            let round = if more {
+                Some(Duration::ZERO)
+            } else {
+                self.round()
+            };
+            if let Err(fault) = entrance.wait(round) {
                 return Err(fault);
             }
             self.slots.reap(&rt);

@@ -1,16 +1,17 @@
 //! The thread that lets time pass in the account.
 
-use crate::Notices;
+use crate::beat::Beat;
 use crate::common::Common;
+use crate::rousing::MOST_LAG;
+use crate::{Alarm, Notices};
 use account_book::{Life, Refusal};
 use account_lock::{Account, Identity};
 use arn_ids::GREATEST_MOMENT;
 use call_model::Call;
 use http_connection::Machine;
 use long_poll::{Clock, OneShotBell, moment};
+use mio::Waker;
 use std::alloc::AllocError;
-use std::sync::atomic::AtomicBool;
-use std::sync::atomic::Ordering::SeqCst;
 use std::sync::{Arc, Wait};
 use std::thread::JoinHandle;
 use std::time::Duration;
@@ -20,8 +21,8 @@ use usage_ledger::{Keep, Tally, Token};
 /// How many milliseconds pass between two checks for something due.
 const BEAT: u64 = 50;
 
-/// The greatest lag behind the time of day, in milliseconds, at which the clock is not set forward.
-const MOST_LAG: u64 = 1_000;
+/// How often a rest may be twice as long as a beat: up to an hour and 49 minutes.
+const DOUBLINGS: u32 = 17;
 
 /// For how many beats in a row a tick may be refused after a Stop because an allocation fails,
 /// before the service ends without it: ten seconds.
@@ -88,6 +89,46 @@ fn has_ended(life: Life, refused: u32) -> bool {
     }
 }
 
+/// Returns for how many milliseconds nothing is due if no step is made: a beat, or some doublings of
+/// it, half of the time until something is due or more.
+fn quiet_time<S: Identity>(
+    rt: &impl Wait,
+    account: &Account<S, OneShotBell>,
+    token: &mut Token<S>,
+    now: u64,
+) -> u64 {
+    let mut quiet = BEAT;
+    for _ in 0..DOUBLINGS {
+        let longer = quiet.saturating_mul(2);
+        if account.due(rt, token, now.saturating_add(longer).min(GREATEST_MOMENT)) {
+            break;
+        }
+        quiet = longer;
+    }
+    quiet
+}
+
+/// Sleeps until the next look. If no step was made since the last one, after which there were
+/// `entries`, that is shortly before something is due, or after the next step; otherwise it is a
+/// beat. It is at once if the ticker was woken since it was woken `woken` times.
+fn rest<S: Identity, N: Clock>(
+    rt: &impl Wait,
+    account: &Account<S, OneShotBell>,
+    clock: &N,
+    token: &mut Token<S>,
+    beat: &Beat,
+    woken: u64,
+    entries: u64,
+) {
+    beat.begin_rest();
+    let quiet = if account.stats(rt, token).entries == entries {
+        quiet_time(rt, account, token, moment(clock))
+    } else {
+        BEAT
+    };
+    beat.sleep(rt, woken, Duration::from_millis(quiet));
+}
+
 /// Ticks until the service has come to its end, and then notes that, or until another thread notes
 /// it. Also notes how many entries there are. Returns the tally.
 fn tick_on<R: Wait + time::Clock, S: Identity, N: Clock, K: Keep>(
@@ -96,22 +137,31 @@ fn tick_on<R: Wait + time::Clock, S: Identity, N: Clock, K: Keep>(
     clock: &N,
     notices: &Notices,
     tally: Tally<K, S>,
-    is_over: &AtomicBool,
+    beat: &Beat,
 ) -> Tally<K, S> {
     let mut tally = tally;
     let mut token = account.token(rt);
     let mut refused = 0;
+    let mut before = 0;
     for _ in rt.forever() {
+        let woken = beat.count();
         catch_up(rt, account, clock, &mut tally, &mut token);
         refused = refused_after(refused, tick(rt, account, clock, &mut tally, &mut token));
-        notices.note(account.stats(rt, &mut token).entries);
+        let entries = account.stats(rt, &mut token).entries;
+        notices.note(entries);
         if has_ended(account.life(rt, &mut token), refused) {
-            is_over.store(true, SeqCst);
+            beat.end();
         }
-        if is_over.load(SeqCst) {
+        beat.note_look();
+        if beat.is_over() {
             return tally;
         }
-        thread::sleep(rt, Duration::from_millis(BEAT));
+        if entries == before && refused == 0 {
+            rest(rt, account, clock, &mut token, beat, woken, entries);
+        } else {
+            beat.sleep(rt, woken, Duration::from_millis(BEAT));
+        }
+        before = entries;
     }
     unreachable!()
 }
@@ -123,6 +173,8 @@ pub(crate) struct Ticker<R, S: Identity, N, K: Keep> {
     pub(crate) rt: R,
     pub(crate) common: Common<S, N>,
     pub(crate) notices: Arc<Notices>,
+    // Ends the wait for newcomers.
+    pub(crate) waker: Arc<Waker>,
     pub(crate) tally: Tally<K, S>,
 }
 
@@ -132,22 +184,31 @@ impl<
     N: Clock + Drop + Send + Sync + 'static,
     K: Keep + Send + 'static,
 > Ticker<R, S, N, K> {
-    /// Ticks until the service is over.
+    /// Ticks until the service is over, and then ends the wait for newcomers.
     fn run(self) -> Tally<K, S> {
         let Ticker {
             rt,
             common,
             notices,
+            waker,
             tally,
         } = self;
-        tick_on(
+        let tally = tick_on(
             &rt,
             &*common.account,
             &*common.clock,
             &notices,
             tally,
-            &common.is_over,
-        )
+            &common.beat,
+        );
+        // (If the descriptor fails, the next newcomer or the next round ends the wait.)
+        let _ = waker.wake();
+        tally
+    }
+
+    /// Returns what wakes the ticker.
+    pub(crate) fn alarm(&self) -> Result<Arc<Alarm>, AllocError> {
+        Arc::try_clone(&self.common.beat.alarm)
     }
 
     /// Starts the thread. If no thread can be started, the tally is dropped.

@@ -1,6 +1,6 @@
 //! The log of a service, on a thread of its own.
 
-use http_front::{Machine, Notices, Room};
+use http_front::{Alarm, Machine, Notices, Room};
 use log::{Log, info, warn};
 use std::alloc::AllocError;
 use std::sync::atomic::AtomicBool;
@@ -9,22 +9,20 @@ use std::sync::{Arc, Wait};
 use std::thread::{self, JoinHandle};
 use std::time::{self, Duration};
 
-/// How many milliseconds pass between two checks for something to say.
-const BEAT: u64 = 20;
+/// How many seconds the log's thread sleeps at most if there is nothing to say.
+const REST: u64 = 3_600;
 
-/// How many times it is checked whether the last line was written, and how many milliseconds pass
-/// between two checks: a second in all.
-const LOOKS: u32 = 200;
-
-const BETWEEN_LOOKS: u64 = 5;
+/// How many seconds the service waits for the last line.
+const PATIENCE: u64 = 1;
 
 /// The notes that the service and its log's thread leave for each other.
 #[derive(Drop)]
 struct Progress {
     // Whether the service is over.
     is_over: AtomicBool,
-    // Whether the last line was written.
+    // Whether the last line was written, and what then rings.
     has_ended: AtomicBool,
+    ended: Alarm,
 }
 
 /// Logs how much room the journal has left.
@@ -43,6 +41,7 @@ fn write<R: Log + Wait + time::Clock>(rt: &R, notices: &Notices, progress: &Prog
     info!(rt; "listening");
     let mut said = Room::Ample;
     for _ in rt.forever() {
+        let seen = notices.alarm.count();
         let room = notices.room();
         if room > said {
             said = room;
@@ -51,9 +50,10 @@ fn write<R: Log + Wait + time::Clock>(rt: &R, notices: &Notices, progress: &Prog
         if progress.is_over.load(SeqCst) {
             info!(rt; "stopped");
             progress.has_ended.store(true, SeqCst);
+            progress.ended.ring();
             return;
         }
-        thread::sleep(rt, Duration::from_millis(BEAT));
+        notices.alarm.sleep(rt, seen, Duration::from_secs(REST));
     }
     unreachable!()
 }
@@ -63,6 +63,7 @@ fn write<R: Log + Wait + time::Clock>(rt: &R, notices: &Notices, progress: &Prog
 /// second at most.
 #[derive(Drop)]
 pub struct LogWriter {
+    notices: Arc<Notices>,
     progress: Arc<Progress>,
     thread: JoinHandle<()>,
 }
@@ -76,24 +77,37 @@ impl LogWriter {
         let progress = Progress {
             is_over: AtomicBool::new(false),
             has_ended: AtomicBool::new(false),
+            ended: Alarm::new(),
         };
         let progress = Arc::new(rt.alloc(), progress).map_err(AllocError::from)?;
         let told = Arc::try_clone(&progress)?;
-        let thread = thread::spawn(&rt, move || write(&rt, &notices, &told))?;
-        Ok(LogWriter { progress, thread })
+        let read = Arc::try_clone(&notices)?;
+        let thread = thread::spawn(&rt, move || write(&rt, &read, &told))?;
+        Ok(LogWriter {
+            notices,
+            progress,
+            thread,
+        })
     }
 
     /// Lets the thread log that the service has stopped, and waits until it has, for up to a
     /// second: its output may not be read.
     pub fn finish<R: Machine>(self, rt: &R) {
-        let LogWriter { progress, thread } = self;
+        let LogWriter {
+            notices,
+            progress,
+            thread,
+        } = self;
+        let seen = progress.ended.count();
         progress.is_over.store(true, SeqCst);
-        for _ in 0..LOOKS {
-            if progress.has_ended.load(SeqCst) {
-                thread.join(rt);
-                return;
-            }
-            thread::sleep(rt, Duration::from_millis(BETWEEN_LOOKS));
+        notices.alarm.ring();
+        if !progress.has_ended.load(SeqCst) {
+            progress
+                .ended
+                .sleep(rt, seen, Duration::from_secs(PATIENCE));
+        }
+        if progress.has_ended.load(SeqCst) {
+            thread.join(rt);
         }
     }
 }

@@ -14,10 +14,12 @@ pub(crate) struct Ready {
 }
 
 impl Ready {
-    /// What is known of a new socket: it may be written to, and an event says when bytes have come.
+    /// What is known of a new socket: it may be written to, and read: a peer that connects has mostly
+    /// sent its request by the time that its socket is watched, and a read that finds nothing costs no
+    /// more than a wait for an event.
     pub(crate) fn new() -> Ready {
         Ready {
-            read: Cell::new(false),
+            read: Cell::new(true),
             write: Cell::new(true),
             is_ended: Cell::new(false),
         }

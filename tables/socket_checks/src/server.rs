@@ -6,16 +6,16 @@ ghost use Rattle.std.specs.Arc.{arc_value};
 use account_lock::{Account, Identity, SettleFault};
 use call_model::Stats;
 use case_tables::{CaseFault, Part};
-use http_front::{Host, HostFault, Hosted, Machine, Plan};
+use http_front::{Alarm, Host, HostFault, Hosted, Machine, Plan};
 use lambda_wire::read_config;
 use long_poll::{Clock, OneShotBell};
 use request_guard::Hosts;
 use socket_peers::{Progress, number};
 use std::alloc::{AllocError, Global};
 use std::marker::Brand;
-use std::sync::Arc;
 use std::sync::atomic::Ordering::SeqCst;
 use std::sync::atomic::{AtomicBool, AtomicU64};
+use std::sync::{Arc, Mutex, Wait};
 use std::thread;
 use std::thread::JoinHandle;
 use usage_ledger::{Blanks, Keep, KeepAll, Ledgers, Tally};
@@ -48,6 +48,8 @@ impl Clock for SetClock {
 pub struct Board {
     pub moment: AtomicU64,
     pub day: AtomicU64,
+    // What wakes the service's ticker, once it listens.
+    alarm: Mutex<Option<Arc<Alarm>>>,
     listens: AtomicBool,
     has_ended: AtomicBool,
 }
@@ -58,10 +60,18 @@ impl Board {
         let board = Board {
             moment: AtomicU64::new(moment),
             day: AtomicU64::new(0),
+            alarm: Mutex::new(None),
             listens: AtomicBool::new(false),
             has_ended: AtomicBool::new(false),
         };
         Ok(Arc::new(alloc, board)?)
+    }
+
+    /// Wakes the service's ticker, which rests until its clock reads what is due.
+    pub fn wake(&self, rt: &impl Wait) {
+        if let Some(alarm) = &*self.alarm.lock(rt) {
+            alarm.ring();
+        }
     }
 }
 
@@ -209,6 +219,7 @@ fn run<R: Machine, S: Identity + Drop + Send + Sync + 'static>(
     );
     match opened {
         Ok(host) => {
+            *board.alarm.lock(&rt) = Some(host.alarm()?);
             board.listens.store(true, SeqCst);
             run_host(&rt, host, terms.holds_back)
         }

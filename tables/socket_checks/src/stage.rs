@@ -119,6 +119,7 @@ impl<R: Machine> Stage<R> {
         self.moment = u64::from(number(part, part.arguments())?);
         if let Some(server) = &self.server {
             server.board.moment.store(self.moment, SeqCst);
+            server.board.wake(&self.rt);
         }
         Ok(Progress::On)
     }
@@ -128,6 +129,7 @@ impl<R: Machine> Stage<R> {
         let day = u64::from(number(part, part.arguments())?);
         if let Some(server) = &self.server {
             server.board.day.store(day, SeqCst);
+            server.board.wake(&self.rt);
         }
         Ok(Progress::On)
     }
