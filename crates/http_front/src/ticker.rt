@@ -178,12 +178,7 @@ pub(crate) struct Ticker<R, S: Identity, N, K: Keep> {
     pub(crate) tally: Tally<K, S>,
 }
 
-impl<
-    R: Machine,
-    S: Identity + Drop + Send + Sync + 'static,
-    N: Clock + Drop + Send + Sync + 'static,
-    K: Keep + Send + 'static,
-> Ticker<R, S, N, K> {
+impl<R: Machine, S: Identity + Drop, N: Clock + Drop, K: Keep> Ticker<R, S, N, K> {
     /// Ticks until the service is over, and then ends the wait for newcomers.
     fn run(self) -> Tally<K, S> {
         let Ticker {
@@ -210,7 +205,14 @@ impl<
     pub(crate) fn alarm(&self) -> Result<Arc<Alarm>, AllocError> {
         Arc::try_clone(&self.common.beat.alarm)
     }
+}
 
+impl<
+    R: Machine,
+    S: Identity + Drop + Send + Sync + 'static,
+    N: Clock + Drop + Send + Sync + 'static,
+    K: Keep + Send + 'static,
+> Ticker<R, S, N, K> {
     /// Starts the thread. If no thread can be started, the tally is dropped.
     pub(crate) fn start(self) -> Result<JoinHandle<Tally<K, S>>, AllocError> {
         let rt = self.rt;
