@@ -39,8 +39,9 @@ Tag: {TAG}
 
 
 def without_links(readme):
-    """A page's links lead to files of the repository, and an index of packages has none of them: their names stay."""
-    return re.sub(r"!?\[([^\]]+)\]\((?!\w+:)([^)#\s]+)(?:#[^)\s]*)?\)",
+    """A page's links lead to files of the repository, or to its own headings, and an index of packages has neither:
+    their names stay."""
+    return re.sub(r"!?\[([^\]]+)\]\((?!\w+:)([^)#\s]*)(?:#[^)\s]*)?\)",
                   lambda link: link[1] if link[2] in link[1] else f"{link[1]} (`{link[2]}`)", readme)
 
 
