@@ -294,7 +294,9 @@ def reruns():
             file.write(recorded_history())
         check("the same functions", run("--ignore", "/parts/*/id", history, up_json(folder, "old")),
               (0, ["3 invocations: 3 equal"], ""))
+        os.chmod(history, 0o600)
         seen = run("--ignore", "/parts/*/id", "--junit", report_file, "--update", history, up_json(folder, "new"))
+        check("an updated history stays its user's alone", os.stat(history).st_mode & 0o777, 0o600)
         check("changed functions", (seen[0], [line.partition(":")[0] for line in seen[1]], seen[2]),
               (1, ["changed", "  its event", "failed now", "  its event", "failed then", "  its event",
                    "3 invocations"], ""))

@@ -110,7 +110,7 @@ def worked():
     drawn = 0
     with tempfile.TemporaryDirectory() as folder:
         wanted = os.path.join(folder, "answers")
-        for path in sorted(glob.glob(os.path.join(ROOT, "crates", "checks", "data", "scripts", "*.txt"))):
+        for path in sorted(glob.glob(os.path.join(ROOT, "tables", "checks", "data", "scripts", "*.txt"))):
             for case in re.split(r"^== ", open(path).read(), flags=re.M)[1:]:
                 name, *rest = re.split(r"^-- (.*)\n", case, flags=re.M)
                 *parts, (_, answers) = zip(rest[::2], rest[1::2])

@@ -14,6 +14,7 @@ Each invocation is equal; changed, with what differs by JSON pointer; failed now
 Exit statuses: 0, all are equal; 1, something differs; 2, a fault in the arguments or the files, or the functions could
 not be run to the end; 4, there is no program to start."""
 import os
+import stat
 import sys
 import tempfile
 
@@ -47,11 +48,12 @@ def options_of():
 
 
 def write(path, text):
-    """Writes a file whole or not at all."""
+    """Writes a file whole or not at all; it stays as private as the one in whose place it comes."""
     try:
+        mode = stat.S_IMODE(os.stat(path).st_mode)
         with tempfile.NamedTemporaryFile("w", dir=os.path.dirname(os.path.abspath(path)), delete=False) as file:
             file.write(text)
-        os.chmod(file.name, 0o644)
+        os.chmod(file.name, mode)
         os.replace(file.name, path)
     except OSError as fault:
         raise Fault(2, f"--update: {path}: {fault.strerror}") from None
