@@ -306,7 +306,8 @@ def wrong_templates():
                time.monotonic() - begun < 60), (2, True, True))
         made, said = made_of("a: " + "[" * 200 + "]" * 200 + "\n")
         check("200 levels are refused", (made, "template.yaml: it is nested too deep" in said), (2, True))
-        made, said = made_of('Resources:\n  "A\\e[2J": {Type: AWS::Serverless::Function, Properties: {Runtime: x}}\n')
+        properties = '{Runtime: x, "A\\e[2J": 1}'
+        made, said = made_of(f"Resources:\n  F: {{Type: AWS::Serverless::Function, Properties: {properties}}}\n")
         check("a name reaches no terminal", ("\x1b" in said, "A\\x1b[2J" in said), (False, True))
     done = subprocess.run([FROM_TEMPLATE, "/no/such/file"], stderr=subprocess.PIPE, text=True)
     check("no file", (done.returncode, done.stderr),
