@@ -220,6 +220,21 @@ def of_variables(root, page, text):
         yield f"not listed {sorted(read - listed)}, not read {sorted(listed - read)}"
 
 
+def of_decisions(root, page, text):
+    if len(text.split()) > 2500:
+        yield f"has {len(text.split())} words, and 2,500 are the most: ways tried and dropped go into bodies of commits"
+
+
+def of_first_names(root, page, text):
+    """What stands for a name of the specification is in the sources."""
+    sources = "\n".join(sources_of(root, it) for it in uses(root)) + "\n".join([*uses(root), *outside(root)])
+    for line in text.splitlines():
+        for span in re.findall(r"`([^`/]+)`", line.split("|")[2]) if line.startswith("| ") else ():
+            for word in re.findall(r"[A-Za-z_]\w*", span):
+                if not re.search(rf"\b{word}\b", sources):
+                    yield f"no crate has {word}"
+
+
 def figures(root, page, text):
     if page != "README.md" and "PENDING" in text:
         yield "a figure is missing"
@@ -229,4 +244,5 @@ def figures(root, page, text):
 
 OF_EACH = (links, files, options, names, numbers, kit, figures)
 OF_ONE = {"README.md": of_readme, "docs/formats.md": of_formats, "docs/proofs.md": of_proofs,
-          "docs/checks.md": of_checks, "docs/architecture.md": of_architecture, "docs/variables.md": of_variables}
+          "docs/checks.md": of_checks, "docs/architecture.md": of_architecture, "docs/variables.md": of_variables,
+          "docs/DECISIONS.md": of_decisions, "docs/first_names.md": of_first_names}
