@@ -1,8 +1,8 @@
 #!/usr/bin/env python3
 """Gives each reader of the tools bytes that nobody would write: UP.json, reports of failures, histories and scripts,
-templates, results of events and what functions print. A reader may refuse by its own fault, in words; nothing else may
-be raised, no line may have a control character, and none may take long. A part that a failure is minimised to is kept
-in tests/tools/fuzz.cases, and tried first from then on.
+templates, results of events, what functions print, and HTTP (tests/library/http_fuzz.py). A reader may refuse by its
+own fault, in words; nothing else may be raised, no line may have a control character, and none may take long. What a
+failure is minimised to is kept in tests/tools/fuzz.cases with its seed, and tried first from then on.
 
 usage: tests/tools/fuzz.py [--hours N] [--seed N] [PART ..]
   --hours N  go on for so long (a minute); --seed N  begin with this seed (printed; the days since 1970)
@@ -21,12 +21,13 @@ import time
 ROOT = os.path.dirname(os.path.dirname(os.path.dirname(os.path.realpath(__file__))))
 sys.path[:0] = [os.path.join(ROOT, "tools"), os.path.join(ROOT, "tests", "library")]
 import counted  # noqa: E402
+import http_fuzz  # noqa: E402
 from counted import check  # noqa: E402
 from lambda_local import from_template, history, outgoing  # noqa: E402
 from lambda_local.configuration import explained, mistakes  # noqa: E402
 from lambda_local.from_template import command as template_command  # noqa: E402
 from lambda_local.from_template.telling import Fault as TemplateFault  # noqa: E402
-from lambda_local.front.events import read as read_result  # noqa: E402
+from lambda_local.front.events import in_json  # noqa: E402
 from lambda_local.front.payload import Unmappable, reply_of  # noqa: E402
 from lambda_local.json_reader import NotJson, read_json  # noqa: E402
 from lambda_local.life import Life  # noqa: E402
@@ -120,7 +121,7 @@ def of_templates(data):
 
 def of_results(data):
     """What a function gives for an HTTP request, and what is recorded of an event."""
-    json.dumps(read_result(data))
+    read_json(in_json(data), deepest=10 ** 9)
     with contextlib.suppress(Unmappable):
         reply_of(data)
 
@@ -145,9 +146,6 @@ def written(name, data):
     return path
 
 
-PARTS = {"up": (of_up, UP), "reports": (of_reports, REPORT), "histories": (of_histories, HISTORY),
-         "templates": (of_templates, TEMPLATE), "results": (of_results, RESULT),
-         "output": (of_output, b"a\r\n\x1b[1mb")}
 assert from_template.main
 
 
@@ -171,10 +169,10 @@ WORDS = [b"\0", b"\r\n", b"\n", b"\x1b[2J", b'"\\ud83d"', b"\xff", b"\xc2\x9b", 
          b"[", b"]", b",", b":", b'"']
 
 
-def mutated(original):
+def mutated(original, words=tuple(WORDS)):
     """The original with some of its bytes left out, doubled, or replaced by words that readers stumble over."""
     change = some.tuples(some.integers(0, len(original)), some.integers(0, 30),
-                         some.one_of(some.sampled_from(WORDS), some.binary(max_size=6)))
+                         some.one_of(some.sampled_from(words), some.binary(max_size=6)))
 
     def applied(changes):
         data = original
@@ -219,15 +217,25 @@ def paths_of(whole, path=()):
 
 
 def inputs_of(original):
+    """What a reader of such bytes is given; None without hypothesis."""
+    if some is None:
+        return None
     kinds = [mutated(original), some.binary(max_size=200)]
     if original.startswith(b"{"):
         kinds += [replaced(original), replaced(original)]
     return some.one_of(kinds)
 
 
+# Each part's reader, what it reads that is right, and what it is given.
+PARTS = {name: (reader, original, inputs_of(original)) for name, reader, original in (
+    ("up", of_up, UP), ("reports", of_reports, REPORT), ("histories", of_histories, HISTORY),
+    ("templates", of_templates, TEMPLATE), ("results", of_results, RESULT), ("output", of_output, b"a\r\n\x1b[1mb"))}
+PARTS.update(http_fuzz.parts(some, mutated))
+
+
 def fuzz(name, end, first_seed):
     """Runs rounds with one seed after the other until the time is over. The number of inputs."""
-    reader, original = PARTS[name]
+    reader, _, inputs = PARTS[name]
     tried, number = 0, first_seed
     while time.monotonic() < end:
         seen = []
@@ -235,7 +243,7 @@ def fuzz(name, end, first_seed):
         @seed(number)
         @settings(max_examples=100, deadline=None, database=None, suppress_health_check=list(HealthCheck),
                   phases=(Phase.generate, Phase.shrink), print_blob=False)
-        @given(inputs_of(original))
+        @given(inputs)
         def round_of_inputs(data):
             nonlocal tried
             if time.monotonic() > (end + SHRINKING if seen else end):
@@ -250,7 +258,7 @@ def fuzz(name, end, first_seed):
             if not seen:
                 raise
             data, fault = min(seen, key=lambda one: len(one[0]))
-            keep(name, data)
+            keep(name, data, f"seed {number}: {fault}")
             check(f"{name}, seed {number}: {data[:200]!r}", fault, "")
             return tried
         number += 1
@@ -267,14 +275,14 @@ def kept():
         with open(CASES, encoding="ascii") as file:
             for line in file:
                 if not line.startswith("#") and line.strip():
-                    name, data = line.split()
+                    name, data = line.split()[:2]
                     yield name, base64.b64decode(data)
 
 
-def keep(name, data):
+def keep(name, data, why):
     if (name, data) not in list(kept()):
         with open(CASES, "a", encoding="ascii") as file:
-            file.write(f"{name} {base64.b64encode(data).decode()}\n")
+            file.write(f"{name} {base64.b64encode(data).decode()}  {ascii(why)[1:100]}\n")
 
 
 def cases(names):
@@ -299,7 +307,7 @@ def main():
     chosen = arguments()
     names = chosen.parts or list(PARTS)
     for name in names:
-        check(f"{name}: what is right is read", fault_of(*PARTS[name]), "")
+        check(f"{name}: what is right is read", fault_of(*PARTS[name][:2]), "")
     cases(names)
     if some is None:
         print("hypothesis is not here (Debian: apt-get install python3-hypothesis): only the kept cases are tried")

@@ -21,6 +21,7 @@ sys.path[:0] = [os.path.join(ROOT, "tools"), os.path.join(ROOT, "tests", "librar
 import counted  # noqa: E402
 from counted import check  # noqa: E402
 from events_kit import READY, READY_SECONDS, behind  # noqa: E402
+from h11_beside import compared  # noqa: E402
 from http_mutants import BROKEN, TAKEN, answers_to, messages_of, mutants, outcome_of, own_outcome  # noqa: E402
 from lambda_local.front.origins import refusal_of  # noqa: E402
 from lambda_local.http1 import (NEED_DATA, CutShort, Data, Malformed, Request, RequestReader, Response,  # noqa: E402
@@ -75,7 +76,7 @@ class Serving:
                        "functions": [{"name": "f", "ports": [port]}]}, file)
         program = os.environ.get("LAMBDA_LOCAL_PROGRAM") or os.path.join(ROOT, "lambda_local")
         self.process = subprocess.Popen([program, "serve", path], stderr=subprocess.PIPE, stdout=subprocess.DEVNULL)
-        while self.process.stderr.readline().strip() not in (b"listening", b""):
+        while (line := self.process.stderr.readline()) and not line.endswith(b" listening\n"):
             pass
         return self
 
@@ -142,62 +143,6 @@ def behind_the_front():
 # ---- h11 -------------------------------------------------------------------------------------------------------------
 
 
-def head_of(data):
-    return re.split(rb"\r?\n\r?\n", data, maxsplit=1)[0] + b"\r\n"
-
-
-def values(data, name):
-    return [line.partition(b":")[2].strip(b" \t") for line in re.split(rb"\r?\n", head_of(data))[1:]
-            if line.lower().startswith(name + b":")]
-
-
-# Where the two differ, with the reason.
-OF_H11 = (
-    ("h11 takes a line that ends with LF alone", lambda data: re.search(rb"(?<!\r)\n", data)),
-    ("h11 joins folded headers", lambda data: re.search(rb"\n[ \t]", data)),
-    ("h11 lets Transfer-Encoding stand with Content-Length",
-     lambda data: values(data, b"transfer-encoding") and values(data, b"content-length")),
-    ("h11 takes Transfer-Encoding in HTTP/1.0",
-     lambda data: values(data, b"transfer-encoding") and b"HTTP/1.0" in head_of(data)),
-    ("h11 lets CONNECT have content", lambda data: data.startswith(b"CONNECT ")),
-    ("h11 takes a list in Content-Length, and compares texts: 005 is not 5",
-     lambda data: any(re.search(rb",|^0.", value) for value in values(data, b"content-length"))),
-    ("h11 refuses each other coding with the head; here the front does, in the service's order",
-     lambda data: [value.lower() for value in values(data, b"transfer-encoding")] not in ([], [b"chunked"])),
-    ("h11 takes other versions", lambda data: not re.search(rb" HTTP/1\.[01]\r\n", head_of(data))),
-    ("h11 takes control characters in values and extensions",
-     lambda data: re.search(rb"[\x01-\x08\x0b\x0c\x0e-\x1f\x7f]|\r(?!\n)", data)),
-    ("h11 takes each visible byte in a target and no other; the service reads a URI",
-     lambda data: not re.match(rb"\S+ (?:\*|/[!$-;=@-_a-z|~?]*|http://[a-z0-9*]+(?::[0-9]+)?(?:/\S*)?|"
-                               rb"[a-z0-9]+:[0-9]+) ", data)),
-    ("h11 takes no blank before an extension (RFC 9112, section 7.1.1: BWS)",
-     lambda data: re.search(rb"\n[0-9A-Fa-f]+[ \t]+;", data)),
-    ("h11 reads the framing of trailers, which have none",
-     lambda data: values(data, b"transfer-encoding") and re.search(rb"(?i)\n0\r\n.*(transfer-encoding|content-length)",
-                                                                   data, re.S)),
-)
-
-
-def by_h11(h11, data):
-    """The first request with its body, as h11 reads it; None if it takes none."""
-    connection, request, body = h11.Connection(h11.SERVER, max_incomplete_event_size=1 << 16), None, b""
-    try:
-        connection.receive_data(data)
-        connection.receive_data(b"")
-        while True:
-            event = connection.next_event()
-            if isinstance(event, h11.Request):
-                request = event
-            elif isinstance(event, h11.Data):
-                body += bytes(event.data)
-            elif isinstance(event, h11.EndOfMessage):
-                return request.method, request.target, body
-            else:
-                return None
-    except h11.RemoteProtocolError:
-        return None
-
-
 def against_h11():
     try:
         import h11
@@ -205,11 +150,7 @@ def against_h11():
         return print("skip there is no h11 (Debian: python3-h11)")
     counts, wrong = Counter(), []
     for data in mutants(COUNT, SEED + 2):
-        data = re.sub(rb"^(?:\r\n)+", b"", data)  # (h11 takes no empty line before a request: RFC 9112, section 2.2)
-        request, body = next(iter(messages_of(data)), (None, None))
-        own = ((request.method.encode(), request.target.encode("latin-1"), body) if isinstance(body, bytes) else None)
-        seen = by_h11(h11, data)
-        listed = own != seen and next((reason for reason, applies in OF_H11 if applies(data)), None)
+        own, seen, listed = compared(h11, data)
         counts[listed or ("differ" if own != seen else "taken" if own else "refused")] += 1
         if own != seen and not listed:
             wrong.append((data, own, seen))

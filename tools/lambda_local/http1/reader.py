@@ -17,6 +17,7 @@ EMPTY_LINES = re.compile(rb"(?:\r?\n)+")
 class Reader:
     """What requests and responses have in common."""
     begun_line = BEGUN_REQUEST_LINE
+    status_of_faults: Optional[int] = None  # that of all, if it is one
 
     def __init__(self, limits: Limits = Limits()) -> None:
         self.limits, self.buffer, self.ended = limits, bytearray(), False
@@ -40,6 +41,7 @@ class Reader:
         try:
             return self._step()
         except Malformed as fault:
+            fault.status = self.status_of_faults or fault.status
             self.fault = fault
             raise
 
@@ -211,6 +213,7 @@ class RequestReader(Reader):
 class ResponseReader(Reader):
     """`method` is that of the request that the next response answers."""
     begun_line = BEGUN_STATUS_LINE
+    status_of_faults = 502  # (a gateway that got an invalid response: RFC 9110, section 15.6.3)
 
     def __init__(self, limits: Limits = Limits()) -> None:
         super().__init__(limits)
