@@ -32,7 +32,7 @@ OF_H11 = (
     ("h11 takes control characters in values and extensions",
      lambda data: re.search(rb"[\x01-\x08\x0b\x0c\x0e-\x1f\x7f]|\r(?!\n)", data)),
     ("h11 takes each visible byte in a target and no other; the service reads a URI",
-     lambda data: not re.match(rb"\S+ (?:\*|/[!$-;=@-_a-z|~?]*|http://[a-z0-9*]+(?::[0-9]+)?(?:/\S*)?|"
+     lambda data: not re.match(rb"\S+ (?:\*|/[!$-;=@-_a-z|~?]*|http://[a-z0-9*]+(?::[0-9]+)?(?:/[!$-;=@-_a-z|~?]*)?|"
                                rb"[a-z0-9]+:[0-9]+) ", data)),
     ("h11 takes no blank before an extension (RFC 9112, section 7.1.1: BWS)",
      lambda data: re.search(rb"\n[0-9A-Fa-f]+[ \t]+;", data)),

@@ -11,6 +11,7 @@ import itertools
 import re
 import subprocess
 import sys
+from typing import List, Optional, Sequence, Tuple
 
 from .reasons import sentence
 from .service import Fault, program_path
@@ -19,7 +20,7 @@ from .usage import parser_of
 ANSWER = re.compile(rb"# (\d+ \d+ .*)")
 
 
-def read(path):
+def read(path: str) -> List[bytes]:
     """The lines of a history, without their line ends."""
     try:
         with open(sys.stdin.fileno() if path == "-" else path, "rb", closefd=path != "-") as file:
@@ -33,7 +34,7 @@ def read(path):
     return lines
 
 
-def replay(program, lines, path):
+def replay(program: str, lines: List[bytes], path: str) -> List[bytes]:
     """The answers of the program to the calls of a history."""
     try:
         done = subprocess.run([program, "replay"], input=b"\n".join(lines), capture_output=True)
@@ -47,13 +48,13 @@ def replay(program, lines, path):
     return done.stdout.split(b"\n")[:-1]
 
 
-def answers_of(lines):
+def answers_of(lines: List[bytes]) -> List[Tuple[int, bytes]]:
     """The answers in a history, each with the number of its line."""
     found = ((number, ANSWER.match(line)) for number, line in enumerate(lines, 1))
     return [(number, answer[1]) for number, answer in found if answer]
 
 
-def first_difference(lines, answers):
+def first_difference(lines: List[bytes], answers: List[bytes]) -> Optional[str]:
     """Returns where the answers first differ from those of the history, in words; nothing if they are the same."""
     saved = answers_of(lines)
     for place, answer in itertools.zip_longest(saved, answers):
@@ -66,13 +67,13 @@ def first_difference(lines, answers):
     return None
 
 
-def shown(answer, width=200):
+def shown(answer: bytes, width: int = 200) -> str:
     """An answer as text, cut to a width."""
     text = answer.decode(errors="replace")
     return f"`{text if len(text) <= width else text[:width] + '..'}`"
 
 
-def main():
+def main() -> int:
     """Compares the history that the command line names."""
     parser = parser_of("check", __doc__)
     parser.add_argument("history", metavar="HISTORY")

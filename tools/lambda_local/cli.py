@@ -3,6 +3,7 @@ import importlib
 import os
 import resource
 import sys
+from typing import List, Tuple
 
 from .paths import PACKAGE, own_program
 
@@ -16,10 +17,10 @@ TOOLS = {
     "timeline": ".timeline",
     "up": ".up",
 }
-SHAPES = ([], ["replay"], ["path"], ["--version"])
+SHAPES: Tuple[List[str], ...] = ([], ["replay"], ["path"], ["--version"])
 
 
-def start(program, words):
+def start(program: str, words: List[str]) -> int:
     """Becomes the program."""
     # A connection takes three descriptors.
     hard = resource.getrlimit(resource.RLIMIT_NOFILE)[1]
@@ -32,7 +33,7 @@ def start(program, words):
         return 4
 
 
-def show_version(program):
+def show_version(program: str) -> None:
     """The version, and what proved the program."""
     try:
         with open(program + ".proved", encoding="utf-8") as file:
@@ -46,7 +47,7 @@ def show_version(program):
             print(name, text)
 
 
-def show_help():
+def show_help() -> None:
     """The launcher's help, without what a checkout alone has."""
     with open(os.path.join(PACKAGE, "help.txt"), encoding="utf-8") as file:
         print("".join(line for line in file if not line.startswith("In a checkout")), end="")
@@ -54,22 +55,25 @@ def show_help():
         print(f"The pages docs/*.md are in {pages}.")
 
 
-def main():
+def main() -> int:
     """Does what the words of the command line say."""
     words = sys.argv[1:]
     program = os.environ.get("LAMBDA_LOCAL_PROGRAM") or own_program()
     if words[:1] in (["-h"], ["--help"]):
-        return show_help()
+        show_help()
+        return 0
     if words and words[0] in TOOLS:
         sys.argv[:] = [f"lambda_local {words[0]}", *words[1:]]
-        return importlib.import_module(TOOLS[words[0]], __package__).main()
+        return int(importlib.import_module(TOOLS[words[0]], __package__).main() or 0)
     if words not in SHAPES and not (words[:1] == ["serve"] and len(words) == 2):
         print(f"lambda_local: '{' '.join(words)}' is not one of its commands: --help lists them", file=sys.stderr)
         return 2
     if words == ["path"]:
-        return print(program)
+        print(program)
+        return 0
     if words == ["--version"]:
-        return show_version(program)
+        show_version(program)
+        return 0
     return start(program, words)
 
 

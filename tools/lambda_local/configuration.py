@@ -6,7 +6,11 @@ import difflib
 import json
 import re
 from collections import Counter
-from typing import Callable, NamedTuple
+from typing import (Any, Callable, Dict, Hashable, Iterable, Iterator, List, Mapping, NamedTuple, Optional, Sequence,
+                    Tuple)
+
+
+Members = Dict[str, Any]  # of an object of JSON that has been looked at: what they may be is said where that is done
 
 
 class Kind(NamedTuple):
@@ -15,15 +19,15 @@ class Kind(NamedTuple):
     expected: str  # in words, after "must be"
 
 
-def is_whole(value, below):
+def is_whole(value: object, below: int) -> bool:
     return isinstance(value, int) and not isinstance(value, bool) and 0 <= value < below
 
 
-def is_text(value):
+def is_text(value: object) -> bool:
     return isinstance(value, str)
 
 
-def is_list_of(accepts):
+def is_list_of(accepts: Callable[[object], bool]) -> Callable[[object], bool]:
     return lambda value: isinstance(value, list) and all(map(accepts, value))
 
 
@@ -47,18 +51,19 @@ MEANT = {"environment": "variables", "env": "variables", "envVars": "variables",
          "reservedConcurrency": "reserved"}
 
 
-def shown(value):
+def shown(value: object) -> str:
     """A value as its file has it, cut short."""
     text = json.dumps(value, ensure_ascii=False)
     return text if len(text) <= 60 else text[:57] + ".."
 
 
-def named(name):
+def named(name: str) -> str:
     """A name in a sentence, cut short."""
     return name if len(name) <= 60 else name[:57] + ".."
 
 
-def mistakes_of(members, kinds, where, required=()):
+def mistakes_of(members: Mapping[str, object], kinds: Mapping[str, Kind], where: str,
+                required: Sequence[str] = ()) -> Iterator[str]:
     """What is wrong with the members of an object, one sentence each."""
     for name, value in members.items():
         if name not in kinds:
@@ -72,14 +77,15 @@ def mistakes_of(members, kinds, where, required=()):
             yield f"{where}there is no {name}, which must be {kinds[name].expected}"
 
 
-def place_of(member, number):
+def place_of(member: Members, number: int) -> str:
     """Returns how a sentence names the function at this place of the list, from 1."""
     name = member.get("name")
     return f"function {named(name)}: " if isinstance(name, str) else f"function number {number}: "
 
 
-def mistakes(configuration, of_service=OF_SERVICE, of_function=OF_FUNCTION, required=REQUIRED,
-             required_of_function=REQUIRED_OF_FUNCTION):
+def mistakes(configuration: object, of_service: Mapping[str, Kind] = OF_SERVICE,
+             of_function: Mapping[str, Kind] = OF_FUNCTION, required: Sequence[str] = REQUIRED,
+             required_of_function: Sequence[str] = REQUIRED_OF_FUNCTION) -> Iterator[str]:
     """Returns what is wrong with the names and types of a configuration's members, in their order."""
     if not isinstance(configuration, dict):
         yield f"it must be an object with a list of \"functions\", not {shown(configuration)}"
@@ -93,112 +99,113 @@ def mistakes(configuration, of_service=OF_SERVICE, of_function=OF_FUNCTION, requ
             yield f"function number {number} must be an object, not {shown(member)}"
 
 
-def is_label(text):
+def is_label(text: str) -> bool:
     """1 to 128 printable bytes."""
     return re.fullmatch(r"[ -~]{1,128}", text) is not None
 
 
-def repeated(values):
+def repeated(values: Iterable[Hashable]) -> Optional[Hashable]:
     return next((value for value, count in Counter(values).items() if count > 1), None)
 
 
-def first(functions, is_wrong):
+def first(functions: List[Members], is_wrong: Callable[[Members], bool]) -> Tuple[Members, str]:
     """The first function of which this holds, and its name in a sentence."""
-    found = next((member for member in functions if is_wrong(member)), None)
-    return found, "" if found is None else f"function {found['name']}: "
+    found = next(member for member in functions if is_wrong(member))
+    return found, f"function {found['name']}: "
 
 
-def bad_least_remainder(whole, functions):
+def bad_least_remainder(whole: Members, functions: List[Members]) -> str:
     limit, least = whole.get("accountLimit", 1000), whole.get("leastRemainder", 100)
     by_default = "" if "leastRemainder" in whole else ", the default"
     return f"leastRemainder must be at most accountLimit, which is {limit}, not {least}{by_default}"
 
 
-def duplicate_name(whole, functions):
+def duplicate_name(whole: Members, functions: List[Members]) -> str:
     name = repeated([member["name"] for member in functions])
     return f"two functions have the name {name}: each must have its own"
 
 
-def bad_name(whole, functions):
+def bad_name(whole: Members, functions: List[Members]) -> str:
     found, _ = first(functions, lambda member: not re.fullmatch(r"[A-Za-z0-9_-]{1,64}", member["name"]))
     return f"function {shown(found['name'])}: a name has 1 to 64 of A-Z, a-z, 0-9, - and _"
 
 
-def bad_handler(whole, functions):
+def bad_handler(whole: Members, functions: List[Members]) -> str:
     found, where = first(functions, lambda member: not is_label(member.get("handler", "index.handler")))
     return f"{where}handler must have 1 to 128 printable ASCII characters, not {shown(found['handler'])}"
 
 
-def bad_timeout(whole, functions):
+def bad_timeout(whole: Members, functions: List[Members]) -> str:
     found, where = first(functions, lambda member: not 1 <= member.get("timeout", 3) <= 900)
     return f"{where}timeout must be from 1 to 900 seconds, not {found['timeout']}"
 
 
-def no_environment(whole, functions):
+def no_environment(whole: Members, functions: List[Members]) -> str:
     return first(functions, lambda member: not member["ports"])[1] + "it has no environment: give it at least one port"
 
 
-def too_many_environments(whole, functions):
+def too_many_environments(whole: Members, functions: List[Members]) -> str:
     most = max(functions, key=lambda member: len(member["ports"]))
     of_most = f"{len(most['ports'])} of them of function {most['name']}"
     return f"{environments_of(functions)} environments in all, {of_most}: 256 is the most"
 
 
-def environments_of(functions):
+def environments_of(functions: List[Members]) -> int:
     return sum(len(member["ports"]) for member in functions)
 
 
-def owners_of(port, whole, functions):
+def owners_of(port: int, whole: Members, functions: List[Members]) -> List[str]:
     """Returns the owners of a port: the callers, or functions."""
     return (["invokePort"] if whole.get("invokePort", 9000) == port else []) + [
         f"function {member['name']}" for member in functions for other in member["ports"] if other == port]
 
 
-def bad_port(whole, functions):
+def bad_port(whole: Members, functions: List[Members]) -> str:
     return f"{owners_of(0, whole, functions)[0]}: 0 is no port: write one from 1 to 65535"
 
 
-def duplicate_port(whole, functions):
-    port = repeated([whole.get("invokePort", 9000), *(port for member in functions for port in member["ports"])])
+def duplicate_port(whole: Members, functions: List[Members]) -> str:
+    ports = [whole.get("invokePort", 9000), *(port for member in functions for port in member["ports"])]
+    port = next(port for port, count in Counter(ports).items() if count > 1)
     return f"port {port} appears twice: {' and '.join(owners_of(port, whole, functions)[:2])} have it"
 
 
-def too_many_extensions(whole, functions):
+def too_many_extensions(whole: Members, functions: List[Members]) -> str:
     found, where = first(functions, lambda member: len(member.get("extensions", [])) > 10)
     return f"{where}{len(found['extensions'])} extensions: ten are the most"
 
 
-def bad_extension(whole, functions):
+def bad_extension(whole: Members, functions: List[Members]) -> str:
     found, where = first(functions, lambda member: not all(map(is_label, member.get("extensions", []))))
     name = next(name for name in found["extensions"] if not is_label(name))
     return f"{where}the name of an extension has 1 to 128 printable ASCII characters, not {shown(name)}"
 
 
-def duplicate_extension(whole, functions):
+def duplicate_extension(whole: Members, functions: List[Members]) -> str:
     found, where = first(functions, lambda member: repeated(member.get("extensions", [])) is not None)
     return f"{where}the extension {shown(repeated(found['extensions']))} appears twice"
 
 
-def reservation_above_environments(whole, functions):
-    found, where = first(functions, lambda member: member.get("reserved", 0) > len(member["ports"]))
+def reservation_above_environments(whole: Members, functions: List[Members]) -> str:
+    found, where = first(functions, lambda member: bool(member.get("reserved", 0) > len(member["ports"])))
     return (f"{where}it reserves {found['reserved']} and has {len(found['ports'])} environments: "
             "reserve at most as many, or give it more")
 
 
-def remainder_too_small(whole, functions):
+def remainder_too_small(whole: Members, functions: List[Members]) -> str:
     reserved = sum(member.get("reserved", 0) for member in functions)
     limit, least = whole.get("accountLimit", 1000), whole.get("leastRemainder", 100)
     return (f"the functions reserve {reserved} of accountLimit {limit}: leastRemainder {least} must stay unreserved; "
             "reserve less, or write another accountLimit or leastRemainder")
 
 
-def entries_out_of_range(whole, functions):
+def entries_out_of_range(whole: Members, functions: List[Members]) -> str:
     least = environments_of(functions) + 1
     return (f"maxEntries must be from {least}, one more than there are environments, to {1 << 32}, "
             f"not {whole.get('maxEntries')}")
 
 
-SENTENCES = {
+SENTENCES: Dict[str, Callable[[Members, List[Members]], str]] = {
     "BadAccount": lambda whole, functions: f"account must be 12 digits, not {shown(whole['account'])}",
     "BadRegion": lambda whole, functions: f"region must have 1 to 32 of a-z, 0-9 and -, not {shown(whole['region'])}",
     "BadAccountLimit": lambda whole, functions: f"accountLimit must be from 1 to 1000000, not {whole['accountLimit']}",
@@ -222,7 +229,7 @@ SENTENCES = {
 }
 
 
-def explained(name, configuration):
+def explained(name: str, configuration: Any) -> str:
     """A sentence on what the service means by this name of a fault; nothing if this page knows no reason."""
     try:
         return SENTENCES[name](configuration, configuration["functions"])

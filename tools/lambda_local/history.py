@@ -11,9 +11,10 @@ import io
 import json
 import re
 from collections import Counter
-from typing import NamedTuple, Optional, Tuple
+from typing import Any, BinaryIO, Dict, Iterable, Iterator, List, NamedTuple, Optional, Sequence, Set, Tuple
 from urllib.parse import unquote_to_bytes
 
+from .configuration import Members
 from .json_reader import read_json
 
 OPENING = b"form 2\n"
@@ -29,7 +30,7 @@ class NotHistory(ValueError):
 
 class Fields(NamedTuple):
     """The fields of a call after its name: how many, and how many of the first are numbers."""
-    count: int
+    in_all: int
     numbers: int
 
 
@@ -85,7 +86,7 @@ class Entry(NamedTuple):
         return self.fields[0] if self.kind in OF_FUNCTIONS else None
 
     @property
-    def count(self) -> Optional[int]:
+    def count(self) -> Optional[int]:  # type: ignore[override]  # (a tuple's own is not asked for)
         """The count in the identifier that the call names: of a request, or of an extension."""
         return int(self.fields[1]) if self.kind in (
             "response", "failure", "response-too-large", "ext-next", "ext-init-failure", "ext-exit-failure") else None
@@ -96,33 +97,34 @@ class Entry(NamedTuple):
         return text_of(self.fields)
 
 
-def text_of(fields):
+def text_of(fields: Sequence[str]) -> Optional[bytes]:
     """The last text field, decoded; none if there is none."""
     found = next((field for field in reversed(fields) if field.startswith("=")), None)
     return None if found is None else decoded(found)
 
 
-def decoded(field):
+def decoded(field: str) -> bytes:
     """The bytes of a field `=TEXT`; a `%` without two hexadecimal digits is itself."""
     return unquote_to_bytes(field[1:])
 
 
-def count_in(identifier):
+def count_in(identifier: str) -> int:
     """The count of a request, extension or event identifier."""
     return int(identifier[-12:], 16)
 
 
-def request_identifier(salt, function, count):
+def request_identifier(salt: int, function: int, count: int) -> str:
     """The identifier of the Invoke that is the `count`-th of the function with this number, both from 1."""
     high = salt & ~0xF000 | 0x8000
     whole = f"{high:016x}8{function:03x}{count:012x}"
     return "-".join((whole[:8], whole[8:12], whole[12:16], whole[16:20], whole[20:]))
 
 
-def entries_of(lines, first=0):
+def entries_of(lines: Iterable[str], first: int = 0) -> Iterator[Entry]:
     """Returns the entries of the lines after a history's opening, which begin with entry number `first`. NotHistory if
     a line is none of a history; empty lines and comments are skipped."""
-    number, head, answers = first - 1, None, []
+    number, head = first - 1, ""
+    answers: List[Answer] = []
     for line in lines:
         if line.startswith("# "):
             if head and (answer := answer_of(line)):
@@ -135,7 +137,7 @@ def entries_of(lines, first=0):
         yield entry_of(number, head, answers)
 
 
-def answer_of(line):
+def answer_of(line: str) -> Optional[Answer]:
     """The answer in a line that begins with `# `; none if it is a comment."""
     words = line.split(" ")
     if len(words) < 4 or not (is_number(words[1]) and is_number(words[2])):
@@ -146,27 +148,27 @@ def answer_of(line):
     return Answer(int(ticket), kind, tuple(fields))
 
 
-def entry_of(number, head, answers):
+def entry_of(number: int, head: str, answers: List[Answer]) -> Entry:
     words = head.split(" ")
     if words[0] == "##":
         del words[0]
-    moment, kind, *fields = words if len(words) > 1 else ("", "")
+    moment, kind, *fields = words if len(words) > 1 else ["", ""]
     wanted = FIELDS_OF_CALLS.get(kind)
-    if wanted is None or len(fields) != wanted.count or not (is_number(moment)
+    if wanted is None or len(fields) != wanted.in_all or not (is_number(moment)
                                                             and all(map(is_number, fields[:wanted.numbers]))):
         raise NotHistory(f"this is not a call of a history: {shown(head)}")
     return Entry(number, int(moment), kind, tuple(fields), tuple(answers))
 
 
-def is_number(word):
+def is_number(word: str) -> bool:
     return word.isdecimal() and word.isascii() and len(word) <= MOST_DIGITS
 
 
-def shown(line):
+def shown(line: str) -> str:
     return ascii(line if len(line) <= 80 else line[:77] + "..")
 
 
-def opened(history):
+def opened(history: str) -> Tuple[Members, Iterator[Entry]]:
     """The configuration and the entries of a whole history's text."""
     lines = history.split("\n")
     if lines[0] != "form 2" or len(lines) < 2:
@@ -177,23 +179,25 @@ def opened(history):
     return configuration, entries_of(lines[2:])
 
 
-def parked(history):
+def parked(history: str) -> Tuple[Set[int], "Counter[int]"]:
     """The polls that wait, by the text of a whole history: the numbers of the environments whose runtime waits, and for
     each environment how many extensions wait."""
-    waits = {}
+    waits: Dict[int, Entry] = {}
     for entry in opened(history)[1]:
         if entry.kind in ("next", "ext-next"):
             waits[entry.number] = entry
         for answer in entry.answers:
             waits.pop(answer.ticket, None)
-    extensions = Counter(entry.environment for entry in waits.values() if entry.kind == "ext-next")
-    return {entry.environment for entry in waits.values() if entry.kind == "next"}, extensions
+    polls = [(entry.kind, entry.environment) for entry in waits.values()]
+    extensions = Counter(number for kind, number in polls if kind == "ext-next" and number)
+    return {number for kind, number in polls if kind == "next" and number}, extensions
 
 
-def sized_entries(lines, number):
+def sized_entries(lines: Iterable[bytes], number: int) -> Iterator[Tuple[Entry, int]]:
     """The entries of the lines (bytes, each with its end), the first of which has this number, with the bytes of
     each."""
-    held, size = [], 0
+    held: List[str] = []
+    size = 0
     for line in lines:
         if held and not line.startswith(b"# "):
             yield from ((entry, size) for entry in entries_of(held, number))
@@ -210,24 +214,25 @@ class Follower:
     It asks `/_local/history?from=N`. A service that does not know `from` gives the whole history each time: what was
     read before is then skipped, and nothing is asked unless the service has more entries than were read."""
 
-    def __init__(self, port, timeout=300):
+    def __init__(self, port: int, timeout: float = 300) -> None:
         self.next = 0  # the number of the first entry that was not read yet
         self._connection = http.client.HTTPConnection("127.0.0.1", port, timeout=timeout)
         self._bytes = 0  # how many of the whole history were read
         self._gives_all = False  # whatever it is asked
 
-    def read(self):
+    def read(self) -> List[Entry]:
         """The entries that have come since the last time. OSError or HTTPException if the service does not answer."""
         return list(self.stream())
 
-    def stream(self):
+    def stream(self) -> Iterator[Entry]:
         """The same one by one, as they come: of a long history only one at a time is in memory. If the service ceases
         to answer in the middle, those that were given are not given again."""
         if self._gives_all and json.loads(self._ask("/_local/stats").read())["entries"] <= self.next:
             return
         is_read = False
         try:
-            with io.BufferedReader(self._ask(f"/_local/history?from={self.next}")) as text:
+            answer: Any = self._ask(f"/_local/history?from={self.next}")  # (it is raw, as far as is needed)
+            with io.BufferedReader(answer) as text:
                 for entry, size in sized_entries(self._new_lines(text), self.next):
                     self.next += 1
                     self._bytes += size
@@ -237,7 +242,7 @@ class Follower:
             if not is_read:
                 self._connection.close()
 
-    def _new_lines(self, text):
+    def _new_lines(self, text: BinaryIO) -> Iterator[bytes]:
         """Returns the lines after those that were read before."""
         first = text.readline()
         self._gives_all = first == OPENING
@@ -251,10 +256,10 @@ class Follower:
             yield first
         yield from text
 
-    def close(self):
+    def close(self) -> None:
         self._connection.close()
 
-    def _ask(self, path):
+    def _ask(self, path: str) -> http.client.HTTPResponse:
         """The answer to a GET, on a connection that is kept; once more on a new one if the service had closed it."""
         kept = self._connection.sock is not None
         try:
@@ -265,7 +270,7 @@ class Follower:
                 raise
         return self._get(path)
 
-    def _get(self, path):
+    def _get(self, path: str) -> http.client.HTTPResponse:
         self._connection.request("GET", path)
         answer = self._connection.getresponse()
         if answer.status != 200:

@@ -18,15 +18,22 @@ import traceback
 import types
 import urllib.error
 import urllib.request
+from email.message import Message
+from typing import TYPE_CHECKING, Any, Callable, Dict, List, Mapping, Optional, Tuple, Union
 
-from .configuration import OF_FUNCTION, Kind, is_whole, mistakes_of, shown
-from .sandbox import Sandbox
+from .configuration import OF_FUNCTION, Kind, Members, is_whole, mistakes_of, shown
+from .sandbox import Changes, Sandbox
 from .service import RUNTIME, Service
 from .variables import OF_FUNCTION as VARIABLES
 from .variables import of_function, text_of
 
+if TYPE_CHECKING:
+    from .front.front import Front
+
+Handler = Callable[..., Any]
+
 OWN = {"variables": VARIABLES,
-       "environments": Kind(lambda value: is_whole(value, 257) and value > 0, "a whole number from 1 to 256"),
+       "environments": Kind(lambda value: is_whole(value, 257) and value != 0, "a whole number from 1 to 256"),
        "memory": Kind(lambda value: is_whole(value, 1 << 32), "a whole number of MB")}
 MEMBERS = {**{name: kind for name, kind in OF_FUNCTION.items() if name != "name"}, **OWN,
            "ports": Kind(lambda value: isinstance(value, list) and all(is_whole(port, 1 << 16) for port in value),
@@ -41,13 +48,13 @@ class FunctionError(Exception):
     """What the function, or the service for it, reported to its caller: `.report` is the body. Its `__cause__` is what
     the handler raised."""
 
-    def __init__(self, report):
+    def __init__(self, report: object) -> None:
         super().__init__(f"{report.get('errorType')}: {report.get('errorMessage')}" if isinstance(report, dict)
                          else str(report))
         self.report = report
 
 
-def function_of(name, members, handler):
+def function_of(name: str, members: object, handler: Optional[Handler]) -> Tuple[Members, str]:
     """A function's part of the configuration, with free ports, and its memory."""
     where = f"function {name}"
     if handler is not None and not callable(handler):
@@ -63,9 +70,10 @@ def function_of(name, members, handler):
     return {"name": name, "ports": [0] * members.get("environments", 1), **part}, str(members.get("memory", 128))
 
 
-def variables_of(members):
+def variables_of(members: Mapping[str, Members]) -> Dict[str, str]:
     """The variables of handlers that share one process: their own, and what a function alone reads about itself."""
-    found, owners = {}, {}
+    found: Dict[str, str] = {}
+    owners: Dict[str, str] = {}
     if len(members) == 1:
         name, = members
         found.update(of_function(name, members[name].get("memory", 128)))
@@ -81,7 +89,7 @@ def variables_of(members):
     return found
 
 
-def context_of(headers, memory):
+def context_of(headers: Message, memory: str) -> types.SimpleNamespace:
     """What a handler may ask of its invocation (Developer Guide, "Using the Lambda context object to retrieve Python
     function information"), and the headers."""
     arn, deadline = headers["Lambda-Runtime-Invoked-Function-Arn"], int(headers["Lambda-Runtime-Deadline-Ms"])
@@ -95,7 +103,7 @@ def context_of(headers, memory):
         log=lambda text: sys.stdout.write(str(text)))
 
 
-def takes_context(handler):
+def takes_context(handler: Handler) -> bool:
     try:
         inspect.signature(handler).bind(None, None)
     except TypeError:
@@ -105,7 +113,7 @@ def takes_context(handler):
     return True
 
 
-def report_of(fault, request):
+def report_of(fault: BaseException, request: str) -> Dict[str, object]:
     """The fault as Lambda's Python runtime reports it; its trace is printed, without this module's own frames."""
     frame = fault.__traceback__
     while frame and frame.tb_frame.f_code.co_filename == __file__:
@@ -118,17 +126,17 @@ def report_of(fault, request):
 class Runtime(threading.Thread):
     """The runtime of one environment."""
 
-    def __init__(self, owner, port, handler, memory):
+    def __init__(self, owner: "LambdaLocal", port: int, handler: Handler, memory: str) -> None:
         super().__init__(name=f"lambda_local {port}", daemon=True)
         self.owner, self.handler, self.memory, self.has_context = owner, handler, memory, takes_context(handler)
         self.connection = http.client.HTTPConnection("127.0.0.1", port)
 
-    def ask(self, method, path, body=None):
+    def ask(self, method: str, path: str, body: Optional[str] = None) -> Tuple[int, Message, bytes]:
         self.connection.request(method, RUNTIME + path, body)
         reply = self.connection.getresponse()
         return reply.status, reply.headers, reply.read()
 
-    def run(self):
+    def run(self) -> None:
         try:
             while not self.owner.has_ended():
                 try:
@@ -140,7 +148,7 @@ class Runtime(threading.Thread):
         finally:
             self.connection.close()
 
-    def serve(self):
+    def serve(self) -> None:
         """Handles invocations until the environment closes; it then begins anew."""
         while True:
             status, headers, payload = self.ask("GET", "invocation/next")
@@ -149,10 +157,11 @@ class Runtime(threading.Thread):
             kind, body = self.outcome(payload, headers)
             self.ask("POST", f"invocation/{headers['Lambda-Runtime-Aws-Request-Id']}/{kind}", body)
 
-    def outcome(self, payload, headers):
+    def outcome(self, payload: bytes, headers: Message) -> Tuple[str, str]:
         """What an invocation comes to: "response" or "error", and the body to post."""
         request = headers["Lambda-Runtime-Aws-Request-Id"]
-        self.owner.sandbox.begin(request)
+        if self.owner.sandbox:
+            self.owner.sandbox.begin(request)
         try:
             event = json.loads(payload)
             output = self.handler(event, context_of(headers, self.memory)) if self.has_context else self.handler(event)
@@ -163,12 +172,12 @@ class Runtime(threading.Thread):
             return "response", json.dumps(output)
         except Exception as fault:
             self.owner.keep(request, fault)
-            report = {**report_of(fault, request), "errorType": "Runtime.MarshalError",
-                      "errorMessage": f"Unable to marshal response: {fault}"}
+            report: Dict[str, object] = {**report_of(fault, request), "errorType": "Runtime.MarshalError",
+                                         "errorMessage": f"Unable to marshal response: {fault}"}
             return "error", json.dumps(report)
 
 
-def front_of(asynchronous, members):
+def front_of(asynchronous: Union[None, bool, Members], members: Mapping[str, Members]) -> "Optional[Front]":
     """What takes invocations of the type Event, by the members of UP.json's "asynchronous"; None if none is wanted."""
     if asynchronous is None or asynchronous is False:
         return None
@@ -186,7 +195,8 @@ def front_of(asynchronous, members):
     return Front(made, "start()", DRAIN_SECONDS, tell_of_events)
 
 
-def tell_of_events(who, text, level="info", **_members):
+def tell_of_events(who: str, text: str, level: str = "info", kind: str = "up", always: bool = False,
+                   **_members: object) -> None:
     """What is lost or goes wrong with events."""
     if level in ("warning", "error"):
         print(f"[{who}] {text}", file=sys.stderr)
@@ -196,25 +206,33 @@ class LambdaLocal:
     """A service of these functions: `timeout`, `reserved`, `environments`, `variables` .. of a function by `functions`.
     `patches` is pytest's MonkeyPatch, or what makes the same changes and undoes them."""
 
-    service, sandbox, front, endpoint_url, stopped, log = None, None, None, None, False, ""
-    salt = None  # of request identifiers; the service's own if there is none
+    service: Optional[Service] = None
+    sandbox: Optional[Sandbox] = None
+    front: "Optional[Front]" = None
+    endpoint_url: Optional[str] = None
+    stopped, log = False, ""
+    salt: Optional[int] = None  # of request identifiers; the service's own if there is none
 
-    def __init__(self, functions=None, program=None, patches=None, keep_credentials=False, asynchronous=None,
-                 **handlers):
-        self.program, self.patches, self.runtimes, self.faults = program, patches, [], {}
+    def __init__(self, functions: Optional[Mapping[str, Members]] = None, program: Optional[str] = None,
+                 patches: Optional[Changes] = None, keep_credentials: bool = False,
+                 asynchronous: Union[None, bool, Members] = None, **handlers: Handler) -> None:
+        self.program, self.patches = program, patches
+        self.runtimes: List[Runtime] = []
+        self.faults: Dict[str, BaseException] = {}
         if functions or handlers:
             self.start(functions, keep_credentials, asynchronous, **handlers)
 
-    def start(self, functions=None, keep_credentials=False, asynchronous=None, **handlers):
+    def start(self, functions: Optional[Mapping[str, Members]] = None, keep_credentials: bool = False,
+              asynchronous: Union[None, bool, Members] = None, **handlers: Handler) -> "LambdaLocal":
         """`asynchronous` is True, or a dict with the members of UP.json's: invocations of the type Event are taken."""
         if self.service:
             raise RuntimeError("it has been started: name all functions in one start(), or make another LambdaLocal()")
-        members = {**dict.fromkeys(handlers, {}), **(functions or {})}
+        members: Dict[str, Members] = {**{name: {} for name in handlers}, **(functions or {})}
         if not members:
             raise ValueError("start() needs a function: start(NAME=handler)")
         parts = [function_of(name, member, handlers.get(name)) for name, member in members.items()]
         variables, front = variables_of(members), front_of(asynchronous, members)
-        configuration = {"account": "123456789012", "region": "us-east-1", "functions": [part for part, _ in parts]}
+        configuration: Members = {"account": "123456789012", "region": "us-east-1", "functions": [part for part, _ in parts]}
         if self.salt is not None:
             configuration["salt"] = self.salt
         self.service = Service(configuration, self.program)
@@ -230,16 +248,16 @@ class LambdaLocal:
             runtime.start()
         return self
 
-    def has_ended(self):
-        return self.stopped or self.service.process.poll() is not None
+    def has_ended(self) -> bool:
+        return self.stopped or self.service is not None and self.service.process.poll() is not None
 
-    def keep(self, request, fault):
+    def keep(self, request: str, fault: BaseException) -> None:
         """What a handler raised, until its caller asks."""
         self.faults[request] = fault
         if len(self.faults) > FAULTS_KEPT:
             self.faults.pop(next(iter(self.faults)), None)
 
-    def started(self):
+    def started(self) -> Service:
         """The service; a fault that says what to do if there is none."""
         if self.service is None:
             raise RuntimeError("no function is started yet: call start(NAME=handler) first")
@@ -248,7 +266,7 @@ class LambdaLocal:
                                else f"the service has ended: {self.service.lines[-1:]}")
         return self.service
 
-    def invoke(self, name, event=None, patience=2.0):
+    def invoke(self, name: str, event: object = None, patience: float = 2.0) -> Any:
         """What the handler gave; FunctionError if it failed. An environment that has answered and not yet asked again
         is busy: for `patience` seconds a throttle by it is tried again."""
         if self.endpoint_url is None or self.stopped:
@@ -275,7 +293,7 @@ class LambdaLocal:
                     self.started()
                 raise
 
-    def client(self, **words):
+    def client(self, **words: object) -> Any:
         """A boto3 client of this service."""
         if self.endpoint_url is None:
             self.started()
@@ -283,26 +301,27 @@ class LambdaLocal:
             import boto3
         except ImportError:
             raise RuntimeError("boto3 is not installed: `pip install boto3`, or use .invoke()") from None
-        return boto3.client("lambda", **{
+        settings: Dict[str, object] = {
             "endpoint_url": self.endpoint_url, "region_name": "us-east-1", "aws_access_key_id": "local",
-            "aws_secret_access_key": "local", **words})
+            "aws_secret_access_key": "local", **words}
+        return boto3.client("lambda", **settings)
 
-    def stats(self):
+    def stats(self) -> Dict[str, int]:
         return self.started().stats()
 
-    def history(self):
+    def history(self) -> str:
         return self.service.history() if self.service and not self.stopped else self.log
 
-    def settled(self, seconds=5):
+    def settled(self, seconds: float = 5) -> bool:
         """Waits until nothing is in flight and no event is left; whether it came to that."""
         end = time.monotonic() + seconds
-        while self.front and self.front.queue.count or self.stats()["inFlight"]:
+        while self.front and self.front.queue and self.front.queue.count or self.stats()["inFlight"]:
             if time.monotonic() > end:
                 return False
             time.sleep(0.005)
         return True
 
-    def stop(self):
+    def stop(self) -> None:
         """Stops it, and checks its counts and that its history replays to itself."""
         if self.service is None or self.stopped:
             return
@@ -314,13 +333,13 @@ class LambdaLocal:
         except (OSError, http.client.HTTPException):
             self.stopped = True
             self.service.kill()
-            self.sandbox.close()
+            self.leave_sandbox()
             raise AssertionError(f"the service has ended: {self.service.lines[-1:]}") from None
         self.stopped = True
         status, counts = self.service.stop()
         for runtime in self.runtimes:
             runtime.join(2)  # (a handler that hangs is a daemon, and is left)
-        self.sandbox.close()
+        self.leave_sandbox()
         words = counts.split()
         told = [int(word) for word in words[1::2]]
         assert status == 0, f"the service ended with {status}: {self.service.lines[-1:]}"
@@ -330,8 +349,12 @@ class LambdaLocal:
         assert told[2] >= stats["failed"], (counts, stats)
         assert self.service.replays(self.log), "the history does not replay to its own answers"
 
-    def __enter__(self):
+    def leave_sandbox(self) -> None:
+        if self.sandbox:
+            self.sandbox.close()
+
+    def __enter__(self) -> "LambdaLocal":
         return self
 
-    def __exit__(self, *_):
+    def __exit__(self, *_: object) -> None:
         self.stop()

@@ -11,6 +11,7 @@ to standard error.
 
 Exit statuses: 0, the function has returned, or its event is taken; 1, it has failed; 2, a fault in the arguments; 3,
 the service has refused, for example since no environment is free; 4, the service cannot be reached."""
+import argparse
 import base64
 import binascii
 import datetime
@@ -20,6 +21,8 @@ import http.client
 import json
 import os
 import sys
+from email.message import Message
+from typing import Dict, Mapping, Optional, Tuple
 from urllib.parse import quote, urlsplit
 
 from .paths import bundled
@@ -30,18 +33,19 @@ USAGE = "[OPTION..] NAME [PAYLOAD | FILE | - | --sample KIND]"
 NOWHERE = "http://127.0.0.1:9000"
 MOST_BYTES = 6 << 20  # of a payload
 LONGEST_SECONDS = 1000  # of an invocation: 900, and what it waits for
+Answer = Tuple[int, Message, bytes]  # status, headers and body
 
 
 # ---- the payload -----------------------------------------------------------------------------------------------------
 
-def samples():
+def samples() -> Dict[str, str]:
     """The path of each sample event by its kind."""
     folder = os.path.dirname(bundled("events/s3.json") or "")
     paths = sorted(glob.glob(os.path.join(glob.escape(folder), "*.json")))
     return {os.path.basename(path)[:-5]: path for path in paths}
 
 
-def sample(kind):
+def sample(kind: str) -> bytes:
     found = samples()
     if kind not in found:
         near = difflib.get_close_matches(kind, found, 1, 0.5)
@@ -51,18 +55,18 @@ def sample(kind):
         return file.read()
 
 
-def scheduled(now):
+def scheduled(now: datetime.datetime) -> bytes:
     """The event of a schedule that is due at this moment."""
     event = json.loads(sample("schedule"))
     event["time"] = now.strftime("%Y-%m-%dT%H:%M:%SZ")
     return json.dumps(event).encode()
 
 
-def refuse_constant(name):
+def refuse_constant(name: str) -> object:
     raise ValueError(f"{name} is not JSON")
 
 
-def is_json(text):
+def is_json(text: str) -> bool:
     try:
         json.loads(text, parse_constant=refuse_constant)
         return True
@@ -70,7 +74,7 @@ def is_json(text):
         return False
 
 
-def whole(path):
+def whole(path: str) -> bytes:
     """What a file or standard input has."""
     try:
         with open(sys.stdin.fileno() if path == "-" else path, "rb", closefd=path != "-") as file:
@@ -82,7 +86,7 @@ def whole(path):
     return text
 
 
-def payload_of(options):
+def payload_of(options: argparse.Namespace) -> bytes:
     if (options.payload is not None) + (options.sample is not None) + options.now > 1:
         raise Fault(2, "write one of PAYLOAD, FILE, -, --sample and --now")
     if options.sample is not None:
@@ -109,7 +113,7 @@ def payload_of(options):
 
 # ---- the request -----------------------------------------------------------------------------------------------------
 
-def address_of(given):
+def address_of(given: Optional[str]) -> Tuple[str, int, str]:
     """The host, port and path at which the service is."""
     url = given or os.environ.get("AWS_ENDPOINT_URL_LAMBDA") or NOWHERE
     where = "--endpoint" if given else "AWS_ENDPOINT_URL_LAMBDA"
@@ -123,7 +127,7 @@ def address_of(given):
     return host, port or 80, parts.path.rstrip("/")
 
 
-def headers_of(options):
+def headers_of(options: argparse.Namespace) -> Dict[str, str]:
     found = {"Content-Type": "application/json"}
     if options.event:
         found["X-Amz-Invocation-Type"] = "Event"
@@ -132,7 +136,7 @@ def headers_of(options):
     return found
 
 
-def ask(options, payload):
+def ask(options: argparse.Namespace, payload: bytes) -> Answer:
     """The answer: status, headers and body."""
     host, port, path = address_of(options.endpoint)
     connection = http.client.HTTPConnection(host, port, timeout=LONGEST_SECONDS)
@@ -151,27 +155,29 @@ def ask(options, payload):
 
 # ---- what comes of it ------------------------------------------------------------------------------------------------
 
-def printed(body):
+def printed(body: bytes) -> None:
     sys.stdout.buffer.write(body if body.endswith(b"\n") else body + b"\n")
     sys.stdout.flush()
 
 
-def show_log(headers):
+def show_log(headers: Message) -> None:
     """What the invocation printed, as far as the answer has it."""
     if headers.get("X-Amz-Log-Result") is None:
-        return say("the answer has no log: `lambda_local up` keeps what functions print")
+        say("the answer has no log: `lambda_local up` keeps what functions print")
+        return
     try:
         text = base64.b64decode(headers["X-Amz-Log-Result"], validate=True).decode(errors="replace")
     except binascii.Error:
-        return say("the log in the answer is not Base64")
-    return print(text, end="" if text.endswith("\n") else "\n", file=sys.stderr)
+        say("the log in the answer is not Base64")
+        return
+    print(text, end="" if text.endswith("\n") else "\n", file=sys.stderr)
 
 
-def say(text):
+def say(text: object) -> None:
     print(f"invoke: {called(str(text))}", file=sys.stderr)
 
 
-def refusal(name, status, headers, body):
+def refusal(name: str, status: int, headers: Message, body: bytes) -> str:
     """A line on an answer that is no result of the function."""
     try:
         members = json.loads(body)
@@ -184,7 +190,7 @@ def refusal(name, status, headers, body):
     return f"{name}: {' '.join(said.split())}"
 
 
-def tell(options, answer):
+def tell(options: argparse.Namespace, answer: Answer) -> int:
     """The exit status of an answer, which is printed."""
     status, headers, body = answer
     if options.tail and status == 200:
@@ -202,7 +208,7 @@ def tell(options, answer):
     return 0
 
 
-def parser():
+def parser() -> argparse.ArgumentParser:
     made = parser_of("invoke", __doc__, USAGE)
     made.add_argument("name", metavar="NAME")
     made.add_argument("payload", metavar="PAYLOAD", nargs="?")
@@ -215,7 +221,7 @@ def parser():
     return made
 
 
-def main():
+def main() -> int:
     options = parser().parse_args()
     try:
         return tell(options, ask(options, payload_of(options)))

@@ -6,32 +6,46 @@
     suite.write("report.xml")"""
 import os
 import tempfile
+from typing import List, NamedTuple, Optional
 from xml.sax.saxutils import escape, quoteattr
 
 from .service import Fault
 
 
+class Case(NamedTuple):
+    group: str
+    name: str
+    seconds: float
+    failure: Optional[str]
+    details: str
+    skipped: Optional[str]
+    output: str
+
+
 class Suite:
     """The cases of one run, in order."""
 
-    def __init__(self, name):
-        self.name, self.cases, self.seconds = name, [], None
+    def __init__(self, name: str) -> None:
+        self.name = name
+        self.cases: List[Case] = []
+        self.seconds: Optional[float] = None
 
-    def case(self, group, name, seconds=0.0, failure=None, details="", skipped=None, output=""):
+    def case(self, group: str, name: str, seconds: float = 0.0, failure: Optional[str] = None, details: str = "",
+             skipped: Optional[str] = None, output: str = "") -> None:
         """Adds a case: passed, or with a `failure` (a line) and its `details`, or `skipped` for a reason."""
-        self.cases.append((group, name, seconds, failure, details, skipped, output))
+        self.cases.append(Case(group, name, seconds, failure, details, skipped, output))
 
-    def text(self):
-        failed = sum(failure is not None for _, _, _, failure, _, _, _ in self.cases)
-        skipped = sum(reason is not None for _, _, _, _, _, reason, _ in self.cases)
-        total = sum(case[2] for case in self.cases) if self.seconds is None else self.seconds
+    def text(self) -> str:
+        failed = sum(case.failure is not None for case in self.cases)
+        skipped = sum(case.skipped is not None for case in self.cases)
+        total = sum(case.seconds for case in self.cases) if self.seconds is None else self.seconds
         head = (f"<testsuite name={attribute(self.name)} tests=\"{len(self.cases)}\" failures=\"{failed}\" "
                 f"errors=\"0\" skipped=\"{skipped}\" time=\"{total:.3f}\">")
         return "\n".join(['<?xml version="1.0" encoding="UTF-8"?>', "<testsuites>", head, *map(self._case, self.cases),
                           "</testsuite>", "</testsuites>", ""])
 
     @staticmethod
-    def _case(case):
+    def _case(case: Case) -> str:
         group, name, seconds, failure, details, skipped, output = case
         lines = [f"  <testcase classname={attribute(group)} name={attribute(name)} time=\"{seconds:.3f}\">"]
         if failure is not None:
@@ -42,7 +56,7 @@ class Suite:
             lines.append(f"    <system-out>{content(output)}</system-out>")
         return "\n".join([*lines, "  </testcase>"])
 
-    def write(self, path):
+    def write(self, path: str) -> None:
         """Writes the file whole or not at all."""
         try:
             folder = os.path.dirname(os.path.abspath(path))
@@ -54,16 +68,16 @@ class Suite:
             raise Fault(2, f"--junit {path}: {fault.strerror}: name a file in a folder that can be written") from None
 
 
-def allowed(text):
+def allowed(text: str) -> str:
     """The text without what XML 1.0 cannot hold."""
     return "".join(letter if letter in "\t\n" or 0x20 <= ord(letter) < 0xD800 or 0xE000 <= ord(letter) < 0xFFFE
                    or ord(letter) > 0xFFFF
                    else "\N{REPLACEMENT CHARACTER}" for letter in text)
 
 
-def content(text):
+def content(text: str) -> str:
     return escape(allowed(text))
 
 
-def attribute(text):
+def attribute(text: str) -> str:
     return quoteattr(allowed(text), {"\n": "&#10;", "\t": "&#9;"})

@@ -7,7 +7,7 @@ import io
 import os
 import re
 import sys
-from typing import Optional, TextIO
+from typing import Optional, Protocol, TextIO
 
 # Control characters but the tab, separators of lines, what turns the direction of writing, and halves of characters.
 UNSAFE = re.compile("[\x00-\x08\x0a-\x1f\x7f-\x9f\u2028\u2029\u202a-\u202e\u2066-\u2069\ud800-\udfff]")
@@ -15,6 +15,14 @@ COLOUR = re.compile("(\x1b\\[[0-9;:]*m)")  # also bold, underlined ..: a termina
 PLAIN = "\x1b[0m"
 SHORT = {"\n": "\\n", "\r": "\\r"}
 HEADER_VALUE = re.compile("[!-~](?:[ -~]*[!-~])?")
+
+
+class Log(Protocol):
+    """Takes lines for the log of a run, as `up.log.Log` does."""
+
+    def __call__(self, who: str, text: str, level: str = "info", kind: str = "up", always: bool = False,
+                 **members: object) -> None:
+        ...
 
 
 def _escaped(found: "re.Match[str]") -> str:

@@ -13,7 +13,9 @@ that its history replays to itself. The report of a failed test has the history 
 where both stand whole. The program is LAMBDA_LOCAL_PROGRAM, else the one that comes with the tools.
 `in_process.LambdaLocal` does without pytest."""
 import http.client
+import pathlib
 import subprocess
+from typing import Any, Generator, Iterator, Tuple
 
 from .in_process import FunctionError, LambdaLocal  # noqa: F401
 from .paths import tool
@@ -21,7 +23,7 @@ from .paths import tool
 try:
     import pytest
 except ImportError:
-    pytest = None
+    pytest = None  # type: ignore[assignment]
 
 if pytest:
     from .rerun_marker import pytest_configure, pytest_runtest_call  # noqa: F401
@@ -30,7 +32,8 @@ if pytest:
     TITLE = "lambda_local history"
 
     @pytest.fixture
-    def lambda_local(request, tmp_path_factory, monkeypatch):
+    def lambda_local(request: pytest.FixtureRequest, tmp_path_factory: pytest.TempPathFactory,
+                     monkeypatch: pytest.MonkeyPatch) -> Iterator[LambdaLocal]:
         """A service of this test's own: `start` starts it."""
         service = LambdaLocal(patches=monkeypatch)
         request.node.lambda_local = (service, tmp_path_factory)
@@ -38,24 +41,25 @@ if pytest:
         service.stop()
 
     @pytest.fixture(scope="session")
-    def lambda_local_session(request, tmp_path_factory):
+    def lambda_local_session(request: pytest.FixtureRequest,
+                             tmp_path_factory: pytest.TempPathFactory) -> Iterator[LambdaLocal]:
         """One service for the session: `start` starts it, once."""
         service = LambdaLocal()
-        request.session.lambda_local = (service, tmp_path_factory)
+        setattr(request.session, "lambda_local", (service, tmp_path_factory))
         yield service
         service.stop()
 
-    def last_lines(text, path):
+    def last_lines(text: str, path: pathlib.Path) -> str:
         lines = text.splitlines()
         return "\n".join(
             [*([f".. {len(lines) - SHOWN} lines before these: {path}"] if len(lines) > SHOWN else []), *lines[-SHOWN:]])
 
-    def timeline(*words):
+    def timeline(*words: object) -> str:
         """What the timeline says of a history."""
         return subprocess.run([*tool("timeline"), *map(str, words)], stdout=subprocess.PIPE, stderr=subprocess.STDOUT,
                               text=True).stdout
 
-    def sections(history, folder):
+    def sections(history: str, folder: pathlib.Path) -> Iterator[Tuple[str, str]]:
         """Returns what a report says of a history; the folder has all of it, and a page with its timeline."""
         path, page = folder / "history.txt", folder / "timeline.html"
         path.write_text(history)
@@ -63,7 +67,7 @@ if pytest:
         drawn = timeline("-o", page, path)
         yield f"lambda_local timeline: {page}", last_lines(timeline(path) + drawn, page)
 
-    def services_of(item):
+    def services_of(item: Any) -> Iterator[Tuple[LambdaLocal, pytest.TempPathFactory]]:
         """The test's own service, and the session's if the test uses it, each with the factory of folders."""
         if own := getattr(item, "lambda_local", None):
             yield own
@@ -71,8 +75,8 @@ if pytest:
             if shared := getattr(item.session, "lambda_local", None):
                 yield shared
 
-    @pytest.hookimpl(hookwrapper=True)
-    def pytest_runtest_makereport(item, call):
+    @pytest.hookimpl(hookwrapper=True)  # type: ignore[misc]  # (pluggy 1.0 has no types)
+    def pytest_runtest_makereport(item: pytest.Item, call: "pytest.CallInfo[None]") -> Generator[None, Any, None]:
         outcome = yield
         report = outcome.get_result()
         if not report.failed or any(title.startswith(TITLE) for title, _ in report.sections):

@@ -1,5 +1,6 @@
 """Sentences for the lines by which the program refuses a configuration or a script (docs/formats.md)."""
 import re
+from typing import List
 
 from .configuration import explained
 from .json_reader import NotJson, read_json
@@ -11,14 +12,14 @@ CALLS = ("invoke", "next", "response", "failure", "response-too-large", "init-fa
          "ext-init-failure", "ext-exit-failure", "tick", "withdraw", "spindown", "stop", "reserve")
 
 
-def shown(line):
+def shown(line: bytes) -> str:
     """A line of bytes for a person, cut short: what cannot be printed is a question mark."""
     text = line[:4 * SHOWN].decode(errors="replace")
     text = "".join(letter if letter.isprintable() else "?" for letter in text)
     return f"`{text if len(text) <= SHOWN else text[:SHOWN] + '..'}`"
 
 
-def of_line(line):
+def of_line(line: bytes) -> str:
     """What may be wrong with a line of a script."""
     words = line.decode(errors="replace").split(" ")
     if not re.fullmatch(r"0|[1-9][0-9]{0,15}", words[0]):
@@ -28,7 +29,7 @@ def of_line(line):
     return f"docs/formats.md has the fields of {words[1]}"
 
 
-def sentence(said, lines):
+def sentence(said: str, lines: List[bytes]) -> str:
     """A sentence for what the program said about these lines; the program's own words if none is known."""
     found = SCRIPT.fullmatch(said)
     if found and int(found[1]) <= len(lines):

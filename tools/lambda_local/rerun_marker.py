@@ -10,22 +10,23 @@ import contextlib
 import os
 
 import pytest
+from typing import Any, Optional, Sequence
 
 NAME = "lambda_local_rerun"
 FIXTURES = ("lambda_local", "lambda_local_session")
 
 
-def pytest_configure(config):
+def pytest_configure(config: pytest.Config) -> None:
     config.addinivalue_line("markers", f"{NAME}(history, ignore=(), one_by_one=False, exact=False): after the test, "
                                        "sends the invocations of this history again to the functions that it started, "
                                        "and compares their outputs")
 
 
-@pytest.hookimpl(tryfirst=True)
-def pytest_pyfunc_call(pyfuncitem):
+@pytest.hookimpl(tryfirst=True)  # type: ignore[misc]  # (pluggy 1.0 has no types)
+def pytest_pyfunc_call(pyfuncitem: pytest.Function) -> None:
     """Before the test: a service that it starts has the history's salt, and so the same request identifiers."""
     marker = pyfuncitem.get_closest_marker(NAME)
-    starts = pyfuncitem.funcargs.get(FIXTURES[0])
+    starts: Any = pyfuncitem.funcargs.get(FIXTURES[0])
     if marker and marker.args and starts is not None and starts.service is None:
         from .rerun.record import read
         from .service import Fault
@@ -33,12 +34,12 @@ def pytest_pyfunc_call(pyfuncitem):
             starts.salt = read(path_of(pyfuncitem, marker.args[0])).salt
 
 
-def path_of(item, history):
+def path_of(item: pytest.Item, history: str) -> str:
     return os.path.join(os.path.dirname(str(item.fspath)), history)
 
 
-@pytest.hookimpl(trylast=True)
-def pytest_runtest_call(item):
+@pytest.hookimpl(trylast=True)  # type: ignore[misc]
+def pytest_runtest_call(item: Any) -> None:
     """Runs after the test itself, if that did not fail."""
     marker = item.get_closest_marker(NAME)
     if marker and not getattr(item, "lambda_local_reran", False):
@@ -46,7 +47,8 @@ def pytest_runtest_call(item):
         again(item, *marker.args, **marker.kwargs)
 
 
-def again(item, history, ignore=(), one_by_one=False, exact=False):
+def again(item: Any, history: str, ignore: Sequence[str] = (), one_by_one: bool = False,
+          exact: bool = False) -> None:
     from .rerun.again import rerun  # (only tests with the marker need it)
     from .rerun.compare import pointer_of
     from .rerun.record import read

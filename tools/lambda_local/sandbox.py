@@ -4,10 +4,11 @@ import logging
 import os
 import sys
 import threading
+from typing import Any, Callable, List, Mapping, Optional, Protocol, Set
 from urllib.parse import urlsplit
 
 from .paths import bundled_module
-from .variables import DUMMIES, LEFT_OUT, leading_to
+from .variables import DUMMIES, LEFT_OUT, Serving, leading_to
 
 LONGEST_SECONDS = 1000  # of an invocation
 HOSTS = ("amazonaws.com", "amazonaws.com.cn", "amazonaws.eu", "api.aws", "api.amazonwebservices.com.cn")
@@ -17,37 +18,53 @@ class ReachesAWS(RuntimeError):
     """A request to AWS that was not sent."""
 
 
+class Changes(Protocol):
+    """Changes that are undone at the end."""
+
+    def setenv(self, name: str, value: str) -> None:
+        ...
+
+    def delenv(self, name: str, raising: bool = True) -> None:
+        ...
+
+    def setattr(self, target: object, name: str, value: object) -> None:
+        ...
+
+    def undo(self) -> None:
+        ...
+
+
 class Patches:
     """Changes that are undone in reverse order: as much of pytest's MonkeyPatch as is needed here, without pytest."""
 
-    def __init__(self):
-        self.undoings = []
+    def __init__(self) -> None:
+        self.undoings: List[Callable[[], object]] = []
 
-    def setenv(self, name, value):
+    def setenv(self, name: str, value: str) -> None:
         self._note_variable(name)
         os.environ[name] = value
 
-    def delenv(self, name, raising=True):
+    def delenv(self, name: str, raising: bool = True) -> None:
         if raising or name in os.environ:
             self._note_variable(name)
             del os.environ[name]
 
-    def _note_variable(self, name):
+    def _note_variable(self, name: str) -> None:
         before = os.environ.get(name)
         self.undoings.append(lambda: os.environ.pop(name, None) if before is None
                              else os.environ.__setitem__(name, before))
 
-    def setattr(self, target, name, value):
+    def setattr(self, target: object, name: str, value: object) -> None:
         before = vars(target)[name]
         self.undoings.append(lambda: setattr(target, name, before))
         setattr(target, name, value)
 
-    def undo(self):
+    def undo(self) -> None:
         while self.undoings:
             self.undoings.pop()()
 
 
-def is_of_aws(host):
+def is_of_aws(host: str) -> bool:
     return any(host == name or host.endswith("." + name) for name in HOSTS)
 
 
@@ -55,10 +72,10 @@ class Sending:
     """What becomes of a request of botocore: what is for Lambda goes to the service, also from a client that was made
     before it was started, or whose boto3 does not read AWS_ENDPOINT_URL_LAMBDA; other requests to AWS are refused."""
 
-    def __init__(self, send, session, endpoint_url):
+    def __init__(self, send: Callable[[Any, Any], object], session: Any, endpoint_url: str) -> None:
         self.send, self.session, self.endpoint_url = send, session, endpoint_url
 
-    def __call__(self, endpoint, request):
+    def __call__(self, endpoint: Any, request: Any) -> object:
         url = urlsplit(request.url)
         host = (url.hostname or "").rstrip(".").lower()
         if not is_of_aws(host):
@@ -76,11 +93,13 @@ class Sandbox:
     """`variables` are those of the functions. With `keeps_credentials`, credentials and the region stay as they are,
     and requests are sent. `patches` are pytest's, which undoes them itself, or one's own."""
 
-    def __init__(self, service, variables, keeps_credentials, patches=None):
+    def __init__(self, service: Serving, variables: Mapping[str, str], keeps_credentials: bool,
+                 patches: Optional[Changes] = None) -> None:
         self.patches, self.undoes = patches or Patches(), patches is None
-        self.keeps_credentials, self.seen, self.lock = keeps_credentials, set(), threading.Lock()
+        self.keeps_credentials, self.lock = keeps_credentials, threading.Lock()
+        self.seen: Set[str] = set()
         self.endpoint_url = service.endpoint_url
-        self.thread, self.handler, self.level = threading.local(), None, None
+        self.thread = threading.local()
         if boto3 := self._newly_imported("boto3", "DEFAULT_SESSION"):
             self.patches.setattr(boto3, "DEFAULT_SESSION", None)
         self.look()
@@ -97,7 +116,7 @@ class Sandbox:
 
     # ---- boto3 -------------------------------------------------------------------------------------------------------
 
-    def _newly_imported(self, name, member):
+    def _newly_imported(self, name: str, member: str) -> Any:
         """A module, when it is seen for the first time with this member, which it has once it is imported."""
         module = sys.modules.get(name)
         if name in self.seen or self.keeps_credentials or not hasattr(module, member):
@@ -105,7 +124,7 @@ class Sandbox:
         self.seen.add(name)
         return module
 
-    def look(self):
+    def look(self) -> None:
         """What a handler has imported by now is kept from AWS: the requests of botocore, and the session that boto3
         makes for itself, which keeps the credentials that it has read once."""
         with self.lock:
@@ -120,7 +139,7 @@ class Sandbox:
 
     # ---- the log -----------------------------------------------------------------------------------------------------
 
-    def _begin_log(self):
+    def _begin_log(self) -> None:
         """As examples/runtime.py does, for what handlers log; what others log in this process is theirs."""
         runtime, logger = bundled_module("runtime.py"), logging.getLogger()
         self.handler, self.level = runtime.LogHandler(self._request, runtime.logs_json()), logger.level
@@ -129,18 +148,18 @@ class Sandbox:
         if runtime.log_level() is not None:
             logger.setLevel(runtime.log_level())
 
-    def _request(self):
+    def _request(self) -> Optional[str]:
         """The identifier of the invocation that this thread handles; none in a thread that handles none."""
         return getattr(self.thread, "request", None)
 
-    def begin(self, request):
+    def begin(self, request: str) -> None:
         """An invocation, in the thread that handles it."""
         self.thread.request = request
         self.look()
 
     # ---- the end -----------------------------------------------------------------------------------------------------
 
-    def close(self):
+    def close(self) -> None:
         self.look()
         logging.getLogger().removeHandler(self.handler)
         logging.getLogger().setLevel(self.level)

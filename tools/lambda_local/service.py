@@ -18,8 +18,9 @@ import sys
 import tempfile
 import threading
 import time
+from typing import Callable, Collection, Dict, Iterator, List, Mapping, Optional, Tuple, Union
 
-from .configuration import explained
+from .configuration import Members, explained
 from .guard import GUARD
 from .history import parked  # noqa: F401 (for those who ask a service)
 from .paths import LAUNCHER, own_program
@@ -35,7 +36,7 @@ RAISED = ("/bin/sh", "-c", 'ulimit -n "$(ulimit -Hn)" 2>/dev/null; exec "$@"', "
 class Fault(Exception):
     """What ends a tool: a status, and a line that says what to do."""
 
-    def __init__(self, status, message):
+    def __init__(self, status: int, message: str) -> None:
         super().__init__(message)
         self.status = status
 
@@ -43,11 +44,11 @@ class Fault(Exception):
 class NoProgram(Fault):
     """There is no program to start: status 4 in every tool."""
 
-    def __init__(self, message):
+    def __init__(self, message: str) -> None:
         super().__init__(4, message)
 
 
-def program_path(given=None):
+def program_path(given: Optional[str] = None) -> str:
     """The program that a tool starts."""
     found = given or os.environ.get("LAMBDA_LOCAL_PROGRAM") or own_program()
     path = shutil.which(found)
@@ -61,7 +62,7 @@ def program_path(given=None):
 
 
 @functools.lru_cache(maxsize=None)
-def launched(launcher):
+def launched(launcher: str) -> str:
     """The program that the launcher finds: it is asked once a process. What it says beside that is passed on."""
     variables = {name: value for name, value in os.environ.items() if name != "LAMBDA_LOCAL_PROGRAM"}
     done = subprocess.run([launcher, "path"], stdin=subprocess.DEVNULL, capture_output=True, text=True,
@@ -75,12 +76,13 @@ def launched(launcher):
 
 
 @functools.lru_cache(maxsize=None)
-def tell_unproved(program):
+def tell_unproved(program: str) -> None:
     print(f"lambda_local: {program} is not proved: './lambda_local build' proves and builds the program",
           file=sys.stderr)
 
 
-def ask(port, method, path, body=None, headers={}, timeout=30):
+def ask(port: int, method: str, path: str, body: Union[None, str, bytes] = None, headers: Mapping[str, str] = {},
+        timeout: float = 30) -> Tuple[int, Dict[str, str], bytes]:
     """Status, headers (names in lower case) and body of one request on a connection of its own."""
     connection = http.client.HTTPConnection("127.0.0.1", port, timeout=timeout)
     try:
@@ -92,12 +94,12 @@ def ask(port, method, path, body=None, headers={}, timeout=30):
 
 
 @contextlib.contextmanager
-def undisturbed():
+def undisturbed() -> Iterator[None]:
     """Puts off the signals that end a tool: a process that is started and not known yet could not be ended."""
     if threading.current_thread() is not threading.main_thread():
         yield
         return
-    came = []
+    came: List[int] = []
     before = {number: signal.signal(number, lambda number, _: came.append(number))
               for number in (signal.SIGTERM, signal.SIGINT, signal.SIGHUP)}
     try:
@@ -105,11 +107,11 @@ def undisturbed():
     finally:
         for number, handler in before.items():
             signal.signal(number, handler)
-        for number in came:
-            signal.raise_signal(number)
+        for one in came:
+            signal.raise_signal(one)
 
 
-def free_ports(count, taken):
+def free_ports(count: int, taken: Collection[int]) -> List[int]:
     """Returns this many ports that no one listens on now, none of those taken."""
     first, last = 0, 0
     if words := os.environ.get("LAMBDA_LOCAL_PORTS"):
@@ -120,7 +122,8 @@ def free_ports(count, taken):
         except ValueError:
             raise Fault(2, f"LAMBDA_LOCAL_PORTS={words}: write it as FIRST-LAST, for example 20000-23999") from None
     candidates = iter(random.sample(range(first, last + 1), last + 1 - first)) if first else None
-    held, found = [], []
+    held: List[socket.socket] = []
+    found: List[int] = []
     try:
         while len(found) < count:
             port = next(candidates, None) if candidates else 0
@@ -147,7 +150,7 @@ def free_ports(count, taken):
             listener.close()
 
 
-def is_taken(port):
+def is_taken(port: int) -> bool:
     """Whether somebody listens on this port."""
     with socket.socket() as listener:
         listener.setsockopt(socket.SOL_SOCKET, socket.SO_REUSEADDR, 1)
@@ -158,7 +161,7 @@ def is_taken(port):
     return False
 
 
-def wait_for(child, seconds):
+def wait_for(child: "subprocess.Popen[str]", seconds: float) -> int:
     """Waits for the end of a child. `Popen.wait` with a limit looks again and again, up to 50 ms apart; a descriptor of
     the child (Linux 5.3) says at once that it has ended."""
     try:
@@ -179,8 +182,10 @@ class Service:
     """A running service. Of the configuration, ports of 0 (and an absent `invokePort`) are replaced by free ones.
     `path` is the file that the configuration is from, for messages."""
 
-    def __init__(self, configuration, program=None, say=lambda line: None, path=None):
-        self.program, self.say, self.lines = program_path(program), say, []
+    def __init__(self, configuration: Members, program: Optional[str] = None,
+                 say: Callable[[str], None] = lambda line: None, path: Optional[str] = None) -> None:
+        self.program, self.say = program_path(program), say
+        self.lines: List[str] = []
         self.given, self.path = configuration, path
         self.folder = tempfile.mkdtemp(prefix="lambda_local.")
         GUARD.hold(self.folder)
@@ -197,7 +202,7 @@ class Service:
             self.kill()
             raise
 
-    def _refuse_taken_ports(self):
+    def _refuse_taken_ports(self) -> None:
         """If ports that were asked for are taken, another try is in vain."""
         if NO_NETWORK not in self.lines:
             return
@@ -209,17 +214,17 @@ class Service:
             raise Fault(4, f"{self._place()}{', '.join(taken)}: another program listens there: leave the port out, and "
                            f"a free one is used")
 
-    def _place(self):
+    def _place(self) -> str:
         return f"{self.path}: " if self.path else ""
 
-    def _why_not(self):
+    def _why_not(self) -> str:
         """Why it did not start, in words if it names a fault of the configuration."""
         told = self.lines[-1] if self.lines else f"ended with status {self.process.returncode}"
         place, _, name = told.partition(": ")
         reason = explained(name, self.given) if place == "configuration" else ""
         return f"{self._place()}{reason} (the service says {name})" if reason else f"the service did not start: {told}"
 
-    def _choose(self):
+    def _choose(self) -> int:
         configuration = json.loads(json.dumps(self.given))
         functions = configuration["functions"]
         given = {configuration.get("invokePort", 0)} | {port for function in functions for port in function["ports"]}
@@ -234,7 +239,7 @@ class Service:
         self.endpoint_url = f"http://127.0.0.1:{self.port}"
         return wanted
 
-    def _start(self):
+    def _start(self) -> bool:
         path = os.path.join(self.folder, "configuration.json")
         with open(path, "w") as file:
             json.dump(self.configuration, file)
@@ -244,6 +249,8 @@ class Service:
             command, pipe = GUARD.announcing([*RAISED, self.program, "serve", path])
             self.process = subprocess.Popen(command, stdin=pipe, stdout=subprocess.PIPE, stderr=subprocess.PIPE,
                                             text=True, errors="replace", start_new_session=True)
+            assert self.process.stdout and self.process.stderr
+            self.output, self.said = self.process.stdout, self.process.stderr
             self.listening = threading.Event()
             self.reader = threading.Thread(target=self._read, daemon=True)
             self.reader.start()
@@ -254,15 +261,15 @@ class Service:
             return True
         self.process.wait()
         GUARD.release(self.process.pid)
-        self.process.stdout.close()
+        self.output.close()
         self.reader.join(5)
         return False
 
     listening_line = False
 
-    def _read(self):
+    def _read(self) -> None:
         self.listening_line = False
-        with self.process.stderr as stream:
+        with self.said as stream:
             for line in stream:
                 line = line.rstrip("\n")
                 self.lines.append(line)
@@ -274,13 +281,14 @@ class Service:
                     self.say(line)
         self.listening.set()
 
-    def stats(self):
-        return json.loads(ask(self.port, "GET", "/_local/stats")[2])
+    def stats(self) -> Dict[str, int]:
+        counts: Dict[str, int] = json.loads(ask(self.port, "GET", "/_local/stats")[2])
+        return counts
 
-    def history(self):
+    def history(self) -> str:
         return ask(self.port, "GET", "/_local/history", timeout=300)[2].decode()
 
-    def stop(self, seconds=20):
+    def stop(self, seconds: float = 20) -> Tuple[int, str]:
         """Stops it in order, or kills it after this many seconds. Returns its status, and the line with its counts."""
         end = time.monotonic() + seconds
         while self.process.poll() is None:
@@ -297,11 +305,11 @@ class Service:
         except subprocess.TimeoutExpired:
             self.say(f"the service did not end within {seconds} s and is killed")
             self._kill_group()
-        counts = self.process.stdout.read().strip()
+        counts = self.output.read().strip()
         self.kill()
         return self.process.returncode, counts
 
-    def _kill_group(self):
+    def _kill_group(self) -> None:
         """(a program that is a script of somebody's cleans up when it is asked to end)"""
         for number in (signal.SIGTERM, signal.SIGKILL):
             if self.process.poll() is None:
@@ -309,17 +317,17 @@ class Service:
                     os.killpg(self.process.pid, number)
                     self.process.wait(3 if number == signal.SIGTERM else None)
 
-    def kill(self):
+    def kill(self) -> None:
         """Ends it in any case, and leaves nothing running."""
-        if hasattr(self, "process"):
+        if hasattr(self, "output"):
             self._kill_group()
             GUARD.release(self.process.pid)
-            self.process.stdout.close()
+            self.output.close()
             self.reader.join(5)
         shutil.rmtree(self.folder, ignore_errors=True)
         GUARD.release(self.folder)
 
-    def replays(self, history):
+    def replays(self, history: str) -> bool:
         """Whether the history's replay gives its own answers."""
         done = subprocess.run([self.program, "replay"], input=history, capture_output=True, text=True)
         return done.returncode == 0 and done.stdout.splitlines() == [

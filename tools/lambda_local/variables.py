@@ -2,8 +2,9 @@
 import json
 import os
 import re
+from typing import Dict, Mapping, Protocol
 
-from .configuration import Kind
+from .configuration import Kind, Members
 
 # What a client would take in place of the dummies, or read to go elsewhere.
 LEFT_OUT = ("AWS_PROFILE", "AWS_DEFAULT_PROFILE", "AWS_SESSION_TOKEN", "AWS_SECURITY_TOKEN", "AWS_ROLE_ARN",
@@ -13,26 +14,32 @@ LOOPBACK = ("127.0.0.1", "localhost")
 DUMMIES = {"AWS_ACCESS_KEY_ID": "local", "AWS_SECRET_ACCESS_KEY": "local"}
 
 
-def is_variables(value):
+class Serving(Protocol):
+    """What callers are led to."""
+    endpoint_url: str
+    configuration: Members
+
+
+def is_variables(value: object) -> bool:
     return isinstance(value, dict) and all(isinstance(text, (str, int, float)) for text in value.values())
 
 
 OF_FUNCTION = Kind(is_variables, "an object of texts, numbers, true or false")
 
 
-def text_of(value):
+def text_of(value: object) -> str:
     """The text of a variable; true and false as JSON has them."""
     return value if isinstance(value, str) else json.dumps(value)
 
 
-def leading_to(endpoint_url, region):
+def leading_to(endpoint_url: str, region: str) -> Dict[str, str]:
     """Returns what leads a client to the service, also behind a proxy. (`false` overrules what a configuration file
     says.)"""
     return {"AWS_REGION": region, "AWS_DEFAULT_REGION": region, "AWS_ENDPOINT_URL_LAMBDA": endpoint_url,
             "AWS_IGNORE_CONFIGURED_ENDPOINT_URLS": "false", **past_proxies()}
 
 
-def past_proxies(environ=os.environ):
+def past_proxies(environ: Mapping[str, str] = os.environ) -> Dict[str, str]:
     """Clients take the first of no_proxy and NO_PROXY that they know: both say that this machine needs no proxy."""
     if not any(environ.get(name) or environ.get(name.upper()) for name in ("http_proxy", "all_proxy")):
         return {}
@@ -44,7 +51,7 @@ def past_proxies(environ=os.environ):
     return found
 
 
-def of_callers(service, keeps_credentials):
+def of_callers(service: Serving, keeps_credentials: bool) -> Dict[str, str]:
     """Returns the variables of a command that calls functions: this process's own, and those that lead here."""
     found = dict(os.environ)
     if not keeps_credentials:
@@ -52,7 +59,7 @@ def of_callers(service, keeps_credentials):
     return {**found, **leading_to(service.endpoint_url, service.configuration["region"])}
 
 
-def of_function(name, memory, number=1):
+def of_function(name: str, memory: int, number: int = 1) -> Dict[str, str]:
     """Returns what a function reads about itself (Developer Guide, "Defined runtime environment variables")."""
     return {"AWS_LAMBDA_FUNCTION_NAME": name, "AWS_LAMBDA_FUNCTION_VERSION": "$LATEST",
             "AWS_LAMBDA_FUNCTION_MEMORY_SIZE": str(memory), "AWS_LAMBDA_INITIALIZATION_TYPE": "on-demand",

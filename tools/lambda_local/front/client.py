@@ -5,8 +5,9 @@ import asyncio
 import contextlib
 import errno
 import time
+from typing import AsyncIterator, List, Optional, Sequence, Tuple
 
-from ..http1 import CLOSED, Malformed, ResponseReader, request_head
+from ..http1 import CLOSED, Event, Headers, Malformed, Response, ResponseReader, request_head
 from .http import Answer, Body
 from .wire import Gone, Wire
 
@@ -26,10 +27,11 @@ class NoDescriptor(Unreached):
 class ServiceWire(Wire):
     """A connection to the service, on which an answer that is not HTTP/1.1 is as good as none."""
 
-    def __init__(self):
-        super().__init__(ResponseReader())
+    def __init__(self) -> None:
+        self.responses = ResponseReader()
+        super().__init__(self.responses)
 
-    async def event(self):
+    async def event(self) -> Event:
         try:
             event = await super().event()
         except Malformed:
@@ -40,10 +42,11 @@ class ServiceWire(Wire):
 
 
 class Client:
-    def __init__(self, port):
-        self.port, self.idle = port, []
+    def __init__(self, port: int) -> None:
+        self.port = port
+        self.idle: List[Tuple[ServiceWire, float]] = []  # with the time since when
 
-    async def connection(self):
+    async def connection(self) -> ServiceWire:
         now = time.monotonic()
         while self.idle:
             wire, since = self.idle.pop()
@@ -56,7 +59,7 @@ class Client:
             raise (NoDescriptor if fault.errno in NO_DESCRIPTOR else Unreached) from None
         return wire
 
-    def give_back(self, wire):
+    def give_back(self, wire: ServiceWire) -> None:
         """Keeps a connection that is silent: what came after the answer would be taken for the next one."""
         wire.reader.next_message()
         if len(self.idle) < MOST_IDLE and wire.is_silent():
@@ -64,13 +67,14 @@ class Client:
         else:
             wire.abort()
 
-    def close(self):
+    def close(self) -> None:
         for wire, _ in self.idle:
             wire.close()
         self.idle.clear()
 
     @contextlib.asynccontextmanager
-    async def asking(self, method, target, headers=(), length=0, pieces=None, body=b""):
+    async def asking(self, method: str, target: str, headers: Sequence[Tuple[str, str]] = (), length: int = 0,
+                     pieces: Optional[AsyncIterator[bytes]] = None, body: bytes = b"") -> AsyncIterator[Answer]:
         """The answer to a request, while it is read. Its body of this length is there, or comes in pieces; if neither,
         the service refuses it by its length. A request is never sent twice: it could be an invocation."""
         head = request_head(method, target, [("Host", f"127.0.0.1:{self.port}"), *headers,
@@ -84,8 +88,9 @@ class Client:
             answer = await self.answer(wire, method)
             yield answer
         except Gone:
-            if sending is not None and sending.done() and isinstance(sending.exception(), Malformed):
-                raise sending.exception() from None
+            fault = sending.exception() if sending is not None and sending.done() else None
+            if isinstance(fault, Malformed):
+                raise fault from None
             raise
         finally:
             is_sent = len(body) == length
@@ -100,14 +105,14 @@ class Client:
                 wire.abort()
 
     @staticmethod
-    async def answer(wire, method):
-        wire.reader.method = method
-        while (event := await wire.event()).status < 200:
+    async def answer(wire: ServiceWire, method: str) -> Answer:
+        wire.responses.method = method
+        while not (isinstance(event := await wire.event(), Response) and event.status >= 200):
             pass
         return Answer(event.status, event.reason, event.headers, Body(wire, event.length), event.keeps_alive)
 
     @staticmethod
-    async def send(wire, pieces):
+    async def send(wire: Wire, pieces: AsyncIterator[bytes]) -> None:
         try:
             async for piece in pieces:
                 await wire.write(piece)
@@ -115,7 +120,8 @@ class Client:
             wire.abort()  # (half a request must not be taken for a whole one)
             raise
 
-    async def ask(self, method, target, headers=(), body=b""):
+    async def ask(self, method: str, target: str, headers: Sequence[Tuple[str, str]] = (),
+                  body: bytes = b"") -> Tuple[int, Headers, bytes]:
         """The status, headers and whole body of an answer."""
         async with self.asking(method, target, headers, len(body), None, body) as answer:
             return answer.status, answer.headers, await answer.body.whole(1 << 30)

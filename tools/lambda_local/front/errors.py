@@ -1,29 +1,30 @@
 """Refusals in the form in which Lambda's Invoke has them."""
 import json
+from typing import Mapping, Optional
 
 from .http import Reply
 
 
-def refusal(status, kind, members, identifier=None):
+def refusal(status: int, kind: str, members: Mapping[str, object], identifier: Optional[str] = None) -> Reply:
     headers = [("content-type", "application/json"), ("x-amzn-errortype", kind)]
     if identifier:
         headers.append(("x-amzn-requestid", identifier))
     return Reply(status, headers, of_json(members))
 
 
-def of_json(members):
+def of_json(members: Mapping[str, object]) -> bytes:
     return json.dumps(members, separators=(",", ":")).encode()
 
 
-def of_user(status, kind, message, identifier=None):
+def of_user(status: int, kind: str, message: str, identifier: Optional[str] = None) -> Reply:
     return refusal(status, kind, {"Type": "User", "message": message}, identifier)
 
 
-def of_service(status, message):
+def of_service(status: int, message: str) -> Reply:
     return refusal(status, "ServiceException", {"Message": message, "Type": "Service"})
 
 
-def throttled(reason, identifier):
+def throttled(reason: str, identifier: str) -> Reply:
     return refusal(429, "TooManyRequestsException", {"Reason": reason, "Type": "User", "message": "Rate Exceeded."},
                    identifier)
 
@@ -31,10 +32,10 @@ def throttled(reason, identifier):
 STOPPED = {"Message": "Service is stopped", "Type": "Service"}
 
 
-def stopped(identifier):
+def stopped(identifier: str) -> Reply:
     return refusal(500, "ServiceException", STOPPED, identifier)
 
 
-def is_stop(body):
+def is_stop(body: bytes) -> bool:
     """Whether the service refuses since it is stopped."""
     return body == of_json(STOPPED)

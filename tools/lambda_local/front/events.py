@@ -4,9 +4,12 @@ import json
 import re
 import time
 from datetime import datetime, timezone
+from typing import Any, Dict, Optional
 from urllib.parse import unquote
 
+from ..configuration import Members
 from ..history import request_identifier
+from ..http1 import Headers
 
 NAMED = re.compile(r"(?:.*:)?function:([^:]+)(?::[^:]+)?|([^:]+)(?::[^:]+)?")
 PATH = re.compile(r"/2015-03-31/functions/([^/?]+)/invocations(?:\?.*)?")
@@ -14,11 +17,11 @@ PATH = re.compile(r"/2015-03-31/functions/([^/?]+)/invocations(?:\?.*)?")
 HALF = re.compile(rb"\\u[dD][89a-fA-F]")  # what may be one
 
 
-def target_of(function):
+def target_of(function: str) -> str:
     return f"/2015-03-31/functions/{function}/invocations"
 
 
-def function_of(target):
+def function_of(target: str) -> Optional[str]:
     """Returns the name of the function in an Invoke's target, in one of its forms; None if it is not an Invoke."""
     found = PATH.fullmatch(target)
     named = NAMED.fullmatch(unquote(found[1])) if found else None
@@ -28,33 +31,34 @@ def function_of(target):
 class Identifiers:
     """The identifiers of events: as those of requests, with a 9 in place of the 8 (docs/formats.md)."""
 
-    def __init__(self, configuration):
-        self.salt, self.counts = configuration.get("salt", 0), {}
+    def __init__(self, configuration: Members) -> None:
+        self.salt: int = configuration.get("salt", 0)
+        self.counts: Dict[str, int] = {}
         self.numbers = {function["name"]: number for number, function in enumerate(configuration["functions"], 1)}
 
-    def next(self, function):
+    def next(self, function: str) -> str:
         count = self.counts[function] = self.counts.get(function, 0) + 1
         made = request_identifier(self.salt, self.numbers.get(function, 0), count)
         return f"{made[:19]}9{made[20:]}"
 
 
 class Event:
-    def __init__(self, identifier, function, target, headers, payload):
+    def __init__(self, identifier: str, function: str, target: str, headers: Headers, payload: bytes) -> None:
         self.identifier, self.function, self.target, self.headers = identifier, function, target, headers
         self.payload, self.since, self.attempts, self.throttles = payload, time.monotonic(), 0, 0
-        self.result = None  # of the last attempt: what the function reported, if its record needs it and it is kept
+        self.result: Optional[bytes] = None  # of the last attempt: what the function reported, if its record needs it and it is kept
         self.is_running = self.has_failed = False
 
     @property
-    def size(self):
+    def size(self) -> int:
         """The bytes that are held for it."""
         return len(self.payload) + len(self.result or b"")
 
     @property
-    def age(self):
+    def age(self) -> float:
         return time.monotonic() - self.since
 
-    def record(self, condition, arn):
+    def record(self, condition: str, arn: str) -> bytes:
         """What the destination gets. Payload and result stand in it as they are: it is hardly longer than both."""
         moment = datetime.now(timezone.utc).isoformat(timespec="milliseconds").replace("+00:00", "Z")
         members = {"version": json.dumps("1.0").encode(), "timestamp": json.dumps(moment).encode(),
@@ -70,7 +74,7 @@ class Event:
         return b"{" + b", ".join(b'"%b": %b' % (name.encode(), value) for name, value in members.items()) + b"}"
 
 
-def in_json(body):
+def in_json(body: bytes) -> bytes:
     """A body as it stands if it is JSON, else its text as JSON has it. Halves of surrogate pairs, which the service
     does not take, are replaced."""
     try:
@@ -80,6 +84,6 @@ def in_json(body):
         return json.dumps(body.decode(errors="replace"), ensure_ascii=False).encode()
 
 
-def refuse(constant):
+def refuse(constant: str) -> object:
     """NaN and Infinity, which Python reads, are not JSON."""
     raise ValueError(constant)

@@ -4,20 +4,24 @@ import contextlib
 import socket
 import threading
 import time
+from typing import Any, Callable, Dict, Iterator, List, Optional, Tuple
 
-from ..service import Fault, free_ports
+from ..outgoing import Log
+from ..service import Fault, Service, free_ports
 from .client import Client
 from .gateway import Api, Url
 from .invoke import InvokePort
 from .management import Management
 from .places import Places, places_for
+from .queue import Queue
 from .server import Server
+from .settings import Settings
 
 BETWEEN_TELLS = 60.0  # seconds, of the same fault
 TRIES = 5  # for a free port, which another program can take between looking and listening
 
 
-def listener_at(port, owner, path):
+def listener_at(port: int, owner: str, path: str) -> socket.socket:
     """A socket that listens on this port, or on a free one."""
     for left in reversed(range(TRIES)):
         wanted = port or free_ports(1, ())[0]
@@ -32,32 +36,35 @@ def listener_at(port, owner, path):
             if port or not left:
                 raise Fault(4, f"{path}: port {wanted} ({owner}): another program listens there: leave the port out, "
                                "and a free one is used") from None
+    raise AssertionError("the last try returns or raises")
 
 
-def url_of(listener):
+def url_of(listener: socket.socket) -> str:
     return f"http://127.0.0.1:{listener.getsockname()[1]}"
 
 
 class Front(threading.Thread):
     """Its ports are open from the start; requests are answered once it has the service and is started."""
 
-    def __init__(self, settings, path, drain_seconds, log):
+    def __init__(self, settings: Settings, path: str, drain_seconds: float, log: Log) -> None:
         super().__init__(name="front", daemon=True)
-        self.settings, self.drain_seconds, self.log, self.queue = settings, drain_seconds, log, None
+        self.settings, self.drain_seconds, self.log = settings, drain_seconds, log
+        self.queue: Optional[Queue] = None
         self.invoking = listener_at(settings.invoke_port, "invokePort", path)
         self.urls = {function: listener_at(address.port, f"url of function {function}", path)
                      for function, address in settings.urls.items()}
         self.routing = listener_at(settings.api.port, "api", path) if settings.routes else None
-        self.loop, self.told = asyncio.new_event_loop(), {}
+        self.loop = asyncio.new_event_loop()
+        self.told: Dict[str, float] = {}
 
-    def addresses(self):
+    def addresses(self) -> Iterator[Tuple[Optional[str], str, str]]:
         """Each address, whose it is and in which words."""
         for function, listener in self.urls.items():
             yield function, f"{function}: its URL is {url_of(listener)}/", url_of(listener)
         if self.routing:
             yield None, f"routes: {url_of(self.routing)}", url_of(self.routing)
 
-    def serve(self, service):
+    def serve(self, service: Service) -> None:
         """Begins to answer, by this service."""
         self.service, configuration = service, service.configuration
         self.client = Client(service.port)
@@ -76,7 +83,7 @@ class Front(threading.Thread):
             self.servers.append(Server(self.routing, api, self.places, self.log))
         self.start()
 
-    def run(self):
+    def run(self) -> None:
         asyncio.set_event_loop(self.loop)
         self.loop.set_exception_handler(self.tell)
         for server in self.servers:
@@ -90,7 +97,7 @@ class Front(threading.Thread):
         self.loop.run_until_complete(self.loop.shutdown_asyncgens())
         self.loop.close()
 
-    def tell(self, _loop, context):
+    def tell(self, _loop: asyncio.AbstractEventLoop, context: Dict[str, Any]) -> None:
         """A fault of a callback, or of a task that nobody awaits: in one line, and the same one not again soon."""
         what, now = f"{context['message']}: {context.get('exception')!r}"[:300], time.monotonic()
         if now - self.told.get(what, -BETWEEN_TELLS) >= BETWEEN_TELLS:
@@ -98,7 +105,7 @@ class Front(threading.Thread):
             self.told[what] = now
             self.log("up", f"the front: {what}", level="error")
 
-    def drain(self, is_over):
+    def drain(self, is_over: Callable[[], bool]) -> None:
         """Waits until no event is left, its time is over, or the service has ended."""
         end = time.monotonic() + self.drain_seconds
         if not self.queue or not self.queue.count:
@@ -108,7 +115,7 @@ class Front(threading.Thread):
         while self.queue.count and time.monotonic() < end and not is_over():
             time.sleep(0.01)
 
-    def end(self):
+    def end(self) -> None:
         """Once the service has ended."""
         with contextlib.suppress(RuntimeError):  # (it has failed, and its loop is closed)
             self.loop.call_soon_threadsafe(self.loop.stop)

@@ -1,14 +1,18 @@
 """Ports at which HTTP requests invoke functions: a Function URL, and the routes of an HTTP API or a REST API."""
 import json
-from typing import Any, Dict, NamedTuple, Optional
+from typing import Any, Dict, Mapping, NamedTuple, Optional
 
+from ..configuration import Members
+from ..outgoing import Log
 from . import cors
-from .events import target_of
+from .client import Client
+from .events import Identifiers, target_of
 from .formats import OfHttpApi, OfUrl, format_of, message
-from .http import PHRASES, Malformed, Reply, TooLong, first
-from .origins import FOREIGN_CODING, further_hosts, refusal_of
+from .http import PHRASES, Malformed, Reply, Request, TooLong, first
+from .origins import FOREIGN_CODING, Refusal, further_hosts, refusal_of
 from .payload import Unmappable
 from .routes import Routes
+from .settings import Address, Integration, Target
 from .wire import Gone
 
 MOST_BODY = 6 << 20  # bytes, of a request and of the event that is made of it
@@ -24,14 +28,20 @@ class Found(NamedTuple):
 
 
 class Gateway:
-    """`find` gives what takes a request; None if no route does, and then `unrouted` what is answered."""
+    """`find` gives what takes a request; None if no route does, and then `unrouted` is answered."""
     preflight_status = 200
 
-    def __init__(self, client, address, identifiers, log):
+    def __init__(self, client: Client, address: Address, identifiers: Identifiers, log: Log) -> None:
         self.client, self.cors, self.identifiers, self.log = client, address.cors, identifiers, log
         self.held, self.hosts = 0, further_hosts()
 
-    async def handle(self, request):
+    def find(self, request: Request) -> Optional[Found]:
+        raise NotImplementedError
+
+    def unrouted(self) -> Reply:
+        raise NotImplementedError
+
+    async def handle(self, request: Request) -> Reply:
         refused = refusal_of(request.head, self.hosts, pages_may=True)
         if refused:
             return self.refused(request, refused)
@@ -39,10 +49,11 @@ class Gateway:
             return cors.preflight(self.cors, request, self.preflight_status)
         found = self.find(request)
         reply = self.unrouted() if found is None else await self.invoke(request, found)
-        replaces = self.cors and (found is None or found.format.replaces_cors)
-        return cors.with_cors(self.cors, request, reply) if replaces else reply
+        if self.cors and (found is None or found.format.replaces_cors):
+            return cors.with_cors(self.cors, request, reply)
+        return reply
 
-    def refused(self, request, refused):
+    def refused(self, request: Request, refused: Refusal) -> Reply:
         """A page whose name leads to this machine could do here what it likes: so not each Host is served."""
         self.log("up", f"a request is answered {refused.status}: {refused.message}", level="error", kind="http")
         reply = message(refused.status, refused.message)
@@ -50,16 +61,16 @@ class Gateway:
         return reply._replace(headers=[*reply.headers, *closes])
 
     @staticmethod
-    def malformed(fault, _request):
+    def malformed(fault: Malformed, _request: Optional[Request]) -> Reply:
         kind = PHRASES[fault.status].title().replace(" ", "")
         body = json.dumps({"errorMessage": str(fault), "errorType": kind}).encode()
         return Reply(fault.status, [("Content-Type", "application/json"), ("Connection", "close")], body)
 
     @staticmethod
-    def refusal(status, text):
+    def refusal(status: int, text: str) -> Reply:
         return message(status, text)
 
-    async def invoke(self, request, found):
+    async def invoke(self, request: Request, found: Found) -> Reply:
         size = MOST_BODY if request.body.length is None else min(MOST_BODY, request.body.length)
         if self.held + size > MOST_HELD:
             self.say(found, request, f"503, requests with {MOST_HELD} bytes are being answered")
@@ -70,8 +81,8 @@ class Gateway:
         finally:
             self.held -= size
 
-    async def invoke_by(self, request, found):
-        def tell(text):
+    async def invoke_by(self, request: Request, found: Found) -> Reply:
+        def tell(text: str) -> None:
             self.say(found, request, text, level="warning")
 
         try:
@@ -98,30 +109,31 @@ class Gateway:
             self.say(found, request, f"502, its result cannot be mapped: {reason}")
             return found.format.broken()
 
-    def too_large(self, found, request, what):
+    def too_large(self, found: Found, request: Request, what: str) -> Reply:
         self.say(found, request, f"413, {what} has more than {MOST_BODY} bytes")
         return message(413, "Request Entity Too Large")
 
-    def not_invoked(self, found, request, status, result):
+    def not_invoked(self, found: Found, request: Request, status: int, result: bytes) -> Reply:
         self.say(found, request, f"the invocation is answered {status} {result[:200].decode(errors='replace')}")
         if status == 429:
             return found.format.throttled(result)
         return message(413, "Request Entity Too Large") if status == 413 else found.format.broken()
 
-    def say(self, found, request, text, level="error"):
+    def say(self, found: Found, request: Request, text: str, level: str = "error") -> None:
         self.log(found.function, f"{request.method} {request.path[:200]}: {text}", level=level, kind="http",
                  function=found.function)
 
 
 class Url(Gateway):
-    def __init__(self, client, address, identifiers, log, function, configuration):
+    def __init__(self, client: Client, address: Address, identifiers: Identifiers, log: Log, function: str,
+                 configuration: Members) -> None:
         super().__init__(client, address, identifiers, log)
         name = f"{function.lower()}.lambda-url.{configuration['region']}.on.aws"
         context = {"accountId": "anonymous", "apiId": function.lower(), "domainName": name,
                    "domainPrefix": function.lower(), "routeKey": "$default", "stage": "$default"}
         self.found = Found(function, context, None, OfUrl())
 
-    def find(self, request):
+    def find(self, request: Request) -> Optional[Found]:
         return self.found
 
 
@@ -129,7 +141,8 @@ class Api(Gateway):
     """The routes of a port, each with a format of its own."""
     preflight_status = 204
 
-    def __init__(self, client, address, identifiers, log, routes, configuration):
+    def __init__(self, client: Client, address: Address, identifiers: Identifiers, log: Log,
+                 routes: Mapping[str, Target], configuration: Members) -> None:
         super().__init__(client, address, identifiers, log)
         self.routes, self.context = Routes(routes), {
             "accountId": configuration["account"], "apiId": "local",
@@ -137,13 +150,17 @@ class Api(Gateway):
             "stage": "$default"}
         self.formats = {key: format_of(target.integration) for key, target in routes.items()}
         # (what no route takes is answered as by the kind that all routes have)
-        kinds = {type(each) for each in self.formats.values()}
-        self.unrouted = next(iter(self.formats.values())).unrouted if len(kinds) == 1 else OfHttpApi.unrouted
+        formats = list(self.formats.values())
+        self.common = formats[0] if len(set(map(type, formats))) == 1 else OfHttpApi(Integration())
 
-    def find(self, request):
+    def unrouted(self) -> Reply:
+        return self.common.unrouted()
+
+    def find(self, request: Request) -> Optional[Found]:
         found = self.routes.find(request.method, request.path)
         if found is None:
             return None
         route, parameters = found
+        assert route.target is not None
         context = {**self.context, "routeKey": route.key}
         return Found(route.target.function, context, parameters, self.formats[route.key])

@@ -1,5 +1,6 @@
 """The bytes of bodies that are held while their requests are answered, at all ports of the front together."""
 import contextlib
+from typing import Iterator
 
 MOST_HELD = 256 << 20
 
@@ -9,11 +10,11 @@ class Full(Exception):
 
 
 class Held:
-    def __init__(self, most=MOST_HELD):
+    def __init__(self, most: int = MOST_HELD) -> None:
         self.most, self.size = most, 0
 
     @contextlib.contextmanager
-    def holding(self, size):
+    def holding(self, size: int) -> Iterator[None]:
         """Raises Full if there is no room."""
         if self.size + size > self.most:
             raise Full

@@ -1,9 +1,10 @@
 """Requests and answers of the front, with bodies that are read as they come."""
 import asyncio
 import http
-from typing import NamedTuple, Optional
+from typing import AsyncIterator, Callable, List, NamedTuple, Optional, Protocol
 
 from ..http1 import TOKEN, Data, Headers, Malformed, Request as Head, every, first, words_of
+from .wire import Wire
 
 __all__ = ["OF_CONNECTION", "PHRASES", "TOKEN", "Answer", "Body", "Headers", "Malformed", "Reply", "Request", "TooLong",
            "every", "first", "words_of"]
@@ -21,7 +22,8 @@ class TooLong(Exception):
 class Body:
     """A body as it comes. `length` is none for one in chunks, negative for one until the end of the connection."""
 
-    def __init__(self, wire, length, expects_continue=False, on_whole=None):
+    def __init__(self, wire: Wire, length: Optional[int], expects_continue: bool = False,
+                 on_whole: Optional[Callable[[], None]] = None) -> None:
         self.wire, self.length, self.is_read = wire, length, False
         self.expects_continue = expects_continue  # the peer sends it once it is asked to
         self.on_whole = on_whole
@@ -29,16 +31,16 @@ class Body:
             self._finish(wire.reader.next_event())
 
     @property
-    def is_here(self):
+    def is_here(self) -> bool:
         """Whether all of it has come already."""
         return self.is_read or self.length is not None and 0 <= self.length <= len(self.wire.reader.buffer)
 
-    def _finish(self, _end):
+    def _finish(self, _end: object) -> None:
         self.is_read = True
         if self.on_whole:
             self.on_whole()
 
-    async def pieces(self):
+    async def pieces(self) -> AsyncIterator[bytes]:
         """Each gives others their turn, so that a body in small chunks holds nobody up."""
         if self.is_read:
             return
@@ -51,11 +53,12 @@ class Body:
                 await asyncio.sleep(0)
         self._finish(event)
 
-    async def whole(self, most):
+    async def whole(self, most: int) -> bytes:
         """All of it; TooLong if it has more bytes than that."""
         if self.length is not None and self.length > most:
             raise TooLong
-        parts, size = [], 0
+        parts: List[bytes] = []
+        size = 0
         async for piece in self.pieces():
             size += len(piece)
             if size > most:
@@ -69,27 +72,27 @@ class Request(NamedTuple):
     body: Body
 
     @property
-    def method(self):
+    def method(self) -> str:
         return self.head.method
 
     @property
-    def version(self):
+    def version(self) -> str:
         return self.head.version
 
     @property
-    def headers(self):
+    def headers(self) -> Headers:
         return self.head.headers
 
     @property
-    def path(self):
+    def path(self) -> str:
         return self.head.parts.path
 
     @property
-    def query(self):
+    def query(self) -> str:
         return self.head.parts.query or ""
 
     @property
-    def target(self):
+    def target(self) -> str:
         """Its path and query, in whichever form its target came."""
         return self.head.parts.origin_form
 
@@ -103,10 +106,20 @@ class Answer(NamedTuple):
     keeps: bool  # whether the connection can be used again, once the body has been read
 
 
+class Pieces(Protocol):
+    """A body that is passed on as it comes."""
+
+    def __aiter__(self) -> AsyncIterator[bytes]:
+        ...
+
+    async def aclose(self) -> None:
+        """Once it is passed on, or will not be."""
+
+
 class Reply(NamedTuple):
     """What is answered. `pieces` is a body that is passed on as it comes, in place of `body`."""
     status: int
     headers: Headers = []
     body: bytes = b""
-    pieces: Optional[object] = None
+    pieces: Optional[Pieces] = None
     reason: Optional[str] = None

@@ -3,9 +3,9 @@ on this machine, and not of sites that a browser shows. A name of theirs that le
 they themselves are in `Origin`."""
 import os
 import re
-from typing import NamedTuple
+from typing import Collection, Mapping, NamedTuple, Optional, Set
 
-from ..http1 import every
+from ..http1 import Headers, Request, every
 
 LOCAL_ENDINGS = (".localhost", ".internal", ".local", ".localdomain")
 VARIABLE = "LAMBDA_LOCAL_HOSTS"  # further names, between commas
@@ -26,18 +26,18 @@ FOREIGN_CODING = Refusal(501, "NotImplemented", "Transfer coding not supported")
 BROKEN_BODY = Refusal(400, "InvalidRequestContentException", "Body is malformed")
 
 
-def further_hosts(environ=os.environ):
+def further_hosts(environ: Mapping[str, str] = os.environ) -> Set[str]:
     return {name.lower() for name in environ.get(VARIABLE, "").split(",") if name}
 
 
-def is_local(name, further):
+def is_local(name: str, further: Collection[str]) -> bool:
     name = name.lower()
     name = name[:-1] if name.endswith(".") else name
     return name != "" and ("." not in name or re.fullmatch(r"[0-9.]+", name) is not None or name.endswith(LOCAL_ENDINGS)
                            or name in further)
 
 
-def wrong_host(head, further):
+def wrong_host(head: Request, further: Collection[str]) -> Optional[Refusal]:
     """What is wrong with the host that a request names; none if it is local. What its target names counts before its
     Host (RFC 9112, section 3.2.2)."""
     named = head.parts.authority
@@ -51,16 +51,16 @@ def wrong_host(head, further):
     return None if found[1] is None or is_local(found[1], further) else FOREIGN_HOST
 
 
-def is_from_page(headers):
+def is_from_page(headers: Headers) -> bool:
     return bool(every(headers, "origin")) or any(site not in OWN_SITES for site in every(headers, "sec-fetch-site"))
 
 
-def is_plainly_coded(headers):
+def is_plainly_coded(headers: Headers) -> bool:
     codings = every(headers, "transfer-encoding")
     return not codings or len(codings) == 1 and codings[0].lower() == "chunked"
 
 
-def refusal_of(head, further, pages_may=False):
+def refusal_of(head: Request, further: Collection[str], pages_may: bool = False) -> Optional[Refusal]:
     """Why a request is not taken; the first cause that holds, in the service's order."""
     wrong = wrong_host(head, further)
     if wrong is MALFORMED_HOST:

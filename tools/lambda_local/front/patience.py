@@ -1,6 +1,8 @@
 """How long a caller may take: the service's own limits at its invoke port (docs/formats.md, "Connections")."""
 import enum
 import time
+from .wire import Wire
+from .wire import Wire
 
 HEAD_SECONDS, WHOLE_HEAD_SECONDS = 20, 60  # without a byte; from a head's first byte to its end
 SLOWEST = (64 << 10) / 60  # bytes of a body a second, after its first HEAD_SECONDS
@@ -16,14 +18,14 @@ class Phase(enum.Enum):
 class Patience:
     """What a connection does, and since when."""
 
-    def __init__(self, wire):
+    def __init__(self, wire: Wire) -> None:
         self.wire, self.phase, self.since, self.received = wire, Phase.NEW, time.monotonic(), 0
 
-    def begin(self, phase):
+    def begin(self, phase: Phase) -> None:
         self.phase, self.since, self.received = phase, time.monotonic(), self.wire.received
         self.wire.touched = self.since
 
-    def is_over(self, now):
+    def is_over(self, now: float) -> bool:
         silent, passed = now - self.wire.touched, now - self.since
         if self.phase in (Phase.NEW, Phase.HEAD):
             return silent > HEAD_SECONDS or self.phase is Phase.HEAD and passed > WHOLE_HEAD_SECONDS

@@ -5,10 +5,12 @@ import binascii
 import json
 import re
 import time
+from typing import Any, Dict, List, Optional
 from urllib.parse import parse_qsl
 
+from ..configuration import Members
 from ..http1 import is_field_value
-from .http import OF_CONNECTION, TOKEN, Reply, every, first
+from .http import OF_CONNECTION, TOKEN, Headers, Reply, Request, every, first
 
 HERE = "127.0.0.1"
 TEXTUAL = re.compile(r"text/.*|application/(?:.*\+)?(?:json|xml)|application/javascript")
@@ -19,7 +21,8 @@ class Unmappable(Exception):
     """Why a function's result is not an answer."""
 
 
-def event_of(request, body, context, parameters=None, variables=None):
+def event_of(request: Request, body: bytes, context: Members, parameters: Optional[Dict[str, str]] = None,
+             variables: Optional[Dict[str, str]] = None) -> bytes:
     """`context` has the members of requestContext that do not depend on the request."""
     now, agent = time.time(), first(request.headers, "user-agent")
     event = {
@@ -36,15 +39,15 @@ def event_of(request, body, context, parameters=None, variables=None):
     return json.dumps(event, ensure_ascii=False).encode(errors="replace")
 
 
-def cookies_of(request):
+def cookies_of(request: Request) -> Dict[str, List[str]]:
     found = [cookie.strip() for value in every(request.headers, "cookie") for cookie in value.split(";")
              if cookie.strip()]
     return {"cookies": found} if found else {}
 
 
-def headers_of(request):
+def headers_of(request: Request) -> Dict[str, str]:
     """Returns headers by their names in lower case; the values of a repeated header are joined by commas."""
-    found = {}
+    found: Dict[str, str] = {}
     for name, value in request.headers:
         name = name.lower()
         if name not in OF_CONNECTION and name not in ("cookie", "expect"):
@@ -54,14 +57,14 @@ def headers_of(request):
     return found
 
 
-def query_of(request):
-    found = {}
+def query_of(request: Request) -> Dict[str, Dict[str, str]]:
+    found: Dict[str, str] = {}
     for name, value in parse_qsl(request.query, keep_blank_values=True):
         found[name] = f"{found[name]},{value}" if name in found else value
     return {"queryStringParameters": found} if found else {}
 
 
-def body_of(request, body, is_text=None):
+def body_of(request: Request, body: bytes, is_text: Optional[bool] = None) -> Dict[str, object]:
     """As text if its type says that it is one, unless that is known already; else in base64."""
     if not body:
         return {"isBase64Encoded": False}
@@ -79,14 +82,15 @@ def body_of(request, body, is_text=None):
 # ---- results ---------------------------------------------------------------------------------------------------------
 
 
-def read_result(result):
+def read_result(result: bytes) -> object:
     try:
-        return json.loads(result)
+        value: object = json.loads(result)
     except (ValueError, RecursionError):
         raise Unmappable(f"it is no JSON: {result[:60].decode(errors='replace')}") from None
+    return value
 
 
-def reply_of(result):
+def reply_of(result: bytes) -> Reply:
     """The answer that a result says, or the result itself as JSON."""
     value = read_result(result)
     if not isinstance(value, dict) or "statusCode" not in value:
@@ -98,7 +102,7 @@ def reply_of(result):
     return Reply(status_in(value), headers, body_in(value))
 
 
-def status_in(value):
+def status_in(value: Dict[str, object]) -> int:
     status = value["statusCode"]
     if isinstance(status, str) and re.fullmatch("[0-9]{3}", status):
         status = int(status)
@@ -107,7 +111,7 @@ def status_in(value):
     return status
 
 
-def text_in(value, where):
+def text_in(value: object, where: str) -> str:
     """A header's value, also given as a number, true or false."""
     text = value if isinstance(value, str) else json.dumps(value) if isinstance(value, (int, float)) else None
     try:
@@ -119,7 +123,7 @@ def text_in(value, where):
     return found
 
 
-def headers_in(value):
+def headers_in(value: Dict[str, object]) -> Headers:
     given = value.get("headers")
     if given is None:
         return []
@@ -130,7 +134,7 @@ def headers_in(value):
     return [(name, text_in(text, f"headers: {name}")) for name, text in given.items() if name.lower() not in FRAMING]
 
 
-def cookies_in(value):
+def cookies_in(value: Dict[str, object]) -> List[str]:
     given = value.get("cookies")
     if given is None:
         return []
@@ -139,7 +143,7 @@ def cookies_in(value):
     return [text_in(cookie, "cookies: each") for cookie in given]
 
 
-def body_in(value):
+def body_in(value: Dict[str, object]) -> bytes:
     body = value.get("body")
     if body is None:
         return b""

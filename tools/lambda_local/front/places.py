@@ -2,6 +2,7 @@
 place of the connection that has waited longest for a whole request, and one whose request is served is never ended for
 it."""
 import resource
+from typing import Dict, Protocol, Set
 
 MOST = 1024  # connections at once, at all ports together
 LEAST = 16
@@ -11,7 +12,15 @@ A_REQUEST = 2  # descriptors: its own connection, and one to the service
 OTHER_DESCRIPTORS, AN_ENVIRONMENT = 128, 6
 
 
-def places_for(environments):
+class Holder(Protocol):
+    """What has a place."""
+    is_in_reserve: bool
+
+    def give_way(self) -> None:
+        """Ends it."""
+
+
+def places_for(environments: int) -> int:
     """How many places there are, so that this process has descriptors for all of them. It may have more if it asks, and
     asks for no more than that, since what it starts has the same limit."""
     others = OTHER_DESCRIPTORS + AN_ENVIRONMENT * environments
@@ -25,12 +34,12 @@ def places_for(environments):
 
 
 class Places:
-    def __init__(self, most=MOST, reserve=RESERVE):
+    def __init__(self, most: int = MOST, reserve: int = RESERVE) -> None:
         self.most, self.reserve = most, reserve
-        self.taken = set()
-        self.waiting = {}  # those that wait for a whole request, the longest first
+        self.taken: Set[Holder] = set()
+        self.waiting: Dict[Holder, bool] = {}  # those that wait for a whole request, the longest first
 
-    def take(self, connection):
+    def take(self, connection: Holder) -> bool:
         """Whether there is a place for a newcomer; then it is in the reserve if no other place could be had."""
         if len(self.taken) >= self.most:
             self.make_room()
@@ -41,7 +50,7 @@ class Places:
         self.waits(connection)
         return True
 
-    def make_room(self):
+    def make_room(self) -> bool:
         """Ends the connection that has waited longest. Returns whether there was one."""
         longest = next(iter(self.waiting), None)
         if longest is None:
@@ -50,15 +59,15 @@ class Places:
         longest.give_way()
         return True
 
-    def waits(self, connection):
+    def waits(self, connection: Holder) -> None:
         """It has been answered, or has just come."""
         if connection in self.taken:
             self.waiting[connection] = True
 
-    def is_served(self, connection):
+    def is_served(self, connection: Holder) -> None:
         """Its request is whole."""
         self.waiting.pop(connection, None)
 
-    def leave(self, connection):
+    def leave(self, connection: Holder) -> None:
         self.taken.discard(connection)
         self.waiting.pop(connection, None)

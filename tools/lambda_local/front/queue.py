@@ -3,11 +3,15 @@ retries with asynchronous invocation")."""
 import asyncio
 import contextlib
 from collections import deque
+from typing import Deque, Dict, Optional, Set
 
-from .client import Unreached
+from ..configuration import Members
+from ..outgoing import Log
+from .client import Client, Unreached
 from .errors import is_stop
-from .events import Event, target_of
-from .http import Malformed, first
+from .events import Event, Identifiers, target_of
+from .http import Headers, Malformed, first
+from .settings import Asynchronous
 from .wire import Gone
 
 MOST_EVENTS, MOST_BYTES = 1000, 64 << 20  # that wait or run: payloads, and the results that records will have
@@ -24,36 +28,41 @@ class Lane:
     """The events of one function. At most `limit` of them run at once: as many as there are environments, until a
     throttle shows that fewer can."""
 
-    def __init__(self, environments):
-        self.ready, self.running = deque(), 0
+    def __init__(self, environments: int) -> None:
+        self.ready: Deque[Event] = deque()
+        self.running = 0
         self.environments = self.limit = environments
-        self.throttles, self.successes, self.pause = 0, 0, None
+        self.throttles = self.successes = 0
+        self.pause: Optional[asyncio.TimerHandle] = None
 
-    def throttled(self):
+    def throttled(self) -> float:
         """The seconds until the next attempt."""
         self.limit, self.successes = max(1, self.running), 0
         self.throttles += 1
-        return min(LONGEST_PAUSE, FIRST_PAUSE * 2 ** min(self.throttles - 1, 10))
+        return min(LONGEST_PAUSE, FIRST_PAUSE * (1 << min(self.throttles - 1, 10)))
 
-    def taken(self):
+    def taken(self) -> None:
         self.throttles, self.successes = 0, self.successes + 1
         if self.successes >= GROWS_AFTER and self.limit < self.environments:
             self.limit, self.successes = self.limit + 1, 0
 
 
 class Queue:
-    def __init__(self, client, settings, configuration, identifiers, log):
+    def __init__(self, client: Client, settings: Asynchronous, configuration: Members, identifiers: Identifiers,
+                 log: Log) -> None:
         self.client, self.settings, self.identifiers, self.log = client, settings, identifiers, log
         self.arn = f"arn:aws:lambda:{configuration['region']}:{configuration['account']}:function:"
         self.lanes = {function["name"]: Lane(len(function["ports"])) for function in configuration["functions"]}
-        self.events, self.size, self.tasks = {}, 0, set()
+        self.events: Dict[str, Event] = {}
+        self.size = 0
+        self.tasks: "Set[asyncio.Task[None]]" = set()
         self.is_closed = False
 
     @property
-    def count(self):
+    def count(self) -> int:
         return len(self.events)
 
-    def put(self, event):
+    def put(self, event: Event) -> None:
         """Raises Full if there is no room."""
         if self.count >= MOST_EVENTS or self.size + event.size > MOST_BYTES:
             raise Full
@@ -61,7 +70,7 @@ class Queue:
         self.size += event.size
         self.enqueue(event)
 
-    def keep_result(self, event, result):
+    def keep_result(self, event: Event, result: bytes) -> None:
         """Keeps what a failed function reported for the record, if there will be one, and room for it."""
         self.drop_result(event)
         event.has_failed = True
@@ -73,20 +82,20 @@ class Queue:
         event.result = result
         self.size += len(result)
 
-    def drop_result(self, event):
+    def drop_result(self, event: Event) -> None:
         self.size -= len(event.result or b"")
         event.result, event.has_failed = None, False
 
-    def goes_on(self, event):
+    def goes_on(self, event: Event) -> bool:
         """Whether its record has a destination. (A destination that fails has none.)"""
         return bool(self.settings.on_failure) and event.function != self.settings.on_failure
 
-    def enqueue(self, event, at_the_front=False):
+    def enqueue(self, event: Event, at_the_front: bool = False) -> None:
         lane = self.lanes[event.function]
         (lane.ready.appendleft if at_the_front else lane.ready.append)(event)
         self.go_on(lane)
 
-    def go_on(self, lane):
+    def go_on(self, lane: Lane) -> None:
         """Begins as many attempts as can be."""
         while lane.ready and lane.running < lane.limit and lane.pause is None and not self.is_closed:
             lane.running += 1
@@ -94,13 +103,13 @@ class Queue:
             self.tasks.add(task)
             task.add_done_callback(self.tasks.discard)
 
-    def hold(self, lane, seconds):
+    def hold(self, lane: Lane, seconds: float) -> None:
         """No attempt is begun for so long, or until one that runs has ended."""
         if lane.pause:
             lane.pause.cancel()
         lane.pause = asyncio.get_running_loop().call_later(seconds, self.release, lane)
 
-    def release(self, lane):
+    def release(self, lane: Lane) -> None:
         if lane.pause:
             lane.pause.cancel()
         lane.pause = None
@@ -108,7 +117,7 @@ class Queue:
 
     # ---- an attempt --------------------------------------------------------------------------------------------------
 
-    async def attempt(self, lane, event):
+    async def attempt(self, lane: Lane, event: Event) -> None:
         if event.age > self.settings.oldest:
             lane.running -= 1
             self.given_up(event, "EventAgeExceeded", f"is older than {self.settings.oldest:g} s")
@@ -136,7 +145,7 @@ class Queue:
         self.ended(event, status, headers, body)
         self.release(lane)
 
-    def postpone(self, lane, event, why=None):
+    def postpone(self, lane: Lane, event: Event, why: Optional[str] = None) -> None:
         """After a throttle or a fault of the service, which is reported: the attempt does not count."""
         pause = lane.throttled()
         if why:
@@ -145,7 +154,7 @@ class Queue:
         lane.ready.appendleft(event)
         self.hold(lane, pause)
 
-    def ended(self, event, status, headers, body):
+    def ended(self, event: Event, status: Optional[int], headers: Headers, body: bytes) -> None:
         event.attempts += 1
         invocation = first(headers, "x-amzn-requestid")
         if status is None:
@@ -163,7 +172,7 @@ class Queue:
             self.keep_result(event, body)
             self.failed(event, "failed", invocation)
 
-    def failed(self, event, what, invocation=None):
+    def failed(self, event: Event, what: str, invocation: Optional[str] = None) -> None:
         if event.attempts > self.settings.retries:
             return self.given_up(event, "RetriesExhausted", f"{what}, attempt {event.attempts} of {event.attempts}",
                                  invocation)
@@ -172,7 +181,7 @@ class Queue:
                  "warning", "retry", invocation)
         asyncio.get_running_loop().call_later(delay, self.enqueue, event)
 
-    def given_up(self, event, condition, why, invocation=None):
+    def given_up(self, event: Event, condition: str, why: str, invocation: Optional[str] = None) -> None:
         """The destination gets its record, which takes the place of the event; a destination's own failure ends
         here."""
         goes_on = self.goes_on(event)
@@ -182,8 +191,9 @@ class Queue:
         if goes_on:
             self.put_record(event, condition)
 
-    def put_record(self, event, condition):
+    def put_record(self, event: Event, condition: str) -> None:
         arn, destination = f"{self.arn}{event.function}:$LATEST", self.settings.on_failure
+        assert destination is not None
         try:
             for result in (event.result, None):
                 event.result = result
@@ -195,27 +205,27 @@ class Queue:
         except Full:
             self.say(event, f"has no record, for which there is no room: {self.size} bytes are held", "error", "lost")
 
-    def forget(self, event):
+    def forget(self, event: Event) -> None:
         if self.events.pop(event.identifier, None):
             self.size -= event.size
 
-    def say(self, event, text, level, status, invocation=None):
+    def say(self, event: Event, text: str, level: str, status: str, invocation: Optional[str] = None) -> None:
         self.log(event.function, f"event {event.identifier} {text}", level=level, kind="event", function=event.function,
                  request=event.identifier, status=status, attempts=event.attempts, age_ms=round(1000 * event.age),
                  invocation=invocation)
 
     # ---- the end -----------------------------------------------------------------------------------------------------
 
-    async def drained(self, seconds):
+    async def drained(self, seconds: float) -> None:
         """Waits until no event is left, at most so long."""
         with contextlib.suppress(asyncio.TimeoutError):
             await asyncio.wait_for(self._until_empty(), seconds)
 
-    async def _until_empty(self):
+    async def _until_empty(self) -> None:
         while self.events:
             await asyncio.sleep(0.01)
 
-    async def close(self):
+    async def close(self) -> None:
         """Once the service has ended: takes the outcomes of attempts that still come, and reports what is lost."""
         self.is_closed = True
         if self.tasks:

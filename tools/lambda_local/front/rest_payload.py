@@ -3,24 +3,30 @@ Guide, "Set up Lambda proxy integrations"), and an HTTP API ("Create AWS Lambda 
 import json
 import re
 import time
+from typing import Callable, Dict, List, Mapping, Optional, Tuple
 from urllib.parse import parse_qsl
 
-from .http import OF_CONNECTION, TOKEN, Reply, every, first
+from ..configuration import Members
+from .http import OF_CONNECTION, TOKEN, Headers, Reply, Request, every, first
 from .payload import FRAMING, HERE, Unmappable, body_in, body_of, headers_in, read_result, status_in, text_in
+from .settings import Integration
 
 MEMBERS = ("statusCode", "headers", "multiValueHeaders", "body", "isBase64Encoded")  # of a result
 UNKNOWN_IDENTITY = ("accessKey", "accountId", "caller", "cognitoAuthenticationProvider", "cognitoAuthenticationType",
                     "cognitoIdentityId", "cognitoIdentityPoolId", "principalOrgId", "user", "userArn")
 ANY_TYPE = "*/*"
+Tell = Callable[[str], None]  # takes a sentence on what is lost
 
 
-def event_of(request, body, context, parameters, integration, tell):
+def event_of(request: Request, body: bytes, context: Members, parameters: Optional[Dict[str, str]],
+             integration: Integration, tell: Tell) -> bytes:
     """`context` has the members of requestContext that do not depend on the request. `tell` takes a sentence on what
     is lost."""
     key = context["routeKey"]
     resource = key.partition(" ")[2] or key
     headers, query = headers_of(request, integration.is_rest), query_of(request)
-    event = {
+    no_body: Dict[str, object] = {"body": None}
+    event: Dict[str, object] = {
         **({} if integration.is_rest else {"version": "1.0"}),
         "resource": resource, "path": request.path, "httpMethod": request.method,
         "headers": last_of_each(headers), "multiValueHeaders": headers,
@@ -28,27 +34,28 @@ def event_of(request, body, context, parameters, integration, tell):
         "pathParameters": parameters or None, "stageVariables": integration.variables or None,
         "requestContext": context_of(request, context, resource, integration),
         **(body_of_rest(request, body, integration, tell) if integration.is_rest
-           else {"body": None, **body_of(request, body)})}
+           else {**no_body, **body_of(request, body)})}
     return json.dumps(event, ensure_ascii=False).encode(errors="replace")
 
 
-def last_of_each(values):
+def last_of_each(values: Mapping[str, List[str]]) -> Dict[str, str]:
     return {name: given[-1] for name, given in values.items()}
 
 
-def headers_of(request, keeps_case):
+def headers_of(request: Request, keeps_case: bool) -> Dict[str, List[str]]:
     """Returns the values of each header, under the name that it has in the request, or that name in lower case."""
-    found, names = {}, {}
+    found: Dict[str, List[str]] = {}
+    names: Dict[str, str] = {}
     for name, value in request.headers:
         key = name.lower()
         if key not in OF_CONNECTION and key != "expect":
             found.setdefault(names.setdefault(key, name if keeps_case else key), []).append(value)
 
-    def put(name, value):
+    def put(name: str, value: str) -> None:
         found.setdefault(names.setdefault(name.lower(), name if keeps_case else name.lower()), [value])
 
     before = ", ".join(every(request.headers, "x-forwarded-for"))
-    found.pop(names.get("x-forwarded-for"), None)
+    found.pop(names.get("x-forwarded-for", ""), None)
     put("X-Forwarded-For", f"{before}, {HERE}" if before else HERE)
     put("X-Forwarded-Proto", "http")
     port = re.search(r":([0-9]+)$", first(request.headers, "host") or "")
@@ -56,16 +63,16 @@ def headers_of(request, keeps_case):
     return found
 
 
-def query_of(request):
-    found = {}
+def query_of(request: Request) -> Dict[str, List[str]]:
+    found: Dict[str, List[str]] = {}
     for name, value in parse_qsl(request.query, keep_blank_values=True):
         found.setdefault(name, []).append(value)
     return found
 
 
-def context_of(request, context, resource, integration):
+def context_of(request: Request, context: Members, resource: str, integration: Integration) -> Dict[str, object]:
     now, is_rest = time.time(), integration.is_rest
-    identity = {**dict.fromkeys(UNKNOWN_IDENTITY), "sourceIp": HERE,
+    identity: Dict[str, Optional[str]] = {**dict.fromkeys(UNKNOWN_IDENTITY), "sourceIp": HERE,
                 "userAgent": first(request.headers, "user-agent") or "",
                 **({"apiKey": first(request.headers, "x-api-key")} if is_rest else {"clientCert": None})}
     members = {name: value for name, value in context.items() if name != "routeKey"}
@@ -77,15 +84,15 @@ def context_of(request, context, resource, integration):
         "resourceId": "local" if is_rest else None, "resourcePath": resource, "stage": integration.stage}
 
 
-def media_type(value):
+def media_type(value: Optional[str]) -> str:
     return (value or "").partition(";")[0].strip().lower()
 
 
-def is_binary(kind, integration):
+def is_binary(kind: str, integration: Integration) -> bool:
     return ANY_TYPE in integration.binary or kind in integration.binary
 
 
-def body_of_rest(request, body, integration, tell):
+def body_of_rest(request: Request, body: bytes, integration: Integration, tell: Tell) -> Dict[str, object]:
     """In base64 if its type is one of the API's binary media types, else as text."""
     if not body:
         return {"body": None, "isBase64Encoded": False}
@@ -103,7 +110,7 @@ def body_of_rest(request, body, integration, tell):
 # ---- results ---------------------------------------------------------------------------------------------------------
 
 
-def reply_of(result, request, integration, tell):
+def reply_of(result: bytes, request: Request, integration: Integration, tell: Tell) -> Reply:
     """The answer that a result says; Unmappable for a result of another form."""
     value = read_result(result)
     if not isinstance(value, dict) or "statusCode" not in value:
@@ -120,12 +127,12 @@ def reply_of(result, request, integration, tell):
     return Reply(status_in(value), headers, body_in(value))
 
 
-def accepted(request):
+def accepted(request: Request) -> str:
     """The type that a request would have first."""
     return media_type((first(request.headers, "accept") or "").partition(",")[0]) or "application/json"
 
 
-def multiple_in(value):
+def multiple_in(value: Dict[str, object]) -> Headers:
     """The member multiValueHeaders, one pair for each value."""
     given = value.get("multiValueHeaders")
     if given is None:
@@ -138,7 +145,7 @@ def multiple_in(value):
             for text in values if name.lower() not in FRAMING]
 
 
-def merged(single, multiple):
+def merged(single: Headers, multiple: Headers) -> Headers:
     """Both members as one list, in which a pair that both have comes once."""
     seen = {(name.lower(), value) for name, value in multiple}
     return [pair for pair in single if (pair[0].lower(), pair[1]) not in seen] + multiple

@@ -1,11 +1,16 @@
 """The routes of an HTTP API: which of them takes a request, and the parameters that its path has (API Gateway Developer
 Guide, "Routes for HTTP APIs")."""
 import re
+from typing import TYPE_CHECKING, Dict, List, Mapping, Optional, Tuple
 from urllib.parse import unquote
 
-from .http import TOKEN
+from ..http1 import is_token
+
+if TYPE_CHECKING:
+    from .settings import Target
 
 DEFAULT = "$default"
+Part = Tuple[str, str]  # text, one parameter or the rest; and the text or the name
 PARAMETER = re.compile(r"\{([^{}/+]+)(\+?)\}")
 
 
@@ -13,7 +18,7 @@ class WrongRoute(Exception):
     """Why a route cannot be read."""
 
 
-def parts_of(path):
+def parts_of(path: str) -> List[str]:
     return path.strip("/").split("/") if path.strip("/") else []
 
 
@@ -21,13 +26,13 @@ class Route:
     """`key` is `METHOD /path/{parameter}/{rest+}`, with `ANY` for each method, or `$default`; `target` is what it leads
     to."""
 
-    def __init__(self, key, target=None):
+    def __init__(self, key: str, target: "Optional[Target]" = None) -> None:
         self.key, self.target = key, target
         if key == DEFAULT:
             self.method, self.parts = "ANY", None
             return
         method, _, path = key.partition(" ")
-        if (not path.startswith("/") or not TOKEN.fullmatch(method) or method != method.upper()
+        if (not path.startswith("/") or not is_token(method) or method != method.upper()
                 or re.search(r"\s|\?", path)):
             raise WrongRoute('write it as METHOD /path, such as "GET /orders/{id}", or $default')
         self.method, self.parts = method, [self.part_of(part) for part in parts_of(path)]
@@ -35,32 +40,33 @@ class Route:
             raise WrongRoute("{NAME+} must be the last part of its path")
 
     @staticmethod
-    def part_of(part):
+    def part_of(part: str) -> Part:
         found = PARAMETER.fullmatch(part)
         if not found and re.search("[{}]", part):
             raise WrongRoute(f"a parameter is a whole part of the path, {{NAME}}, not {part}")
         return ("rest" if found[2] else "one", found[1]) if found else ("text", part)
 
     @property
-    def shape(self):
+    def shape(self) -> Tuple[str, Optional[Tuple[Part, ...]]]:
         """What it takes, whatever its parameters are called."""
         return self.method, None if self.parts is None else tuple(
             (kind, name if kind == "text" else "") for kind, name in self.parts)
 
     @property
-    def rank(self):
+    def rank(self) -> Tuple[bool, List[int], bool]:
         """By which the most specific of several is found: text before a parameter, that before the rest, and a method
         before ANY."""
         order = {"text": 0, "one": 1, "rest": 2}
         return self.parts is None, [order[kind] for kind, _ in self.parts or []], self.method == "ANY"
 
-    def match(self, method, path):
+    def match(self, method: str, path: str) -> Optional[Dict[str, str]]:
         """The parameters of a request that it takes; none if it does not."""
         if self.method not in ("ANY", method):
             return None
         if self.parts is None:
             return {}
-        given, found = parts_of(path), {}
+        found: Dict[str, str] = {}
+        given = parts_of(path)
         for number, (kind, name) in enumerate(self.parts):
             if kind == "rest" and len(given) > number:
                 return {**found, name: unquote("/".join(given[number:]))}
@@ -72,10 +78,10 @@ class Route:
 
 
 class Routes:
-    def __init__(self, routes):
+    def __init__(self, routes: "Mapping[str, Target]") -> None:
         self.routes = sorted((Route(key, target) for key, target in routes.items()), key=lambda route: route.rank)
 
-    def find(self, method, path):
+    def find(self, method: str, path: str) -> Optional[Tuple[Route, Dict[str, str]]]:
         """The route that takes a request, and its parameters; none if none does."""
         for route in self.routes:
             found = route.match(method, path)

@@ -2,12 +2,17 @@
 import asyncio
 import contextlib
 import errno
+import socket
 import time
+from typing import Dict, Optional, Protocol, Set
 
-from ..http1 import CLOSED, NEED_DATA, CutShort, Malformed, RequestReader, chunk, last_chunk, response_head
+from ..http1 import (CLOSED, NEED_DATA, CutShort, Event, Malformed, Request as Head, RequestReader, chunk, last_chunk,
+                     response_head)
+from ..outgoing import Log
 from .client import NoDescriptor
-from .http import PHRASES, Body, Request, first, words_of
+from .http import PHRASES, Body, Pieces, Reply, Request, first, words_of
 from .patience import LINGER_BYTES, Patience, Phase
+from .places import Places
 from .wire import Gone, Wire
 
 BETWEEN_LOOKS = 1.0
@@ -16,27 +21,41 @@ WITHOUT_ROOM = (errno.EMFILE, errno.ENFILE, errno.ENOBUFS, errno.ENOMEM)
 PAUSE, BETWEEN_TELLS = 0.1, 60.0  # seconds; after a newcomer for whom there is no descriptor
 
 
+class Port(Protocol):
+    """What answers at a port: `handle` to a Request, `malformed` to what is not HTTP/1.1."""
+
+    async def handle(self, request: Request) -> Reply:
+        ...
+
+    def malformed(self, fault: Malformed, request: Optional[Request]) -> Reply:
+        ...
+
+    def refusal(self, status: int, text: str) -> Reply:
+        ...
+
+
 class Connection:
     """One caller."""
 
-    def __init__(self, server):
+    def __init__(self, server: "Server") -> None:
         self.server, self.is_in_reserve, self.has_answered = server, False, False
         self.wire = Wire(RequestReader(), self.lost)
-        self.patience, self.task = Patience(self.wire), None
+        self.patience = Patience(self.wire)
+        self.task: "Optional[asyncio.Task[None]]" = None
 
-    def lost(self, _wire):
+    def lost(self, _wire: Wire) -> None:
         """What is done for a peer that has gone ends."""
         if self.task:
             self.task.cancel()
 
-    def give_way(self):
-        if self.wire.transport:
+    def give_way(self) -> None:
+        if self.wire.is_made:
             self.wire.abort()
         self.lost(self.wire)
 
-    async def serve(self, peer):
+    async def serve(self, peer: socket.socket) -> None:
         try:
-            await asyncio.get_running_loop().connect_accepted_socket(lambda: self.wire, peer)
+            await self.server.loop.connect_accepted_socket(lambda: self.wire, peer)
             while await self.serve_one():
                 self.patience.begin(Phase.IDLE)
                 self.wire.reader.next_message()
@@ -44,21 +63,24 @@ class Connection:
             pass
         finally:
             self.server.leave(self)
-            self.wire.close() if self.wire.transport else peer.close()
+            self.wire.close() if self.wire.is_made else peer.close()
 
-    async def serve_one(self):
+    async def serve_one(self) -> bool:
         """Whether the connection is kept."""
-        wire, request, reply = self.wire, None, None
+        wire, request = self.wire, None
         self.has_answered = False
         try:
             head = await self.next_head()
-            if head is CLOSED:
+            if not isinstance(head, Head):
+                assert head is CLOSED
                 return False
             self.patience.begin(Phase.BODY)
             request = Request(head, Body(wire, head.length, head.expects_continue, self.is_whole))
             reply = await self.answer(request)
             keeps = head.keeps_alive and "close" not in words_of(reply.headers, "connection")
         except Malformed as fault:
+            if isinstance(fault, CutShort) and request is None:
+                return False  # (its caller ends its side within a head: the service answers nothing either)
             reply, keeps = self.server.malformed(fault, request), False
         try:
             is_read = request is not None and request.body.is_read
@@ -73,13 +95,13 @@ class Connection:
             self.server.places.waits(self)
         return keeps and is_read
 
-    async def answer(self, request):
+    async def answer(self, request: Request) -> Reply:
         """What is answered to a request. A fault of the front's own is answered too, and reported."""
         try:
             reply = await self.server.reply_to(request, self.is_in_reserve)
             if request.body.is_here and not request.body.is_read:
                 # (a refusal that needs no body: the connection can be kept)
-                await request.body.whole(request.body.length)
+                await request.body.whole(request.body.length or 0)
             return reply
         except NoDescriptor:
             self.server.tell_shortage()
@@ -91,11 +113,11 @@ class Connection:
                             kind="http")
             return self.server.refusal(500, "Internal Server Error")
 
-    def is_whole(self):
+    def is_whole(self) -> None:
         self.patience.phase = Phase.SERVED  # (what the handler does may take any time)
         self.server.places.is_served(self)
 
-    async def next_head(self):
+    async def next_head(self) -> Event:
         wire, reader = self.wire, self.wire.reader
         while True:
             if (event := reader.next_event()) is not NEED_DATA:
@@ -104,7 +126,7 @@ class Connection:
                 self.patience.begin(Phase.HEAD)
             await wire.more()
 
-    async def linger(self):
+    async def linger(self) -> None:
         """Takes what its peer still sends, so that the peer can read its answer (RFC 9112, section 9.6)."""
         wire = self.wire
         wire.end()
@@ -117,7 +139,7 @@ class Connection:
 
     # ---- answers -----------------------------------------------------------------------------------------------------
 
-    async def send(self, request, reply, keeps):
+    async def send(self, request: Optional[Request], reply: Reply, keeps: bool) -> bool:
         """Sends a reply; whether the connection can be kept."""
         method, version = (request.method, request.version) if request else ("GET", "HTTP/1.1")
         is_new, has_body = version == "HTTP/1.1", method != "HEAD" and reply.status not in (204, 304)
@@ -141,7 +163,7 @@ class Connection:
             await self.send_pieces(head, reply.pieces, in_chunks)
         return keeps
 
-    async def send_pieces(self, head, pieces, in_chunks):
+    async def send_pieces(self, head: bytes, pieces: Pieces, in_chunks: bool) -> None:
         """The first piece goes with the head. A body that breaks off breaks the connection off, so that its reader
         knows."""
         wire = self.wire
@@ -156,29 +178,32 @@ class Connection:
 
 
 class Server:
-    """One port. `handler` makes a Reply of a Request, and `malformed` one of what is not HTTP/1.1."""
+    """One port, with the connections at it."""
 
-    def __init__(self, listener, port, places, log):
+    def __init__(self, listener: socket.socket, port: Port, places: Places, log: Log) -> None:
         self.listener, self.port, self.places, self.log = listener, port, places, log
-        self.connections, self.told = set(), -BETWEEN_TELLS
+        self.connections: Set[Connection] = set()
+        self.told = -BETWEEN_TELLS
 
-    async def start(self):
-        self.loop = asyncio.get_running_loop()
+    async def start(self) -> None:
+        loop = asyncio.get_running_loop()
+        assert isinstance(loop, asyncio.BaseEventLoop)
+        self.loop = loop
         self.listener.setblocking(False)
         self.loop.add_reader(self.listener, self.accept)
         self.looking = self.loop.create_task(self.look())
 
-    async def stop(self):
+    async def stop(self) -> None:
         """Closes all connections, also those that wait for an answer."""
         self.loop.remove_reader(self.listener)
         self.listener.close()
         self.looking.cancel()
-        ending = [connection.task for connection in self.connections]
+        ending = [connection.task for connection in self.connections if connection.task]
         for connection in list(self.connections):
             connection.give_way()
         await asyncio.gather(*ending, return_exceptions=True)
 
-    def accept(self):
+    def accept(self) -> None:
         """Takes newcomers. (The loop's own way reports each one for whom there is no descriptor, some thousand times a
         second.)"""
         for _ in range(AT_ONCE):
@@ -188,11 +213,12 @@ class Server:
                 return
             except OSError as fault:
                 if fault.errno in WITHOUT_ROOM:
-                    return self.wait_for_room()
+                    self.wait_for_room()
+                    return
                 raise
             self.welcome(peer)
 
-    def welcome(self, peer):
+    def welcome(self, peer: socket.socket) -> None:
         connection = Connection(self)
         if not self.places.take(connection):
             peer.close()
@@ -201,50 +227,50 @@ class Server:
         self.connections.add(connection)
         connection.task = self.loop.create_task(connection.serve(peer))
 
-    def wait_for_room(self):
+    def wait_for_room(self) -> None:
         """There is no descriptor for a newcomer: the connection that has waited longest gives way."""
         self.tell_shortage()
         self.places.make_room()
         self.loop.remove_reader(self.listener)
         self.loop.call_later(PAUSE, self.accept_again)
 
-    def accept_again(self):
+    def accept_again(self) -> None:
         if self.listener.fileno() >= 0:
             self.loop.add_reader(self.listener, self.accept)
 
-    def tell_shortage(self):
+    def tell_shortage(self) -> None:
         now = time.monotonic()
         if now - self.told > BETWEEN_TELLS:
             self.told = now
             self.log("up", "there is no descriptor for a further connection (ulimit -n): callers wait, and those that "
                            "are idle are closed", level="error", kind="http")
 
-    def leave(self, connection):
+    def leave(self, connection: Connection) -> None:
         self.connections.discard(connection)
         self.places.leave(connection)
 
-    async def look(self):
+    async def look(self) -> None:
         """Closes the connections whose callers take too long."""
         while True:
             await asyncio.sleep(BETWEEN_LOOKS)
             now = time.monotonic()
             for connection in list(self.connections):
-                if connection.patience.is_over(now) and connection.wire.transport:
+                if connection.patience.is_over(now) and connection.wire.is_made:
                     connection.wire.abort()
 
     # ---- what is answered --------------------------------------------------------------------------------------------
 
-    async def reply_to(self, request, is_in_reserve):
+    async def reply_to(self, request: Request, is_in_reserve: bool) -> Reply:
         if is_in_reserve and not request.path.startswith("/_local/"):
             reply = self.refusal(503, "All places for connections are taken")
             return reply._replace(headers=[*reply.headers, ("connection", "close")])
         return await self.port.handle(request)
 
-    def malformed(self, fault, request):
+    def malformed(self, fault: Malformed, request: Optional[Request]) -> Reply:
         """The answer to what is not HTTP/1.1, which is reported."""
         what = "a body ends early" if isinstance(fault, CutShort) and request else str(fault)
         self.log("up", f"a request is answered {fault.status}: {what}", level="error", kind="http")
         return self.port.malformed(fault, request)
 
-    def refusal(self, status, text):
+    def refusal(self, status: int, text: str) -> Reply:
         return self.port.refusal(status, text)

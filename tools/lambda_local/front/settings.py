@@ -1,8 +1,8 @@
 """The members of UP.json that say what is in front of the functions."""
 import re
-from typing import Any, Dict, NamedTuple, Optional, Tuple
+from typing import Any, Dict, Iterator, List, Mapping, NamedTuple, Optional, Tuple
 
-from ..configuration import PORT, Kind, is_list_of, is_text, is_whole, mistakes_of, shown
+from ..configuration import PORT, Kind, Members, is_list_of, is_text, is_whole, mistakes_of, shown
 from ..http1 import is_token
 from .routes import Route, WrongRoute
 
@@ -10,7 +10,7 @@ DELAYS = (1.0, 2.0)  # seconds; Lambda's are 60 and 120
 MOST_RETRIES, LONGEST_DELAY, OLDEST = 2, 900, 21600
 
 
-def is_seconds(value):
+def is_seconds(value: object) -> bool:
     return isinstance(value, (int, float)) and not isinstance(value, bool) and 0 <= value <= LONGEST_DELAY
 
 
@@ -20,12 +20,12 @@ OF_ASYNCHRONOUS = {
     "retries": Kind(lambda value: is_whole(value, MOST_RETRIES + 1), "a whole number from 0 to 2"),
     "delays": Kind(lambda value: is_list_of(is_seconds)(value) and value != [],
                    "a list of seconds, each from 0 to 900"),
-    "maximumAge": Kind(lambda value: is_whole(value, OLDEST + 1) and value > 0,
+    "maximumAge": Kind(lambda value: is_whole(value, OLDEST + 1) and value != 0,
                        "a whole number of seconds, from 1 to 21600"),
     "onFailure": Kind(is_text, "a text: the name of a function"),
 }
-NAMES = Kind(is_list_of(lambda value: is_text(value) and is_token(value)), "a list of names, such as x-name or *")
-ORIGINS = Kind(is_list_of(lambda value: is_text(value) and re.fullmatch("[!-+--~]+", value) is not None),
+NAMES = Kind(is_list_of(lambda value: isinstance(value, str) and is_token(value)), "a list of names, such as x-name or *")
+ORIGINS = Kind(is_list_of(lambda value: isinstance(value, str) and re.fullmatch("[!-+.-~-]+", value) is not None),
                "a list of origins, such as https://shop.example or *")
 OF_CORS = {
     "allowCredentials": YES, "allowHeaders": NAMES, "allowMethods": NAMES, "allowOrigins": ORIGINS,
@@ -37,7 +37,7 @@ OF_ADDRESS = {"port": PORT, "cors": OBJECT}
 OF_INTEGRATION = {
     "payload": Kind(lambda value: value in ("1.0", "2.0"), '"1.0" or "2.0"'),
     "type": Kind(lambda value: value in ("REST", "HTTP"), '"REST" or "HTTP"'),
-    "stage": Kind(lambda value: is_text(value) and re.fullmatch("[A-Za-z0-9_-]{1,128}", value) is not None,
+    "stage": Kind(lambda value: isinstance(value, str) and re.fullmatch("[A-Za-z0-9_-]{1,128}", value) is not None,
                   "a text of 1 to 128 letters, digits, - and _"),
     "stageVariables": Kind(lambda value: isinstance(value, dict) and all(map(is_text, value.values())),
                            "an object of texts"),
@@ -62,7 +62,7 @@ class Asynchronous(NamedTuple):
     oldest: float = OLDEST  # seconds
     on_failure: Optional[str] = None
 
-    def delay(self, attempts):
+    def delay(self, attempts: int) -> float:
         """Seconds between this many failed attempts and the next one."""
         return self.delays[min(attempts, len(self.delays)) - 1]
 
@@ -107,7 +107,7 @@ class Settings(NamedTuple):
     folder: str = ""  # of UP.json, from which their folders are seen
 
 
-def mistakes(whole):
+def mistakes(whole: Members) -> Iterator[str]:
     """What is wrong inside these members, whose own types have been looked at."""
     names = [member["name"] for member in whole["functions"]]
     given = whole.get("asynchronous")
@@ -126,13 +126,13 @@ def mistakes(whole):
     yield from mistakes_of_routes(whole.get("routes", {}), names, api)
 
 
-def mistakes_of_address(given, where, kinds=OF_ADDRESS):
+def mistakes_of_address(given: Members, where: str, kinds: Mapping[str, Kind] = OF_ADDRESS) -> Iterator[str]:
     yield from mistakes_of(given, kinds, where)
     if isinstance(given.get("cors"), dict):
         yield from mistakes_of(given["cors"], OF_CORS, f"{where}cors: ")
 
 
-def mistakes_of_integration(given, whole, where):
+def mistakes_of_integration(given: Members, whole: Members, where: str) -> Iterator[str]:
     """What does not go together; `whole` also has what a route has from its API."""
     kind = kind_of(whole)
     if kind == "REST" and whole.get("payload") == "2.0":
@@ -142,8 +142,8 @@ def mistakes_of_integration(given, whole, where):
             yield f'{where}{name} is of a REST API: leave it out, or write "type": "REST"'
 
 
-def mistakes_of_routes(routes, names, api):
-    seen = {}
+def mistakes_of_routes(routes: Mapping[str, object], names: List[str], api: Members) -> Iterator[str]:
+    seen: Dict[object, str] = {}
     for key, given in routes.items():
         where = f"routes: {shown(key)}: "
         if isinstance(given, dict):
@@ -162,7 +162,7 @@ def mistakes_of_routes(routes, names, api):
         seen[shape] = key
 
 
-def cors_of(given):
+def cors_of(given: Optional[Members]) -> Optional[Cors]:
     if given is None:
         return None
     return Cors(tuple(given.get("allowOrigins", ())), tuple(given.get("allowMethods", ())),
@@ -170,16 +170,16 @@ def cors_of(given):
                 tuple(given.get("exposeHeaders", ())), given.get("allowCredentials", False), given.get("maxAge"))
 
 
-def address_of(given):
+def address_of(given: object) -> Address:
     given = given if isinstance(given, dict) else {}
     return Address(given.get("port", 0), cors_of(given.get("cors")))
 
 
-def kind_of(given):
+def kind_of(given: Members) -> str:
     return given.get("type", "REST" if given.get("payload") == "1.0" else "HTTP")
 
 
-def target_of(given, api):
+def target_of(given: object, api: Members) -> Target:
     """What a route leads to; what it does not say, the API does."""
     given = given if isinstance(given, dict) else {"function": given}
     whole = {**api, **given}
@@ -191,7 +191,7 @@ def target_of(given, api):
     return Target(given["function"], Integration("1.0", True, whole.get("stage", "local"), variables, binary))
 
 
-def asynchronous_of(given):
+def asynchronous_of(given: object) -> Optional[Asynchronous]:
     if not given and given != {}:
         return None
     given = given if isinstance(given, dict) else {}
@@ -199,7 +199,7 @@ def asynchronous_of(given):
                         given.get("maximumAge", OLDEST), given.get("onFailure"))
 
 
-def settings_of(whole, folder=""):
+def settings_of(whole: Members, folder: str = "") -> Settings:
     """Returns the settings in a valid UP.json, which is in this folder."""
     # (a schedule sends events)
     sends = any("schedule" in member for member in whole["functions"])

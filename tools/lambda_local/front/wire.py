@@ -8,8 +8,9 @@ microseconds of processor time through streams and 72 so, one with a body of 1 M
 import asyncio
 import select
 import time
+from typing import Callable, Optional
 
-from ..http1 import NEED_DATA
+from ..http1 import NEED_DATA, Event, Reader
 
 MOST_UNREAD = 256 << 10  # bytes; with more, the peer is not read from until they are taken
 
@@ -21,18 +22,23 @@ class Gone(Exception):
 class Wire(asyncio.Protocol):
     """`on_lost` is called with the connection once it is gone in both directions."""
 
-    def __init__(self, reader, on_lost=None):
+    def __init__(self, reader: Reader,
+                 on_lost: Optional[Callable[["Wire"], None]] = None) -> None:
         self.reader, self.on_lost = reader, on_lost
         self.is_lost = self.is_paused = False
-        self.transport = self.waiting = self.draining = None
+        self.transport: asyncio.Transport  # from connection_made on
+        self.is_made = False
+        self.waiting: "Optional[asyncio.Future[None]]" = None
+        self.draining: "Optional[asyncio.Future[None]]" = None
         self.touched, self.received = time.monotonic(), 0  # the last byte in one of the directions; bytes that came
 
     # ---- what asyncio tells ------------------------------------------------------------------------------------------
 
-    def connection_made(self, transport):
-        self.transport = transport
+    def connection_made(self, transport: asyncio.BaseTransport) -> None:
+        assert isinstance(transport, asyncio.Transport)
+        self.transport, self.is_made = transport, True
 
-    def data_received(self, data):
+    def data_received(self, data: bytes) -> None:
         self.touched = time.monotonic()
         self.received += len(data)
         self.reader.receive(data)
@@ -41,12 +47,12 @@ class Wire(asyncio.Protocol):
             self.transport.pause_reading()
         self._wake()
 
-    def eof_received(self):
+    def eof_received(self) -> bool:
         self.reader.receive(b"")
         self._wake()
         return True  # (the other direction stays open: a caller may end its side and wait for the answer)
 
-    def connection_lost(self, fault):
+    def connection_lost(self, fault: Optional[Exception]) -> None:
         self.is_lost = True
         self._wake()
         if self.draining and not self.draining.done():
@@ -54,21 +60,21 @@ class Wire(asyncio.Protocol):
         if self.on_lost:
             self.on_lost(self)
 
-    def pause_writing(self):
+    def pause_writing(self) -> None:
         self.draining = asyncio.get_running_loop().create_future()
 
-    def resume_writing(self):
+    def resume_writing(self) -> None:
         self.touched = time.monotonic()
         if self.draining and not self.draining.done():
             self.draining.set_result(None)
 
-    def _wake(self):
+    def _wake(self) -> None:
         if self.waiting and not self.waiting.done():
             self.waiting.set_result(None)
 
     # ---- reading -----------------------------------------------------------------------------------------------------
 
-    async def event(self):
+    async def event(self) -> Event:
         """The next event of the reader. Gone if the connection breaks before; Malformed if it is not HTTP/1.1."""
         while (event := self.reader.next_event()) is NEED_DATA:
             await self.more()
@@ -76,7 +82,7 @@ class Wire(asyncio.Protocol):
             self._resume()
         return event
 
-    async def more(self):
+    async def more(self) -> None:
         """Waits until more has come, or the peer has ended its side; Gone if nothing will."""
         if self.is_lost:
             raise Gone
@@ -90,13 +96,13 @@ class Wire(asyncio.Protocol):
         if self.is_lost:
             raise Gone
 
-    def _resume(self):
+    def _resume(self) -> None:
         self.is_paused = False
         self.transport.resume_reading()
 
     # ---- writing -----------------------------------------------------------------------------------------------------
 
-    async def write(self, data):
+    async def write(self, data: bytes) -> None:
         """Waits while the peer takes too little."""
         if self.is_lost:
             raise Gone
@@ -107,18 +113,18 @@ class Wire(asyncio.Protocol):
             if self.is_lost:
                 raise Gone
 
-    def end(self):
+    def end(self) -> None:
         """Says that nothing more will be sent."""
         if not self.is_lost and self.transport.can_write_eof():
             self.transport.write_eof()
 
-    def close(self):
+    def close(self) -> None:
         self.transport.close()
 
-    def abort(self):
+    def abort(self) -> None:
         self.transport.abort()
 
-    def is_silent(self):
+    def is_silent(self) -> bool:
         """Whether nothing has come that was not read, not even the end: also nothing that the system has and the loop
         has not looked at yet."""
         if self.is_lost or not self.reader.is_silent or self.transport.is_closing():
