@@ -11,7 +11,7 @@ import itertools
 import re
 import subprocess
 import sys
-from typing import List, Optional, Sequence, Tuple
+from typing import List, Optional, Tuple
 
 from .reasons import sentence
 from .service import Fault, program_path

@@ -232,7 +232,8 @@ class LambdaLocal:
             raise ValueError("start() needs a function: start(NAME=handler)")
         parts = [function_of(name, member, handlers.get(name)) for name, member in members.items()]
         variables, front = variables_of(members), front_of(asynchronous, members)
-        configuration: Members = {"account": "123456789012", "region": "us-east-1", "functions": [part for part, _ in parts]}
+        configuration: Members = {"account": "123456789012", "region": "us-east-1",
+                                  "functions": [part for part, _ in parts]}
         if self.salt is not None:
             configuration["salt"] = self.salt
         self.service = Service(configuration, self.program)
@@ -298,7 +299,7 @@ class LambdaLocal:
         if self.endpoint_url is None:
             self.started()
         try:
-            import boto3
+            import boto3  # type: ignore[import]
         except ImportError:
             raise RuntimeError("boto3 is not installed: `pip install boto3`, or use .invoke()") from None
         settings: Dict[str, object] = {

@@ -22,7 +22,7 @@ import json
 import os
 import sys
 from email.message import Message
-from typing import Dict, Mapping, Optional, Tuple
+from typing import Dict, Optional, Tuple
 from urllib.parse import quote, urlsplit
 
 from .paths import bundled

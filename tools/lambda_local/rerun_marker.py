@@ -10,7 +10,7 @@ import contextlib
 import os
 
 import pytest
-from typing import Any, Optional, Sequence
+from typing import Any, Sequence
 
 NAME = "lambda_local_rerun"
 FIXTURES = ("lambda_local", "lambda_local_session")

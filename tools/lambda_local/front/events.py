@@ -4,7 +4,7 @@ import json
 import re
 import time
 from datetime import datetime, timezone
-from typing import Any, Dict, Optional
+from typing import Dict, Optional
 from urllib.parse import unquote
 
 from ..configuration import Members
@@ -46,7 +46,8 @@ class Event:
     def __init__(self, identifier: str, function: str, target: str, headers: Headers, payload: bytes) -> None:
         self.identifier, self.function, self.target, self.headers = identifier, function, target, headers
         self.payload, self.since, self.attempts, self.throttles = payload, time.monotonic(), 0, 0
-        self.result: Optional[bytes] = None  # of the last attempt: what the function reported, if its record needs it and it is kept
+        # What the function reported at the last attempt, if its record needs it and it is kept
+        self.result: Optional[bytes] = None
         self.is_running = self.has_failed = False
 
     @property

@@ -1,7 +1,7 @@
 """What is in front of functions for HTTP, by its kind: in which format requests become events and results answers, and
 what is answered if there is no result."""
 import json
-from typing import Any, Dict, Optional
+from typing import Dict, Optional
 
 from ..configuration import Members
 from . import payload, rest_payload

@@ -4,7 +4,7 @@ import contextlib
 import socket
 import threading
 import time
-from typing import Any, Callable, Dict, Iterator, List, Optional, Tuple
+from typing import Any, Callable, Dict, Iterator, Optional, Tuple
 
 from ..outgoing import Log
 from ..service import Fault, Service, free_ports

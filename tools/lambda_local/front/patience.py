@@ -1,7 +1,7 @@
 """How long a caller may take: the service's own limits at its invoke port (docs/formats.md, "Connections")."""
 import enum
 import time
-from .wire import Wire
+
 from .wire import Wire
 
 HEAD_SECONDS, WHOLE_HEAD_SECONDS = 20, 60  # without a byte; from a head's first byte to its end

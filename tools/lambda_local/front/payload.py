@@ -5,7 +5,7 @@ import binascii
 import json
 import re
 import time
-from typing import Any, Dict, List, Optional
+from typing import Dict, List, Optional
 from urllib.parse import parse_qsl
 
 from ..configuration import Members

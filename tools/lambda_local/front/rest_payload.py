@@ -3,7 +3,7 @@ Guide, "Set up Lambda proxy integrations"), and an HTTP API ("Create AWS Lambda 
 import json
 import re
 import time
-from typing import Callable, Dict, List, Mapping, Optional, Tuple
+from typing import Callable, Dict, List, Mapping, Optional
 from urllib.parse import parse_qsl
 
 from ..configuration import Members

@@ -4,7 +4,7 @@ import contextlib
 import errno
 import socket
 import time
-from typing import Dict, Optional, Protocol, Set
+from typing import Optional, Protocol, Set
 
 from ..http1 import (CLOSED, NEED_DATA, CutShort, Event, Malformed, Request as Head, RequestReader, chunk, last_chunk,
                      response_head)

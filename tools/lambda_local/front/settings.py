@@ -24,7 +24,8 @@ OF_ASYNCHRONOUS = {
                        "a whole number of seconds, from 1 to 21600"),
     "onFailure": Kind(is_text, "a text: the name of a function"),
 }
-NAMES = Kind(is_list_of(lambda value: isinstance(value, str) and is_token(value)), "a list of names, such as x-name or *")
+NAMES = Kind(is_list_of(lambda value: isinstance(value, str) and is_token(value)),
+             "a list of names, such as x-name or *")
 ORIGINS = Kind(is_list_of(lambda value: isinstance(value, str) and re.fullmatch("[!-+.-~-]+", value) is not None),
                "a list of origins, such as https://shop.example or *")
 OF_CORS = {
