@@ -6,6 +6,7 @@ import re
 import shutil
 import subprocess
 import tempfile
+import zlib
 
 from checkout import files_of
 
@@ -95,7 +96,9 @@ def checks_of_types(root):
         return
     with open(os.path.join(root, "tests", "library", "typed.txt"), encoding="utf-8") as file:
         names = [f"lambda_local/{line.strip()}" for line in file if not line.startswith("#")]
+    # (a cache of this checkout alone: what another one has at the same place is another file)
+    cache = f"lambda_local.mypy.{zlib.crc32(os.path.realpath(root).encode()):08x}"
     ran = subprocess.run([mypy, "--strict", "--python-version", "3.9", "--follow-imports=silent", "--cache-dir",
-                          os.path.join(tempfile.gettempdir(), "lambda_local.mypy"), *names],
+                          os.path.join(tempfile.gettempdir(), cache), *names],
                          cwd=os.path.join(root, "tools"), stdout=subprocess.PIPE, stderr=subprocess.STDOUT, text=True)
     yield "mypy --strict", ran.stdout.splitlines() if ran.returncode else []

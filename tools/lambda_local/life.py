@@ -11,7 +11,7 @@ from typing import Counter as Counts, Dict, Iterator, List, NamedTuple, Optional
 
 from . import phases
 from .configuration import Members
-from .history import EXPIRE, Answer, Entry, count_in, request_identifier
+from .history import EXPIRE, Answer, Entry, NotHistory, count_in, request_identifier
 from .phases import FAILURES, reason_to_end
 
 ENDINGS = ("output", "error", "timeout", "init-timeout", "too-large-output", "stopped")
@@ -119,7 +119,7 @@ class Life:
         self._polls: Dict[int, Tuple[Environment, Poller]] = {}  # by ticket: whose they are
 
     def take(self, entry: Entry) -> Iterator[Event]:
-        """The events of an entry."""
+        """The events of an entry; NotHistory if it is none of this account."""
         if entry.kind == "invoke":
             yield from self._invoked(entry)
         environment = self.environments.get(entry.environment or 0)
@@ -140,6 +140,8 @@ class Life:
 
     def _invoked(self, entry: Entry) -> Iterator[Event]:
         function = str(entry.function)
+        if function not in self.numbers:
+            raise NotHistory(f"entry {entry.number} invokes {function[:80]!r}, which the configuration does not have")
         self._counts[function] += 1
         own = entry.own
         if own and own.kind == "throttled":
