@@ -117,11 +117,11 @@ def cdk():
                "directory": "asset.1"},
         "orders-Shop": {"name": "orders-Shop", "handler": "bootstrap", "environments": 1},
     }, "F1: there is no ", "orders-Shop: has no command, since its code is not here",
-        "asset.1/bootstrap yet: build it", "orders-Shop: leaves out Code, which is no folder here",
+        "asset.1/bootstrap yet: build it", "orders-Shop: leaves out Code, which is not a folder here",
     name="Shop.template.json", folders=["asset.1"])
     case("CDK, a folder that is not there yet", {"Resources": {"F1": asset}}, {"F1": {
         "name": "F1", "handler": "bootstrap", "environments": 1, "command": ["./bootstrap"], "directory": "asset.1"}},
-        "asset.1 is no folder (yet)", name="Shop.template.json", folders=[])
+        "asset.1 is not a folder (yet)", name="Shop.template.json", folders=[])
 
 
 LESS = """service: shop
@@ -200,7 +200,8 @@ def expressions():
         "the variable KEY is /key, a placeholder for the parameter Key, whose value is in the Parameter Store",
         "IMPORT is net, a placeholder for the export net", "SECRET is {{resolve:secretsmanager:x}}, a placeholder",
         "leaves out the variable NULL, which has no value",
-        "leaves out the variable LIST: [1] is no text", "leaves out the variable CIDR: Fn::Cidr is not worked out here",
+        "leaves out the variable LIST: [1] is not a string",
+        "leaves out the variable CIDR: Fn::Cidr is not worked out here",
         "leaves out the variable BAD: Fn::Join needs a separator and a list",
         name="Shop.json")
 
@@ -226,7 +227,7 @@ def code():
          "its code is in the template")
     far = {name: value for name, value in made_function()["F"].items() if name not in ("runtime", "command")}
     case("code far away", function_of(CodeUri="s3://far/away"), {"F": far},
-         "leaves out CodeUri, which is no folder here", "F: has no command, since its code is not here")
+         "leaves out CodeUri, which is not a folder here", "F: has no command, since its code is not here")
     case("code of CloudFormation's package", function_of(Code="src"), made_function(directory="src"))
     case("Node without its client", function_of(Runtime="nodejs20.x", Handler="a.b"),
          {"F": {"name": "F", "environments": 1, "handler": "a.b", "runtime": "node"}})
@@ -271,7 +272,7 @@ def numbers():
 
 def names():
     case("a name that is none", function_of(FunctionName="a b"), made_function(),
-         "F: it is called F, since its FunctionName is not known here: a b is no name of 1 to 64 letters, digits, - "
+         "F: it is called F, since its FunctionName is not known here: a b is not a name of 1 to 64 letters, digits, - "
          "and _")
     case("a name that is too long", function_of(FunctionName="x" * 65), made_function(), "it is called F")
     case("a name that is a number", function_of(FunctionName=5),
@@ -283,15 +284,15 @@ def names():
     case("variables with other names", function_of(Environment={"Variables": {"A=B": 1, "": 2, "C": 3}}),
          made_function(variables={"C": "3"}), "leaves out the variable A=B: its name must")
     case("a handler that is none", function_of(Handler="a\nb"), made_function(),
-         "F: leaves out Handler: it must be a text of 1 to 128 printable characters")
+         "F: leaves out Handler: it must be a string of 1 to 128 printable characters")
 
 
 def wrong_templates():
     for name, text, status, words in (
-            ("no template", "[1]", 2, "no template: it must have Resources, or functions"),
-            ("an empty one", "{}", 2, "no template"),
+            ("no template", "[1]", 2, "not a template: it must have Resources, or functions"),
+            ("an empty one", "{}", 2, "not a template"),
             ("no function", '{"Resources": {"T": {"Type": "AWS::S3::Bucket"}}}', 2, "has no function"),
-            ("no folder of functions", '{"functions": 5}', 2, "no template")):
+            ("no folder of functions", '{"functions": 5}', 2, "not a template")):
         made, said = made_of(text, name="x.json")
         check(f"{name}", (made, words in said and "Traceback" not in said or said), (status, True))
     if HAS_YAML:

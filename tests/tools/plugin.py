@@ -211,7 +211,7 @@ def wrong_uses():
              "function f: unknown member zzz; there are environments, extensions, handler, memory, ports, reserved, "
              "timeout, variables"),
             ({"variables": ["A"]}, fails,
-             'function f: variables must be an object of texts, numbers, true or false, not ["A"]'),
+             'function f: variables must be an object of strings, numbers, true or false, not ["A"]'),
             ({"environments": "2"}, fails, "function f: environments must be a whole number from 1 to 256, not \"2\""),
             ({"environments": 0}, fails, "function f: environments must be a whole number from 1 to 256, not 0"),
             ({"environments": 2, "ports": [0, 0]}, fails,

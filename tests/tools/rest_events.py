@@ -214,10 +214,10 @@ def mistakes():
     for routes, api, wanted in (
             ({"GET /a": {"functions": "f"}}, {}, 'routes: "GET /a": unknown member functions, did you mean function?'),
             ({"GET /a": {}}, {},
-             'routes: "GET /a": there is no function, which must be a text: the name of a function'),
+             'routes: "GET /a": there is no function, which must be a string: the name of a function'),
             ({"GET /a": {"function": "g"}}, {}, 'routes: "GET /a": there is no function "g"'),
             ({"GET /a": {"function": 5}}, {},
-             'routes: "GET /a": function must be a text: the name of a function, not 5'),
+             'routes: "GET /a": function must be a string: the name of a function, not 5'),
             ({"GET /a": "f"}, {"payload": "3.0"}, 'api: payload must be "1.0" or "2.0", not "3.0"'),
             ({"GET /a": "f"}, {"payload": 1.0}, 'api: payload must be "1.0" or "2.0", not 1.0'),
             ({"GET /a": "f"}, {"type": "rest"}, 'api: type must be "REST" or "HTTP", not "rest"'),
@@ -228,11 +228,11 @@ def mistakes():
             ({"GET /a": "f"}, {"stage": "Prod"},
              'api: stage is of a REST API: leave it out, or write "type": "REST"'),
             ({"GET /a": "f"}, {"payload": "1.0", "stage": "a/b"},
-             'api: stage must be a text of 1 to 128 letters, digits, - and _, not "a/b"'),
+             'api: stage must be a string of 1 to 128 letters, digits, - and _, not "a/b"'),
             ({"GET /a": {"function": "f", "binaryMediaTypes": ["a"]}}, {},
              'routes: "GET /a": binaryMediaTypes is of a REST API: leave it out, or write "type": "REST"'),
             ({"GET /a": "f"}, {"stageVariables": {"a": 1}},
-             'api: stageVariables must be an object of texts, not {"a": 1}'),
+             'api: stageVariables must be an object of strings, not {"a": 1}'),
             ({"GET /a": {"function": "f", "type": "HTTP"}, "GET /b": "f"}, {"payload": "1.0"}, None)):
         whole = {"functions": functions, "routes": routes, "api": api}
         check(f"a mistake: {routes} {api}", next(settings.mistakes(whole), None), wanted)

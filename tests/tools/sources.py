@@ -99,7 +99,7 @@ def mistakes():
     url = "http://127.0.0.1:9324/0/q"
     for members, wanted in (
             ({"queue": {}}, "queue: there is no url, which must be"),
-            ({"queue": {"url": 5}}, "queue: url must be a text"),
+            ({"queue": {"url": 5}}, "queue: url must be a string"),
             ({"queue": {"url": url, "batch": 5}}, "queue: unknown member batch, did you mean batchSize?"),
             ({"queue": {"url": url, "batchSize": 0}}, "queue: batchSize must be a whole number from 1 to 10000, not 0"),
             ({"queue": {"url": url, "window": 301}}, "queue: window must be"),
@@ -109,7 +109,7 @@ def mistakes():
             ({"schedule": "cron(* * * * * *)"}, 'schedule: "cron(* * * * * *)": one of day-of-month and'),
             ({"schedule": ["rate(1 minute)", "x"]}, 'schedule: number 2: "x": write "rate(5 minutes)" or'),
             ({"schedule": {"expresion": "x"}}, "schedule: unknown member expresion, did you mean expression?"),
-            ({"schedule": {"expression": 5}}, "schedule: expression must be a text")):
+            ({"schedule": {"expression": 5}}, "schedule: expression must be a string")):
         seen = next(sources.mistakes({"functions": [{"name": "f", **members}]}), "")
         check(f"a mistake: {members}", seen[:len("function f: " + wanted)], "function f: " + wanted)
     for wrong in ("", "x", "file:///etc/passwd", "http://", "http://h", "http://h/", "ftp://h/q", "http://a b/q",

@@ -54,7 +54,7 @@ def history():
         check("answers that go on", status == 3 and "is the answer of no call" in said, said)
         open(path, "wb").write(b"hello\n")
         status, _, said = run("--answers", path, script=replayed)
-        check("answers that are none", status == 2 and "this is no answer: 'hello'" in said, said)
+        check("answers that are none", status == 2 and "this is not an answer: 'hello'" in said, said)
 
 
 def service():
@@ -205,7 +205,7 @@ FAULTS = (
     ("form 2 alone", (), "form 2\n", 2, "configuration: NotJson"),
     ("no functions", (), "{}\n", 2, "configuration: BadShape"),
     ("a list", (), "[]\n", 2, "configuration: BadShape"),
-    ("no call", (), ONE + "\n0 next 1\n0 jump\n", 2, "script: line 3: this is no call of a script: '0 jump'"),
+    ("no call", (), ONE + "\n0 next 1\n0 jump\n", 2, "script: line 3: this is not a call of a script: '0 jump'"),
     ("no environment", (), ONE + "\n\n0 next 2\n", 2, "script: line 3"),
     ("no function", (), ONE + "\n0 invoke g - - =\n", 2, "script: line 2"),
     ("a leading zero", (), ONE + "\n00 next 1\n", 2, "script: line 2"),
@@ -231,8 +231,8 @@ FAULTS = (
     ("a window that ends before it begins", ("--from", "5", "--to", "4"), ONE + "\n", 2, "--to is before --from"),
     ("the same in seconds", ("--from", "+1.5", "--to", "+1.25"), ONE + "\n", 2, "--to is before --from"),
     ("a moment that is none", ("--from", "1.5"), ONE + "\n", 2,
-     "'1.5' is no moment: write milliseconds as in the history, such as"),
-    ("a moment in words", ("--to", "yesterday"), ONE + "\n", 2, "'yesterday' is no moment"),
+     "'1.5' is not a moment: write milliseconds as in the history, such as"),
+    ("a moment in words", ("--to", "yesterday"), ONE + "\n", 2, "'yesterday' is not a moment"),
     ("a folder", ("/",), None, 2, "/: Is a directory"),
     ("a script that looks like a history", (), f"form 2\n{WHOLE % 100}\n0 tick\n0 tick\n", 2, "add --script"),
     ("a history with a gap", (), f"form 2\n{WHOLE % 100}\n0 next 1\n0 tick\n# 5 5 done\n", 3,

@@ -245,9 +245,9 @@ def faults():
     with live() as page:
         status, _, said = run("--live", f"http://127.0.0.1:{page.port}")
         check("fault: another server",
-              status == 2 and "gives no history there (status 404): this is no lambda_local" in said, said)
+              status == 2 and "gives no history there (status 404): this is not lambda_local" in said, said)
         status, _, said = run("--live", f"http://127.0.0.1:{page.runtime}")
-        check("fault: the port of an environment", status == 2 and "this is no lambda_local" in said, said)
+        check("fault: the port of an environment", status == 2 and "this is not lambda_local" in said, said)
 
 
 def browser():

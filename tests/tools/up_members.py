@@ -40,11 +40,11 @@ OF_FUNCTION = {
     "no environment": ({"environments": 0}, ENVIRONMENTS + "0"),
     "a billion environments": ({"environments": 10**9}, ENVIRONMENTS + "1000000000"),
     "a list for an object": ({"variables": ["A=1"]},
-                             'variables must be an object of texts, numbers, true or false, not ["A=1"]'),
+                             'variables must be an object of strings, numbers, true or false, not ["A=1"]'),
     "a variable that is null": ({"variables": {"A": None}},
-                                'variables must be an object of texts, numbers, true or false, not {"A": null}'),
-    "a command of numbers": ({"command": [1]}, "command must be a text, or a list of texts, not [1]"),
-    "an empty command": ({"command": ""}, 'command must be a text, or a list of texts, not ""'),
+                                'variables must be an object of strings, numbers, true or false, not {"A": null}'),
+    "a command of numbers": ({"command": [1]}, "command must be a string, or a list of strings, not [1]"),
+    "an empty command": ({"command": ""}, 'command must be a string, or a list of strings, not ""'),
     "an open quote": ({"command": "a 'b"}, 'command: "a \'b": No closing quotation'),
     "another runtime": ({"runtime": "ruby"}, 'runtime must be "python" or "node", not "ruby"'),
     "a runtime and a command": ({"runtime": "python"}, "it has a runtime and a command: leave one of the two out"),
@@ -88,7 +88,7 @@ OF_FUNCTION = {
 OF_SERVICE = {
     "a member that is nearly one": ({"acount": "123456789012"}, "unknown member acount, did you mean account?"),
     "a function without a name": ({"functions": [{"command": ["true"]}]},
-                                  "function number 1: there is no name, which must be a text"),
+                                  "function number 1: there is no name, which must be a string"),
     "a function that is a text": ({"functions": ["greet"]}, 'function number 1 must be an object, not "greet"'),
     "functions by name": ({"functions": {"greet": {}}}, 'functions must be a list of objects, not {"greet": {}}'),
     "a name with a space": ({"functions": [{"name": "a b"}]},
@@ -118,11 +118,11 @@ def mistakes():
         check("a list", told([1], folder),
               (2, ['up: up.json: it must be an object with a list of "functions", not [1]']))
         check("no JSON is told with line and column", told('{"functions": [}', folder),
-              (2, ["up: up.json: this is no JSON: Expecting value: line 1 column 16 (char 15)"]))
+              (2, ["up: up.json: this is not JSON: Expecting value: line 1 column 16 (char 15)"]))
         for name, text in {"a million brackets": "[" * 1_000_000, "101 levels": "[" * 101 + "]" * 101}.items():
             status, lines = told(text, folder)
             check(f"{name} are told in a line",
-                  (status, [line.startswith("up: up.json: this is no JSON: it is nested too deep") for line in lines]),
+                  (status, [line.startswith("up: up.json: this is not JSON: it is nested too deep") for line in lines]),
                   (2, [True]))
         check("nothing is left of them", sorted(os.listdir(folder)), ["up.json"])
 
@@ -170,7 +170,7 @@ FAULTS = {
     "TooManyEnvironments": ({"functions": [{"name": "a", "ports": list(range(1, 256))},
                                            {"name": "b", "ports": [300, 301]}]},
                             "257 environments in all, 255 of them of function a"),
-    "BadPort": ({"functions": [{"name": "a", "ports": [0]}]}, "function a: 0 is no port"),
+    "BadPort": ({"functions": [{"name": "a", "ports": [0]}]}, "function a: 0 is not a port"),
     "DuplicatePort": ({"functions": [{"name": "a", "ports": [7]}], "invokePort": 7},
                       "port 7 appears twice: invokePort and function a"),
     "TooManyExtensions": ({"functions": [{"name": "a", "ports": [1], "extensions": list("abcdefghijk")}]},

@@ -174,7 +174,7 @@ def wrong_members():
             ({"runtime": "ruby3.2"}, 'function f: runtime must be "python" or "node", not "ruby3.2"'),
             ({"init": 0}, "function f: init must be a whole number of seconds, from 1 to 900, not 0"),
             ({"layers": "x"}, 'function f: layers must be a list of folders and .zip files, not "x"'),
-            ({"python": ""}, 'function f: python must be a text: a Python interpreter, not ""'),
+            ({"python": ""}, 'function f: python must be a string: a Python interpreter, not ""'),
             ({"runtime": "node", "python": "python3"}, 'function f: python is for "runtime": "python": leave it out'),
             ({"python": "./nothing"}, 'function f: "runtime": "python" needs the program '),
             ({"environments": {"min": 3, "max": 2}}, "function f: environments: min is 3, which is more than max, 2"),

@@ -31,7 +31,7 @@ def is_list_of(accepts: Callable[[object], bool]) -> Callable[[object], bool]:
     return lambda value: isinstance(value, list) and all(map(accepts, value))
 
 
-TEXT = Kind(is_text, "a text")
+TEXT = Kind(is_text, "a string")
 PORT = Kind(lambda value: is_whole(value, 1 << 16), "a port: a whole number from 1 to 65535")
 NUMBER = Kind(lambda value: is_whole(value, 1 << 32), "a whole number")
 LONG_NUMBER = Kind(lambda value: is_whole(value, 1 << 64), "a whole number below 2^64")
@@ -161,7 +161,7 @@ def owners_of(port: int, whole: Members, functions: List[Members]) -> List[str]:
 
 
 def bad_port(whole: Members, functions: List[Members]) -> str:
-    return f"{owners_of(0, whole, functions)[0]}: 0 is no port: write one from 1 to 65535"
+    return f"{owners_of(0, whole, functions)[0]}: 0 is not a port: write one from 1 to 65535"
 
 
 def duplicate_port(whole: Members, functions: List[Members]) -> str:

@@ -41,7 +41,7 @@ def sentence(said: str, lines: List[bytes]) -> str:
         try:
             told = explained(found[1], read_json(lines[at - 1]))
         except NotJson as fault:
-            told = f"this is no JSON: {fault}"
+            told = f"this is not JSON: {fault}"
         if told:
             return f"line {at}, the configuration: {told} (the program says {found[1]})"
     return said

@@ -24,7 +24,7 @@ def is_variables(value: object) -> bool:
     return isinstance(value, dict) and all(isinstance(text, (str, int, float)) for text in value.values())
 
 
-OF_FUNCTION = Kind(is_variables, "an object of texts, numbers, true or false")
+OF_FUNCTION = Kind(is_variables, "an object of strings, numbers, true or false")
 
 
 def text_of(value: object) -> str:

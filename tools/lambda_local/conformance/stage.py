@@ -50,7 +50,7 @@ class Answer(NamedTuple):
         try:
             return json.loads(self.body)
         except ValueError:
-            raise Missing(f"the caller received what is no JSON: {shown(self.body)}") from None
+            raise Missing(f"the caller received what is not JSON: {shown(self.body)}") from None
 
     @property
     def report(self):

@@ -10,7 +10,7 @@ that is installed, else for Python and Node the runtime that comes with lambda_l
 defaults; a reference to a resource is a placeholder, which is told: so functions run, and you write into UP.json what
 they need. `directory` is the function's code, or the template's own folder if there is none, as it is seen from
 UP.json: so UP.json may stand anywhere, and lambda_local up be started from anywhere, as long as both stay where they
-are. Without -o it goes to standard output; if that is no file, folders are written from the root.
+are. Without -o it goes to standard output; if that is not a file, folders are written from the root.
 YAML needs a reader: pip install pyyaml.
 Exit statuses: 0; 2 for a template that cannot be read, or has no function; 4 without the reader, or if UP.json cannot
 be written."""
@@ -49,7 +49,7 @@ def up_of(path):
     elif isinstance(whole.get("functions"), (dict, list)):
         listed, scope = serverless.listed(whole, stack_of(path))
     else:
-        raise Fault(f"{path} is no template: it must have Resources, or functions")
+        raise Fault(f"{path} is not a template: it must have Resources, or functions")
     functions = functions_of(listed, scope, base)
     if not functions:
         raise Fault(f"{path} has no function")
@@ -69,7 +69,7 @@ def place(functions, template, folder):
     for made in functions:
         code = os.path.join(base, made.pop("directory", ""))
         if not os.path.isdir(code):
-            tell(f"{made['name']}: {code} is no folder (yet): lambda_local up needs it")
+            tell(f"{made['name']}: {code} is not a folder (yet): lambda_local up needs it")
         if folder is None:
             code = os.path.normpath(code)
         else:

@@ -35,7 +35,7 @@ def name_of(key, properties, scope):
     if placeholders:
         why = f"it needs {' and '.join(placeholders)}"
     else:
-        why = f"{shown(name)} is no name of 1 to 64 letters, digits, - and _"
+        why = f"{shown(name)} is not a name of 1 to 64 letters, digits, - and _"
     tell(f"{key}: it is called {cleaned(key)}, since its FunctionName is not known here: {why}")
     return cleaned(key)
 
@@ -91,7 +91,7 @@ class Maker:
     def make(self):
         handler = self.known("Handler")
         if handler is not None and not (isinstance(handler, str) and HANDLER.fullmatch(handler)):
-            self.tell(f"leaves out Handler: it must be a text of 1 to 128 printable characters, not {shown(handler)}")
+            self.tell(f"leaves out Handler: it must be a string of 1 to 128 printable characters, not {shown(handler)}")
             handler = None
         self.put("handler", handler)
         self.put("timeout", self.whole("Timeout", 1, 900))
@@ -165,7 +165,7 @@ class Maker:
             return
         if not isinstance(code, str) or "://" in code or "\0" in code:
             self.is_elsewhere = True
-            return self.tell(f"leaves out {name}, which is no folder here")
+            return self.tell(f"leaves out {name}, which is not a folder here")
         at = os.path.join(self.base, code)
         if os.path.isfile(at):
             self.tell(f"{name} is the file {code}: unpack it, and write its folder as \"directory\"")

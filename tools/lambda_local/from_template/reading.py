@@ -65,7 +65,7 @@ def parsed(path, text):
     try:
         import yaml
     except ImportError:
-        tell(f"{path} is no JSON, and the YAML reader is not installed: pip install pyyaml")
+        tell(f"{path} is not JSON, and the YAML reader is not installed: pip install pyyaml")
         sys.exit(4)
     try:
         whole = yaml.load(text, yaml_loader(yaml))
@@ -92,10 +92,10 @@ def read(path):
     except OSError as fault:
         raise Fault(f"{path}: {fault.strerror}: name a template") from None
     except UnicodeDecodeError:
-        raise Fault(f"{path}: it is no text: name a template") from None
+        raise Fault(f"{path}: it is not text: name a template") from None
     if len(text) > LONGEST:
         raise Fault(f"{path}: it is longer than {LONGEST:,} bytes: name a template")
     whole = parsed(path, text)
     if not isinstance(whole, dict):
-        raise Fault(f"{path} is no template: it must have Resources, or functions")
+        raise Fault(f"{path} is not a template: it must have Resources, or functions")
     return whole

@@ -123,7 +123,7 @@ class Apis:
     def binary(self, of):
         given = self.value(of, "BinaryMediaTypes") or []
         if not settings.TEXTS.accepts(given):
-            return tell(f"leaves out BinaryMediaTypes of {of.name}: they must be a list of texts, not {shown(given)}")
+            return tell(f"leaves out BinaryMediaTypes of {of.name}: they must be a list of strings, not {shown(given)}")
         return [re.sub("~1", "/", kind) for kind in given]  # (which is how SAM writes it)
 
     def cors(self, found, used):

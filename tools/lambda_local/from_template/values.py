@@ -36,7 +36,7 @@ def text_of(value):
     if isinstance(value, datetime.date):
         return value.isoformat()
     if not is_scalar(value):
-        raise Unknown(f"{value!r} is no text")
+        raise Unknown(f"{value!r} is not a string")
     return str(value)
 
 
@@ -155,7 +155,7 @@ class Scope:
     def sub(self, argument):
         text, own = argument if isinstance(argument, list) and len(argument) == 2 else (argument, {})
         if not (isinstance(text, str) and isinstance(own, dict)):
-            raise Unknown(f"Fn::Sub needs a text, or a text and an object, not {argument!r}")
+            raise Unknown(f"Fn::Sub needs a string, or a string and an object, not {argument!r}")
 
         def replaced(found):
             literal, name = found[1], found[2].strip()
@@ -177,7 +177,7 @@ class Scope:
             separator, text = argument
             return text_of(self.value(text)).split(text_of(separator))
         except (TypeError, ValueError):
-            raise Unknown(f"Fn::Split needs a separator and a text, not {argument!r}") from None
+            raise Unknown(f"Fn::Split needs a separator and a string, not {argument!r}") from None
 
     def find_in_map(self, argument):
         try:
@@ -207,7 +207,7 @@ class Scope:
                 raise Unknown("its conditions go round in a circle")
             if isinstance(condition, str):
                 if condition not in self.conditions:
-                    raise Unknown(f"there is no condition {condition}")
+                    raise Unknown(f"there is not a condition {condition}")
                 return self.holds(self.conditions[condition])
             return self.of_condition(condition)
         finally:
@@ -215,7 +215,7 @@ class Scope:
 
     def of_condition(self, condition):
         if not (isinstance(condition, dict) and len(condition) == 1):
-            raise Unknown(f"{condition!r} is no condition")
+            raise Unknown(f"{condition!r} is not a condition")
         (name, argument), = condition.items()
         if name == "Condition":
             return self.holds(argument)

@@ -86,7 +86,7 @@ def read_result(result: bytes) -> object:
     try:
         value: object = json.loads(result)
     except (ValueError, RecursionError):
-        raise Unmappable(f"it is no JSON: {result[:60].decode(errors='replace')}") from None
+        raise Unmappable(f"it is not JSON: {result[:60].decode(errors='replace')}") from None
     return value
 
 
@@ -130,7 +130,7 @@ def headers_in(value: Dict[str, object]) -> Headers:
     if not isinstance(given, dict):
         raise Unmappable(f"headers must be an object, not {json.dumps(given)[:60]}")
     if wrong := [name for name in given if not TOKEN.fullmatch(name)]:
-        raise Unmappable(f"headers: {json.dumps(wrong[0])[:60]} is no name of a header")
+        raise Unmappable(f"headers: {json.dumps(wrong[0])[:60]} is not a name of a header")
     return [(name, text_in(text, f"headers: {name}")) for name, text in given.items() if name.lower() not in FRAMING]
 
 
@@ -139,7 +139,7 @@ def cookies_in(value: Dict[str, object]) -> List[str]:
     if given is None:
         return []
     if not isinstance(given, list):
-        raise Unmappable(f"cookies must be a list of texts, not {json.dumps(given)[:60]}")
+        raise Unmappable(f"cookies must be a list of strings, not {json.dumps(given)[:60]}")
     return [text_in(cookie, "cookies: each") for cookie in given]
 
 
@@ -148,7 +148,7 @@ def body_in(value: Dict[str, object]) -> bytes:
     if body is None:
         return b""
     if not isinstance(body, str):
-        raise Unmappable(f"body must be a text, not {json.dumps(body)[:60]}")
+        raise Unmappable(f"body must be a string, not {json.dumps(body)[:60]}")
     if value.get("isBase64Encoded") is not True:
         return body.encode(errors="replace")
     try:

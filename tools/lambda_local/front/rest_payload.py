@@ -140,7 +140,7 @@ def multiple_in(value: Dict[str, object]) -> Headers:
     if not isinstance(given, dict) or not all(isinstance(values, list) for values in given.values()):
         raise Unmappable(f"multiValueHeaders must be an object of lists, not {json.dumps(given)[:60]}")
     if wrong := [name for name in given if not TOKEN.fullmatch(name)]:
-        raise Unmappable(f"multiValueHeaders: {json.dumps(wrong[0])[:60]} is no name of a header")
+        raise Unmappable(f"multiValueHeaders: {json.dumps(wrong[0])[:60]} is not a name of a header")
     return [(name, text_in(text, f"multiValueHeaders: each of {name}")) for name, values in given.items()
             for text in values if name.lower() not in FRAMING]
 

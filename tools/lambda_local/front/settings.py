@@ -15,14 +15,14 @@ def is_seconds(value: object) -> bool:
 
 
 YES = Kind(lambda value: isinstance(value, bool), "true or false")
-TEXTS = Kind(is_list_of(is_text), "a list of texts")
+TEXTS = Kind(is_list_of(is_text), "a list of strings")
 OF_ASYNCHRONOUS = {
     "retries": Kind(lambda value: is_whole(value, MOST_RETRIES + 1), "a whole number from 0 to 2"),
     "delays": Kind(lambda value: is_list_of(is_seconds)(value) and value != [],
                    "a list of seconds, each from 0 to 900"),
     "maximumAge": Kind(lambda value: is_whole(value, OLDEST + 1) and value != 0,
                        "a whole number of seconds, from 1 to 21600"),
-    "onFailure": Kind(is_text, "a text: the name of a function"),
+    "onFailure": Kind(is_text, "a string: the name of a function"),
 }
 NAMES = Kind(is_list_of(lambda value: isinstance(value, str) and is_token(value)),
              "a list of names, such as x-name or *")
@@ -39,13 +39,13 @@ OF_INTEGRATION = {
     "payload": Kind(lambda value: value in ("1.0", "2.0"), '"1.0" or "2.0"'),
     "type": Kind(lambda value: value in ("REST", "HTTP"), '"REST" or "HTTP"'),
     "stage": Kind(lambda value: isinstance(value, str) and re.fullmatch("[A-Za-z0-9_-]{1,128}", value) is not None,
-                  "a text of 1 to 128 letters, digits, - and _"),
+                  "a string of 1 to 128 letters, digits, - and _"),
     "stageVariables": Kind(lambda value: isinstance(value, dict) and all(map(is_text, value.values())),
-                           "an object of texts"),
+                           "an object of strings"),
     "binaryMediaTypes": TEXTS,
 }
 OF_API = {**OF_ADDRESS, **OF_INTEGRATION}
-OF_ROUTE = {"function": Kind(is_text, "a text: the name of a function"), **OF_INTEGRATION}
+OF_ROUTE = {"function": Kind(is_text, "a string: the name of a function"), **OF_INTEGRATION}
 SWITCH = Kind(lambda value: isinstance(value, (bool, dict)), "true, or an object")
 AT_THE_TOP = {
     "asynchronous": SWITCH,

@@ -40,7 +40,7 @@ def configuration_of(port):
         opening = answer.readline(len(OPENING) + 1) if answer.status == 200 else b""
         if opening != OPENING:
             raise Fault(
-                2, f"GET /_local/history gives no history there (status {answer.status}): this is no lambda_local")
+                2, f"GET /_local/history gives no history there (status {answer.status}): this is not lambda_local")
         return Configuration(answer.readline().rstrip(b"\n"), True)
     finally:
         connection.close()

@@ -184,7 +184,7 @@ def read_configuration(lines):
 def unreadable(line, at, form_2):
     word = line.split(b" ")[1:2]
     hint = " (only form 2 has 'reserve')" if word == [b"reserve"] and not form_2 else ""
-    return Fault(2, f"script: line {at}: this is no call of a script{hint}: {shown(line)[:60]!r}; "
+    return Fault(2, f"script: line {at}: this is not a call of a script{hint}: {shown(line)[:60]!r}; "
                     "docs/formats.md lists the calls with their fields")
 
 
@@ -244,7 +244,7 @@ class Answers:
         elif line is not None:
             words = line.split(b" ", 2)
             if len(words) < 3 or number(words[0]) is None or number(words[1]) is None:
-                raise Fault(2, f"{self.name}: line {self.lines.at}: this is no answer: {shown(line)[:60]!r}")
+                raise Fault(2, f"{self.name}: line {self.lines.at}: this is not an answer: {shown(line)[:60]!r}")
             self.next = (int(words[0]), int(words[1]), words[2])
 
     def of(self, entry):

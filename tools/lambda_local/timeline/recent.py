@@ -35,7 +35,7 @@ class Recent:
         line = " ".join([str(entry.moment), entry.kind, *entry.fields])
         call = read_call(line.encode(), self.configuration, True)
         if call is None:
-            raise Fault(3, f"entry {entry.number} of the service is no call that docs/formats.md has: {line[:60]!r}")
+            raise Fault(3, f"entry {entry.number} of the service is not a call that docs/formats.md has: {line[:60]!r}")
         self.world.take(call, call.moment, call.environment, answers)
         if not call.hidden:
             self.tickets.append(call.ticket)

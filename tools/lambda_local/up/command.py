@@ -11,7 +11,7 @@ UP.json is a service's configuration (docs/formats.md) in which each function ha
   runtime        "python" or "node" (or Lambda's names, such as "python3.12"): the bundled runtime serves `handler`,
                  such as "app.handler"
   python         the interpreter of "runtime": "python" (default: the one that runs this tool)
-  command        in its place, what starts another runtime: a list of words, or a text that is split as a shell would
+  command        in its place, what starts another runtime: a list of words, or a string that is split as a shell would
   environments   how many it has, if no `ports` are given (default: 1); or {"min": 1, "max": 10}: those beyond min are
                  started when invocations wait for them, and end after {"idle": 60} seconds without work
   init           how many seconds its Init may take (default: Lambda's 10)

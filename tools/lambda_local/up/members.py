@@ -46,16 +46,16 @@ OF_ENVIRONMENTS = {
     "idle": Kind(lambda value: is_whole(value, 86401) and value > 0, "a whole number of seconds, from 1 to 86400"),
 }
 OWN = {
-    "command": Kind(is_command, "a text, or a list of texts"),
+    "command": Kind(is_command, "a string, or a list of strings"),
     "runtime": Kind(programs.is_runtime, '"python" or "node"'),
-    "python": Kind(lambda value: is_text(value) and value != "", "a text: a Python interpreter"),
+    "python": Kind(lambda value: is_text(value) and value != "", "a string: a Python interpreter"),
     "environments": Kind(lambda value: is_count(value) or isinstance(value, dict),
                          "a whole number from 1 to 256, or an object with \"min\" and \"max\""),
     "init": Kind(lambda value: is_whole(value, LONGEST_INIT + 1) and value > 0,
                  "a whole number of seconds, from 1 to 900"),
     "layers": Kind(is_list_of(is_text), "a list of folders and .zip files"),
     "variables": VARIABLES,
-    "directory": Kind(is_text, "a text: a folder"),
+    "directory": Kind(is_text, "a string: a folder"),
     "memory": Kind(lambda value: is_whole(value, 1 << 32), "a whole number of MB"),
     "watch": Kind(is_list_of(is_text), "a list of files and folders"),
     "extensions": Kind(is_extensions,
@@ -203,7 +203,7 @@ def read(path):
         usage = called("lambda_local up --help")
         raise Fault(2, f"{path}: {fault.strerror}: name a file as `{usage}` describes it") from None
     except NotJson as fault:
-        raise Fault(2, f"{path}: this is no JSON: {fault}") from None
+        raise Fault(2, f"{path}: this is not JSON: {fault}") from None
     for looked in (mistakes(whole, AT_THE_TOP, MEMBERS, ["functions"], ["name"]), mistakes_inside(whole),
                    settings.mistakes(whole), sources.mistakes(whole)):
         for mistake in looked:

@@ -12,11 +12,12 @@ MOST_SCHEDULES = 100  # of a function (the quota of a rule bus is 300 in all)
 OF_AWS = re.compile(r"(?:.*\.)?(?:amazonaws\.com(?:\.cn)?|amazonaws\.eu|api\.aws|on\.aws|amazonaws\.com\.[a-z.]+"
                     r"|api\.amazonwebservices\.com\.cn|c2s\.ic\.gov|sc2s\.sgov\.gov|csp\.hci\.ic\.gov)\.?")
 OF_QUEUE = {
-    "url": Kind(is_text, "a text: the address of an SQS queue, such as \"http://127.0.0.1:9324/000000000000/orders\""),
+    "url": Kind(is_text,
+                "a string: the address of an SQS queue, such as \"http://127.0.0.1:9324/000000000000/orders\""),
     "batchSize": Kind(lambda value: is_whole(value, 10_001) and value > 0, "a whole number from 1 to 10000"),
     "window": Kind(lambda value: is_whole(value, 301), "a whole number of seconds, from 0 to 300"),
 }
-OF_SCHEDULE = {"expression": Kind(is_text, f"a text, such as {EXAMPLES}"),
+OF_SCHEDULE = {"expression": Kind(is_text, f"a string, such as {EXAMPLES}"),
                "input": Kind(lambda value: True, "JSON")}
 
 
@@ -28,7 +29,7 @@ OF_FUNCTION = {
     "queue": Kind(lambda value: isinstance(value, dict), "an object with the \"url\" of a queue"),
     "schedule": Kind(lambda value: is_schedule(value) or isinstance(value, list) and value != []
                      and len(value) <= MOST_SCHEDULES and all(map(is_schedule, value)),
-                     f"a text such as {EXAMPLES}, an object with \"expression\" and \"input\", or a list of these"),
+                     f"a string such as {EXAMPLES}, an object with \"expression\" and \"input\", or a list of these"),
 }
 
 
