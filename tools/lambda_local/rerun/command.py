@@ -39,7 +39,7 @@ def options_of():
     parser.add_argument("--update", action="store_true", help="write the new history over HISTORY")
     parser.add_argument("--junit", metavar="FILE", help="write a report for CI systems")
     parser.add_argument("--ready", metavar="SECONDS", type=float, default=60,
-                        help="wait at most so long for the functions (60)")
+                        help="wait up to SECONDS for the functions (60)")
     parser.add_argument("--verbose", action="store_true",
                         help=called("show the lines of lambda_local up and of the functions"))
     parser.add_argument("--program", metavar="P",

@@ -83,16 +83,16 @@ def parser():
                                                         "lambda_local.history.txt by default)")
     made.add_argument("--only", metavar="F,G", type=names_of, help="leave all other functions out")
     made.add_argument("--ready", metavar="SECONDS", type=seconds_of,
-                      help="wait at most so long for all environments (60, or longer if an \"init\" is)")
+                      help="wait up to SECONDS for all environments (60, or longer if an \"init\" is)")
     made.add_argument("--allow-unready", action="store_true",
                       help="run the command though functions cannot be started or their Init fails")
     made.add_argument("--drain", metavar="SECONDS", type=seconds_of, default=5,
-                      help="at the end wait at most so long for asynchronous invocations (5)")
+                      help="at the end wait up to SECONDS for asynchronous invocations (5)")
     made.add_argument("--salt", metavar="N", type=salt_of,
                       help="the salt of all identifiers (that of UP.json, else the time)")
     made.add_argument("--keep-credentials", action="store_true",
                       help="leave your AWS credentials to the command and the functions")
-    made.add_argument("--quiet", action="store_true", help="tell failures and what functions print alone")
+    made.add_argument("--quiet", action="store_true", help="print only failures and function output")
     made.add_argument("--log", choices=("text", "json"), default="text", help="the form of each line (text)")
     made.add_argument("--program", metavar="P",
                       help="the program (default: LAMBDA_LOCAL_PROGRAM, else the repository's ./lambda_local)")
