@@ -7,6 +7,7 @@ import subprocess
 import sys
 
 sys.path.insert(0, os.path.join(os.path.dirname(os.path.realpath(__file__)), "..", "..", "tools", "library"))
+import tools_map
 from crate_list import uses
 
 FOLDERS = ("bench", "crates", "docs", "examples", "tables", "tests", "tools")
@@ -235,6 +236,10 @@ def of_first_names(root, page, text):
                     yield f"no crate has {word}"
 
 
+def of_tools(root, page, text):
+    return tools_map.faults(root, text)
+
+
 def figures(root, page, text):
     if page != "README.md" and "PENDING" in text:
         yield "a figure is missing"
@@ -245,4 +250,4 @@ def figures(root, page, text):
 OF_EACH = (links, files, options, names, numbers, kit, figures)
 OF_ONE = {"README.md": of_readme, "docs/formats.md": of_formats, "docs/proofs.md": of_proofs,
           "docs/checks.md": of_checks, "docs/architecture.md": of_architecture, "docs/variables.md": of_variables,
-          "docs/DECISIONS.md": of_decisions, "docs/first_names.md": of_first_names}
+          "docs/DECISIONS.md": of_decisions, "docs/first_names.md": of_first_names, "docs/tools.md": of_tools}
