@@ -5,7 +5,8 @@
         for event in life.take(entry):
             ..
 
-The events are an invocation that ended, one that was throttled, and an environment that closes."""
+The events are an invocation that a runtime was given, one that ended, one that was throttled, and an environment that
+closes."""
 from collections import Counter
 from typing import Counter as Counts, Dict, Iterator, List, NamedTuple, Optional, Tuple, Union
 
@@ -32,6 +33,7 @@ class Generation(phases.Members[Extension]):
         super().__init__()
         self.is_ready = False  # its Init is over
         self.deliveries = 0
+        self.asked: Optional[int] = None  # when its runtime asked for its first invocation
         self.closes = self.is_over = False
         self.report: Optional[bytes] = None  # the body of the failure that closed it
 
@@ -41,6 +43,7 @@ class Invocation:
         self.function, self.identifier, self.moment = function, identifier, moment
         self.environment: Optional["Environment"] = None  # where it was delivered
         self.delivered: Optional[int] = None
+        self.generation: Optional[Generation] = None  # of the environment, if it is the first that this handles
         self.is_over = False  # it was answered
 
     @property
@@ -74,6 +77,13 @@ class Environment:
                      if generation and count in generation.extensions), None)
 
 
+class Begun(NamedTuple):
+    """A runtime was given an invocation."""
+    moment: int
+    invocation: Invocation
+    environment: Environment
+
+
 class Ended(NamedTuple):
     """An invocation was answered."""
     moment: int
@@ -99,7 +109,7 @@ class Closes(NamedTuple):
     was_ready: bool
 
 
-Event = Union[Ended, Throttled, Closes]
+Event = Union[Begun, Ended, Throttled, Closes]
 Poller = Union[Extension, Generation]  # a generation for its runtime
 
 
@@ -172,6 +182,8 @@ class Life:
             name, identifier = (entry.body or b"").decode(errors="replace"), own.fields[0]
             return count_in(identifier), Extension(name, entry.fields[2], identifier)
         generation.note(entry.kind, entry.count, entry.number, own.kind if own else None, newcomer)
+        if entry.kind == "next" and generation.asked is None and (own is None or own.kind == "deliver"):
+            generation.asked = entry.moment
         members: List[Poller] = [generation, *generation.extensions.values()]
         for member in members:
             if member.poll == entry.number:
@@ -187,7 +199,7 @@ class Life:
                 if answer.kind == "shutdown" and isinstance(member, Extension):
                     member.told = True
                 elif answer.kind == "deliver":
-                    self._delivered(environment, entry, answer)
+                    yield from self._delivered(environment, entry, answer)
 
     def _is_over(self, ticket: int) -> None:
         """Notes that the poll with this ticket waits no more."""
@@ -195,12 +207,15 @@ class Life:
         if member and member.poll == ticket:
             member.poll = None
 
-    def _delivered(self, environment: Environment, entry: Entry, answer: Answer) -> None:
-        environment.generation.deliveries += 1
-        environment.generation.is_ready = True
+    def _delivered(self, environment: Environment, entry: Entry, answer: Answer) -> Iterator[Event]:
+        generation = environment.generation
+        generation.deliveries += 1
+        generation.is_ready = True
         invocation = self._identified.get(answer.fields[0])
         if invocation:
             invocation.environment, invocation.delivered = environment, entry.moment
+            invocation.generation = generation if generation.deliveries == 1 else None
+            yield Begun(entry.moment, invocation, environment)
 
     def _ended(self, entry: Entry, answer: Answer) -> Iterator[Event]:
         invocation = self.invocations.pop(answer.ticket, None)

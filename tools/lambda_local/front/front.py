@@ -16,6 +16,7 @@ from .places import Places, places_for
 from .queue import Queue
 from .server import Server
 from .settings import Settings
+from .tail import Tails
 
 BETWEEN_TELLS = 60.0  # seconds, of the same fault
 TRIES = 5  # for a free port, which another program can take between looking and listening
@@ -64,12 +65,13 @@ class Front(threading.Thread):
         if self.routing:
             yield None, f"routes: {url_of(self.routing)}", url_of(self.routing)
 
-    def serve(self, service: Service) -> None:
-        """Begins to answer, by this service."""
+    def serve(self, service: Service, tails: Optional[Tails] = None) -> None:
+        """Begins to answer, by this service; `tails` has what Invoke answers with the log type Tail."""
         self.service, configuration = service, service.configuration
         self.client = Client(service.port)
         self.places = Places(places_for(sum(len(one["ports"]) for one in configuration["functions"])))
-        port = InvokePort(self.client, self.settings.asynchronous, configuration, self.drain_seconds, self.log)
+        port = InvokePort(self.client, self.settings.asynchronous, configuration, self.drain_seconds, self.log,
+                          tails)
         self.queue, identifiers = port.queue, port.identifiers
         urls = {function: url_of(listener) for function, listener in self.urls.items()}
         management = Management(port, self.client, self.settings, configuration, urls)

@@ -13,6 +13,7 @@ from .origins import BROKEN_BODY, FOREIGN_CODING, Refusal, further_hosts, refusa
 from .passing import asked_headers, pass_on
 from .queue import Full, Queue
 from .settings import Asynchronous
+from .tail import LOG_TYPE, Tails, with_tail
 
 MOST_PAYLOAD = 1 << 20  # bytes of an event (Developer Guide, "Lambda quotas")
 MOST_TARGETS = 1000  # that are remembered
@@ -26,7 +27,8 @@ class InvokePort:
     """Without settings of asynchronous invocations, the service refuses those."""
 
     def __init__(self, client: Client, settings: Optional[Asynchronous], configuration: Members, drain_seconds: float,
-                 log: Log) -> None:
+                 log: Log, tails: Optional[Tails] = None) -> None:
+        self.tails = tails
         self.client, self.drain_seconds = client, drain_seconds
         self.identifiers, self.hosts = Identifiers(configuration), further_hosts()
         self.known: Set[str] = set()
@@ -43,6 +45,8 @@ class InvokePort:
         try:
             if (self.queue is None or function is None or request.method != "POST"
                     or kind not in ("Event", "DryRun")):
+                if self.tails and function is not None and first(request.headers, LOG_TYPE) == "Tail":
+                    return await with_tail(self.tails, function, lambda: pass_on(self.client, request, self.held))
                 return await pass_on(self.client, request, self.held)
             unknown = await self.unknown(request)
             if unknown:

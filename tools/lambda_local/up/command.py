@@ -92,6 +92,8 @@ def parser():
                       help="the salt of all identifiers (that of UP.json, else the time)")
     made.add_argument("--keep-credentials", action="store_true",
                       help="leave your AWS credentials to the command and the functions")
+    made.add_argument("--report", action="store_true",
+                      help="print START, END and REPORT for each invocation, as Lambda does")
     made.add_argument("--quiet", action="store_true", help="print only failures and function output")
     made.add_argument("--log", choices=("text", "json"), default="text", help="the form of each line (text)")
     made.add_argument("--program", metavar="P",

@@ -22,9 +22,9 @@ SOON = 1.0  # a runtime that ends within this many seconds of its start, without
 
 
 class Environment(threading.Thread):
-    def __init__(self, service, watch, function, number, port, variables, restarts, stopping, log):
+    def __init__(self, service, watch, function, number, port, variables, restarts, stopping, log, printed):
         self.number, self.function, self.port, self.variables = number, function, port, variables
-        self.service, self.watch, self.stopping, self.log = service, watch, stopping, log
+        self.service, self.watch, self.stopping, self.log, self.printed = service, watch, stopping, log, printed
         super().__init__(name=watch.environment(number).name, daemon=True)
         self.runtime, self.extensions = None, []  # processes; of extensions each with the name by which it registers
         self.generation, self.identifier = 0, None  # of tools/up in this generation
@@ -138,12 +138,13 @@ class Environment(threading.Thread):
         it: the first to register starts Init's clock, and this tool is awaited too.)"""
         for name, words in self.function.extensions.items():
             if words:
-                self.extensions.append(
-                    (name, Process(f"{self.name} {name}", words, self.function.directory, self.variables, self.log)))
+                self.extensions.append((name, Process(f"{self.name} {name}", words, self.function.directory,
+                                                      self.variables, self.printed)))
 
     def start_runtime(self):
         self.generation += 1
-        self.runtime = Process(self.name, self.function.command, self.function.directory, self.variables, self.log)
+        self.printed.begins()
+        self.runtime = Process(self.name, self.function.command, self.function.directory, self.variables, self.printed)
 
     def begin_unseen(self):
         """For a debugger, or an Init that may take long: this tool's registration would start Init's clock, so it waits

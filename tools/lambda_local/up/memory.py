@@ -1,7 +1,7 @@
 """How much memory this process may have, and how much of it is used."""
 import os
 import resource
-from typing import Iterator, NamedTuple, Optional
+from typing import Iterator, List, NamedTuple, Optional
 
 CGROUP = "/sys/fs/cgroup"
 PAGE = os.sysconf("SC_PAGE_SIZE")
@@ -45,3 +45,23 @@ def uses() -> Iterator[Use]:
             yield Use(used, allowed, "the memory of its control group, with all its processes")
             return
         folder = os.path.dirname(folder) if folder != CGROUP else None
+
+
+def peak_of(pid: int) -> int:
+    """The most memory that a process has used, and those below it that are there, in bytes: the sum of what each has had
+    resident at most. Nothing of one that has ended."""
+    try:
+        with open(f"/proc/{pid}/status", "rb") as file:
+            found = [int(line.split()[1]) << 10 for line in file if line.startswith(b"VmHWM:")]
+        tasks = os.listdir(f"/proc/{pid}/task")
+    except OSError:
+        return 0
+    return sum(found) + sum(peak_of(child) for task in tasks for child in children_of(pid, task))
+
+
+def children_of(pid: int, task: str) -> List[int]:
+    try:
+        with open(f"/proc/{pid}/task/{task}/children") as file:
+            return list(map(int, file.read().split()))
+    except OSError:
+        return []

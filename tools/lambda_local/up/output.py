@@ -1,6 +1,13 @@
 """What a process prints, in lines of a bounded length."""
+import array
 import codecs
-from typing import Callable, List, Protocol
+import fcntl
+import os
+import select
+import termios
+import threading
+import time
+from typing import Callable, List, Protocol, Tuple
 
 LONGEST_LINE = 256 << 10  # characters; a longer line is written in parts of that length (as Lambda's log does)
 AT_ONCE = 64 << 10  # bytes
@@ -11,24 +18,90 @@ class Readable(Protocol):
         """Some of what has come, at most this many bytes; nothing at the end."""
 
 
-def read_lines(stream: Readable, take: Callable[[str], None]) -> None:
-    """Gives each line to `take`, without its end, until the stream ends. Keeps no more than a line's greatest length:
-    what has no line feed costs no memory."""
-    decoder = codecs.getincrementaldecoder("utf-8")("replace")
-    parts: List[str] = []
-    length, is_last = 0, False
-    while not is_last:
-        data = stream.read1(AT_ONCE)
-        is_last = not data
-        *whole, rest = decoder.decode(data, is_last).split("\n")
+class Splitter:
+    """Gives each line of the bytes that it is fed to `take`, without its end. Keeps no more than a line's greatest
+    length: what has no line feed costs no memory."""
+
+    def __init__(self, take: Callable[[str], None]):
+        self.take = take
+        self.decoder = codecs.getincrementaldecoder("utf-8")("replace")
+        self.parts: List[str] = []
+        self.length = 0
+        self.since = 0.0  # when the first part came, by the time of day
+
+    def feed(self, data: bytes) -> None:
+        """Nothing is the end."""
+        *whole, rest = self.decoder.decode(data, not data).split("\n")
         for line in whole:
-            take("".join([*parts, line]).rstrip("\r"))
-            parts, length = [], 0
+            self.take(self._joined(line).rstrip("\r"))
         if rest:
-            parts.append(rest)
-            length += len(rest)
-        if length >= LONGEST_LINE:
-            take("".join(parts))
-            parts, length = [], 0
-    if parts:
-        take("".join(parts).rstrip("\r"))
+            self.since = self.since if self.parts else time.time()
+            self.parts.append(rest)
+            self.length += len(rest)
+        if self.length >= LONGEST_LINE:
+            self.take(self._joined())
+        if self.parts and not data:
+            self.take(self._joined().rstrip("\r"))
+
+    def _joined(self, last: str = "") -> str:
+        line = "".join([*self.parts, last])
+        self.parts, self.length = [], 0
+        return line
+
+    @property
+    def unfinished(self) -> Tuple[float, str]:
+        """What has come of a line whose end has not, and since when."""
+        return self.since, "".join(self.parts)
+
+
+def read_lines(stream: Readable, take: Callable[[str], None]) -> None:
+    """Gives each line to `take`, without its end, until the stream ends."""
+    splitter = Splitter(take)
+    while data := stream.read1(AT_ONCE):
+        splitter.feed(data)
+    splitter.feed(b"")
+
+
+class Reader(threading.Thread):
+    """Reads what comes from a pipe, as it comes, until its end."""
+
+    def __init__(self, descriptor: int, take: Callable[[str], None], name: str):
+        super().__init__(name=name, daemon=True)
+        self.descriptor, self.splitter = descriptor, Splitter(take)
+        self.lock = threading.Lock()  # held while it reads, and while what was read is taken
+        self.is_over = False
+        os.set_blocking(descriptor, False)
+
+    def run(self) -> None:
+        waiting = select.poll()
+        waiting.register(self.descriptor, select.POLLIN)
+        while not self.is_over:
+            waiting.poll()
+            with self.lock:
+                self._read()
+
+    def settle(self) -> Tuple[float, str]:
+        """Takes all that was written by now; what has come of the line that is not whole yet, and since when."""
+        with self.lock:
+            left = 0 if self.is_over else self._unread()
+            while left > 0 and (count := self._read()):
+                left -= count
+            return self.splitter.unfinished
+
+    def _read(self) -> int:
+        """How many bytes it took."""
+        try:
+            data = os.read(self.descriptor, AT_ONCE)
+        except BlockingIOError:  # (`settle` has taken it)
+            return 0
+        self.splitter.feed(data)
+        if not data:
+            self.is_over = True
+            os.close(self.descriptor)
+        return len(data)
+
+    def _unread(self) -> int:
+        """How many bytes wait in the pipe."""
+        count = array.array("i", [0])
+        fcntl.ioctl(self.descriptor, termios.FIONREAD, count)
+        return count[0]

@@ -3,13 +3,12 @@ import os
 import select
 import shutil
 import signal
-import threading
 import time
-from typing import List, Mapping
+from typing import List, Mapping, Tuple
 
 from ..guard import GUARD
-from .log import OUTPUT, Log
-from .output import read_lines
+from .invocation_lines import Printed
+from .output import Reader
 
 
 def program_of(word: str, directory: str) -> str:
@@ -18,10 +17,10 @@ def program_of(word: str, directory: str) -> str:
 
 
 class Process:
-    """A process in a session of its own; each line of its output has its name before it."""
+    """A process in a session of its own, whose lines `printed` takes under its name."""
 
-    def __init__(self, name: str, words: List[str], directory: str, variables: Mapping[str, str], log: Log):
-        self.name, self.log, self.begun = name, log, time.monotonic()
+    def __init__(self, name: str, words: List[str], directory: str, variables: Mapping[str, str], printed: Printed):
+        self.name, self.printed, self.begun = name, printed, time.monotonic()
         program = program_of(words[0], directory)
         if not shutil.which(program):
             raise FileNotFoundError(f"{words[0]} is not a program (any more)")
@@ -39,12 +38,17 @@ class Process:
             self.started.kill()
             os.close(reading)
             raise
-        self.reader = threading.Thread(target=self.read, args=(reading,), name=f"output of {name}", daemon=True)
+        self.reader = Reader(reading, lambda line: printed.take(name, line), f"output of {name}")
         self.reader.start()
+        printed.add(self)
 
-    def read(self, reading: int) -> None:
-        with os.fdopen(reading, "rb") as stream:
-            read_lines(stream, lambda line: self.log(self.name, line, kind=OUTPUT))
+    @property
+    def pid(self) -> int:
+        return self.started.pid
+
+    def settle(self) -> Tuple[float, str]:
+        """Takes what it has printed by now; what has come of the line that is not whole yet, and since when."""
+        return self.reader.settle()
 
     def ended(self, seconds: float = 0.0) -> bool:
         """Whether it ends within this many seconds."""
@@ -64,9 +68,11 @@ class Process:
             except (ProcessLookupError, PermissionError):
                 pass
             self.ended(seconds)
+        self.printed.measure()
         self.started.kill()
         os.close(self.handle)
         self.reader.join(1)
+        self.printed.remove(self)
 
 
 def reason_of(status: int, who: str = "Runtime") -> str:

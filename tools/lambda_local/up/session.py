@@ -11,7 +11,11 @@ from ..outgoing import opened_for_payloads
 from ..service import Fault, Service
 from . import surroundings
 from .environments import Environment
+from .invocation_lines import Printed
+from .invocation_log import Invocations, Tails
+from .invocation_report import InvocationReport
 from .lines import Lines
+from .log import OUTPUT
 from .members import load
 from .queues import pollers_of
 from .reload import Reload
@@ -53,12 +57,19 @@ class Session:
             signal.signal(number, self.signalled)
         self.service = Service(configuration, options.program, lambda line: log("service", line, kind="service"),
                                options.up)
-        self.front.serve(self.service)
-        self.watch = Watch(self.service, Lines(log, self.functions), log, self.stopping)
+        self.watch = Watch(self.service, None, log, self.stopping)
+        self.printed = {number: Printed() for number in self.watch.life.environments}
+        invocations = self.make_invocations()
+        self.watch.followers.append(invocations.take)
+        self.report = self.make_report(invocations) if options.report else None
+        self.watch.lines = Lines(self.report.tell if self.report else log, self.functions)
+        self.front.serve(self.service, Tails(invocations, self.watch))
         self.environments = list(self.make_environments())
-        self.watch.hooks = [environment.answer_callers for environment in self.environments]
+        self.watch.hooks += [environment.answer_callers for environment in self.environments]
         if any(environment.is_extra for environment in self.environments):
             self.watch.hooks.append(Scaling(self.environments, self.watch, self.service).look)
+            self.watch.between_looks = BETWEEN_LOOKS
+        if self.report:
             self.watch.between_looks = BETWEEN_LOOKS
         self.threads = [self.watch, *self.environments]
         self.clients, self.ending = surroundings.Clients(log, self.stopping), threading.Event()
@@ -67,8 +78,33 @@ class Session:
         if options.reload:
             self.threads.append(Reload(self.environments, self.service, self.stopping, log, options.up))
 
+    def show(self, line):
+        """A line that a process printed."""
+        self.log(line.source, line.text, kind=OUTPUT)
+
     def say(self, line, **members):
         self.log("up", line, **members)
+
+    def make_invocations(self):
+        here, numbers = self.watch.life.environments, {}
+        for number, environment in here.items():
+            numbers.setdefault(environment.function, []).append(number)
+
+        def measure():
+            for number, environment in here.items():
+                invocations.measure(number, environment.generation.is_ready)
+        invocations = Invocations({function.name: function for function in self.functions}, self.printed, numbers)
+        self.watch.hooks.append(measure)
+        return invocations
+
+    def make_report(self, invocations):
+        """With --report, what environments print goes through it; else it is shown as it comes."""
+        report = InvocationReport(invocations, self.log)
+        for number, here in self.watch.life.environments.items():
+            report.hold(number, here.name, here.function, here.place, self.printed[number])
+        self.watch.followers.append(report.take)
+        self.watch.readers.append(report.know)
+        return report
 
     def make_environments(self):
         number = 0
@@ -82,12 +118,14 @@ class Session:
                 here = self.watch.environment(number)
                 self.say(f"{here.name}: 127.0.0.1:{port}{'' if function.command else ', start its runtime yourself'}",
                          kind="address", function=function.name, environment=here.place, port=port)
+                if self.report is None:
+                    self.printed[number].follow(self.show)
                 if function.command:
                     variables = surroundings.of_environment(self.service, function, number, port,
                                                             self.options.keep_credentials)
                     restarts = Restarts(self.options.reload)
                     yield Environment(self.service, self.watch, function, number, port, variables, restarts,
-                                      self.stopping, self.log)
+                                      self.stopping, self.log, self.printed[number])
 
     def signalled(self, number, _frame):
         if self.service is None:  # it is being built, or does not listen yet: nothing has to end in order
@@ -117,7 +155,7 @@ class Session:
                  always=not self.options.command, endpoint=self.service.endpoint_url)
         for function, text, url in self.front.addresses():
             self.say(text, kind="address", always=not self.options.command, function=function, endpoint=url)
-        for thread in self.threads:
+        for thread in [*self.threads, *([self.report] if self.report else [])]:
             thread.start()
         threading.Thread(target=lambda: (self.service.process.wait(), self.happened.set()), daemon=True).start()
         try:
@@ -235,6 +273,8 @@ class Session:
         status, counts = self.step("the stop", self.service.stop) or (4, "")
         self.step("the end of the front", self.front.end)
         self.join()
+        if self.report:
+            self.step("the end of the log", self.report.close)
         self.step("counting", lambda: self.watch.lines.tell_throttled(at_the_end=True))
         if status == 0 and gone:
             self.say("the service was stopped by POST /_local/stop")

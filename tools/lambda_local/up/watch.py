@@ -5,8 +5,9 @@ import threading
 import time
 
 from ..history import Follower
-from ..life import FAILURES, Closes, Ended, Life
+from ..life import FAILURES, Begun, Closes, Ended, Life
 from . import memory
+from .invocation_lines import now
 from .supervised import told
 
 NEARLY_FULL = 0.9
@@ -18,6 +19,8 @@ def what(event):
         return f"invocation {event.invocation.identifier} of {event.invocation.function}, {event.kind}"
     if isinstance(event, Closes):
         return f"the end of {event.environment.name}, {event.kind}"
+    if isinstance(event, Begun):
+        return f"the delivery of invocation {event.invocation.identifier} of {event.invocation.function}"
     return f"a throttled invocation of {event.function}"
 
 
@@ -29,6 +32,8 @@ class Watch(threading.Thread):
         self.most = service.configuration.get("maxEntries", 1_000_000)
         self.warnings, self.hooks, self.mute, self.look_at = set(), [], None, 0.0
         self.between_looks = 0.1  # seconds
+        self.followers = []  # that are given each event
+        self.readers = []  # that are told up to which moment, in milliseconds, all events were given
 
     def run(self):
         took = 0.0
@@ -55,6 +60,7 @@ class Watch(threading.Thread):
     def refresh(self):
         """Takes what has come since the last time. If the service does not answer, the next time does."""
         with self.lock:
+            begun = now()
             try:
                 entries = self.follower.read()
             except (OSError, http.client.HTTPException):
@@ -63,6 +69,8 @@ class Watch(threading.Thread):
                 return self._warn("memory", f"there is no memory for what the history has now: {told(fault)}", "error")
             for entry in entries:
                 self._take(entry)
+            for reader in self.readers:
+                reader(begun)
             self.lines.tell_throttled()
             self._look_at_room()
             self._look_at_memory()
@@ -76,10 +84,11 @@ class Watch(threading.Thread):
             self._tell(fault, f"could not follow entry {entry.number} of the history, {entry.kind}")
 
     def _report(self, event):
-        try:
-            self.lines.take(event)
-        except Exception as fault:
-            self._tell(fault, f"could not write the line of {what(event)}")
+        for take in (*self.followers, self.lines.take):
+            try:
+                take(event)
+            except Exception as fault:
+                self._tell(fault, f"could not write the line of {what(event)}")
 
     @contextlib.contextmanager
     def muted(self, environment):

@@ -1,0 +1,241 @@
+#!/usr/bin/env python3
+"""Checks the log of an invocation: what Invoke answers with the log type Tail, and the lines of `tools/up --report`, by
+the forms that AWS's public pages show (Developer Guide, "Viewing CloudWatch logs for Lambda functions"; API reference,
+"Invoke"). Ends with 'N passed, M failed'."""
+import base64
+import concurrent.futures
+import json
+import os
+import re
+import subprocess
+import sys
+import time
+import urllib.error
+import urllib.request
+
+ROOT = os.path.dirname(os.path.dirname(os.path.dirname(os.path.realpath(__file__))))
+sys.path[:0] = [os.path.join(ROOT, "tools"), os.path.join(ROOT, "tests", "library")]
+import counted  # noqa: E402
+from counted import check  # noqa: E402
+from lambda_local.up.invocation_lines import MOST_KEPT, Line, Printed  # noqa: E402
+from lambda_local.up.invocation_log import Figures, encoded, report_line  # noqa: E402
+from up_kit import Up, until  # noqa: E402
+
+APP = r'''import os, sys, time
+print("imported")
+def run(event, context):
+    do = event.get("do")
+    if do == "nothing": return None
+    if do == "many":
+        for number in range(event["count"]): print(f"{event['name']} line {number}")
+        time.sleep(event.get("seconds", 0))
+        return context.aws_request_id
+    if do == "part": sys.stdout.write("begun"); sys.stdout.flush(); return 1
+    if do == "memory": return len(bytearray(80 << 20))
+    if do == "fail": print("before"); return event["missing"]
+    if do == "crash": print("before"); os._exit(7)
+    if do == "hang": print("before"); time.sleep(60)
+    print("to standard output"); print("to standard error", file=sys.stderr)
+'''
+ID = "[0-9a-f]{8}-[0-9a-f]{4}-[0-9a-f]{4}-[0-9a-f]{4}-[0-9a-f]{12}"
+START = f"START RequestId: ({ID}) Version: \\$LATEST"
+END = f"END RequestId: ({ID})"
+REPORT = (f"REPORT RequestId: ({ID})\tDuration: (\\d+\\.\\d\\d) ms\tBilled Duration: (\\d+) ms\t"
+          "Memory Size: (\\d+) MB\tMax Memory Used: (\\d+) MB\t(?:Init Duration: (\\d+\\.\\d\\d) ms\t)?"
+          "(?:Status: (\\w+)\t)?(?:Error Type: (\\S+)\t)?")
+
+
+def up_of(*options, **members):
+    function = {"name": "f", "runtime": "python", "handler": "app.run", **members}
+    return Up(*options, app=APP, functions=[function])
+
+
+def tail_of(up, function="f", kind="Tail", **event):
+    """The log that an answer has, in lines; none if it has none."""
+    request = urllib.request.Request(f"{up.endpoint}/2015-03-31/functions/{function}/invocations",
+                                     json.dumps(event).encode(), {"X-Amz-Log-Type": kind} if kind else {})
+    with urllib.request.urlopen(request, timeout=30) as answer:
+        answer.read()
+        result = answer.headers["X-Amz-Log-Result"]
+    return None if result is None else base64.b64decode(result, validate=True).decode()
+
+
+def parts(log):
+    """What is between START and END, and the fields of REPORT; nothing if the log has another form, or another
+    invocation's line."""
+    lines = (log or "").split("\n")
+    start, end = re.fullmatch(START, lines[0]), re.fullmatch(END, lines[-3] if len(lines) > 3 else "")
+    report = re.fullmatch(REPORT, lines[-2] if len(lines) > 3 else "")
+    if not (start and end and report and lines[-1] == "" and start[1] == end[1] == report[1]):
+        return None, lines
+    return lines[1:-3], report.groups()[1:]
+
+
+def tails():
+    up = up_of(memory=256, timeout=2)
+    check("up is ready", up.until("ready"))
+    lines, report = parts(tail_of(up))
+    check("the lines of the first invocation: not those of the Init", lines,
+          ["to standard output", "to standard error"])
+    duration, billed, size, used, init, status, _ = report
+    check("its REPORT has the Init, which is billed", (
+        float(init) > 5, int(billed) >= float(duration) + float(init), int(billed) - float(duration) - float(init) < 1,
+        size, 5 < int(used) < 200, status), (True, True, True, "256", True, None))
+    lines, report = parts(tail_of(up))
+    check("the second one's lines", lines, ["to standard output", "to standard error"])
+    check("its REPORT has no Init", (report[4], int(report[1]) == max(1, float(report[0]))), (None, True))
+    check("one that prints nothing", parts(tail_of(up, do="nothing"))[0], [])
+    check("its memory is the most that it has used", int(parts(tail_of(up, do="memory"))[1][3]) > 85)
+    check("also later", int(parts(tail_of(up, do="nothing"))[1][3]) > 85)
+    failures(up)
+    log = tail_of(up, do="many", count=1000, name="\u00e9" * 7)
+    whole = f"START RequestId: {re.search(END, log)[1]} Version: $LATEST\n{log}"
+    check("the last 4 KB, from a whole character on", (len(log.encode()) in range(4094, 4097),
+                                                       log[0] in "\u00e9 line0123456789\n", parts(whole)[0][-1]),
+          (True, True, "\u00e9" * 7 + " line 999"))
+    for kind in (None, "None"):
+        check(f"no log is given with the log type {kind}", tail_of(up, kind=kind), None)
+    check("a line that is not whole", parts(tail_of(up, do="part"))[0], ["begun"])
+    check("it is whole in the next one", parts(tail_of(up))[0], ["begunto standard output", "to standard error"])
+    check("nothing is left", up.end(), (0, []))
+
+
+def failures(up):
+    lines, report = parts(tail_of(up, do="fail"))
+    check("what a handler raises", (lines[0], lines[-1], report[-2:]), ("before", "KeyError: 'missing'", (None, None)))
+    lines, report = parts(tail_of(up, do="crash"))
+    check("a runtime that exits", (lines[0], lines[1].partition(" ")[2].partition(" ")[2], lines[2:], report[-2:]),
+          ("before", "Error: Runtime exited with error: exit status 7", ["Runtime.ExitError"],
+           ("error", "Runtime.ExitError")))
+    until(lambda: up.count("imported") == 2, 20)  # (the next environment's)
+    log = tail_of(up, do="hang")
+    lines, report = parts(log)
+    check("a timeout", (lines[0], bool(re.fullmatch(
+        rf"\d{{4}}-\d\d-\d\dT\d\d:\d\d:\d\d\.\d\d\dZ {ID} Task timed out after 2\.00 seconds", lines[1])), report[-2:],
+        2000 <= float(report[0]) < 3000), ("before", True, ("timeout", None), True))
+    up.until("Runtime exited")
+
+
+def together():
+    """Each of many callers at once gets its own lines, whichever environment has them, and one environment's
+    invocations follow each other."""
+    up = up_of(environments=3, timeout=20)
+    check("three environments are ready", up.until("ready"))
+
+    def call(number):
+        while True:
+            try:
+                return number, parts(tail_of(up, do="many", count=5, name=f"caller {number}", seconds=0.02))[0]
+            except urllib.error.HTTPError as fault:
+                fault.close()
+                time.sleep(0.01)
+    with concurrent.futures.ThreadPoolExecutor(6) as pool:
+        seen = list(pool.map(call, range(60)))
+    check("each of 60 tails has its own five lines", [(number, lines) for number, lines in seen if lines != [
+        f"caller {number} line {line}" for line in range(5)]], [])
+    up.end()
+
+
+def clients():
+    """The aws command line, if one is here that reads the endpoint."""
+    up = up_of()
+    up.until("ready")
+    code = ("import base64, boto3, sys; print(base64.b64decode(boto3.client('lambda', endpoint_url=sys.argv[1], "
+            "region_name='us-east-1', aws_access_key_id='x', aws_secret_access_key='y').invoke(FunctionName='f', "
+            "LogType='Tail')['LogResult']).decode(), end='')")
+    done = subprocess.run([sys.executable, "-c", code, up.endpoint], capture_output=True, text=True)
+    check("boto3's LogResult", parts(done.stdout)[0], ["to standard output", "to standard error"])
+    words = [sys.executable, os.path.join(ROOT, "tools", "invoke"), "f", "--tail", "--endpoint", up.endpoint]
+    done = subprocess.run(words, capture_output=True, text=True)
+    check("lambda_local invoke --tail", (done.stdout, parts(done.stderr)[0]),
+          ("null\n", ["to standard output", "to standard error"]))
+    up.end()
+
+
+def own_runtime():
+    """A function whose runtime somebody else has started: nothing that it prints is known, nor its memory."""
+    up = Up(functions=[{"name": "f", "timeout": 5}])
+    check("its address is told", up.until("start its runtime yourself"))
+    address = re.search(r"f/1: (127\.0\.0\.1:\d+)", "\n".join(up.lines))[1]
+    runtime = subprocess.Popen([sys.executable, os.path.join(ROOT, "examples", "runtime.py"), address])
+    log = tail_of(up, name="x")
+    check("START, END and REPORT", bool(re.fullmatch(
+        f"{START}\n{END}\nREPORT RequestId: {ID}\tDuration: \\d+\\.00 ms\tBilled Duration: \\d+ ms\tMemory Size: 128 MB"
+        "\t\n", log)))
+    up.end()
+    runtime.wait(10)
+
+
+def reports():
+    up = up_of("--report", timeout=1)
+    up.until("ready")
+    for number, event in enumerate(({}, {"do": "fail"}, {"do": "crash"}, {"do": "hang"}, {})):
+        # (what is printed while nothing is asked for is shown before it)
+        until(lambda: up.count("imported") > max(0, number - 2), 20)
+        time.sleep(0.3)
+        up.invoke(**event)
+        until(lambda: up.count("REPORT") > number, 20)
+    up.end()
+    texts = [line.partition("[f/1] ")[2] for line in up.lines if "[f/1] " in line]
+    kinds = [re.sub(ID, "ID", text).split("\t")[0] for text in texts if not text.startswith(("  ", "--", "Traceback"))]
+    start, end, report = "START RequestId: ID Version: $LATEST", "END RequestId: ID", "REPORT RequestId: ID"
+    kinds = [re.sub(r"^\d{4}-\S+Z|\d+ ms$", "..", kind) for kind in kinds]
+    check("the log of five invocations, in its order", kinds, [
+        "imported",
+        start, "to standard output", "to standard error", end, report, "ID ok ..",
+        start, "before", "KeyError: 'missing'", end, report, "ID error KeyError: 'missing' (app.py:12)",
+        start, "before", "RequestId: ID Error: Runtime exited with error: exit status 7", "Runtime.ExitError", end,
+        report, "ID error Runtime.ExitError: Runtime exited with error: exit status 7", "imported",
+        start, "before", ".. ID Task timed out after 1.00 seconds", end, report, "ID timeout after 1 s", "imported",
+        start, "to standard output", "to standard error", end, report, "ID ok .."])
+    check("each REPORT has Lambda's form", [text for text in texts if text.startswith("REPORT")
+                                               and not re.fullmatch(REPORT, text + "\t")], [])
+
+
+def reports_as_json():
+    up = up_of("--report", "--log", "json", memory=192)
+    up.until('"kind": "ready"')
+    up.endpoint = next(json.loads(line)["endpoint"] for line in up.lines if '"endpoint"' in line)
+    up.invoke()
+    up.until("REPORT")
+    up.end()
+    lines = [json.loads(line) for line in up.lines]
+    platform = [line for line in lines if line["kind"] == "platform"]
+    check("START, END and REPORT as JSON", [(line["text"].split(" ")[0], line["function"], line["environment"])
+                                            for line in platform],
+          [("START", "f", 1), ("END", "f", 1), ("REPORT", "f", 1)])
+    report = platform[-1]
+    check("the figures", (report["memory_mb"], report["billed_ms"] >= report["duration_ms"] + report["init_ms"],
+                          report["max_memory_mb"] > 5, report["status"], report["request"] in report["text"]),
+          (192, True, True, "success", True))
+    order = [line["text"].split(" ")[0] for line in lines
+             if line["source"] == "f/1" and line["kind"] in ("platform", "output")]
+    check("in their order", order, ["imported", "START", "to", "to", "END", "REPORT"])
+
+
+def parts_alone():
+    printed, seen = Printed(), []
+    printed.follow(seen.append)
+    for number in range(3):
+        printed.take("f/1", f"line {number}")
+    check("whoever follows gets each line", [(line.source, line.text) for line in seen],
+          [("f/1", "line 0"), ("f/1", "line 1"), ("f/1", "line 2")])
+    check("the lines between two moments: the first is in it, the last is not",
+          [line.text for line in printed.between(seen[1].moment, seen[2].moment + 0.001)][-2:],
+          [line.text for line in seen if seen[1].moment <= line.moment <= seen[2].moment][-2:])
+    for _ in range(3 * MOST_KEPT // 1000):
+        printed.take("f/1", "x" * 1000)
+    check("it keeps no more than it may", printed.size <= MOST_KEPT and len(printed.lines) > 500)
+    check("an example of the Developer Guide", report_line(Figures(
+        "57f231fb-1730-4395-85cb-4f71bd2b87b8", 79.67, 128, 73, None, "success", "")),
+        "REPORT RequestId: 57f231fb-1730-4395-85cb-4f71bd2b87b8\tDuration: 79.67 ms\tBilled Duration: 80 ms\t"
+        "Memory Size: 128 MB\tMax Memory Used: 73 MB\t")
+    check("a duration of nothing is billed as a millisecond",
+          Figures("x", 0.0, 128, None, None, "success", "").billed, 1)
+    text = base64.b64decode(encoded(iter(["\u20ac" * 2000]))).decode()
+    check("a log is cut at a character", (len(text.encode()), set(text)), (4096 - 4095 % 3, {"\u20ac", "\n"}))
+    check("a line is a moment, a source and a text", Line(1.0, "f/1", "x").source, "f/1")
+
+
+if __name__ == "__main__":
+    sys.exit(counted.run(parts_alone, tails, together, clients, own_runtime, reports, reports_as_json))

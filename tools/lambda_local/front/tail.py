@@ -1,0 +1,39 @@
+"""The log type Tail: an answer with the end of what its invocation printed (API reference, "Invoke")."""
+import asyncio
+from typing import Awaitable, Callable, Optional, Protocol, TypeVar
+
+from .http import Reply, first
+
+LOG_TYPE, LOG_RESULT = "x-amz-log-type", "X-Amz-Log-Result"
+LONGEST_SECONDS = 5.0  # until it is known
+T = TypeVar("T")
+
+
+class Tails(Protocol):
+    """Knows what invocations print. Its calls may wait."""
+
+    def begin(self, function: str) -> None:
+        """Before an invocation is asked for: what was printed by now is not its own."""
+
+    def result_of(self, function: str, identifier: str) -> Optional[str]:
+        """The log result of an invocation that was answered just now; none if nothing is known of it."""
+
+
+async def with_tail(tails: Tails, function: str, invoke: Callable[[], Awaitable[Reply]]) -> Reply:
+    """The answer of `invoke` with the end of the log; without it if that is not known in time."""
+    await looked(lambda: tails.begin(function))
+    reply = await invoke()
+    identifier = first(reply.headers, "x-amzn-requestid")
+    if reply.status != 200 or identifier is None:
+        return reply
+    name = identifier
+    result = await looked(lambda: tails.result_of(function, name))
+    return reply if result is None else reply._replace(headers=[*reply.headers, (LOG_RESULT, result)])
+
+
+async def looked(look: Callable[[], T]) -> Optional[T]:
+    """What a function gives that may wait; none if it takes long."""
+    try:
+        return await asyncio.wait_for(asyncio.get_running_loop().run_in_executor(None, look), LONGEST_SECONDS)
+    except asyncio.TimeoutError:
+        return None
