@@ -48,8 +48,8 @@ def uses() -> Iterator[Use]:
 
 
 def peak_of(pid: int) -> int:
-    """The most memory that a process has used, and those below it that are there, in bytes: the sum of what each has had
-    resident at most. Nothing of one that has ended."""
+    """The most memory that a process and those below it have used, in bytes: the sum of what each has had resident at
+    most. Nothing of one that has ended."""
     try:
         with open(f"/proc/{pid}/status", "rb") as file:
             found = [int(line.split()[1]) << 10 for line in file if line.startswith(b"VmHWM:")]
