@@ -1,33 +1,43 @@
 """Checks that are printed one by one and counted: the last line is 'N passed, M failed'."""
 
+from typing import Callable, Optional
+
 passed = failed = 0
 
 
-def check(name, seen, wanted=True):
-    """Prints whether what was seen is what is expected, and counts it."""
+class NotBoolean(TypeError):
+    """A check was given a value where it asks whether something holds: `1 == True`, and `cond or value` is a value."""
+
+
+def check(name: str, seen: object, wanted: object = True, *, shown: object = None) -> None:
+    """Prints whether what was seen is what is expected, and counts it. If that is True or False, what was seen has to
+    be one of the two, and `shown` is printed where it is the other; a value is compared with a value."""
     global passed, failed
-    if seen == wanted:
+    if isinstance(wanted, bool) and not isinstance(seen, bool):
+        raise NotBoolean(f"{name}: {seen!r} is not a Boolean: give the condition and shown=, or what is wanted")
+    if seen is wanted if isinstance(wanted, bool) else not isinstance(seen, bool) and seen == wanted:
         passed += 1
         print("ok  ", name, flush=True)
     else:
         failed += 1
-        print("FAIL", name, "\n     seen  ", seen, "\n     wanted", wanted, flush=True)
+        print("FAIL", name, "\n     seen  ", seen, *(() if shown is None else (shown,)), "\n     wanted", wanted,
+              flush=True)
 
 
-def check_sound(name, fault):
+def check_sound(name: str, fault: Optional[str]) -> None:
     """Prints what is wrong, if anything, and counts it."""
     global passed, failed
     passed, failed = passed + (not fault), failed + bool(fault)
     print("FAIL" if fault else "ok  ", name + (f"\n     {fault}" if fault else ""), flush=True)
 
 
-def end():
+def end() -> bool:
     """Prints how many checks passed and failed. Returns the exit status."""
     print(f"{passed} passed, {failed} failed")
     return failed != 0
 
 
-def run(*parts):
+def run(*parts: Callable[[], None]) -> bool:
     """Runs parts one after the other; one that raises has failed, and the next begins. The exit status."""
     for part in parts:
         try:

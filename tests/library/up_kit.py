@@ -66,7 +66,7 @@ def until(condition, seconds):
     end = time.monotonic() + seconds
     while not condition():
         if time.monotonic() > end:
-            return condition()
+            return bool(condition())
         time.sleep(0.02)
     return True
 

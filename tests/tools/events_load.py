@@ -176,7 +176,7 @@ def mixed_load():
     check("all is ready", up.until('"kind": "ready"', READY_SECONDS))
     load = Load(up)
     load.run()
-    check("every event comes to an end", until(lambda: load.open_events() == 0, DRAIN) or load.open_events())
+    check("every event comes to an end", until(lambda: load.open_events() == 0, DRAIN), shown=load.open_events())
     until(lambda: len(os.listdir(os.path.join(up.at, "records"))) >= up.count("its record goes to sink"), 60)
     until(lambda: load.open_events() >= 0 and load.all_answered(), 60)
     # (What was reported of each run is known only once the event has ended.)
@@ -223,7 +223,7 @@ def added_time():
     added = sorted(one["front"] - one["direct"] for one in rounds)
     print("     p50 in ms: " + json.dumps([{name: round(time_, 3) for name, time_ in one.items()} for one in rounds]),
           flush=True)
-    check("the front adds less than 1 ms at p50", added[len(added) // 2] < 1.0 or added)
+    check("the front adds less than 1 ms at p50", added[len(added) // 2] < 1.0, shown=added)
     check("it ends in order, and leaves nothing", up.end(), (0, []))
 
 

@@ -294,10 +294,10 @@ def wrong_templates():
             ("no function", '{"Resources": {"T": {"Type": "AWS::S3::Bucket"}}}', 2, "has no function"),
             ("no folder of functions", '{"functions": 5}', 2, "not a template")):
         made, said = made_of(text, name="x.json")
-        check(f"{name}", (made, words in said and "Traceback" not in said or said), (status, True))
+        check(f"{name}", (made, words in said and "Traceback" not in said), (status, True), shown=said)
     if HAS_YAML:
         made, said = made_of("Resources:\n  A: [\n")
-        check("no YAML", (made, "template.yaml: line 3, column 1: " in said or said), (2, True))
+        check("no YAML", (made, "template.yaml: line 3, column 1: " in said), (2, True), shown=said)
         bomb = "m0: &m0 {a: 1, b: 2}\n" + "".join(
             f"m{n}: &m{n} {{<<: [{', '.join([f'*m{n - 1}'] * 10)}]}}\n" for n in range(1, 8))
         begun = time.monotonic()

@@ -93,8 +93,8 @@ def faults():
                 (["1", "--endpoint", "127.0.0.1:9000"], "", "--endpoint=127.0.0.1:9000: write it as http:"),
                 (["1", "--endpoint", "http://127.0.0.1:99999"], "", "--endpoint=http://127.0.0.1:99999: write it as")):
             status, output, said = invoke("f", *words, stdin=stdin)
-            check(f"a fault: {wanted[:60]}", (status, output, said.count("\n"), wanted in said or said),
-                  (2, "", 1, True))
+            check(f"a fault: {wanted[:60]}", (status, output, said.count("\n"), wanted in said),
+                  (2, "", 1, True), shown=said)
     status, output, said = invoke("f", AWS_ENDPOINT_URL_LAMBDA="http://127.0.0.1:1")
     check("a service that is not there", (status, output, said),
           (4, "", "invoke: http://127.0.0.1:1: Connection refused: start the service, for example by `tools/up "

@@ -98,7 +98,7 @@ def says():
             status, output, said = run(root, *words)
             fine = (status == 2 and not output and said.count("\n") == 1 and "'" + " ".join(words) + "'" in said
                     and "--help" in said)
-            check(f"'{' '.join(words)}' is refused with a line", fine or (status, output, said))
+            check(f"'{' '.join(words)}' is refused with a line", fine, shown=(status, output, said))
         check("nothing was unpacked for that", os.path.exists(os.path.join(root, RELEASED)), False)
         status, output, said = run(root, "--version")
         lines = output.splitlines()

@@ -23,6 +23,7 @@ from counted import check  # noqa: E402
 from trees import commit, copy_tree, plain, program, run, text_of, write  # noqa: E402
 
 STAMP = ["sources", "kit", "program", "gate"]  # the lines of what proved a program
+ANSWERED = (0, True, "")
 VERSION = re.compile(r"2026\.1\.2\+g[0-9a-f]{12}")  # of the commit in a copy
 UP = {"functions": [{"name": "greet", "runtime": "python", "handler": "app.handler", "environments": 2}]}
 APP = "def handler(event, context):\n    return {'hello': event['name']}\n"
@@ -142,7 +143,7 @@ def given():
                                   ("the wheel", [sys.executable, "-m", "lambda_local"], f"{folder}/wheel")):
             status, output, said = run([*words, "--version"], PYTHONPATH=path)
             check(f"{name} says both by --version", (status, output.splitlines()[1:]), (0, told))
-            check(f"{name} replays by it", answers(words, PYTHONPATH=path))
+            check(f"{name} replays by it", answers(words, PYTHONPATH=path), ANSWERED)
         status, output, said = run([launcher, "stamp"])
         check("the archive has no stamp", (status, output, said.count("\n"), "was given" in said), (4, "", 1, True))
 
@@ -154,14 +155,13 @@ def commit_all(root):
 
 
 def answers(command, **more):
-    """Whether a command answers the first example."""
-    seen = trees.first_call([*command], **more)
-    return seen == (0, True, "") or seen
+    """The status of a command given the first example, whether it answers that, and what it says."""
+    return trees.first_call([*command], **more)
 
 
 def used(command, folder, **more):
     """What users of every package do: the version, a replay, a check, a function that is served."""
-    check("it replays, without a word", answers([command], **more))
+    check("it replays, without a word", answers([command], **more), ANSWERED)
     status, output, said = run([command, "--version"], **more)
     lines = output.splitlines()
     seen = (status, bool(VERSION.fullmatch(lines[0].split(" ")[-1])), [line.split(" ")[0] for line in lines[1:]])
@@ -231,7 +231,7 @@ def wheel():
         command = os.path.join(commands, "lambda_local")
         used(command, work)
         print(f"     (a start and a replay take {took([command])})")
-        check("as a module", answers([f"{commands}/python", "-m", "lambda_local"]))
+        check("as a module", answers([f"{commands}/python", "-m", "lambda_local"]), ANSWERED)
         check("LAMBDA_LOCAL_PROGRAM names another program",
               run([command, "path"], LAMBDA_LOCAL_PROGRAM="/bin/echo")[1], "/bin/echo\n")
         status, output, said = run([command], stdin="", LAMBDA_LOCAL_PROGRAM="/nonexistent/program")
@@ -298,7 +298,7 @@ def deb():
         check("its control file", seen, (True, True, True))
     if shutil.which("lintian"):
         said = run(["lintian", "--allow-root", packages["deb"]])
-        check("lintian finds no error", said[0] == 0 or said[1])
+        check("lintian finds no error", said[0] == 0, shown=said[1])
     else:
         print("     (lintian is not installed)")
 
@@ -322,7 +322,7 @@ def jobs():
             for step in found:
                 ran = run(["bash", "-e", "-c", step], cwd=work, PATH=f"{folder}/fresh/bin:/usr/bin:/bin",
                           PIP_NO_INDEX="1", LAMBDA_LOCAL_WHEEL="file://" + packages["wheel"])
-                check(f"{name}: {step}", ran[0] == 0 or ran)
+                check(f"{name}: {step}", ran[0] == 0, shown=ran)
 
 
 def github_steps(text):

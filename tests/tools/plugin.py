@@ -313,18 +313,18 @@ def under_pytest():
         found = re.search(r"-+ lambda_local history: (\S+) -+\nform 2\n.*?\n# \d+ \d+ deliver .*?\n-+ lambda_local "
                           r"timeline: (\S+) -+\n"
                           r"(?=.*caller 1: invoke double)(?=.*: output 4)", first, re.S)
-        check("the report has the history and its timeline", bool(found) or first)
+        check("the report has the history and its timeline", bool(found), shown=first)
         if found:
             with open(found[1]) as history, open(found[2]) as page:
                 check("both stand whole in files",
                       (history.read().startswith("form 2\n"), page.read().startswith("<!DOCTYPE html>")), (True, True))
         many = reports.get("test_that_fails_after_many", "")
         check("of a long history the end is shown", bool(re.search(r"\.\. \d+ lines before these: \S+history.txt\n",
-                many)) and ".. " in many.split("timeline:")[-1] or many)
+                many)) and ".. " in many.split("timeline:")[-1], shown=many)
         handler = reports.get("test_whose_handler_fails", "")
         check("a handler's own exception is shown as the cause", all(text in handler for text in (
             'return event["missing"]', "KeyError: 'missing'", "The above exception was the direct cause",
-            "FunctionError: KeyError: 'missing'")) or handler)
+            "FunctionError: KeyError: 'missing'")), shown=handler)
         check("and what it printed", "said by the handler" in handler and "Captured stderr call" in handler)
         check("pytest.fail in a handler", "not like this" in reports.get("test_that_fails_in_its_handler", ""))
         check("the session's service is in the report",

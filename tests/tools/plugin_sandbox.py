@@ -152,8 +152,8 @@ def log():
         service.invoke("f", {"order": 7})
         logging.getLogger().info("the test's own")
     wanted = (r"\[INFO\]\t\d{4}-\d\d-\d\dT\d\d:\d\d:\d\d\.\d{3}Z\t[0-9a-f-]{36}\torder 7 accepted\nprinted\n")
-    check("logger.info of a handler is a line of Lambda's", True if re.fullmatch(wanted, printed.getvalue())
-          else printed.getvalue())
+    check("logger.info of a handler is a line of Lambda's", bool(re.fullmatch(wanted, printed.getvalue())),
+          shown=printed.getvalue())
     check("the root logger is as before", (logger.level, logger.handlers), (level, handlers))
     with LambdaLocal({"f": {"variables": {"AWS_LAMBDA_LOG_LEVEL": "DEBUG", "AWS_LAMBDA_LOG_FORMAT": "JSON"}}},
                      f=lambda event: logging.debug("few are left")) as service, \

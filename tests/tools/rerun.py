@@ -342,7 +342,7 @@ def faults():
             status, output, said = run(*arguments)
             lines = said.splitlines()
             good = status == 2 and output == [] and len(lines) == 1 and lines[0].startswith("rerun: ") and words in said
-            check(f"fault: {name}", good or (status, output, said))
+            check(f"fault: {name}", good, shown=(status, output, said))
         check("nothing is left running", left_running(folder), [])
     taken.close()
     status, output, said = run("--help")
@@ -406,7 +406,7 @@ def marker():
                             ("a file that is not there", "nowhere.txt: No such file or directory"),
                             ("what was mended", "failed then: call "), ("a test that fails itself", "assert False"),
                             ("the counts", "4 failed, 1 passed")):
-            check(f"marker: {name}", words in said or said[-3000:])
+            check(f"marker: {name}", words in said, shown=said[-3000:])
 
 
 if __name__ == "__main__":

@@ -247,7 +247,8 @@ def python_inits():
             what = f"Python: Init of {name}, {kind}"
             check(what, (status, told and told["errorType"], told and told["errorMessage"].startswith(message)),
                   (1, kind, True))
-            check(what + ": printed", kind in printed and message in printed and "runtime.py" not in printed or printed)
+            check(what + ": printed", kind in printed and message in printed and "runtime.py" not in printed,
+                  shown=printed)
             if kind == "Runtime.UserCodeSyntaxError":
                 check(what + ": its place",
                       bool(re.match(r'  File "\S+/app.py" Line 2\n\s+return \(', told["stackTrace"][0])))
@@ -295,7 +296,7 @@ def python_log():
             wanted = (rf"\[WARNING\]\t{TIME}\.\d\d\dZ\t\tat the import\n"
                       + "".join(lines[level] for level in ("DEBUG", "INFO") if level in shown)
                       + begun("WARNING") + "few are left\n" + begun("ERROR") + "no price\n" + TRACEBACK)
-            check(f"Python: logging, {name}", running.output() if not re.fullmatch(wanted, running.output()) else True)
+            check(f"Python: logging, {name}", bool(re.fullmatch(wanted, running.output())), shown=running.output())
     with Running([*PYTHON, "app.handler"], {"app.py": PYTHON_LOG}, AWS_LAMBDA_LOG_FORMAT="JSON") as running:
         request = running.invoke({"order": 7})[1]
         lines = [json.loads(line) for line in running.output().splitlines()]
@@ -477,7 +478,7 @@ def node_errors():
         check("Node: the trace ends before the runtime's own frames",
               "runtime.mjs" not in "".join(told["trace"]) + running.output())
         check("Node: the trace is printed", bool(re.search(r"TypeError: .*\n    at inner \(.*app\.mjs:4:\d+\)",
-                                                           running.output())) or running.output())
+                                                           running.output())), shown=running.output())
         check("Node: an error of the user's own",
               report(running.invoke({"do": "order"})[1], "errorType", "errorMessage"), ("OrderError", "no such order"))
         check("Node: what is thrown is no error", running.invoke({"do": "text"}),
@@ -501,7 +502,7 @@ def node_errors():
             told = running.invoke({"do": do})[1]
             check(f"Node: {do}", (*report(told, "errorType", "errorMessage"), running.runtime.wait(10)),
                   (kind, message, status))
-            check(f"Node: {do}, its trace", any("app.mjs:" in line for line in told["trace"]) or told["trace"])
+            check(f"Node: {do}, its trace", any("app.mjs:" in line for line in told["trace"]), shown=told["trace"])
 
 
 def node_context():
@@ -587,10 +588,11 @@ def node_inits():
             told, status, printed = running.init_report()
             what = f"Node: Init of {name} of {', '.join(files) or 'no file'}, {kind}"
             check(what, (status, told and told["errorType"],
-                         told and told["errorMessage"].startswith(message) or told), (1, kind, True))
-            check(what + ": printed", message.split("\n")[0] in printed or printed)
+                         told and told["errorMessage"].startswith(message)), (1, kind, True), shown=told)
+            check(what + ": printed", message.split("\n")[0] in printed, shown=printed)
             if kind == "Runtime.UserCodeSyntaxError":
-                check(what + ": its place", bool(re.search(r"/app\.m?js:2\n  return { a: ;\n +\^", printed)) or printed)
+                check(what + ": its place", bool(re.search(r"/app\.m?js:2\n  return { a: ;\n +\^", printed)),
+                      shown=printed)
 
 
 NODE_LOG = """
@@ -620,7 +622,7 @@ def node_log():
                           + (line("INFO", r"order 7 accepted \{ left: 3 \}") if "INFO" in shown else "")
                           + line("WARN", "two\nlines") + line("ERROR", r"RangeError: no price\n( +at .*\n)+ +at .*"))
                 check(f"Node: the console of {kind}, level {level or 'none'}",
-                      True if re.fullmatch(wanted, running.output()) else running.output())
+                      bool(re.fullmatch(wanted, running.output())), shown=running.output())
         with Running([*NODE, "app.handler"], {kind: app}, AWS_LAMBDA_LOG_FORMAT="JSON") as running:
             request = running.invoke({"order": 7})[1]
             lines = [json.loads(line) for line in running.output().splitlines()]

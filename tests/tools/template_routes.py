@@ -80,7 +80,7 @@ def url_resources():
                   "leaves out Far, AWS::Lambda::Url: there is no function far",
                   "leaves out None: its condition Never is not met",
                   "leaves out Odd, AWS::Lambda::Url: there is no function None"):
-        check(f"URLs that are resources: {words}", words in said or said)
+        check(f"URLs that are resources: {words}", words in said, shown=said)
 
 
 def cors_of_routes():
@@ -113,7 +113,8 @@ def cors_of_routes():
              {name: value for name, value in made_own.items() if name != "allowOrigins"},
              "leaves out allowOrigins of the Cors of the HTTP API ServerlessHttpApi: x")):
         made, said = up_and_said(given)
-        check(f"Cors of routes: {title}", (made.get("api", {}).get("cors"), words in said or said), (wanted, True))
+        check(f"Cors of routes: {title}", (made.get("api", {}).get("cors"), words in said), (wanted, True),
+              shown=said)
     unused = {"Resources": {"Shop": {"Type": "AWS::Serverless::HttpApi", "Properties": {"CorsConfiguration": True}},
                             "F": {"Type": "AWS::Lambda::Function", "Properties": {"Runtime": "provided"}}}}
     made, said = up_and_said(unused)
@@ -155,7 +156,7 @@ def rest_of_sam():
         "binaryMediaTypes": ["image/png", "*/*"],
         "cors": {"allowOrigins": ["https://shop.example"], "allowHeaders": ["x-one", "x-two"],
                  "allowMethods": ["GET", "POST"], "maxAge": 600, "allowCredentials": True}}))
-    check("SAM: what is left out of it", "leaves out TracingEnabled of the REST API Shop" in said or said)
+    check("SAM: what is left out of it", "leaves out TracingEnabled of the REST API Shop" in said, shown=said)
     made, _ = up_and_said({"Globals": {"Api": {"Cors": "'*'", "BinaryMediaTypes": ["image~1gif"]}},
                            "Resources": {"F": function(A=event("Api", "/"))}})
     check("SAM: Globals", made["api"], {"payload": "1.0", "stage": "Prod", "binaryMediaTypes": ["image/gif"],
@@ -181,7 +182,7 @@ def rest_of_serverless():
            {"payload": "1.0", "stage": "test", "binaryMediaTypes": ["*/*"],
             "cors": {"allowOrigins": ["*"], "allowHeaders": headers, "allowMethods": ["*"]}}))
     check("Serverless: what is left out",
-          "leaves out minimumCompressionSize of the REST API provider.apiGateway" in said or said)
+          "leaves out minimumCompressionSize of the REST API provider.apiGateway" in said, shown=said)
     made, _ = up_and_said({"service": "s", "provider": {"runtime": "provided", "httpApi": {"payload": "1.0"}},
                            "functions": {"f": {"handler": "x", "events": [{"httpApi": "GET /a"}]}}})
     check("Serverless: httpApi with format 1.0", made["api"], {"payload": "1.0", "type": "HTTP"})
@@ -245,7 +246,7 @@ def rest_of_cdk():
     for words in ("leaves out E, AWS::ApiGateway::Method: its API, path or method is not known here",
                   "leaves out G, AWS::ApiGateway::Method: its integration is HTTP_PROXY, and no function",
                   "leaves out H, AWS::ApiGateway::Method: its function is not here"):
-        check(f"CDK: {words}", words in said or said)
+        check(f"CDK: {words}", words in said, shown=said)
 
 
 def http_of_cdk():
@@ -274,7 +275,7 @@ def http_of_cdk():
     for words in ("leaves out C, AWS::ApiGatewayV2::Route: its function is not here",
                   "leaves out D, AWS::ApiGatewayV2::Route: it is of a WebSocket API",
                   "Pay1: leaves out its route E"):
-        check(f"CDK: {words}", words in said or said)
+        check(f"CDK: {words}", words in said, shown=said)
     quick = of_type("ApiGatewayV2::Api", Name="q", ProtocolType="HTTP", Target={"Fn::GetAtt": ["Pay1", "Arn"]})
     made, _ = up_and_said({"Resources": {**FUNCTIONS, "Api": quick}})
     check("CloudFormation: an HTTP API of one function", made["routes"], {"$default": "Pay1"})

@@ -93,7 +93,7 @@ def killed():
               (True, True))
         up.process.kill()
         gone = until(lambda: not any(map(lives, below)), 5)
-        check(f"kill -9 {name} leaves no process", gone or [command_of(pid) for pid in below if lives(pid)])
+        check(f"kill -9 {name} leaves no process", gone, shown=[command_of(pid) for pid in below if lives(pid)])
         check(f"kill -9 {name} leaves no file", until(lambda: not os.path.exists(os.path.dirname(folder)), 5))
         up.end(None)
 

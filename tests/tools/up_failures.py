@@ -70,7 +70,7 @@ def init_failures():
     reload_until_mended(two)
     time.sleep(max(0, starts(four)[0] + 10 - time.time()))
     seen = sum(1 for moment in starts(four) if moment < starts(four)[0] + 10)
-    check("four environments start at most 20 times in 10 s", 8 <= seen <= 20 or seen)
+    check("four environments start at most 20 times in 10 s", 8 <= seen <= 20, shown=seen)
     check("nothing is left of failing Inits", four.end(), (0, []))
     check("an Init that takes too long names who was waited for",
           late.until("Init failed: timed out after 10 s, which waited for its extension late, which must register by "
@@ -140,11 +140,12 @@ def extensions():
     check("no reset lasts until its deadline", [entry.kind for reset in resets for entry in reset[1:]].count("expire"),
           0)
     # (A machine that does much else is slow without an extension as well.)
-    check("resets with an extension that exits take under 0.4 s", max(took) < max(400, 8 * max(plain)) or (took, plain))
+    check("resets with an extension that exits take under 0.4 s", max(took) < max(400, 8 * max(plain)),
+          shown=(took, plain))
     stops = [(stop, plain_stop)]
     while stops[-1][0] >= max(0.4, 2.5 * stops[-1][1]) and len(stops) < 3:
         stops.append((reset_and_stop(extensions={"exiting": ["./exiting"]})[3], reset_and_stop()[3]))
-    check("and so does a stop", stops[-1][0] < max(0.4, 2.5 * stops[-1][1]) or stops)
+    check("and so does a stop", stops[-1][0] < max(0.4, 2.5 * stops[-1][1]), shown=stops)
 
 
 def lines():

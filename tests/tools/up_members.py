@@ -201,7 +201,7 @@ def faults():
                 json.dump(whole, file)
             done = subprocess.run([program, "serve", path], capture_output=True, text=True, timeout=60)
             check(f"the service says {name}", done.stderr.splitlines()[-1:], [f"configuration: {name}"])
-            check(f"{name} is explained", words in explained(name, whole) or explained(name, whole))
+            check(f"{name} is explained", words in explained(name, whole), shown=explained(name, whole))
     check("all of them", set(FAULTS), set(SENTENCES))
     check("a name that nobody knows is not explained", explained("Other", {"functions": []}), "")
 

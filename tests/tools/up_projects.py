@@ -64,7 +64,7 @@ def hostile_layers():
     with tempfile.TemporaryDirectory() as folder:
         for number, (name, (members, wanted)) in enumerate(HOSTILE.items()):
             path = file_of(packed(*members), folder, f"{number}.zip")
-            check(f"a layer with {name}", wanted in fault_of([path], folder) or fault_of([path], folder))
+            check(f"a layer with {name}", wanted in fault_of([path], folder), shown=fault_of([path], folder))
         check("nothing is written outside", sorted(os.listdir(folder)), sorted(f"{n}.zip" for n in range(len(HOSTILE))))
         most, layers.MOST_BYTES = layers.MOST_BYTES, 1000
         path = file_of(packed(("bomb", b"\0" * 5000, 0o644)), folder)
@@ -189,7 +189,7 @@ def wrong_members():
                 load(path)
                 check(f"wrong: {wanted}", False)
             except Fault as fault:
-                check(f"wrong: {wanted}", wanted in str(fault) or str(fault))
+                check(f"wrong: {wanted}", wanted in str(fault), shown=str(fault))
     with tempfile.TemporaryDirectory() as folder:
         path = file_of(b'{"functions": []}', folder, "up.json")
         try:
