@@ -20,7 +20,7 @@ class Functions(Session):
     def __init__(self, path, recording, program, ready, verbose):
         options = SimpleNamespace(up=path, debug=None, salt=recording.salt, program=program, reload=False,
                                   keep_credentials=False, ready=ready, command=["rerun"], history=None, only=None,
-                                  allow_unready=False, drain=5)
+                                  allow_unready=False, drain=5, report=None)
         names = {function.name for function in load(path)[1]}
         for invocation in recording.invocations:
             if invocation.was_served and invocation.function not in names:
