@@ -5,6 +5,7 @@ import resource
 import sys
 from typing import List, Tuple
 
+from . import explain
 from .paths import PACKAGE, own_program
 
 # The modules of this package that have the `main` of a tool.
@@ -17,6 +18,7 @@ TOOLS = {
     "timeline": ".timeline",
     "up": ".up",
 }
+SAME = {"help": ["--help"], **dict.fromkeys(("-V", "-v", "version"), ["--version"])}
 SHAPES: Tuple[List[str], ...] = ([], ["replay"], ["path"], ["--version"])
 
 
@@ -27,6 +29,10 @@ def start(program: str, words: List[str]) -> int:
     resource.setrlimit(resource.RLIMIT_NOFILE, (hard, hard))
     os.environ.pop("LAMBDA_LOCAL_PROGRAM", None)
     try:
+        if words[:1] == ["serve"]:
+            explain.before_serving(program, words[1])
+        elif explain.is_file(0):
+            return explain.replayed(program, words)
         os.execvp(program, [program, *words])
     except OSError as fault:
         print(f"lambda_local: {program}: {fault.strerror}: LAMBDA_LOCAL_PROGRAM names another program", file=sys.stderr)
@@ -57,7 +63,9 @@ def show_help() -> None:
 
 def main() -> int:
     """Does what the words of the command line say."""
-    words = sys.argv[1:]
+    words = SAME.get(" ".join(sys.argv[1:]), sys.argv[1:])
+    if not words and os.isatty(0):
+        words = ["--help"]
     program = os.environ.get("LAMBDA_LOCAL_PROGRAM") or own_program()
     if words[:1] in (["-h"], ["--help"]):
         show_help()

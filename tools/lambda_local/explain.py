@@ -1,0 +1,137 @@
+"""Says in a sentence why the program refuses a configuration, a script or a variable (status 2), for the launchers: the
+program's own line says it in a word.
+
+  python3 -m lambda_local.explain PROGRAM serve CONFIGURATION
+  python3 -m lambda_local.explain PROGRAM replay < SCRIPT        SCRIPT is a file
+
+Prints nothing if there is nothing to add."""
+import os
+import re
+import signal
+import stat
+import subprocess
+import sys
+from typing import Iterator, List, Optional
+
+from .outgoing import tell
+from .reasons import sentence
+
+NOT_READ = "usage: "  # the program's line if it does not read its arguments or its variables
+PATIENCE, HOSTS = "LAMBDA_LOCAL_PATIENCE_MS", "LAMBDA_LOCAL_HOSTS"
+LONGEST_PATIENCE = 2000  # milliseconds
+HOST_NAMES = re.compile(r"[A-Za-z0-9._-]+(,[A-Za-z0-9._-]+)*")
+SIGNALS = (signal.SIGHUP, signal.SIGINT, signal.SIGQUIT, signal.SIGTERM)
+SHOWN = 80  # characters of a value
+
+
+def said_of(program: str, words: List[str], script: bytes = b"") -> Optional[str]:
+    """The last line of the program about its words, or about a script, if it refuses them with status 2."""
+    try:
+        done = subprocess.run([program, *words], input=script, stdout=subprocess.DEVNULL, stderr=subprocess.PIPE)
+    except OSError:
+        return None
+    lines = done.stderr.decode(errors="replace").strip().split("\n")
+    return lines[-1] if done.returncode == 2 else None
+
+
+def script_of(configuration: bytes) -> bytes:
+    """A script that has this configuration and no call. (JSON has no line feed within a text.)"""
+    return b"form 2\n" + configuration.replace(b"\r", b" ").replace(b"\n", b" ") + b"\n"
+
+
+def of_configuration(program: str, path: str) -> Iterator[str]:
+    """What is wrong with the variables of `serve`, or with its configuration."""
+    said = said_of(program, ["serve", os.devnull])  # (that is no configuration: nothing is served)
+    if said is not None and said.startswith(NOT_READ):
+        yield from of_variables()
+        return
+    if not os.path.isfile(path):
+        return
+    with open(path, "rb") as file:
+        script = script_of(file.read())
+    said = said_of(program, ["replay"], script)
+    told = sentence(said, script.split(b"\n")) if said is not None else said
+    if told is not None and told != said:
+        yield f"{path}: {told.partition(', the configuration: ')[2]}"
+
+
+def of_variables() -> Iterator[str]:
+    patience, hosts = os.environ.get(PATIENCE), os.environ.get(HOSTS)
+    if patience is not None and not (re.fullmatch("[0-9]+", patience) and int(patience[:20]) <= LONGEST_PATIENCE):
+        yield f"{PATIENCE}={patience[:SHOWN]}: write a whole number of milliseconds from 0 to {LONGEST_PATIENCE}"
+    if hosts and not HOST_NAMES.fullmatch(hosts):
+        yield (f"{HOSTS}={hosts[:SHOWN]}: write names of letters, digits, -, . and _, separated by commas, without "
+               "spaces or ports")
+
+
+def of_script(program: str, path: str) -> Iterator[str]:
+    """What is wrong with a script in a file."""
+    with open(path, "rb") as file:
+        script = file.read()
+    said = said_of(program, ["replay"], script)
+    if said is None:
+        return
+    told = sentence(said, script.split(b"\n"))
+    if told != said:
+        yield told
+
+
+def is_file(descriptor: int) -> bool:
+    try:
+        return stat.S_ISREG(os.fstat(descriptor).st_mode)
+    except OSError:
+        return False
+
+
+# ---- the launcher of an installed package (in a checkout it is a shell: tools/library/explained.sh) -------------------
+
+def before_serving(program: str, path: str) -> None:
+    """Ends this process with status 2, and a sentence, if the program would refuse to serve this configuration. (`serve`
+    itself must be this process, so that signals reach it.)"""
+    found = list(of_configuration(program, path))
+    if found and subprocess.run([program, "serve", path]).returncode == 2:
+        for line in found:
+            tell(f"lambda_local: {line}")
+        sys.exit(2)
+
+
+def replayed(program: str, words: List[str]) -> int:
+    """The status of a replay of the file that is standard input, which ends by itself: signals are passed on to it."""
+    came: List[int] = []
+    child: "Optional[subprocess.Popen[bytes]]" = None
+
+    def pass_on(number: int, _frame: object) -> None:
+        came.append(number)
+        if child is not None:
+            child.terminate()
+    for number in SIGNALS:
+        signal.signal(number, pass_on)
+    child = subprocess.Popen([program, *words])
+    if came:
+        child.terminate()
+    status = child.wait()
+    ended_by = came[0] if came else -status if status < 0 else None
+    if ended_by is not None:
+        if ended_by != signal.SIGKILL:
+            signal.signal(ended_by, signal.SIG_DFL)
+        os.kill(os.getpid(), ended_by)
+    if status == 2:
+        for line in of_script(program, "/proc/self/fd/0"):
+            tell(f"lambda_local: {line}")
+    return status
+
+
+def main() -> int:
+    program, command, *rest = sys.argv[1:]
+    try:
+        found = of_configuration(program, rest[0]) if command == "serve" else (
+            of_script(program, f"/proc/self/fd/{sys.stdin.fileno()}") if is_file(sys.stdin.fileno()) else iter(()))
+        for line in found:
+            tell(f"lambda_local: {line}")
+    except OSError:
+        pass  # (the file has gone: the program's own line has to do)
+    return 2
+
+
+if __name__ == "__main__":
+    sys.exit(main())
