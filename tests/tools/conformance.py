@@ -4,7 +4,10 @@ the shapes of AWS's own clients; each wrong one is caught by the check named aft
 program is LAMBDA_LOCAL_PROGRAM, else ./lambda_local.
 Ends with 'N passed, M failed'.
 
-usage: tests/tools/conformance.py [NAME ..]   (a mistake, or one of `sound`, `shipped`; default: everything)"""
+Each wrong one is run with the scenarios of its own check, and one in ten of them with all, as all that are sound; with
+--whole each of them, which takes a quarter of an hour.
+
+usage: tests/tools/conformance.py [--whole] [NAME ..]   (a mistake, `sound` or `shipped`; default: everything)"""
 import concurrent.futures
 import os
 import re
@@ -23,15 +26,21 @@ HANDLERS = os.path.join(EXAMPLES, "conformance")
 PROGRAMS = os.path.join(ROOT, "tests", "tools", "wrong_programs")
 SHAPES = os.path.join(ROOT, "tests", "tools", "sound_programs")
 sys.path[:0] = [PROGRAMS, SHAPES, os.path.join(ROOT, "tools"), os.path.join(ROOT, "tests", "library")]
+import clients  # noqa: E402
 import counted  # noqa: E402
+import extensions  # noqa: E402
+import libraries  # noqa: E402
 import shapes  # noqa: E402
 import wrong_extensions  # noqa: E402
 import wrong_runtimes  # noqa: E402
 from counted import check  # noqa: E402
 from lambda_local.conformance import extension, runtime  # noqa: E402
 
-LENIENT = {"runtime": {"keep_alive", "continue_first", "same_process", "error_header"}, "extension": set()}
-AT_ONCE = 3 * (os.cpu_count() or 2)  # runs of the kit, which wait most of the time
+LENIENT = {"runtime": {"keep_alive", "continue_first", "header_spaces", "same_process", "error_header"},
+           "extension": set()}
+AT_ONCE = max(2, len(os.sched_getaffinity(0)))  # runs of the kit, each of which waits half of its time
+EACH = 10  # wrong programs, of which one is run with all scenarios
+WHOLE, CHOSEN = "--whole" in sys.argv, [word for word in sys.argv[1:] if word != "--whole"]
 PYTHON = [sys.executable, "-S"]  # (it starts in half the time)
 TOOL = [*PYTHON, os.path.join(ROOT, "tools", "conformance")]
 
@@ -65,7 +74,8 @@ class Run:
 
     def verdicts(self, outcome):
         """The checks with this outcome; FAILs of one cause after the first are only named."""
-        again = re.findall(r"^the same came for .*?: (.*)$", self.output, re.MULTILINE) if outcome == "FAIL" else []
+        again = re.findall(r"^\d+ more checks? fails? for the same cause as \w+: (.*)$", self.output,
+                           re.MULTILINE) if outcome == "FAIL" else []
         return {*re.findall(rf"^{outcome}  (\w+)", self.output, re.MULTILINE),
                 *(name for names in again for name in names.split(", "))}
 
@@ -100,6 +110,14 @@ def shipped_runtime(*command):
     return Run("runtime", "--", *command)
 
 
+def other_runtime(*command):
+    return Run("runtime", "--invocations", "100", "--idle-seconds", "2", "--", *command)
+
+
+def other_extension(*command):
+    return Run("extension", "--name", "sound", "--idle-seconds", "2", "--", *command)
+
+
 def shipped():
     """The runtimes of examples/ with the kit's handler, those whose languages are on the machine: names and
     commands."""
@@ -118,10 +136,24 @@ def in_shapes():
         yield "a Node client that streams", ["node", os.path.join(SHAPES, "node_agent.mjs"), "streaming"]
     if shutil.which("bash") and shutil.which("curl"):
         yield "the tutorial's bootstrap", [os.path.join(SHAPES, "tutorial.sh")]
+        yield "a client in bash alone", [os.path.join(SHAPES, "dev_tcp.sh")]
     if shutil.which("perl"):
         yield "a Perl client", ["perl", os.path.join(SHAPES, "perl_tiny.pl")]
-    for name in shapes.SHAPES:
-        yield f"a client in the shape of {name}", [*PYTHON, os.path.join(SHAPES, "shapes.py"), name]
+        yield "a Node client by fetch", ["node", os.path.join(SHAPES, "fetch.mjs")]
+    for file, names in (("shapes.py", shapes.SHAPES), ("clients.py", clients.CLIENTS),
+                        ("libraries.py", libraries.LIBRARIES)):
+        for name in names:
+            yield f"a client in the shape of {name}", [*PYTHON, os.path.join(SHAPES, file), name]
+
+
+def extensions_in_shapes():
+    """Extensions in the shapes of those that there are, as above."""
+    if shutil.which("node"):
+        yield "an extension by fetch", ["node", os.path.join(SHAPES, "extension_fetch.mjs")]
+    if shutil.which("bash") and shutil.which("curl"):
+        yield "an extension with curl", [os.path.join(SHAPES, "extension_curl.sh")]
+    for name in extensions.SHAPES:
+        yield f"an extension that is {name}", [*PYTHON, os.path.join(SHAPES, "extensions.py"), name]
 
 
 def in_java(kind):
@@ -146,8 +178,9 @@ def in_go():
 
 # ---- those that are caught -------------------------------------------------------------------------------------------
 
-def wrong(kind, mistake):
-    settings = {**kind.settings, **getattr(mistake, "settings", {})}
+def wrong(kind, mistake, is_whole):
+    """Run with all scenarios, or with those of its own check."""
+    settings = {**kind.settings, **getattr(mistake, "settings", {}), **({} if is_whole else {"only": mistake.check})}
     options = [word for name, value in settings.items() for word in (f"--{name}", str(value))]
     with tempfile.TemporaryDirectory() as temporary:
         return Run(kind.name, *options, "--", *PYTHON, program(f"wrong_{kind.name}s.py"), mistake.__name__,
@@ -156,9 +189,10 @@ def wrong(kind, mistake):
 
 def caught(run, kind, mistake):
     """A wrong one is caught by its own check, and by no other that can do without."""
-    outcome, also = getattr(mistake, "outcome", "FAIL"), getattr(mistake, "also", set())
-    seen = (run.status, run.verdicts("FAIL") - also, mistake.check in run.verdicts(outcome))
-    wanted = (1, {mistake.check}, True) if outcome == "FAIL" else (0, set(), True)
+    outcome, also = getattr(mistake, "outcome", "FAIL"), set(getattr(mistake, "also", ())) - {mistake.check}
+    told = len(re.findall(r"^FAIL  ", run.output, re.MULTILINE))  # (those of one cause are told once)
+    seen = (run.status, told, run.verdicts("FAIL") - also, mistake.check in run.verdicts(outcome))
+    wanted = (1, 1, {mistake.check}, True) if outcome == "FAIL" else (0, 0, set(), True)
     others = f", and {' '.join(sorted(also))}" if also else ""
     check(f"{kind.name} {mistake.__name__} is a {outcome} of {mistake.check}{others}, and of no other", seen, wanted)
     run.told(seen == wanted)
@@ -198,12 +232,15 @@ def jobs():
         yield Job("shipped", shipped_runtime, command, passes, (name,))
     yield Job("shipped", shipped_extension, (), passes, ("extension.py",))
     for name, command in in_shapes():
-        yield Job("sound", shipped_runtime, command, passes, (name,))
+        yield Job("sound", other_runtime, command, passes, (name,))
+    for name, command in extensions_in_shapes():
+        yield Job("sound", other_extension, command, passes, (name,))
     yield Job("sound", sound_runtime, (), passes, ("the sound runtime", {"numbers", *LEAKS}))
     yield Job("sound", sound_extension, (), passes, ("the sound extension", set()))
-    mistakes = [(kind, mistake) for kind in KINDS for mistake in kind.mistakes.values()]
-    for kind, mistake in sorted(mistakes, key=lambda each: not hasattr(each[1], "settings")):
-        yield Job(mistake.__name__, wrong, (kind, mistake), caught, (kind, mistake))
+    mistakes = [(kind, mistake, WHOLE or place % EACH == 0)
+                for kind in KINDS for place, mistake in enumerate(kind.mistakes.values())]
+    for kind, mistake, is_whole in sorted(mistakes, key=lambda each: (not hasattr(each[1], "settings"), not each[2])):
+        yield Job(mistake.__name__, wrong, (kind, mistake, is_whole), caught, (kind, mistake))
 
 
 RUNNING = []  # pairs of jobs and their runs, begun before all other parts
@@ -236,7 +273,7 @@ def a_failure_is_explained():
 
 def wrong_usage():
     somewhere = os.path.join("nowhere", "report.xml")
-    for words, told in (
+    for words, told, *status in (
             ([], "write one of runtime, extension, service"),
             (["runtimes"], "write one of runtime, extension, service"),
             (["runtime"], "write the command that is tested after --"),
@@ -248,7 +285,7 @@ def wrong_usage():
             (["runtime", "--", "no_such_program"], "no_such_program is not a program"),
             (["runtime", "--junit", somewhere, "--", "true"], "--junit nowhere"),
             (["runtime", "--pictures", "/dev/null", "--", "true"], "--pictures /dev/null"),
-            (["runtime", "--program", "nowhere", "--", "true"], "nowhere is not a program"),
+            (["runtime", "--program", "nowhere", "--", "true"], "nowhere is not a program", 4),
             (["runtime", "--", "sh", "-c", "echo it is broken; exit 3"],
              "it ended with status 3 before it asked for anything; its last line: it is broken"),
             (["extension", "--", "true"], "write --name NAME"),
@@ -256,14 +293,14 @@ def wrong_usage():
              "INVOKE,START: write INVOKE, SHUTDOWN or both"),
             (["extension", "--name", "x", "--", "true"], "it ended with status 0 before it asked for anything")):
         run = Run(*words)
-        refused(" ".join(words) or "no word", run, told)
+        refused(" ".join(words) or "no word", run, told, *status)
     refused("no free port", Run("runtime", "--", "true", LAMBDA_LOCAL_PORTS="1-1"), "LAMBDA_LOCAL_PORTS=1-1")
 
 
-def refused(name, run, told):
+def refused(name, run, told, status=2):
     seen = (run.status, len(run.errors.splitlines()), told in run.errors)
-    check(f"{name}: status 2 and one line", seen, (2, 1, True))
-    run.told(seen == (2, 1, True))
+    check(f"{name}: status {status} and one line", seen, (status, 1, True))
+    run.told(seen == (status, 1, True))
 
 
 def processes_of(mark):
@@ -280,21 +317,27 @@ def processes_of(mark):
     return found
 
 
+def is_so(condition):
+    """Waits until it holds, for a minute at most: whether it does."""
+    end = time.monotonic() + 60
+    while not condition() and time.monotonic() < end:
+        time.sleep(0.05)
+    return condition()
+
+
 def nothing_is_left():
     for number, wanted in ((signal.SIGINT, 130), (signal.SIGTERM, 143), (signal.SIGKILL, -9)):
         with tempfile.TemporaryDirectory() as temporary:
             process = subprocess.Popen([*TOOL, "runtime", "--", *PYTHON, program("sound_runtime.py")], cwd=HANDLERS,
                                        env={**os.environ, "TMPDIR": temporary}, stdout=subprocess.PIPE,
                                        stderr=subprocess.DEVNULL, text=True, start_new_session=True)
-            process.stdout.readline()
-            process.stdout.readline()  # (the first verdict: the scenarios run)
-            begun = len(processes_of(temporary)) > 3
+            for _ in range(2):  # (the first verdict: the scenarios begin)
+                process.stdout.readline()
+            begun = is_so(lambda: len(processes_of(temporary)) > 3)
             process.send_signal(number)
             status = process.wait(120)
             process.stdout.close()
-            end = time.monotonic() + 60
-            while (processes_of(temporary) or os.listdir(temporary)) and time.monotonic() < end:
-                time.sleep(0.05)
+            is_so(lambda: not processes_of(temporary) and not os.listdir(temporary))
             left = (processes_of(temporary), os.listdir(temporary))
             check(f"after {number.name} nothing is left", (begun, status, *left), (True, wanted, [], []))
 
@@ -309,8 +352,8 @@ def the_page_has_each_check():
 
 
 if __name__ == "__main__":
-    others = () if sys.argv[1:] else (each_check_can_fail, the_page_has_each_check, wrong_usage, a_failure_is_explained,
+    others = () if CHOSEN else (each_check_can_fail, the_page_has_each_check, wrong_usage, a_failure_is_explained,
                                       nothing_is_left)
     with concurrent.futures.ThreadPoolExecutor(AT_ONCE) as pool:
-        RUNNING += [job.begun_in(pool) for job in jobs() if job.name in (sys.argv[1:] or [job.name])]
+        RUNNING += [job.begun_in(pool) for job in jobs() if job.name in (CHOSEN or [job.name])]
         sys.exit(counted.run(*others, programs))

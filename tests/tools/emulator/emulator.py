@@ -9,7 +9,8 @@ import json
 import re
 import sys
 
-from life import FAULTS, Life, Reply
+from faults import FAULTS
+from life import Life, Reply
 
 INVOKE = "/2015-03-31/functions/function/invocations"
 RUNTIME, EXTENSION = "/2018-06-01/runtime", "/2020-01-01/extension"
@@ -38,6 +39,15 @@ def of_environment(life, method, path, headers, body):
     return routes.get((method, path), lambda: NOT_FOUND)()
 
 
+async def answer(life, waiting, reader):
+    """The reply that comes in the end. A poll whose connection ends before that waits no more."""
+    while not (await asyncio.wait({waiting}, timeout=0.01))[0]:
+        if reader.at_eof():
+            life.leave(waiting)
+            raise ConnectionResetError
+    return waiting.result()
+
+
 async def serve(life, routes, reader, writer):
     """The requests of one connection, one after the other."""
     try:
@@ -48,7 +58,9 @@ async def serve(life, routes, reader, writer):
                        for name, _, value in (line.partition(":") for line in head[1:] if line)}
             body = await reader.readexactly(int(headers.get("content-length", 0)))
             reply = routes(life, method, path, headers, body)
-            reply = await reply if asyncio.isfuture(reply) else reply
+            reply = await answer(life, reply, reader) if asyncio.isfuture(reply) else reply
+            if reply.status >= 400 and "types-by-number" in life.faults:
+                reply = Reply(reply.status, {**json.loads(reply.body), "errorType": 17})
             lines = [f"HTTP/1.1 {reply.status} Status", f"Content-Length: {len(reply.body)}",
                      f"Content-Type: {life.content_type}",
                      *(f"{name}: {value}" for name, value in reply.headers.items())]

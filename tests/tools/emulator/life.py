@@ -8,31 +8,12 @@ import os
 import time
 import uuid
 
-LIMIT = 6_291_456  # bytes of a response
+from faults import LATER
+
+LIMIT, PART = 6_291_456, 65_536  # bytes of a response, and of what is cut
+ONE = str(uuid.uuid4())
 INIT_SECONDS, CLOSING_SECONDS, MOST_EXTENSIONS = 10, 2, 10
 ARN = "arn:aws:lambda:us-east-1:012345678912:function:function"
-FAULTS = {
-    "answers-twice": "a second answer to an invocation is accepted",
-    "loses-error-type": "a failure's report reaches the caller without its errorType",
-    "hides-function-error": "a failure reaches the caller without X-Amz-Function-Error",
-    "accepts-stale-id": "an answer with an earlier request identifier counts for the open invocation",
-    "delivers-to-older-poll": "of two polls the newer one is refused",
-    "takes-late-responses": "a response after the timeout is accepted",
-    "drops-deadline": "a delivery has no Lambda-Runtime-Deadline-Ms",
-    "misses-readiness": "Init is over when the runtime asks, whether the extensions have asked or not",
-    "tells-shutdown-to-all": "an extension for INVOKE alone is told SHUTDOWN",
-    "throttles-early": "an Invoke that could wait for Init is throttled",
-    "queues-invokes": "a second Invoke waits instead of being throttled",
-    "keeps-extensions": "an extension of an earlier generation is still known",
-    "refuses-otherwise": "a call in the wrong phase is refused with another status",
-    "breaks-down": "a response that is too large ends the process",
-    "handles-errors": "an error of the function is marked as Handled",
-    "loses-the-version": "an answer to an Invoke has no X-Amz-Executed-Version",
-    "invents-request-ids": "an answer to an Invoke has another request identifier than the invocation",
-    "sends-plain-text": "answers have the Content-Type text/plain",
-    "tells-the-account": "a registration is answered with accountId, which it did not ask for",
-    "loses-the-qualifier": "an invocation with a qualifier has the ARN without it",
-}
 
 
 class Extension:
@@ -70,10 +51,10 @@ class Life:
 
     # ---- what changes the phase ----
 
-    def _clock(self, seconds, then):
+    def _clock(self, seconds, then, more=0):
         self._no_clock()
         self.deadline = int((time.time() + seconds) * 1000)
-        self.timer = asyncio.get_running_loop().call_later(seconds, then)
+        self.timer = asyncio.get_running_loop().call_later(seconds + more, then)
 
     def _no_clock(self):
         if self.timer:
@@ -97,18 +78,39 @@ class Life:
 
     def _deliver(self, invocation):
         self.phase, self.invocation, self.answered = "busy", invocation, False
-        self._clock(self.timeout, self._timed_out)
-        headers = {"Lambda_Runtime_Aws_Request_Id": invocation.id, "Lambda_Runtime_Deadline_Ms": self.deadline,
+        self._clock(self.timeout, self._timed_out,
+                    2 * ("times-out-late" in self.faults) - ("times-out-early" in self.faults))
+        deadline = self.deadline + self._later("tells-a-later-deadline")
+        trace = None if "loses-the-trace" in self.faults else invocation.trace
+        headers = {"Lambda_Runtime_Aws_Request_Id": invocation.id,
+                   "Lambda_Runtime_Deadline_Ms": deadline // 1000 if "tells-seconds" in self.faults else deadline,
                    "Lambda_Runtime_Invoked_Function_Arn": invocation.arn,
-                   "Lambda_Runtime_Trace_Id": invocation.trace or f"Root={uuid.uuid4()}"}
+                   "Lambda_Runtime_Trace_Id": trace or f"Root={uuid.uuid4()}"}
+        if "cuts-the-trace" in self.faults:
+            headers["Lambda_Runtime_Trace_Id"] = headers["Lambda_Runtime_Trace_Id"].split(";")[0]
         if "drops-deadline" in self.faults:
             del headers["Lambda_Runtime_Deadline_Ms"]
-        self._answer_poll(Reply(200, invocation.payload, **headers))
+        event = self._written(invocation.payload, "reencodes-events")
+        self._answer_poll(Reply(200, event[:PART] if "cuts-events" in self.faults else event, **headers))
         for one in self.extensions.values():
-            if "INVOKE" in one.events and one.poll:
+            if "INVOKE" in one.events and one.poll and "tells-no-invoke" not in self.faults:
+                request = str(uuid.uuid4()) if "tells-another-request" in self.faults else invocation.id
                 self._answer_extension(one, {
-                    "eventType": "INVOKE", "deadlineMs": self.deadline, "requestId": invocation.id,
-                    "invokedFunctionArn": invocation.arn, "tracing": {"type": "X-Amzn-Trace-Id", "value": ""}})
+                    "eventType": "INVOKE", "deadlineMs": self.deadline + self._later("tells-events-another-deadline"),
+                    "requestId": request, "invokedFunctionArn": invocation.arn,
+                    "tracing": {"type": "X-Amzn-Trace-Id", "value": ""}})
+
+    def _later(self, fault):
+        return LATER[fault] if fault in self.faults else 0
+
+    def _written(self, body, fault):
+        """A body, written anew if this fault is planted."""
+        if fault not in self.faults:
+            return body
+        try:
+            return json.dumps(json.loads(body), indent=1).encode()
+        except ValueError:
+            return body
 
     def _timed_out(self):
         self.late = self.invocation.id
@@ -127,10 +129,12 @@ class Life:
         self.invocation = None
 
     def _tell_caller(self, body, failed):
+        body = self._written(body, "reencodes-reports" if failed else "reencodes-outputs")
+        body = body[:PART] if "cuts-outputs" in self.faults else body
         if failed and "loses-error-type" in self.faults:
             body = json.dumps({name: value for name, value in json.loads(body).items() if name != "errorType"}).encode()
         headers = {"X_Amz_Executed_Version": "$LATEST", "x_amzn_RequestId": self.invocation.id}
-        if failed and "hides-function-error" not in self.faults:
+        if (failed or "flags-outputs" in self.faults) and "hides-function-error" not in self.faults:
             headers["X_Amz_Function_Error"] = "Handled" if "handles-errors" in self.faults else "Unhandled"
         if "loses-the-version" in self.faults:
             del headers["X_Amz_Executed_Version"]
@@ -151,12 +155,14 @@ class Life:
         self._look_at_end()
 
     def _is_for_shutdown(self, one):
+        if "tells-no-shutdown" in self.faults:
+            return False
         return "SHUTDOWN" in one.events or "tells-shutdown-to-all" in self.faults
 
     def _tell_end(self, one):
         one.told = True
-        self._answer_extension(one,
-                               {"eventType": "SHUTDOWN", "deadlineMs": self.deadline, "shutdownReason": self.reason})
+        reason = "failure" if "tells-another-reason" in self.faults else self.reason
+        self._answer_extension(one, {"eventType": "SHUTDOWN", "deadlineMs": self.deadline, "shutdownReason": reason})
 
     def _look_at_end(self):
         if all(one.ended for one in self.extensions.values() if self._is_for_shutdown(one)):
@@ -185,18 +191,23 @@ class Life:
 
     def invoke(self, payload, trace, qualified):
         arn = ARN + (":$LATEST" if qualified and "loses-the-qualifier" not in self.faults else "")
-        invocation = Invocation(payload or b"{}", trace, arn)
-        if self.phase == "idle":
+        invocation = Invocation(payload or (b"" if "leaves-empty-events" in self.faults else b"{}"), trace, arn)
+        if "repeats-identifiers" in self.faults:
+            invocation.id = ONE
+        if self.phase == "idle" and (self.poll or "delivers-to-gone-polls" in self.faults):
             self._deliver(invocation)
-        elif self.phase != "busy" and not self.invocation and "throttles-early" not in self.faults:
+        elif self.phase == "idle" and not self.invocation:  # (the runtime's connection has ended: it asks again)
+            self.invocation = invocation
+        elif self.phase not in ("busy", "idle") and not self.invocation and "throttles-early" not in self.faults:
             self.invocation = invocation
             self._contact()
         elif "queues-invokes" in self.faults:
             self.queue.append(invocation)
         else:
-            return Reply(429, {"Reason": "ConcurrentInvocationLimitExceeded", "Type": "User",
-                               "message": "Rate Exceeded."},
-                         x_amzn_ErrorType="TooManyRequestsException")
+            named = {} if "names-no-throttling" in self.faults else {"x_amzn_ErrorType": "TooManyRequestsException"}
+            return Reply(503 if "throttles-with-503" in self.faults else 429,
+                         {"Reason": "ConcurrentInvocationLimitExceeded", "Type": "User", "message": "Rate Exceeded."},
+                         **named)
         return invocation.caller
 
     def next(self):
@@ -208,9 +219,24 @@ class Life:
             return STATE
         self._answer_poll(STATE)
         mine = self.poll = asyncio.get_running_loop().create_future()
+        if "ends-polls" in self.faults:
+            asyncio.get_running_loop().call_later(1, lambda: resolve(mine, Reply(504, b"{}")))
         self._contact()
         self._look()
+        if self.phase == "idle" and self.invocation:
+            self._deliver(self.invocation)
         return mine
+
+    def leave(self, waiting):
+        """The connection of what waits has ended."""
+        if waiting is self.poll and "delivers-to-gone-polls" not in self.faults:
+            self.poll = None
+        for one in self.extensions.values():
+            one.poll = None if one.poll is waiting else one.poll
+        if ("ends-with-its-caller" in self.faults and self.phase == "busy" and self.invocation
+                and waiting is self.invocation.caller):
+            self.answered = True
+            self._look()
 
     def response(self, identifier, body):
         return self._answered(identifier, body, False)
@@ -230,33 +256,40 @@ class Life:
             return refusal(400, "InvalidRequestID")
         if len(body) > LIMIT and "breaks-down" in self.faults:
             os._exit(1)
-        if len(body) > LIMIT:
+        limit = LIMIT + (10 ** 9 if "takes-what-is-too-large" in self.faults else 0)
+        limit -= "refuses-the-greatest" in self.faults
+        if len(body) > limit:
             self._tell_caller(
                 b'{"errorType":"Function.ResponseSizeTooLarge","errorMessage":"Response payload size exceeded"}', True)
         else:
             self._tell_caller(body, failed)
         self.answered = True
         self._look()
-        return ACCEPTED if len(body) <= LIMIT else refusal(413, "RequestEntityTooLarge")
+        return self._accepted() if len(body) <= limit else refusal(413, "RequestEntityTooLarge")
+
+    def _accepted(self):
+        return Reply(200, {"status": "OK"}) if "accepts-with-200" in self.faults else ACCEPTED
 
     def init_failure(self, body):
         if self.phase != "starting":
             return STATE
         self._fail(body)
         self._close("failure")
-        return ACCEPTED
+        return self._accepted()
 
     def register(self, name, events, wants_account):
-        if self.phase != "starting":
+        if self.phase != "starting" and not ("registers-late" in self.faults and self.phase != "closing"):
             return STATE
-        if any(one.name == name for one in self.extensions.values()):
+        if any(one.name == name for one in self.extensions.values()) and "takes-a-name-twice" not in self.faults:
             return refusal(403, "Extension.AlreadyRegistered")
-        if len(self.extensions) == MOST_EXTENSIONS:
+        if len(self.extensions) == MOST_EXTENSIONS and "takes-eleven-extensions" not in self.faults:
             return refusal(403, "Extension.TooManyExtensions")
         identifier = str(uuid.uuid4())
         self.extensions[identifier] = Extension(name, events)
         self._contact()
         told = {"functionName": "test_function", "functionVersion": "$LATEST", "handler": "app.run"}
+        if "forgets-the-name" in self.faults:
+            del told["functionName"]
         if wants_account or "tells-the-account" in self.faults:
             told["accountId"] = "012345678912"
         return Reply(200, told,
@@ -294,12 +327,14 @@ class Life:
         if not one:
             return UNKNOWN
         one.ended = True
+        if "goes-on-after-failures" in self.faults and self.phase != "closing":
+            return self._accepted()
         if self.phase == "closing":
             self._look_at_end()
         else:
             self._fail(body)
             self._close("failure")
-        return ACCEPTED
+        return self._accepted()
 
     def _extension(self, identifier):
         if "keeps-extensions" in self.faults and identifier in self.earlier:

@@ -1,14 +1,16 @@
 """Whether a runtime is of use again: after a failure, as Lambda uses it again."""
 import time
+from typing import Any, Optional
 
 from .kit import Missing
-from .stage import shown
+from .process import Process
+from .stage import Stage, shown
 
 TYPE, MESSAGE = "OutOfCheese", "no cheese left, says M\u00fcller"
 SLACK = 100  # milliseconds between a look at a clock here and one in the handler, beyond what the exchanges show
 
 
-def usable(stage):
+def usable(stage: Stage) -> None:
     """Starts a process that has ended anew, as Lambda does; Missing if none comes to wait for an invocation."""
     for is_last in (False, True):
         for environment in stage.environments:
@@ -22,7 +24,7 @@ def usable(stage):
     return None
 
 
-def fault_after(stage, word="again", process=None):
+def fault_after(stage: Stage, word: str = "again", process: Optional[Process] = None) -> Optional[str]:
     """What is wrong with an output, an error and an output after one another, in words; none if they are right. If a
     process is given, the first output is to be its own."""
     try:
@@ -44,7 +46,7 @@ def fault_after(stage, word="again", process=None):
     return None
 
 
-def context_fault(stage, trace):
+def context_fault(stage: Stage, trace: Optional[str]) -> Optional[str]:
     """What is wrong with what the handler sees of its invocation; none if all is right."""
     answer = stage.invoke({"do": "context", "value": 0}, trace=trace)
     seen = answer.value if not answer.failed and isinstance(answer.value, dict) else {}
@@ -56,16 +58,16 @@ def context_fault(stage, trace):
     return remaining_fault(stage, seen.get("remaining"), answer.headers.get("x-amzn-requestid"))
 
 
-def remaining_fault(stage, remaining, request):
+def remaining_fault(stage: Stage, remaining: Any, request: Optional[str]) -> Optional[str]:
     """What is wrong with the remaining time that the handler saw first: it is the deadline less the moment of that
     look, which is between the delivery and the response."""
     polls = [one for one in stage.environment.proxy.of("next") if one.delivered == request]
-    sent = [one for one in stage.environment.proxy.of("response") if one.request_id.lower() == request]
+    sent = [one for one in stage.environment.proxy.of("response") if (one.request_id or "").lower() == request]
     if not polls or not sent:
         return None
-    deadline = int(polls[-1].reply.headers["lambda-runtime-deadline-ms"])
+    deadline = int(polls[-1].told["lambda-runtime-deadline-ms"])
     offset = time.time() - time.monotonic()
-    most, least = (deadline - 1000 * (moment + offset) for moment in (polls[-1].answered, sent[0].begun))
+    most, least = (deadline - 1000 * (moment + offset) for moment in (polls[-1].end, sent[0].begun))
     first = remaining[0] if isinstance(remaining, list) and remaining else None
     if not isinstance(first, (int, float)) or isinstance(first, bool) or not least - SLACK <= first <= most + SLACK:
         return (f"the remaining milliseconds are {shown(first)}: until {deadline} they were between {least:.0f} and "

@@ -2,6 +2,7 @@
 counted by a clock that goes slower, the less of a processor a thread gets here."""
 import threading
 import time
+from typing import Any, Callable, Optional
 
 PAUSE = 0.15  # seconds between two looks
 WORK = 0.003  # seconds of a processor for each look
@@ -12,32 +13,34 @@ SLOWEST = 10  # that a limit is stretched at most
 class Clock:
     """Looks, in a thread of its own, how long a little work takes. Without that thread it is `time.monotonic`."""
 
-    def __init__(self):
-        self._lock, self._begun = threading.Lock(), None
+    def __init__(self) -> None:
+        self._lock = threading.Lock()
+        self._begun: Optional[float] = None
         self._counted, self._at, self._slowness = 0.0, time.monotonic(), 1.0
 
-    def start(self):
+    def start(self) -> None:
         self._begun = self._at = time.monotonic()
         threading.Thread(target=self._run, daemon=True).start()
 
-    def now(self):
+    def now(self) -> float:
         """Seconds; never less than before."""
         if self._begun is None:
             return time.monotonic()
         with self._lock:
             return self._counted + min(time.monotonic() - self._at, LONGEST) / self._slowness
 
-    def stretch(self):
+    def stretch(self) -> float:
         """How many times as long as on a machine with nothing else to do limits have been."""
+        begun = self._begun
         with self._lock:
-            return (time.monotonic() - self._begun) / max(self._counted, 0.001) if self._begun else 1.0
+            return (time.monotonic() - begun) / max(self._counted, 0.001) if begun else 1.0
 
-    def slowness(self):
+    def slowness(self) -> float:
         """How many times as long a little work took at the last look."""
         with self._lock:
             return self._slowness
 
-    def wait(self, wait_once, seconds):
+    def wait(self, wait_once: Callable[[float], Any], seconds: float) -> bool:
         """Calls `wait_once` with parts of this many seconds until it returns true. Returns whether it did."""
         end = self.now() + seconds
         while not wait_once(max(0, min(0.1, end - self.now()))):
@@ -45,11 +48,11 @@ class Clock:
                 return False
         return True
 
-    def sleep(self, seconds):
+    def sleep(self, seconds: float) -> None:
         """Lets this many seconds pass."""
         self.wait(lambda part: time.sleep(part), seconds)
 
-    def _run(self):
+    def _run(self) -> None:
         while True:
             begun = time.monotonic()
             time.sleep(PAUSE)

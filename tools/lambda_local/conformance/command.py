@@ -14,7 +14,7 @@ from ..usage import called
 SUBCOMMANDS = ("runtime", "extension", "service")
 
 
-def main():
+def main() -> int:
     words = sys.argv[1:]
     if words and words[0] in ("-h", "--help"):
         print(called(__doc__))
@@ -24,7 +24,7 @@ def main():
         print(f"conformance: write one of {', '.join(SUBCOMMANDS)} as its first word (`{usage}`)", file=sys.stderr)
         return 2
     try:
-        return importlib.import_module(f"lambda_local.conformance.{words[0]}").main(words[1:])
+        return int(importlib.import_module(f"lambda_local.conformance.{words[0]}").main(words[1:]))
     except Fault as fault:
         print(f"conformance: {fault}", file=sys.stderr)
         return fault.status

@@ -1,11 +1,17 @@
 """What the proxy records of a request and its reply, and what a rule has it do to them."""
 import json
+import math
 import re
 import time
+from typing import Any, Callable, Dict, Iterable, Iterator, Optional, Tuple, Union
 
 from ..service import EXTENSION, RUNTIME
 from .manners import Manner
+from .messages import Message
 
+Decide = Callable[["Exchange"], Tuple[int, bytes]]
+
+ABSOLUTE = re.compile(r"http://[^/]*(?=/)", re.IGNORECASE)
 ENOUGH = 300  # bytes of what comes behind a request
 
 KINDS = {
@@ -23,19 +29,21 @@ KINDS = {
 class Exchange:
     """A request and its reply. Times are those of `time.monotonic`, and None for what has not come."""
 
-    def __init__(self, connection, peer, request):
+    def __init__(self, connection: int, peer: int, request: Message) -> None:
         self.connection, self.peer = connection, peer  # the connection's number, from 1, and the peer's port
         self.begun = time.monotonic()
-        self.asked = self.answered = None  # the request is whole; the reply is
-        self.left = None  # one of the two has gone before that
+        self.asked: Optional[float] = None  # the request is whole
+        self.answered: Optional[float] = None  # the reply is
+        self.left: Optional[float] = None  # one of the two has gone before that
         self.method, _, rest = request.start.partition(" ")
-        self.path = rest.partition(" ")[0]
-        self.request, self.reply = request, None
-        self.by_rule = None  # a rule with `close` may still be set while the exchange is open
+        self.path = ABSOLUTE.sub("", rest.partition(" ")[0])  # (of the absolute form, RFC 9112, section 3.2.2, too)
+        self.request = request
+        self.reply: Optional[Message] = None
+        self.by_rule: "Optional[Rule]" = None  # a rule with `close` may still be set while the exchange is open
         self.behind = b""  # what came behind the request and is not the beginning of another one
         self.kind, self.request_id = self._kind()
 
-    def _kind(self):
+    def _kind(self) -> Tuple[str, Optional[str]]:
         if (self.method, self.path) in KINDS:
             return KINDS[self.method, self.path], None
         words = self.path.split("/")
@@ -45,32 +53,53 @@ class Exchange:
         return "other", None
 
     @property
-    def status(self):
+    def is_last(self) -> bool:
+        """Whether its connection ends with the reply, by what the request says (RFC 9112, section 9.6)."""
+        said = self.request.headers.get("connection", "").lower()
+        return "close" in said or (self.request.start.endswith("HTTP/1.0") and "keep-alive" not in said)
+
+    @property
+    def status(self) -> Optional[int]:
         """The reply's status; None if there is none."""
         return int(self.reply.start.split(" ")[1]) if self.reply else None
 
     @property
-    def delivered(self):
+    def delivered(self) -> Optional[str]:
         """The request identifier of the invocation that this poll was answered with; None if it was not."""
-        return (self.reply.headers.get("lambda-runtime-aws-request-id")
+        return (self.told.get("lambda-runtime-aws-request-id")
                 if self.kind == "next" and self.status == 200 else None)
 
     @property
-    def ended(self):
+    def told(self) -> Dict[str, str]:
+        """The reply's headers; empty if there is none."""
+        return self.reply.headers if self.reply else {}
+
+    @property
+    def ended(self) -> Optional[float]:
         """When the exchange was over; None if it is open."""
         return self.answered or self.left
 
     @property
-    def refused(self):
+    def came(self) -> bytes:
+        """The reply's body; empty if there is none."""
+        return bytes(self.reply.body) if self.reply else b""
+
+    @property
+    def end(self) -> float:
+        """The same; never, if it is open."""
+        return self.ended or math.inf
+
+    @property
+    def refused(self) -> bool:
         return self.status is not None and self.status >= 400
 
-    def __str__(self):
+    def __str__(self) -> str:
         """As a line: the request, its status, and the body of a refusal."""
-        body = bytes(self.reply.body[:ENOUGH]).decode(errors="replace").strip() if self.refused else ""
+        body = self.came[:ENOUGH].decode(errors="replace").strip() if self.refused else ""
         came = self.status or ("the connection ended before the answer" if self.left else "no answer: it waits")
         return f"{self.method} {self.path} -> {came} {body}".strip()
 
-    def faults(self):
+    def faults(self) -> Iterator[str]:
         """What the connection shows that the one who made the request may not know, as lines."""
         length = self.request.headers.get("content-length")
         if self.behind:
@@ -81,15 +110,15 @@ class Exchange:
             yield (f"{self.method} {self.path}: the body is cut short: {len(self.request.body)} bytes came {declared}, "
                    f"and then the connection ended")
 
-    def json(self):
+    def json(self) -> Any:
         """The request's body as JSON; None if it is none."""
         return as_json(self.request.body)
 
-    def reply_json(self):
+    def reply_json(self) -> Any:
         return as_json(self.reply.body) if self.reply else None
 
 
-def as_json(body):
+def as_json(body: Union[bytes, bytearray]) -> Any:
     try:
         return json.loads(bytes(body))
     except ValueError:
@@ -101,33 +130,34 @@ class Rule:
     them for the exchange), never answers (`holds`), ends the connection after these seconds without an answer, or
     closes it after the reply. `manner` is how the reply is written."""
 
-    def __init__(self, kind, reply=None, close=False, headers=(), decide=None, holds=False, ends_after=None,
-                 manner=None):
+    def __init__(self, kind: str, reply: Optional[Tuple[int, bytes]] = None, close: bool = False,
+                 headers: Iterable[Tuple[str, str]] = (), decide: Optional[Decide] = None, holds: bool = False,
+                 ends_after: Optional[float] = None, manner: Optional[Manner] = None) -> None:
         self.kind, self.reply, self.close, self.headers, self.decide = kind, reply, close, headers, decide
         self.holds, self.ends_after, self.manner = holds, ends_after, manner or Manner()
 
     @property
-    def stands_in(self):
+    def stands_in(self) -> bool:
         """Whether the service does not see the request."""
         return bool(self.reply or self.decide or self.holds or self.ends_after is not None)
 
-    def bytes(self, exchange=None):
-        status, body = self.decide(exchange) if self.decide else self.reply
+    def bytes(self, exchange: Optional[Exchange] = None) -> bytes:
+        status, body = self.decide(exchange) if self.decide and exchange else self.reply or (500, b"")
         lines = [f"HTTP/1.1 {status} Rule", "Content-Type: application/json", f"Content-Length: {len(body)}"]
         lines += [f"{name}: {value}" for name, value in self.headers]
         return ("\r\n".join(lines) + "\r\n\r\n").encode() + body
 
-    def did(self, exchange):
+    def did(self, exchange: Exchange) -> str:
         if self.holds:
             return "did not answer it"
         if self.ends_after is not None:
             return f"ended the connection after {self.ends_after:g} s without an answer"
         if self.reply or self.decide:
-            return f"answered it {exchange.status or self.reply[0]}"
+            return f"answered it {exchange.status}"
         return "ended the connection after the answer"
 
 
-def shown_bytes(data, most=40):
+def shown_bytes(data: bytes, most: int = 40) -> str:
     """Bytes as they may be printed."""
     text = re.sub(r"[^ -~]", lambda found: repr(found[0])[1:-1], bytes(data[:most]).decode("latin-1"))
     return text + (".." if len(data) > most else "")

@@ -2,10 +2,13 @@
 import concurrent.futures
 import time
 import traceback
-from typing import Callable, NamedTuple, Optional, Tuple
+from typing import Any, Callable, Dict, Iterator, List, NamedTuple, Optional, Set, Tuple
 
 from ..service import Fault
 from .pages import Page
+
+Play = Callable[..., None]  # takes a stage
+OpenStage = Callable[["Scenario", "Jury"], Any]
 
 PASS, FAIL, SHOULD, NOTE = "PASS", "FAIL", "SHOULD", "NOTE"
 GRAVITY = (PASS, NOTE, SHOULD, FAIL)  # of several outcomes of one check the last of these counts
@@ -22,8 +25,16 @@ class Scenario(NamedTuple):
     """A few requests, and the checks that judge what came of them."""
     name: str
     checks: Tuple[Check, ...]
-    play: Callable  # takes the stage, and judges each of the checks
-    settings: dict  # of the stage
+    play: Play  # takes the stage, and judges each of the checks
+    settings: Dict[str, Any]  # of the stage
+
+
+class Seen(NamedTuple):
+    """Of a scenario with a FAIL."""
+    history: Optional[str]  # the service's, for its timeline
+    acts: Tuple[str, ...]  # what the kit did in the service's place
+    wire: Tuple[str, ...]  # what the proxy saw that may be the cause, and the last exchange
+    cause: str  # what that comes from, if the connections show it: told once
 
 
 class Verdict(NamedTuple):
@@ -32,9 +43,7 @@ class Verdict(NamedTuple):
     outcome: str
     came: str  # what came, as a line
     seconds: float  # that its scenario took
-    history: Optional[str] = None  # of a scenario with a FAIL: the service's, for its timeline
-    acts: Tuple[str, ...] = ()  # and what the kit did in the service's place
-    wire: Tuple[str, ...] = ()  # and what the proxy saw that may be the cause, and the last exchange
+    seen: Seen
     stops: bool = False  # whether nothing else can be judged
 
 
@@ -45,10 +54,11 @@ class Missing(Exception):
 class Jury:
     """The verdicts on the checks of one scenario."""
 
-    def __init__(self, scenario):
-        self.scenario, self.verdicts, self.stops = scenario, {}, False
+    def __init__(self, scenario: Scenario) -> None:
+        self.scenario, self.stops = scenario, False
+        self.verdicts: Dict[str, Tuple[str, str]] = {}  # by the names of checks: an outcome, and what came
 
-    def judge(self, name, outcome, came):
+    def judge(self, name: str, outcome: str, came: str) -> None:
         """Of several outcomes of a check the worst counts, and of these the first."""
         if not any(check.name == name for check in self.scenario.checks):
             raise ValueError(f"scenario {self.scenario.name} has no check {name}")
@@ -56,23 +66,23 @@ class Jury:
         if not before or GRAVITY.index(outcome) > GRAVITY.index(before[0]):
             self.verdicts[name] = (outcome, came)
 
-    def rest(self, outcome, came):
+    def rest(self, outcome: str, came: str) -> None:
         for check in self.scenario.checks:
             if check.name not in self.verdicts:
                 self.judge(check.name, outcome, came)
 
 
-def scenarios_of(registry):
+def scenarios_of(registry: List[Scenario]) -> Callable[..., Callable[[Play], Play]]:
     """A decorator that adds a scenario to a registry: its name is the function's."""
-    def made(*checks, **settings):
-        def add(play):
+    def made(*checks: Any, **settings: Any) -> Callable[[Play], Play]:
+        def add(play: Callable[..., Any]) -> Play:
             registry.append(Scenario(play.__name__, tuple(Check(*check) for check in checks), play, settings))
             return play
         return add
     return made
 
 
-def chosen(registry, only):
+def chosen(registry: List[Scenario], only: List[str]) -> List[Scenario]:
     """The scenarios of which a name of `only` is the name, or that of a check; all if there is none."""
     if not only:
         return list(registry)
@@ -80,13 +90,13 @@ def chosen(registry, only):
             or any(check.name in only for check in scenario.checks)]
 
 
-def names_of(registry):
+def names_of(registry: List[Scenario]) -> Set[str]:
     return {scenario.name for scenario in registry} | {check.name for scenario in registry for check in scenario.checks}
 
 
-def run(scenario, open_stage):
+def run(scenario: Scenario, open_stage: OpenStage) -> List[Verdict]:
     """Plays one scenario on a stage of its own: its verdicts, in the order of its checks."""
-    jury, begun, seen = Jury(scenario), time.monotonic(), (None, (), ())
+    jury, begun, seen = Jury(scenario), time.monotonic(), Seen(None, (), (), "")
     with open_stage(scenario, jury) as stage:
         try:
             stage.prepare()
@@ -101,18 +111,19 @@ def run(scenario, open_stage):
             jury.rest(FAIL, "the kit could not go on: " + traceback.format_exc().strip().splitlines()[-1])
         if any(outcome == FAIL for outcome, _ in jury.verdicts.values()):
             drawn = scenario.settings.get("drawn", True)
-            seen = (stage.history() if drawn else None, tuple(stage.acts()), tuple(stage.on_the_wire()))
+            seen = Seen(stage.history() if drawn else None, tuple(stage.acts()), tuple(stage.on_the_wire()),
+                        stage.cause())
     seconds = time.monotonic() - begun
-    return [Verdict(check, scenario.name, *jury.verdicts[check.name], seconds, *seen, jury.stops)
+    return [Verdict(check, scenario.name, *jury.verdicts[check.name], seconds, seen, jury.stops)
             for check in scenario.checks]
 
 
-def run_all(scenarios, open_stage, at_once):
+def run_all(scenarios: List[Scenario], open_stage: OpenStage, at_once: int) -> Iterator[List[Verdict]]:
     """The verdicts of each scenario as a list, in the order of the scenarios, each as soon as it and those before it
     are there."""
     pool = concurrent.futures.ThreadPoolExecutor(at_once)
     # (the longest first, so that none of them begins last)
-    order = sorted(scenarios, key=lambda scenario: -scenario.settings.get("lasts", 0))
+    order = sorted(scenarios, key=lambda scenario: -float(scenario.settings.get("lasts", 0)))
     running = {scenario.name: pool.submit(run, scenario, open_stage) for scenario in order}
     try:
         for scenario in scenarios:

@@ -2,11 +2,13 @@
 import os
 import tempfile
 import time
-from typing import NamedTuple
+from typing import Callable, Dict, Iterator, List, NamedTuple, Tuple
 
 from .kit import FAIL, NOTE, PASS, SHOULD
+from .process import Holds, Process
+from .stage import Stage
 
-COUNTED = ("descriptors", "threads", "processes", "zombies")  # of what `Holds` has
+COUNTED = ("descriptors", "threads", "zombies")  # of what `Holds` has
 PART = 50  # requests between two looks
 LEAST_PARTS = 6  # that a judgement takes
 EACH = 0.02  # of one thing, that is left behind for a request at least
@@ -21,26 +23,27 @@ FILE = 1000  # bytes of a file that may be one for each request; a larger one is
 
 class Look(NamedTuple):
     done: int
-    holds: object
+    holds: Holds
 
 
 class Looks:
     """What a process held, after how many requests."""
 
-    def __init__(self, process):
-        self._process, self._looks = process, []
+    def __init__(self, process: Process) -> None:
+        self._process = process
+        self._looks: List[Look] = []
 
-    def look(self, done):
+    def look(self, done: int) -> None:
         self._looks.append(Look(done, self._process.holds()))
 
-    def _values(self, name):
+    def _values(self, name: str) -> List[int]:
         return [getattr(look.holds, name) for look in self._looks]
 
     @property
-    def done(self):
+    def done(self) -> int:
         return self._looks[-1].done
 
-    def counted(self, name):
+    def counted(self, name: str) -> Tuple[str, str]:
         """How many more of these there are after the last request than after the first quarter, the least of a few
         looks each: an outcome and words."""
         values, quarter = self._values(name), max(1, len(self._looks) // 4)
@@ -51,7 +54,7 @@ class Looks:
             return (FAIL if more >= LEAKED else NOTE), f"{last} invocations are too few to tell: {words}"
         return (FAIL if more >= max(LEAKED, EACH * (last - first)) else PASS), words
 
-    def grows(self):
+    def grows(self) -> int:
         """Whether memory has grown in each of the last parts, and evenly: the bytes for each request; 0 if not."""
         values = self._values("memory")
         if len(values) < LEAST_PARTS + 2:
@@ -66,14 +69,14 @@ class Looks:
         grown = last - first
         if grown < GROWN or not even or steps < (len(tail) - 1) * 0.6:
             return 0
-        return grown // max(1, self.done - self._looks[len(values) // 4].done)
+        return int(grown // max(1, self.done - self._looks[len(values) // 4].done))
 
-    def memory(self):
+    def memory(self) -> str:
         values = self._values("memory")
         return f"{(values[-1] - values[len(values) // 4]) / 1e6:+.1f} MB in {self.done} invocations"
 
 
-def repeat(process, once, count, seconds, patience):
+def repeat(process: Process, once: Callable[[int], None], count: int, seconds: float, patience: float) -> Looks:
     """Calls `once` with the numbers from 0 on, this often or for so many seconds, and then for as long as memory grows,
     up to `patience` seconds more. Returns what the process held."""
     looks, done, begun = Looks(process), 0, time.monotonic()
@@ -92,8 +95,12 @@ def repeat(process, once, count, seconds, patience):
     return looks
 
 
-def judge(stage, looks, names, wanted):
+def judge(stage: Stage, looks: Looks, names: Dict[str, str], wanted: int) -> None:
     """Judges memory and the things that are counted, by the names of their checks."""
+    left, words = looks.counted("processes")
+    stage.jury.judge(names["processes"], left, words)
+    if left == FAIL:  # (each has memory, descriptors and threads of its own)
+        return stage.jury.rest(NOTE, "not judged: it leaves processes behind")
     rate = looks.grows()
     too_few = looks.done < wanted
     if rate:
@@ -104,19 +111,19 @@ def judge(stage, looks, names, wanted):
     else:
         stage.check(names["memory"], True, "", looks.memory())
     for thing in COUNTED:
-        outcome, words = looks.counted(thing)
-        stage.jury.judge(names[thing], outcome, words)
+        stage.jury.judge(names[thing], *looks.counted(thing))
+    return None
 
 
 # ---- files -----------------------------------------------------------------------------------------------------------
 
-def folders(stage):
+def folders(stage: Stage) -> List[str]:
     """Where a process may write: the temporary folders, and its own."""
     named = {tempfile.gettempdir(), stage.variables.get("TMPDIR", ""), "/tmp", "/var/tmp", "/dev/shm", os.getcwd()}
     return sorted(folder for folder in named if folder and os.path.isdir(folder))
 
 
-def left_files(stage, marks, since):
+def left_files(stage: Stage, marks: List[bytes], since: float) -> List[int]:
     """The sizes of the files, written since a moment, that have one of these marks in them: only the tested program
     knows these."""
     sizes = []
@@ -135,7 +142,7 @@ def left_files(stage, marks, since):
     return sizes
 
 
-def entries(folder):
+def entries(folder: str) -> Iterator[os.DirEntry[str]]:
     """The files of a folder, and of those in it."""
     for entry in os.scandir(folder):
         yield entry
@@ -146,7 +153,7 @@ def entries(folder):
             continue
 
 
-def judge_files(stage, name, marks, since, done):
+def judge_files(stage: Stage, name: str, marks: List[bytes], since: float, done: int) -> None:
     """A file for each request fills the temporary folder in the end; clients of AWS's own leave small ones."""
     sizes = left_files(stage, marks, since)
     words = f"{len(sizes)} files with {sum(sizes):,} bytes, after {done} invocations"

@@ -1,5 +1,10 @@
 """How another Lambda may write its replies: the same in meaning, in other bytes."""
-from typing import Callable, NamedTuple, Optional, Tuple
+from typing import TYPE_CHECKING, Callable, List, NamedTuple, Optional, Tuple
+
+from .messages import Message
+
+if TYPE_CHECKING:
+    from .exchanges import Exchange
 
 KEPT = ("content-length", "transfer-encoding")  # of a body, which is written anew
 
@@ -8,10 +13,11 @@ class Manner(NamedTuple):
     """How replies are written; by itself, as they are."""
     kinds: Tuple[str, ...] = ()  # of the requests whose replies are written so; all if there is none
     refusals: bool = False  # only those that are refusals
-    named: Callable = str  # what becomes of a header's name
+    named: Callable[[str], str] = str  # what becomes of a header's name
     without: Tuple[str, ...] = ()  # headers, in lower case, that are left out
     more: Tuple[Tuple[str, str], ...] = ()  # headers that are added
     chunk: int = 0  # bytes of each chunk, if the body is sent in chunks
+    spaces: str = " "  # between a header's colon and its value
     interim: bytes = b""  # what comes before the reply
     part: int = 0  # bytes that are sent at once
     pause: float = 0  # seconds between two of these
@@ -20,34 +26,34 @@ class Manner(NamedTuple):
     cut: Optional[int] = None  # bytes of the body after which the connection ends
     body: Optional[bytes] = None  # in place of the reply's
 
-    def fits(self, exchange, status):
+    def fits(self, exchange: "Exchange", status: int) -> bool:
         return (not self.kinds or exchange.kind in self.kinds) and (not self.refusals or status >= 400)
 
     @property
-    def ends(self):
+    def ends(self) -> bool:
         """Whether the connection ends after the reply."""
         return self.close or self.cut is not None
 
-    def parts(self, reply):
+    def parts(self, reply: Message) -> List[bytes]:
         """The bytes of a reply, in the parts in which they are sent."""
         data = self.interim + self._head(reply) + self._body(reply)
         size = self.part or len(data)
         cuts = [*range(0, len(data), size)][:self.most]
         return [data[begin:end] for begin, end in zip(cuts, [*cuts[1:], len(data)])]
 
-    def _whole(self, reply):
+    def _whole(self, reply: Message) -> bytes:
         return bytes(reply.body) if self.body is None else self.body
 
-    def _head(self, reply):
+    def _head(self, reply: Message) -> bytes:
         lines = reply.raw_head.decode("latin-1").splitlines()
         length = ("Transfer-Encoding", "chunked") if self.chunk else ("Content-Length", str(len(self._whole(reply))))
         pairs = [(name, value.strip()) for name, _, value in (line.partition(":") for line in lines[1:] if line)
                  if name.lower() not in (*KEPT, *self.without)]
         pairs += [*self.more, length, *([("Connection", "close")] if self.close else [])]
-        written = [lines[0], *(f"{self.named(name)}: {value}" for name, value in pairs)]
+        written = [lines[0], *(f"{self.named(name)}:{self.spaces}{value}" for name, value in pairs)]
         return ("\r\n".join(written) + "\r\n\r\n").encode("latin-1")
 
-    def _body(self, reply):
+    def _body(self, reply: Message) -> bytes:
         body = self._whole(reply)
         if self.cut is not None:
             return body[:self.cut]

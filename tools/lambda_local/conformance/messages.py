@@ -1,4 +1,5 @@
 """HTTP/1.1 messages cut out of a stream of bytes (RFC 9112), for the proxy, which forwards bytes and reads along."""
+from typing import Callable, Dict, Optional
 
 
 class Malformed(Exception):
@@ -8,16 +9,17 @@ class Malformed(Exception):
 class Message:
     """A request or a reply that grows with `feed` until it is whole."""
 
-    def __init__(self, has_body=True):
-        self.start, self.headers, self.body = "", {}, bytearray()
+    def __init__(self, has_body: bool = True) -> None:
+        self.start, self.body = "", bytearray()
+        self.headers: Dict[str, str] = {}
         self.raw_head = b""  # as it came, with its empty line
         self.head_ended = self.whole = self.to_the_end = False
         self._has_body = has_body  # a reply to HEAD, and a 1xx, 204 or 304, has none
         self._pending = bytearray()
         self._left = 0  # of the body or of the chunk
-        self._step = self._head
+        self._step: Callable[[], bool] = self._head
 
-    def feed(self, data):
+    def feed(self, data: bytes) -> bytes:
         """Takes bytes; gives those that belong to the next message."""
         self._pending += data
         while not self.whole and self._step():
@@ -27,16 +29,16 @@ class Message:
             rest, self._pending = bytes(self._pending), bytearray()
         return rest
 
-    def ended(self):
+    def ended(self) -> bool:
         """The peer has ended its stream: whether the message is whole by that."""
         self.whole = self.whole or (self.head_ended and self.to_the_end)
         return self.whole
 
     @property
-    def chunked(self):
+    def chunked(self) -> bool:
         return self.headers.get("transfer-encoding", "").lower() == "chunked"
 
-    def _line(self):
+    def _line(self) -> Optional[bytes]:
         end = self._pending.find(b"\n")
         if end < 0:
             if len(self._pending) > 65536:
@@ -46,7 +48,7 @@ class Message:
         del self._pending[:end + 1]
         return line
 
-    def _head(self):
+    def _head(self) -> bool:
         line = self._line()
         if line is None:
             return False
@@ -66,7 +68,7 @@ class Message:
             self._choose()
         return True
 
-    def _choose(self):
+    def _choose(self) -> None:
         is_reply = self.start.startswith("HTTP/")
         status = self.start.split(" ")[1] if is_reply and " " in self.start else ""
         if not self._has_body or status.startswith("1") or status in ("204", "304"):
@@ -84,23 +86,23 @@ class Message:
         else:
             self.whole = True
 
-    def _sized(self):
+    def _sized(self) -> bool:
         self._take()
         self.whole = self._left == 0
         return False
 
-    def _rest(self):
+    def _rest(self) -> bool:
         self.body += self._pending
         self._pending.clear()
         return False
 
-    def _take(self):
+    def _take(self) -> None:
         part = self._pending[:self._left]
         self.body += part
         self._left -= len(part)
         del self._pending[:len(part)]
 
-    def _chunk_size(self):
+    def _chunk_size(self) -> bool:
         line = self._line()
         if line is None:
             return False
@@ -111,20 +113,20 @@ class Message:
         self._step = self._chunk if self._left else self._trailers
         return True
 
-    def _chunk(self):
+    def _chunk(self) -> bool:
         self._take()
         if self._left:
             return False
         self._step = self._chunk_end
         return True
 
-    def _chunk_end(self):
+    def _chunk_end(self) -> bool:
         if self._line() is None:
             return False
         self._step = self._chunk_size
         return True
 
-    def _trailers(self):
+    def _trailers(self) -> bool:
         line = self._line()
         if line is None:
             return False

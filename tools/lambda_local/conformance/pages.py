@@ -1,5 +1,5 @@
 """The public pages by which the checks judge."""
-from typing import NamedTuple
+from typing import Callable, NamedTuple
 
 GUIDE = "https://docs.aws.amazon.com/lambda/latest/dg/"
 RFC = "https://www.rfc-editor.org/rfc/"
@@ -11,11 +11,11 @@ class Page(NamedTuple):
     part: str
     address: str
 
-    def __str__(self):
+    def __str__(self) -> str:
         return f"{self.title}, \"{self.part}\" ({self.address})"
 
 
-def _guide(title, name):
+def _guide(title: str, name: str) -> Callable[[str], Page]:
     """Makes the pages that are the parts of a page of the Developer Guide."""
     return lambda part: Page(f"Lambda Developer Guide, {title}", part, f"{GUIDE}{name}.html")
 
@@ -28,7 +28,7 @@ _extensions = _guide("Using the Lambda Extensions API to create extensions", "ru
 _telemetry = _guide("Accessing real-time telemetry data for extensions using the Telemetry API", "telemetry-api")
 
 
-def _rfc(number, section, title):
+def _rfc(number: int, section: str, title: str) -> Page:
     return Page(f"RFC {number}", f"{section}. {title}", f"{RFC}rfc{number}#section-{section}")
 
 
@@ -40,6 +40,7 @@ INITIALIZATION_TASKS = _custom("Initialization tasks")
 PROCESSING_TASKS = _custom("Processing tasks")
 STREAMING = _custom("Implementing response streaming in a custom runtime")
 INIT_PHASE = _life("Init phase")
+INVOKE_PHASE = _life("Invoke phase")
 INVOKE_FAILURES = _life("Failures during the invoke phase")
 SHUTDOWN_PHASE = _life("Shutdown phase")
 REUSE = _life("Lambda execution environment lifecycle")
@@ -54,6 +55,7 @@ EXTENSION_SHUTDOWN = _extensions("Shutdown phase")
 EXTENSION_INIT = _extensions("Init phase")
 TELEMETRY = _telemetry("Creating extensions using the Telemetry API")
 
+JSON_GRAMMAR = _rfc(8259, "2", "JSON Grammar")
 JSON_NUMBERS = _rfc(8259, "6", "Numbers")
 JSON_STRINGS = _rfc(8259, "7", "Strings")
 JSON_TEXTS = _rfc(8259, "8.1", "Character Encoding")
@@ -64,5 +66,6 @@ FRAMING = _rfc(9112, "6.3", "Message Body Length")
 CHUNKED = _rfc(9112, "7.1", "Chunked Transfer Coding")
 INCOMPLETE = _rfc(9112, "8", "Handling Incomplete Messages")
 CLOSING = _rfc(9112, "9.6", "Tear-down")
+FIELD_LINES = _rfc(9112, "5", "Field Syntax")
 FIELD_NAMES = _rfc(9110, "5.1", "Field Names")
 INTERIM = _rfc(9110, "15.2", "Informational 1xx")

@@ -1,4 +1,5 @@
 """The command that is tested: its processes, what they write, and how they end."""
+import contextlib
 import os
 import shutil
 import signal
@@ -6,7 +7,7 @@ import subprocess
 import tempfile
 import threading
 import time
-from typing import NamedTuple
+from typing import Any, Callable, Dict, Iterator, List, NamedTuple, Set
 
 from ..guard import GUARD
 from ..service import Fault
@@ -14,9 +15,10 @@ from .watch import OwnTime, marked, members, open_descriptors, resident, threads
 
 SHOWN = 400  # bytes of the end of what it wrote
 LOOK = 0.05  # seconds between two looks at what it does
+OPENED = 15  # seconds after which a stage that is being opened is not waited for any more
 
 
-def program_of(command):
+def program_of(command: List[str]) -> str:
     """The path of the command's program; a fault if there is none."""
     found = shutil.which(command[0])
     if not found:
@@ -24,7 +26,8 @@ def program_of(command):
     return os.path.abspath(found) if "/" in command[0] else found
 
 
-def variables_of(configuration, function, port, number, more):
+def variables_of(configuration: Dict[str, Any], function: Dict[str, Any], port: int, number: int,
+                 more: Dict[str, str]) -> Dict[str, str]:
     """Those that Lambda sets (Lambda Developer Guide, "Defined runtime environment variables")."""
     region = configuration["region"]
     return {
@@ -49,10 +52,26 @@ class Holds(NamedTuple):
 class Processes:
     """The processes that were started and have not ended yet, so that none is left running in any case."""
 
-    def __init__(self):
-        self._lock, self._running, self.closed = threading.Lock(), set(), False
+    def __init__(self) -> None:
+        self._lock, self.closed = threading.Condition(), False
+        self._running: "Set[Process]" = set()
+        self._opening = 0  # stages that are being opened: their services are known to the guard only then
 
-    def start(self, command, variables):
+    @contextlib.contextmanager
+    def opening(self) -> Iterator[None]:
+        """While a stage is opened; none is any more once all is closed."""
+        with self._lock:
+            if self.closed:
+                raise Fault(2, "it is being ended")
+            self._opening += 1
+        try:
+            yield
+        finally:
+            with self._lock:
+                self._opening -= 1
+                self._lock.notify_all()
+
+    def start(self, command: List[str], variables: Dict[str, str]) -> "Process":
         with self._lock:
             if self.closed:
                 raise Fault(2, "it is being ended")
@@ -60,22 +79,27 @@ class Processes:
             self._running.add(process)
             return process
 
-    def _gone(self, process):
+    def _gone(self, process: "Process") -> None:
         with self._lock:
             self._running.discard(process)
 
-    def close(self):
+    def close(self) -> None:
         with self._lock:
             self.closed = True
             running = list(self._running)
         for process in running:
             process.kill()
 
+    def settle(self) -> None:
+        """Once closed: waits until no stage is being opened."""
+        with self._lock:
+            self._lock.wait_for(lambda: not self._opening, OPENED)
+
 
 class Process:
     """A command in a session of its own. What it writes goes to a file that is gone with it."""
 
-    def __init__(self, command, variables, gone):
+    def __init__(self, command: List[str], variables: Dict[str, str], gone: Callable[["Process"], None]) -> None:
         self.command, self.begun, self._gone = command, time.monotonic(), gone
         self.output = tempfile.TemporaryFile()
         try:
@@ -86,24 +110,24 @@ class Process:
             self.output.close()
             raise Fault(2, f"{command[0]} could not be started: {fault.strerror}") from None
         self._mark = f"AWS_LAMBDA_RUNTIME_API={variables['AWS_LAMBDA_RUNTIME_API']}".encode()
-        self.status = None
+        self.status = 0  # once it has ended
         self.own = OwnTime(self._child.pid)  # since it began, or since `wait` has begun
         self._ended = threading.Event()
         threading.Thread(target=self._watch, daemon=True).start()
 
-    def _watch(self):
+    def _watch(self) -> None:
         self.status = self._child.wait()
         self._ended.set()
 
     @property
-    def number(self):
+    def number(self) -> int:
         return self._child.pid
 
     @property
-    def ended(self):
+    def ended(self) -> bool:
         return self._ended.is_set()
 
-    def wait(self, seconds):
+    def wait(self, seconds: float) -> bool:
         """Whether it ends within this many seconds, by its own time, which `own` has then."""
         self.own = OwnTime(self.number)
         while not self._ended.wait(max(0.001, min(LOOK, seconds - self.own.seconds))):
@@ -112,14 +136,14 @@ class Process:
         self.own.look()
         return True
 
-    def signal(self, number):
+    def signal(self, number: int) -> None:
         """Sends it to the whole group."""
         try:
             os.killpg(self._child.pid, number)
         except (ProcessLookupError, PermissionError):
             pass
 
-    def kill(self):
+    def kill(self) -> None:
         """Ends all its processes as Lambda does at last."""
         self.signal(signal.SIGKILL)
         for member in {*members(self.number), *marked(self._mark, self.number)}:
@@ -131,7 +155,7 @@ class Process:
         GUARD.release(self.number)
         self._gone(self)
 
-    def written(self):
+    def written(self) -> str:
         """The end of what it wrote, as one line."""
         try:
             size = os.fstat(self.output.fileno()).st_size
@@ -141,12 +165,12 @@ class Process:
         lines = [line.strip() for line in text.splitlines() if line.strip()]
         return lines[-1] if lines else ""
 
-    def how_it_ended(self):
+    def how_it_ended(self) -> str:
         if not self.ended:
             return "it runs"
         return f"it ended by signal {-self.status}" if self.status < 0 else f"it ended with status {self.status}"
 
-    def holds(self):
+    def holds(self) -> Holds:
         """What its processes hold: bytes of memory, and how many descriptors, threads, processes and zombies."""
         running = {*members(self.number), *marked(self._mark, self.number)}
         return Holds(sum(map(resident, running)), sum(map(open_descriptors, running)),

@@ -1,26 +1,27 @@
 """What a run says: a line for each check, for a FAIL what was expected, by which page, what came, what the connections
 show, and the timeline. FAILs of one cause are told once and then counted."""
+import argparse
 import os
-import re
 import subprocess
+from typing import Any, Callable, Dict, Iterable, List, Set
 
 from .. import junit
 from ..paths import tool
 from ..service import Fault
+from .causes import Causes
 from .clock import CLOCK
-from .kit import FAIL, NOTE, PASS, SHOULD
+from .kit import FAIL, NOTE, PASS, SHOULD, Verdict
 
 LINES, WIDTH = 24, 200  # of a timeline as text
-SIGNS = re.compile(r"\d+|[0-9a-f]{8}-[0-9a-f-]{27}")  # that differ from one FAIL of a cause to another
 
 
-def draw(history, *options):
+def draw(history: str, *options: Any) -> str:
     """What tools/timeline writes of a history."""
     done = subprocess.run([*tool("timeline"), *options], input=history.encode(), capture_output=True)
     return done.stdout.decode(errors="replace")
 
 
-def text_timeline(history):
+def text_timeline(history: str) -> List[str]:
     lines = [line if len(line) <= WIDTH else line[:WIDTH] + "\u2026" for line in draw(history).splitlines()]
     if len(lines) > LINES:
         lines = [*lines[:LINES // 2], f".. {len(lines) - LINES} lines ..", *lines[-LINES // 2:]]
@@ -30,10 +31,13 @@ def text_timeline(history):
 class Report:
     """Prints verdicts as they come, and keeps what the files need."""
 
-    def __init__(self, name, options, write=print):
+    def __init__(self, name: str, options: argparse.Namespace, write: Callable[[str], Any] = print) -> None:
         self.write, self.pictures, self.junit_path = write, options.pictures, options.junit
-        self.strict, self._told, self._again, self._timelines = options.strict, {}, {}, set()
-        self.suite, self.counts, self._drawn = junit.Suite(name), {PASS: 0, FAIL: 0, SHOULD: 0, NOTE: 0}, {}
+        self.strict, self._causes = options.strict, Causes()
+        self._again: Dict[str, List[str]] = {}  # by the names of checks: others that failed for the same cause
+        self._timelines: Set[str] = set()
+        self.suite, self.counts = junit.Suite(name), {PASS: 0, FAIL: 0, SHOULD: 0, NOTE: 0}
+        self._drawn: Dict[str, str] = {}  # by their paths
         if self.junit_path and not os.access(os.path.dirname(os.path.abspath(self.junit_path)), os.W_OK):
             raise Fault(2, f"--junit {self.junit_path}: name a file in a folder that can be written")
         if self.pictures:
@@ -43,29 +47,28 @@ class Report:
                 raise Fault(2, f"--pictures {self.pictures}: {fault.strerror}: name a folder that can be "
                                f"written") from None
 
-    def add_all(self, verdicts, only):
+    def add_all(self, verdicts: Iterable[Verdict], only: List[str]) -> None:
         """Adds those that are chosen."""
         for verdict in verdicts:
             if not only or verdict.scenario in only or verdict.check.name in only:
                 self.add(verdict)
 
-    def add(self, verdict):
+    def add(self, verdict: Verdict) -> None:
         self.counts[verdict.outcome] += 1
-        cause = SIGNS.sub("", verdict.came)
-        if verdict.outcome == FAIL and cause in self._told:
-            self._again.setdefault(self._told[cause], []).append(verdict.check.name)
-            details = [f"the same came for {self._told[cause]}"]
+        is_fail = verdict.outcome == FAIL
+        first = self._causes.first(verdict.check.name, verdict.came, verdict.seen.cause) if is_fail else None
+        if first:
+            self._again.setdefault(first, []).append(verdict.check.name)
+            details = [f"for the same cause as {first}"]
         else:
             details = self._tell(verdict)
-        if verdict.outcome == FAIL:
-            self._told.setdefault(cause, verdict.check.name)
         failed = verdict.outcome == FAIL or (verdict.outcome == SHOULD and self.strict)
         said = verdict.outcome in (NOTE, SHOULD) and not failed
         self.suite.case(f"{self.suite.name}.{verdict.scenario}", verdict.check.name, verdict.seconds,
                         failure=verdict.came if failed else None, details="\n".join(details),
                         output=f"{verdict.outcome} {verdict.came}" if said else "")
 
-    def _tell(self, verdict):
+    def _tell(self, verdict: Verdict) -> List[str]:
         """Writes a verdict. Returns the details."""
         said = verdict.came if verdict.outcome != PASS else (
             verdict.check.expected + (f": {verdict.came}" if verdict.came else ""))
@@ -77,37 +80,37 @@ class Report:
         return details
 
     @staticmethod
-    def _rule(verdict):
+    def _rule(verdict: Verdict) -> List[str]:
         return [f"expected  {verdict.check.expected}", f"page      {verdict.check.page}"]
 
-    def _details(self, verdict):
-        lines = [*self._rule(verdict), *(f"wire      {line}" for line in verdict.wire)]
-        if verdict.history:
-            lines += [f"kit       {act}" for act in verdict.acts]
+    def _details(self, verdict: Verdict) -> List[str]:
+        lines = [*self._rule(verdict), *(f"wire      {line}" for line in verdict.seen.wire)]
+        if verdict.seen.history:
+            lines += [f"kit       {act}" for act in verdict.seen.acts]
             if verdict.scenario in self._timelines:
                 lines.append("timeline  as above")
             else:
                 self._timelines.add(verdict.scenario)
-                lines += ["timeline", *("  " + line for line in text_timeline(verdict.history))]
+                lines += ["timeline", *("  " + line for line in text_timeline(verdict.seen.history))]
             if self.pictures:
                 lines.append(f"picture   {self._picture(verdict)}")
         return lines
 
-    def _picture(self, verdict):
+    def _picture(self, verdict: Verdict) -> str:
         """One of each scenario."""
         path = os.path.join(self.pictures, f"{verdict.scenario}.svg")
         if path not in self._drawn:
-            self._drawn[path] = draw(verdict.history, "--svg")
+            self._drawn[path] = draw(verdict.seen.history or "", "--svg")
             with open(path, "w", encoding="utf-8") as file:
                 file.write(self._drawn[path])
         return path
 
-    def finish(self, seconds):
+    def finish(self, seconds: float) -> int:
         """The last lines and the file: the exit status."""
         self.suite.seconds = seconds
         for name, others in self._again.items():
-            checks = "check" if len(others) == 1 else "checks"
-            self.write(f"the same came for {len(others)} more {checks} as for {name}: {', '.join(others)}")
+            checks = "check fails" if len(others) == 1 else "checks fail"
+            self.write(f"{len(others)} more {checks} for the same cause as {name}: {', '.join(others)}")
         if CLOCK.stretch() > 1.5:
             self.write(f"(this machine is busy with other things: limits were {CLOCK.stretch():.1f} times as long)")
         should = f"{self.counts[SHOULD]} should, " if self.counts[SHOULD] else ""

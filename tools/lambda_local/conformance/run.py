@@ -4,9 +4,11 @@ import os
 import signal
 import sys
 import time
+from typing import Any, Callable, List, NoReturn, Tuple, cast
 
 from . import kit
 from .clock import CLOCK
+from .kit import Jury, Scenario
 from .process import Processes, program_of
 from .report import Report
 from .stage import Stage, Tools, patient
@@ -18,12 +20,12 @@ from ..usage import parser_of as parser_of_tool
 class Parser(argparse.ArgumentParser):
     """Wrong usage is one line and status 2."""
 
-    def error(self, message):
+    def error(self, message: str) -> NoReturn:
         raise Fault(2, f"{message} (`{self.prog} --help` lists the options)")
 
 
-def parser_of(name, description, options):
-    parser = parser_of_tool(f"conformance {name}", description, f"{options} -- COMMAND ..", Parser)
+def parser_of(name: str, description: str, options: str) -> Parser:
+    parser = cast(Parser, parser_of_tool(f"conformance {name}", description, f"{options} -- COMMAND ..", Parser))
     parser.add_argument("--init-seconds", metavar="S", type=seconds, default=10, help="how long an Init may take (10)")
     parser.add_argument("--only", metavar="NAME", action="append", default=[],
                         help="a scenario or a check; may stand several times")
@@ -38,14 +40,14 @@ def parser_of(name, description, options):
     return parser
 
 
-def seconds(text):
+def seconds(text: str) -> float:
     value = float(text)
     if not 0 < value <= 3600:
         raise argparse.ArgumentTypeError(f"{text} is not a number of seconds up to 3600")
     return value
 
 
-def split(words):
+def split(words: List[str]) -> Tuple[List[str], List[str]]:
     """Returns the options, and the command after `--`."""
     if "--" not in words:
         return words, []
@@ -53,7 +55,7 @@ def split(words):
     return words[:place], words[place + 1:]
 
 
-def check_arguments(options, command, registry):
+def check_arguments(options: argparse.Namespace, command: List[str], registry: List[Scenario]) -> None:
     unknown = sorted(set(options.only) - kit.names_of(registry))
     if unknown:
         raise Fault(2, f"--only {unknown[0]}: there is no such scenario or check (--list has their names)")
@@ -63,18 +65,19 @@ def check_arguments(options, command, registry):
         program_of(command)
 
 
-def listed(registry):
+def listed(registry: List[Scenario]) -> int:
     for scenario in registry:
         for check in scenario.checks:
             print(f"{scenario.name:<28}{check.name:<22}{check.expected}\n{'':<50}{check.page}")
     return 0
 
 
-def ended_by_signal(number, _frame):
+def ended_by_signal(number: int, _frame: Any) -> None:
     raise SystemExit(128 + number)
 
 
-def play(name, registry, options, command, title, stage=Stage):
+def play(name: str, registry: List[Scenario], options: argparse.Namespace, command: List[str], title: str,
+         stage: Callable[..., Stage] = Stage) -> int:
     """Runs the chosen scenarios: the exit status. If the first of all shows that nothing else can be judged, that is
     all; it raises a Fault if the command is none that can be tested."""
     patient()
@@ -88,7 +91,7 @@ def play(name, registry, options, command, title, stage=Stage):
         report.write(title)
         chosen, only = kit.chosen(registry, options.only), options.only
 
-        def open_stage(scenario, jury):
+        def open_stage(scenario: Scenario, jury: Jury) -> Stage:
             return stage(tools, scenario, jury, **scenario.settings)
         first = kit.run(registry[0], open_stage)
         if any(verdict.stops for verdict in first):
@@ -105,15 +108,16 @@ def play(name, registry, options, command, title, stage=Stage):
         raise Fault(2, str(fault)) from None
     except SystemExit as end:  # by a signal: nothing is left running, and no scenario is waited for
         processes.close()
+        processes.settle()
         GUARD.end()
         sys.stdout.flush()
-        os._exit(end.code)
+        os._exit(int(end.code or 0))
     finally:
         processes.close()
 
 
-def at_once():
+def at_once() -> int:
     """How many scenarios run beside one another: most of them wait most of the time, but for those of a busy
     machine."""
-    processors = os.cpu_count() or 1
+    processors = len(os.sched_getaffinity(0))
     return max(4, processors, round(3 * processors / CLOCK.slowness()))

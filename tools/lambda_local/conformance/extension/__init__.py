@@ -13,6 +13,7 @@ what the check is about.
 Exit statuses: 0; 1 if a check is a FAIL, or with --strict a SHOULD; 2 for wrong usage, or a command that cannot be
 tested."""
 import argparse
+from typing import List
 
 from ...service import Fault
 from ..run import check_arguments, listed, parser_of, play, seconds, split
@@ -24,14 +25,14 @@ SCENARIOS = [scenario for module in (scenarios, telemetry, reports, another, loa
 EVENTS = ("INVOKE", "SHUTDOWN")
 
 
-def events(text):
+def events(text: str) -> List[str]:
     found = [word for word in text.split(",") if word]
     if not set(found) <= set(EVENTS) or len(set(found)) < len(found):
         raise argparse.ArgumentTypeError(f"{text}: write INVOKE, SHUTDOWN or both, with a comma")
     return found
 
 
-def main(words):
+def main(words: List[str]) -> int:
     words, command = split(words)
     parser = parser_of("extension", __doc__,
                        "--name NAME [--events INVOKE,SHUTDOWN] [--init-seconds S] [--only NAME] [--strict] "

@@ -1,12 +1,15 @@
 """Another Lambda: the same answers in other bytes, to a new process each."""
+from typing import List, Optional
+
 from .. import pages
-from ..kit import Missing, scenarios_of
+from ..kit import Missing, Scenario, scenarios_of
 from ..manners import Manner
 from ..exchanges import Rule
 from ..runtime.another import MANY, Way, titled
 from ..stage import shown
+from .stage import ExtensionStage
 
-SCENARIOS = []
+SCENARIOS: List[Scenario] = []
 scenario = scenarios_of(SCENARIOS)
 
 EVENTS = 2  # that it takes in each way
@@ -27,13 +30,13 @@ WAYS = (
 
 
 @scenario(*[way[:3] for way in WAYS], timeout=6, lasts=4)
-def another_lambda(stage):
+def another_lambda(stage: ExtensionStage) -> None:
     for way in WAYS:
         fault = next(filter(None, (fault_in(stage, manner) for manner in way.manners)), None)
         stage.check(way.name, not fault, fault)
 
 
-def fault_in(stage, manner):
+def fault_in(stage: ExtensionStage, manner: Manner) -> Optional[str]:
     """What is wrong with a process that is answered in this manner."""
     stage.environment.proxy.manner = manner
     try:
@@ -55,7 +58,7 @@ def fault_in(stage, manner):
 @scenario(
     ("connection_end", pages.RETRYING,
      "if its peer ends the connection after an event, it asks for the next one on a new connection"))
-def connection_ends(stage):
+def connection_ends(stage: ExtensionStage) -> None:
     environment = stage.environment
     stage.begin()
     stage.idle()
@@ -71,7 +74,7 @@ def connection_ends(stage):
 @scenario(
     ("lost_poll", pages.RETRYING,
      "if the connection ends while Next waits, it asks again, or ends: it waits for no answer that cannot come"))
-def lost_poll(stage):
+def lost_poll(stage: ExtensionStage) -> None:
     environment = stage.environment
     environment.proxy.rule = Rule("event", ends_after=WAITS)
     stage.register()

@@ -1,10 +1,12 @@
 """Many events, one after the other."""
 import time
+from typing import List
 
 from .. import leaks, pages
-from ..kit import NOTE, Missing, scenarios_of
+from ..kit import NOTE, Missing, Scenario, scenarios_of
+from .stage import ExtensionStage
 
-SCENARIOS = []
+SCENARIOS: List[Scenario] = []
 scenario = scenarios_of(SCENARIOS)
 
 EVENTS = 500
@@ -24,18 +26,22 @@ CHECKS = {"memory": "memory", "descriptors": "descriptors", "threads": "threads"
     ("zombies", pages.REUSE, "nor ended ones that are not waited for"),
     ("files", pages.REUSE, "nor large files; a small one for each event is a SHOULD"),
     lasts=10, drawn=False)
-def many_events(stage):
+def many_events(stage: ExtensionStage) -> None:
     stage.begin()
     stage.idle()
     if not stage.registered_for("INVOKE"):
         return stage.jury.rest(NOTE, "it does not register for INVOKE")
     since, process = time.time() - 1, stage.environment.process
 
-    def once(number):
+    def once(number: int) -> None:
         if stage.invoke(str(number).encode()).failed or process.ended:
             raise Missing(f"it did not take event {number + 1}: {stage.said()}")
-    looks = leaks.repeat(process, once, EVENTS, SECONDS, PATIENCE)
-    stage.event("INVOKE", looks.done)
+    try:
+        looks = leaks.repeat(process, once, EVENTS, SECONDS, PATIENCE)
+        stage.event("INVOKE", looks.done)
+    except Missing as missing:
+        stage.check("many_events", False, str(missing))
+        return stage.jury.rest(NOTE, "not judged: it does not take as many")
     stage.check("many_events", not process.ended, stage.said(), f"{looks.done} events")
     leaks.judge(stage, looks, CHECKS, EVENTS)
     requests = [event["requestId"].encode() for event in map(stage.body_of, stage.events("INVOKE")[-200:])]

@@ -1,11 +1,13 @@
 """Errors that an extension reports, and refusals of what it asks for."""
+from typing import List
+
 from .. import pages
-from ..kit import Missing, scenarios_of
+from ..kit import Missing, Scenario, scenarios_of
 from ..exchanges import Rule
 from ..stage import shown
-from .stage import FAILURE_TYPE
+from .stage import FAILURE_TYPE, ExtensionStage
 
-SCENARIOS = []
+SCENARIOS: List[Scenario] = []
 scenario = scenarios_of(SCENARIOS)
 
 ENDS = 3  # seconds in which a process that has to end promptly has ended
@@ -16,10 +18,10 @@ UNKNOWN = b'{"errorMessage":"Unknown extension","errorType":"Extension.UnknownEx
 REFUSED = b'{"errorMessage":"The extension cannot register","errorType":"Extension.RegistrationRefused"}'
 UNKNOWN_EVENT = (b'{"eventType":"CONFORMANCE","deadlineMs":4102444800000,'
                  b'"requestId":"00000000-0000-8000-8001-000000000000"}')
-ROUTES = ("other", "extension_init_error", "extension_exit_error")
+ROUTES = ("other", "init_error", "extension_init_error", "extension_exit_error")
 
 
-def reports(stage, name, kind):
+def reports(stage: ExtensionStage, name: str, kind: str) -> None:
     """Judges an error report: its route, its header, its body, and that the process ends after it."""
     environment = stage.environment
     environment.proxy.wait(lambda: environment.process.ended or any(
@@ -49,7 +51,7 @@ def reports(stage, name, kind):
      "if it fails after its registration (CONFORMANCE_FAILS=init asks for that) it sends init/error, with "
      f"{FAILURE_TYPE}, \"errorMessage\" and \"errorType\", and exits; one that never does so is a NOTE"),
     variables={"CONFORMANCE_FAILS": "init"})
-def failing_init(stage):
+def failing_init(stage: ExtensionStage) -> None:
     stage.start()
     if not stage.environment.asked(kind="register"):
         raise Missing(f"it did not register: {stage.said()}")
@@ -61,7 +63,7 @@ def failing_init(stage):
      "if it fails later (CONFORMANCE_FAILS=exit asks for that at its first event) it sends exit/error in the same way, "
      "and exits; one that never does so is a NOTE"),
     variables={"CONFORMANCE_FAILS": "exit"})
-def failing_later(stage):
+def failing_later(stage: ExtensionStage) -> None:
     stage.begin()
     stage.idle()
     if stage.registered_for("INVOKE"):
@@ -71,7 +73,7 @@ def failing_later(stage):
     reports(stage, "exit_error", "extension_exit_error")
 
 
-def ends(stage, name, since):
+def ends(stage: ExtensionStage, name: str, since: str) -> None:
     process, kinds = stage.environment.process, ("event", "register")
     asked = len(stage.environment.proxy.of(*kinds))
     ended = process.wait(ENDS)
@@ -81,7 +83,7 @@ def ends(stage, name, since):
 
 @scenario(
     ("ends_at_500", pages.EXTENSION_NEXT, "after 500 at Next, which is not recoverable, the process exits promptly"))
-def container_error(stage):
+def container_error(stage: ExtensionStage) -> None:
     stage.environment.proxy.always["event"] = Rule("event", reply=(500, CONTAINER_ERROR))
     stage.register()
     if not stage.environment.asked(kind="event"):
@@ -93,7 +95,7 @@ def container_error(stage):
     ("ends_at_500_register", pages.REGISTER,
      "after 500 at its registration, which is not recoverable, the process exits promptly; one that asks for events "
      "first, and exits at the next 500, is a SHOULD"))
-def container_error_at_registration(stage):
+def container_error_at_registration(stage: ExtensionStage) -> None:
     proxy = stage.environment.proxy
     for kind in ("register", "event", "telemetry"):
         proxy.always[kind] = Rule(kind, reply=(500, CONTAINER_ERROR))
@@ -109,7 +111,7 @@ def container_error_at_registration(stage):
     ("refused_registration", pages.REGISTER,
      "if its registration is refused (403) it ends, or registers again; one that asks for events as if it were not "
      "refused, or registers again and again at once, is a SHOULD"))
-def registration_refused(stage):
+def registration_refused(stage: ExtensionStage) -> None:
     proxy = stage.environment.proxy
     proxy.always["register"] = Rule("register", reply=(403, REFUSED))
     stage.start()
@@ -129,7 +131,7 @@ def registration_refused(stage):
 @scenario(
     ("refused_next", pages.EXTENSION_NEXT,
      "after 403 at Next it ends, or asks again; to ask again and again at once is a SHOULD"))
-def next_refused(stage):
+def next_refused(stage: ExtensionStage) -> None:
     proxy = stage.environment.proxy
     proxy.always["event"] = Rule("event", reply=(403, UNKNOWN))
     stage.register()
@@ -149,7 +151,7 @@ def next_refused(stage):
 @scenario(
     ("unknown_event", pages.EXTENSION_NEXT,
      "an event of a type that it does not know does not end it: it asks for the next one"))
-def event_of_another_type(stage):
+def event_of_another_type(stage: ExtensionStage) -> None:
     environment = stage.environment
     environment.proxy.rule = Rule("event", reply=(200, UNKNOWN_EVENT),
                                   headers=[("Lambda-Extension-Event-Identifier", "0")])

@@ -2,16 +2,18 @@
 import os
 import signal
 import time
+from typing import List
 
 from .. import pages
 from ..clock import CLOCK
-from ..kit import NOTE, Missing, scenarios_of
+from ..exchanges import Exchange
+from ..kit import NOTE, Missing, Scenario, scenarios_of
 from ..watch import begun_at, members, parent_of
 from ..stage import shown
 from .sockets import owner_of
-from .stage import SHUTDOWN_SECONDS, SPARE, report_failure
+from .stage import SHUTDOWN_SECONDS, SPARE, ExtensionStage, report_failure
 
-SCENARIOS = []
+SCENARIOS: List[Scenario] = []
 scenario = scenarios_of(SCENARIOS)
 
 TIMEOUT = 3  # seconds
@@ -28,13 +30,15 @@ SETTLES = 1  # seconds in which a poll too many is seen
      "once it has registered it asks, within as much time again, for its first event"),
     ("identifier", pages.EXTENSION_NEXT,
      "each Next has the Lambda-Extension-Identifier that its registration was answered with"), first=True)
-def registration(stage):
+def registration(stage: ExtensionStage) -> None:
     options, environment = stage.tools.options, stage.environment
     stage.start()
-    if not environment.asked(kind="register") or environment.saw("register", 5) is None:
+    if not environment.asked(kind="register", in_vain=stage.misdirected) or environment.saw("register", 5) is None:
         stage.refuse_if_it_ended()
-        raise Missing(f"it did not register: {stage.said()}")
+        raise Missing(stage.misdirected() or f"it did not register: {stage.said()}")
     exchange = environment.proxy.of("register")[0]
+    if exchange.refused:
+        raise Missing(f"its registration is refused: {exchange}")
     seconds, own = exchange.begun - environment.process.begun, environment.own
     own.real = seconds
     stage.in_time("registers", exchange.status == 200 and min(seconds, own.seconds) <= options.init_seconds, own,
@@ -44,17 +48,19 @@ def registration(stage):
     events = asked.get("events") if isinstance(asked, dict) else None
     stage.check("events", isinstance(events, list) and sorted(events) == sorted(options.events),
                 f"{shown(exchange.request.body)}")
-    polled = environment.asked(kind="event")
+    polled = environment.asked(kind="event", in_vain=stage.misdirected)
     first = environment.proxy.of("event")[0] if polled else None
-    own, seconds = environment.own, first.begun - exchange.begun if polled else 0
+    own, seconds = environment.own, first.begun - exchange.begun if first else 0
     own.real = seconds
     stage.in_time("asks_for_events", polled and min(seconds, own.seconds) <= options.init_seconds, own,
                   options.init_seconds, f"{seconds:.2f} s after its registration" if polled
-                  else f"no Next: {stage.said()}")
+                  else f"no Next: {stage.misdirected() or stage.said()}")
     CLOCK.sleep(SETTLES)
     wrong = [one for one in environment.proxy.of("event")
              if one.request.headers.get("lambda-extension-identifier") != stage.identifier]
     stage.check("identifier", not wrong, f"{len(wrong)} times another one or none")
+    waits = any(not one.ended for one in environment.proxy.of("event"))
+    stage.jury.stops = not polled or (bool(wrong) and not waits)
 
 
 @scenario(
@@ -62,8 +68,11 @@ def registration(stage):
     ("invoke_in_time", pages.EXTENSION_INVOKE,
      "it does so before the function's timeout, which is for all of the Invoke phase"),
     ("one_poll", pages.EXTENSION_NEXT, "there is one Next at a time: no second one while one waits"),
+    ("known_requests", pages.REGISTER,
+     "it makes no request of another route than the Extensions API and the Telemetry API have, and does not register "
+     "again"),
     timeout=TIMEOUT, lasts=3)
-def invocations(stage):
+def invocations(stage: ExtensionStage) -> None:
     stage.begin()
     if not stage.registered_for("INVOKE"):
         return stage.jury.rest(NOTE, "it does not register for INVOKE")
@@ -76,21 +85,23 @@ def invocations(stage):
         if not environment.asked_after(event, 2 * TIMEOUT, "event", stage.timeout + TIMEOUT):
             silent += 1
             break
-        seconds = stage.polls_after(event)[0].begun - event.answered
+        seconds = stage.polls_after(event)[0].begun - event.end
         if seconds > stage.timeout:
             late.append(seconds)
             break  # (the environment was reset)
     CLOCK.sleep(SETTLES)
     polls = environment.proxy.of("event")
-    overlap = any(one.ended is None or other.begun < one.ended for one, other in zip(polls, polls[1:]))
+    overlap = any(other.begun < one.end for one, other in zip(polls, polls[1:]))
     stage.check("asks_after_invoke", not silent, f"no Next within {2 * TIMEOUT} s after an INVOKE: {stage.said()}")
     stage.check("invoke_in_time", not late,
                 f"{late[0] if late else 0:.1f} s after its INVOKE, of a timeout of {stage.timeout} s")
     stage.check("one_poll", not overlap, "a second Next while one waited")
+    stray = [one for one in environment.proxy.of("other", "register") if one.refused]
+    stage.check("known_requests", not stray, str(stray and stray[0]))
     return None
 
 
-def ends_at(stage, name, reason):
+def ends_at(stage: ExtensionStage, name: str, reason: str) -> None:
     """Judges whether it ends at a SHUTDOWN for this reason."""
     exchange, ended, own = stage.shut_down()
     came = exchange.reply_json().get("shutdownReason")
@@ -101,7 +112,7 @@ def ends_at(stage, name, reason):
                   f"{asked}it still ran {SHUTDOWN_SECONDS:g} s after its SHUTDOWN, and was killed")
 
 
-def without_shutdown(stage):
+def without_shutdown(stage: ExtensionStage) -> bool:
     """Notes the checks of an extension that does not register for SHUTDOWN: whether it is one."""
     if stage.registered_for("SHUTDOWN"):
         return False
@@ -111,7 +122,7 @@ def without_shutdown(stage):
 
 @scenario(
     ("ends_at_spindown", pages.EXTENSION_SHUTDOWN, f"at a SHUTDOWN for SPINDOWN it ends within {SHUTDOWN_SECONDS} s"))
-def shutdown_for_a_spindown(stage):
+def shutdown_for_a_spindown(stage: ExtensionStage) -> None:
     stage.begin()
     stage.idle()
     if not without_shutdown(stage):
@@ -123,7 +134,7 @@ def shutdown_for_a_spindown(stage):
     ("ends_at_timeout", pages.EXTENSION_SHUTDOWN, f"at a SHUTDOWN for TIMEOUT it ends within {SHUTDOWN_SECONDS} s"),
     ("registers_anew", pages.EXTENSION_INIT,
      "after a reset its new process registers anew and works as the first one"), timeout=2, lasts=3)
-def shutdown_for_a_timeout(stage):
+def shutdown_for_a_timeout(stage: ExtensionStage) -> None:
     stage.begin()
     stage.idle()
     if without_shutdown(stage):
@@ -133,7 +144,7 @@ def shutdown_for_a_timeout(stage):
     works_anew(stage, "registers_anew")
 
 
-def works_anew(stage, name):
+def works_anew(stage: ExtensionStage, name: str) -> None:
     before = stage.identifier
     stage.begin()
     stage.idle()
@@ -145,15 +156,16 @@ def works_anew(stage, name):
 @scenario(
     ("ends_at_failure", pages.EXTENSION_SHUTDOWN, f"at a SHUTDOWN for FAILURE it ends within {SHUTDOWN_SECONDS} s"),
     companion=True)
-def shutdown_for_a_failure(stage):
+def shutdown_for_a_failure(stage: ExtensionStage) -> None:
     stage.begin()
     stage.idle()
     if not without_shutdown(stage):
-        stage.companion.fail()
+        if stage.companion:
+            stage.companion.fail()
         ends_at(stage, "ends_at_failure", "FAILURE")
 
 
-def worker_of(stage):
+def worker_of(stage: ExtensionStage) -> int:
     """The number of the process that asks for events; if that is a helper that was started for this poll alone, such as
     a `curl`, of the one that has started it."""
     environment = stage.environment
@@ -162,12 +174,15 @@ def worker_of(stage):
     if found is None:
         raise Missing("the process that asks for events was not found")
     since = stage.registration
-    while found != environment.process.number and parent_of(found) in session and is_younger(found, since):
-        found = parent_of(found)
+    while found != environment.process.number and is_younger(found, since):
+        parent = parent_of(found)
+        if parent is None or parent not in session:
+            break
+        found = parent
     return found
 
 
-def is_younger(process, exchange):
+def is_younger(process: int, exchange: Exchange) -> bool:
     """Whether a process began after this exchange did."""
     ticks = begun_at(process)
     uptime = time.clock_gettime(time.CLOCK_BOOTTIME) - (time.monotonic() - exchange.begun)
@@ -179,7 +194,7 @@ def is_younger(process, exchange):
      "if the process that asks for events is killed, the command ends: no crash is hidden"),
     ("works_after_crash", pages.EXTENSION_INIT, "after its crash a new process registers and works as the first one"),
     lasts=3)
-def crash(stage):
+def crash(stage: ExtensionStage) -> None:
     stage.begin()
     stage.idle()
     environment, found = stage.environment, worker_of(stage)
@@ -196,10 +211,10 @@ def crash(stage):
     ("next_without_timeout", pages.EXTENSION_NEXT,
      "Next has no timeout: it waits while there is no event (--idle-seconds, 5 by default)"),
     lasts=5)
-def idle_for_long(stage):
+def idle_for_long(stage: ExtensionStage) -> None:
     environment, seconds = stage.environment, stage.tools.options.idle_seconds
     stage.begin()
     stage.idle()
     poll = environment.given_up("event", seconds)
-    after = f"{poll.left - poll.begun:.1f} s" if poll else ""
+    after = f"{poll.end - poll.begun:.1f} s" if poll else ""
     stage.check("next_without_timeout", poll is None, f"it gave its Next up after {after}; {stage.said()}")

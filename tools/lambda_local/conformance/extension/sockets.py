@@ -1,15 +1,16 @@
 """Which process has a connection open, by what the system says in /proc."""
 import os
+from typing import Iterable, Optional, Set
 
 
-def owner_of(port, peer_port, processes):
+def owner_of(port: int, peer_port: int, processes: Iterable[int]) -> Optional[int]:
     """The number of the process, among these, that has the connection from `port` to `peer_port` of 127.0.0.1; None if
     none has."""
     inode = inode_of(port, peer_port)
     return next((process for process in processes if inode and inode in sockets_of(process)), None)
 
 
-def inode_of(port, peer_port):
+def inode_of(port: int, peer_port: int) -> Optional[str]:
     """Of the socket of the connection's side at `port`."""
     for name in ("tcp", "tcp6"):
         try:
@@ -24,7 +25,7 @@ def inode_of(port, peer_port):
     return None
 
 
-def sockets_of(process):
+def sockets_of(process: int) -> Set[str]:
     """The inodes of the sockets that a process has open."""
     found = set()
     folder = f"/proc/{process}/fd"

@@ -3,18 +3,21 @@ import http.client
 import json
 import threading
 import time
+from typing import Any, Dict, List, Optional, Tuple
 
-from ...service import EXTENSION, RUNTIME, ask, parked
+from ...history import parked
+from ...service import EXTENSION, RUNTIME, ask
 from ..clock import CLOCK
-from ..kit import Missing
-from ..exchanges import Rule
-from ..stage import SILENT, Stage, shown
+from ..kit import Jury, Missing, Scenario
+from ..exchanges import Exchange, Rule
+from ..stage import SILENT, Stage, Tools, shown
 from ..watch import OwnTime
 from .telemetry import Telemetry
 
 NAMED, IDENTIFIED = "Lambda-Extension-Name", "Lambda-Extension-Identifier"
 FAILURE_TYPE = "Lambda-Extension-Function-Error-Type"
 SHUTDOWN_SECONDS = 2  # that Lambda's Shutdown phase has
+SETTLES = 2  # seconds in which it asks again if its Next is refused
 SPARE = 0.15  # seconds in which an end is noticed
 COMPANION = "conformance.companion"
 ANOTHER_EVENT = (b'{"eventType":"INVOKE","deadlineMs":4102444800000,"requestId":"00000000-0000-4000-8000-00000000d00d",'
@@ -25,12 +28,12 @@ ANOTHER_EVENT = (b'{"eventType":"INVOKE","deadlineMs":4102444800000,"requestId":
 class PlayedRuntime(threading.Thread):
     """A runtime of one generation: returns each event, and hangs if that is "hang"."""
 
-    def __init__(self, port):
+    def __init__(self, port: int) -> None:
         super().__init__(daemon=True)
         self._port = port
         self.start()
 
-    def run(self):
+    def run(self) -> None:
         connection = http.client.HTTPConnection("127.0.0.1", self._port)
         try:
             while True:
@@ -51,19 +54,19 @@ class PlayedRuntime(threading.Thread):
 class Companion:
     """A second extension, of the kit: it fails on request, so that the tested one receives SHUTDOWN for FAILURE."""
 
-    def __init__(self, port):
+    def __init__(self, port: int) -> None:
         self._port = port
         _, headers, _ = ask(port, "POST", EXTENSION + "register", '{"events":[]}', {NAMED: COMPANION})
         self._me = {IDENTIFIED: headers["lambda-extension-identifier"]}
         self._poll = http.client.HTTPConnection("127.0.0.1", port)
         self._poll.request("GET", EXTENSION + "event/next", headers=self._me)
 
-    def fail(self):
+    def fail(self) -> None:
         report_failure(self._port, self._me[IDENTIFIED], "the kit's companion fails as it is asked to")
         self._poll.close()
 
 
-def report_failure(port, identifier, message):
+def report_failure(port: int, identifier: str, message: str) -> None:
     ask(port, "POST", EXTENSION + "exit/error", json.dumps({"errorMessage": message, "errorType": "Extension.Crash"}),
         {IDENTIFIED: identifier, FAILURE_TYPE: "Extension.Crash"})
 
@@ -71,18 +74,20 @@ def report_failure(port, identifier, message):
 class ExtensionStage(Stage):
     """A stage whose environment has the extension; `begin` starts a generation of it."""
 
-    def __init__(self, tools, scenario, jury, telemetry=True, companion=False, **settings):
+    def __init__(self, tools: Tools, scenario: Scenario, jury: Jury, telemetry: bool = True, companion: bool = False,
+                 **settings: Any) -> None:
         super().__init__(tools, scenario, jury, start=False, **settings)
-        self._wants_companion, self.companion = companion, None
+        self._wants_companion = companion
+        self.companion: Optional[Companion] = None
         self.telemetry = Telemetry(self)
         if telemetry:  # (this service has none, which one scenario alone is about)
             self.environment.proxy.always["telemetry"] = Rule("telemetry", decide=self.telemetry.decide)
         self.environment.proxy.on_answer = self._hold_after_shutdown
 
-    def prepare(self):
+    def prepare(self) -> None:
         """(Each scenario begins by itself.)"""
 
-    def _hold_after_shutdown(self, exchange):
+    def _hold_after_shutdown(self, exchange: Exchange) -> None:
         """One that has understood its SHUTDOWN may ask once more, to say that it is done, and ends whatever the answer
         is: here another INVOKE. One that asks again for that waits for ever, as in Lambda."""
         if self.body_of(exchange).get("eventType") == "SHUTDOWN":
@@ -90,11 +95,11 @@ class ExtensionStage(Stage):
             proxy.rule = Rule("event", reply=(200, ANOTHER_EVENT), headers=[("Lambda-Extension-Event-Identifier", "1")])
             proxy.then = Rule("event", holds=True)
 
-    def start(self):
+    def start(self) -> None:
         """Starts the extension's process."""
         self.environment.start()
 
-    def register(self):
+    def register(self) -> None:
         """Starts it, and waits for its registration; Missing if that does not come, or is refused."""
         before = len(self.environment.proxy.of("register"))
         self.start()
@@ -103,17 +108,17 @@ class ExtensionStage(Stage):
             raise Missing(f"it did not register: {self.said()}")
         registered = self.environment.proxy.of("register")[before]
         if registered.status != 200:
-            raise Missing(f"its registration was answered {registered.status} {shown(registered.reply.body)}")
+            raise Missing(f"its registration was answered {registered.status} {shown(registered.came)}")
 
-    def forget(self):
+    def forget(self) -> None:
         """Ends the process and its generation, so that another one can begin."""
         self.environment.kill()
         registered = [one for one in self.environment.proxy.of("register") if one.status == 200]
         if registered:
-            report_failure(self.environment.service_port, registered[-1].reply.headers["lambda-extension-identifier"],
+            report_failure(self.environment.service_port, registered[-1].told["lambda-extension-identifier"],
                            "the kit has ended it")
 
-    def begin(self):
+    def begin(self) -> None:
         """A generation: the extension registers and asks for its first event, then come the kit's companion and
         runtime."""
         environment = self.environment
@@ -123,7 +128,7 @@ class ExtensionStage(Stage):
             environment.proxy.rule = None
         before, polls = len(environment.proxy.of("register")), len(environment.proxy.of("event"))
 
-        def goes_on_without():
+        def goes_on_without() -> bool:
             """(A single poll may be the last one of the process before.)"""
             return len(environment.proxy.of("event")) > polls + 1
         self.start()
@@ -132,20 +137,20 @@ class ExtensionStage(Stage):
             raise Missing(f"it did not register: {self.said()}")
         registered = environment.proxy.of("register")[before]
         if registered.status != 200:
-            raise Missing(f"its registration was answered {registered.status} {shown(registered.reply.body)}")
+            raise Missing(f"its registration was answered {registered.status} {shown(registered.came)}")
         if not environment.asked(polls + 1, kind="event"):
             raise Missing(f"it did not ask for an event: {self.said()}")
         if self._wants_companion:  # (the service gives an Init ten seconds from its first call on)
             self.companion = Companion(self.environment.service_port)
         self.play()
 
-    def play(self):
+    def play(self) -> None:
         PlayedRuntime(self.environment.service_port)
 
     # -- what it registered for
 
     @property
-    def registration(self):
+    def registration(self) -> Exchange:
         """The last exchange in which it registered; Missing if there is none."""
         found = [one for one in self.environment.proxy.of("register") if one.status == 200]
         if not found:
@@ -153,27 +158,27 @@ class ExtensionStage(Stage):
         return found[-1]
 
     @property
-    def identifier(self):
-        return self.registration.reply.headers["lambda-extension-identifier"]
+    def identifier(self) -> str:
+        return self.registration.told["lambda-extension-identifier"]
 
-    def registered_for(self, event):
+    def registered_for(self, event: str) -> bool:
         asked = self.registration.json()
         return isinstance(asked, dict) and event in (asked.get("events") or [])
 
     # -- events
 
-    def events(self, kind):
+    def events(self, kind: str) -> List[Exchange]:
         """The exchanges that brought it an event of a kind."""
         return [one for one in self.environment.proxy.of("event")
                 if self.body_of(one).get("eventType") == kind]
 
     @staticmethod
-    def body_of(exchange):
+    def body_of(exchange: Exchange) -> Dict[str, Any]:
         """The event that an exchange brought; empty if it brought none."""
         found = exchange.reply_json() if exchange.kind == "event" and exchange.status == 200 else None
         return found if isinstance(found, dict) else {}
 
-    def event(self, kind, count=1, seconds=5):
+    def event(self, kind: str, count: int = 1, seconds: float = 5) -> Exchange:
         """The count-th exchange that brought it an event of a kind; Missing if that does not come."""
         end = CLOCK.now() + seconds
         while len(self.events(kind)) < count:
@@ -182,10 +187,10 @@ class ExtensionStage(Stage):
             self.environment.proxy.wait(lambda: False, 0.02)
         return self.events(kind)[count - 1]
 
-    def polls_after(self, exchange):
-        return [one for one in self.environment.proxy.of("event") if one.begun >= exchange.answered]
+    def polls_after(self, exchange: Exchange) -> List[Exchange]:
+        return [one for one in self.environment.proxy.of("event") if one.begun >= exchange.end]
 
-    def shut_down(self):
+    def shut_down(self) -> Tuple[Exchange, bool, OwnTime]:
         """Waits for its SHUTDOWN, and whether its process ends in time: the exchange, whether it did, and its own time.
         Then all is ended as Lambda ends it, and the service knows."""
         exchange, process = self.event("SHUTDOWN"), self.environment.process
@@ -194,13 +199,16 @@ class ExtensionStage(Stage):
         ask(self.environment.service_port, "GET", EXTENSION + "event/next", headers={IDENTIFIED: self.identifier})
         return exchange, ended, process.own
 
-    def idle(self):
+    def idle(self) -> None:
         """Waits until the runtime and the extension wait."""
         own = OwnTime(self.environment.process.number)
         while True:
             runtimes, extensions = parked(self.service.history())
             if runtimes and extensions.get(1, 0) >= (2 if self.companion else 1):
                 return
+            polls = self.environment.proxy.of("event")
+            if polls and polls[-1].refused and own.real > SETTLES:
+                raise Missing(f"its Next is refused: {polls[-1]}")
             if own.look() > SILENT or self.environment.process.ended:
                 raise Missing(f"it does not wait for an event: {self.said()}")
             time.sleep(0.02)

@@ -1,12 +1,17 @@
 """The Telemetry API that the kit offers: it judges each subscription by the page, and answers as Lambda does."""
 import json
 import urllib.parse
+from typing import TYPE_CHECKING, Any, Dict, List, Optional, Tuple
 
 from .. import pages
-from ..kit import Missing, scenarios_of
+from ..exchanges import Exchange
+from ..kit import Missing, Scenario, scenarios_of
 from ..stage import shown
 
-SCENARIOS = []
+if TYPE_CHECKING:
+    from .stage import ExtensionStage
+
+SCENARIOS: List[Scenario] = []
 scenario = scenarios_of(SCENARIOS)
 
 VERSIONS = {"/2022-07-01/telemetry": ("2022-07-01", "2022-12-13", "2025-01-29"),
@@ -18,7 +23,7 @@ LAMBDAS_PORT = 9001
 ACCEPTED = b'"OK"'
 
 
-def fault_of(exchange, identifier, is_late):
+def fault_of(exchange: Exchange, identifier: Optional[str], is_late: bool) -> Optional[str]:
     """What is wrong with a subscription, in words; none if it is right."""
     if identifier is None:
         return "it subscribes before it has registered"
@@ -34,7 +39,7 @@ def fault_of(exchange, identifier, is_late):
                               fault_in_buffering(asked.get("buffering")))), None)
 
 
-def fault_in_version(exchange, asked):
+def fault_in_version(exchange: Exchange, asked: Dict[str, Any]) -> Optional[str]:
     versions, version = VERSIONS[exchange.path], asked.get("schemaVersion")
     is_optional = exchange.path == "/2020-08-15/logs"
     if version not in versions and not (version is None and is_optional):
@@ -42,13 +47,13 @@ def fault_in_version(exchange, asked):
     return None
 
 
-def fault_in_types(types):
+def fault_in_types(types: Any) -> Optional[str]:
     if not isinstance(types, list) or not types or not set(map(str, types)) <= set(TYPES):
         return f"\"types\" is {shown(types)}, and not a list of some of {', '.join(TYPES)}"
     return None
 
 
-def fault_in_destination(destination):
+def fault_in_destination(destination: Any) -> Optional[str]:
     if not isinstance(destination, dict):
         return f"\"destination\" is {shown(destination)}, and not an object"
     protocol = destination.get("protocol")
@@ -68,11 +73,11 @@ def fault_in_destination(destination):
         f"{LAMBDAS_PORT}")
 
 
-def is_port(port):
+def is_port(port: Any) -> bool:
     return isinstance(port, int) and 0 < port < 65536 and port != LAMBDAS_PORT
 
 
-def fault_in_buffering(buffering):
+def fault_in_buffering(buffering: Any) -> Optional[str]:
     if buffering is None:
         return None
     if not isinstance(buffering, dict):
@@ -87,13 +92,14 @@ def fault_in_buffering(buffering):
 class Telemetry:
     """Answers subscriptions, and keeps what is wrong with each."""
 
-    def __init__(self, stage):
-        self._stage, self.faults, self.asked = stage, [], 0
+    def __init__(self, stage: "ExtensionStage") -> None:
+        self._stage, self.asked = stage, 0
+        self.faults: List[str] = []
 
-    def decide(self, exchange):
+    def decide(self, exchange: Exchange) -> Tuple[int, bytes]:
         proxy = self._stage.environment.proxy
         registered = [one for one in proxy.of("register") if one.status == 200]
-        identifier = registered[-1].reply.headers.get("lambda-extension-identifier") if registered else None
+        identifier = registered[-1].told.get("lambda-extension-identifier") if registered else None
         is_late = bool(registered) and any(one.begun > registered[-1].begun for one in proxy.of("event"))
         fault = fault_of(exchange, identifier, is_late)
         self.asked += 1
@@ -107,7 +113,7 @@ class Telemetry:
     ("telemetry", pages.TELEMETRY,
      "if it subscribes to telemetry, it does so between its registration and its first Next, with its identifier, "
      "\"schemaVersion\", \"types\" and a \"destination\" that Lambda takes"))
-def subscription(stage):
+def subscription(stage: "ExtensionStage") -> None:
     stage.start()
     environment = stage.environment
     if not environment.asked(kind="event") and not stage.telemetry.faults:
@@ -125,7 +131,7 @@ def subscription(stage):
 
 @scenario(
     ("without_telemetry", pages.TELEMETRY, "if there is no Telemetry API (404) it goes on without it"), telemetry=False)
-def no_telemetry(stage):
+def no_telemetry(stage: "ExtensionStage") -> None:
     stage.begin()
     stage.idle()
     answer = stage.invoke(b"1")

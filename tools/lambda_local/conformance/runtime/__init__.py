@@ -11,22 +11,23 @@ SHOULD if it does not do what the documents recommend, as some clients of AWS's 
 Exit statuses: 0; 1 if a check is a FAIL, or with --strict a SHOULD; 2 for wrong usage, or a command that cannot be
 tested."""
 import argparse
+from typing import List
 
 from ..run import check_arguments, listed, parser_of, play, seconds, split
 from . import another, connections, context, errors, failed_inits, first, life, load, payloads, refusals
 
-MODULES = (first, life, payloads, context, errors, failed_inits, refusals, connections, another, load)
+MODULES = (first, payloads, context, errors, failed_inits, life, refusals, connections, another, load)
 SCENARIOS = [scenario for module in MODULES for scenario in module.SCENARIOS]
 
 
-def many(text):
+def many(text: str) -> int:
     value = int(text)
     if not 10 <= value <= 1_000_000:
         raise argparse.ArgumentTypeError(f"{text} is not a number from 10 to 1,000,000")
     return value
 
 
-def main(words):
+def main(words: List[str]) -> int:
     words, command = split(words)
     parser = parser_of("runtime", __doc__,
                        "[--init-seconds S] [--only NAME] [--strict] [--junit FILE] [--pictures DIR] [--program P]")

@@ -1,24 +1,26 @@
 """Another Lambda: the same answers in other bytes, as HTTP/1.1 and the pages allow them, one way after the other."""
-from typing import NamedTuple, Tuple
+from typing import List, NamedTuple, Optional, Tuple
 
 from .. import pages
 from ..again import fault_after, usable
-from ..kit import FAIL, PASS, SHOULD, Missing, scenarios_of
+from ..kit import FAIL, PASS, SHOULD, Missing, Scenario, scenarios_of
 from ..manners import Manner
-from ..exchanges import Rule
-from ..stage import shown
+from ..exchanges import Exchange, Rule
+from ..stage import Stage, shown
 
-SCENARIOS = []
+SCENARIOS: List[Scenario] = []
 scenario = scenarios_of(SCENARIOS)
 
 TRACE = "Root=1-5759e98d-bd862e3fe1be46a994272793;Parent=53995c3f42cd8ad8;Sampled=1"
+OLDER_TRACE = "Root=1-5759e98c-bd862e3fe1be46a994272793;Parent=53995c3f42cd8ad8;Sampled=1"
 CLIENT_CONTEXT = ('{"client":{"installation_id":"i-1","app_title":"kit","app_version_name":"1.0",'
                   '"app_version_code":"1","app_package_name":"kit"},"custom":{"a":"b","n":"1"},'
                   '"env":{"locale":"en_US","make":"none"}}')
 IDENTITY = ('{"cognitoIdentityId":"us-east-1:00000000-0000-4000-8000-000000000001",'
             '"cognitoIdentityPoolId":"us-east-1:00000000-0000-4000-8000-000000000002"}')
 MANY = (("Connection", "keep-alive"), ("Keep-Alive", "timeout=60"), ("Date", "Sat, 28 Nov 2026 12:00:00 GMT"),
-        ("X-Amzn-Trace-Id", "Root=1-0-0"), ("Server", "another"), ("X-Long", "x" * 3000), ("X-Empty", ""))
+        ("X-Amzn-Trace-Id", "Root=1-0-0"), ("X-Request-Id", "another"), ("Server", "another"),
+        ("X-Long", "x" * 3000), ("X-Empty", ""))
 CUT_BODY = b'{"do":"echo","value":"this event is cut short"}'
 CUT = Rule("next", reply=(200, CUT_BODY), manner=Manner(cut=len(CUT_BODY) - 12), headers=(
     ("Lambda-Runtime-Aws-Request-Id", "00000000-0000-4000-8000-00000000c001"),
@@ -38,7 +40,7 @@ class Way(NamedTuple):
     judged: str = FAIL  # what it is if it cannot read these
 
 
-def titled(name):
+def titled(name: str) -> str:
     return "-".join(word.capitalize() for word in name.split("-"))
 
 
@@ -47,6 +49,9 @@ WAYS = (
         (Manner(named=titled), Manner(named=str.upper))),
     Way("chunked_answers", pages.CHUNKED, "an event that comes in chunks is read as one that does not, and so is each "
                                           "other answer", (Manner(kinds=("next",), chunk=7), Manner(chunk=5))),
+    Way("header_spaces", pages.FIELD_LINES,
+        "there may be no space, or several, between a header's colon and its value; Lambda writes one: a SHOULD",
+        (Manner(spaces=""), Manner(spaces="  \t")), SHOULD),
     Way("empty_answers", pages.RESPONSE, "the body of the answer to a response, which no page describes, may be empty",
         (Manner(kinds=("response", "error"), body=b""),)),
     Way("more_headers", pages.NEXT, "headers that it does not know do no harm", (Manner(more=MANY),)),
@@ -67,7 +72,7 @@ WAYS = (
 
 
 @scenario(*[way[:3] for way in WAYS], timeout=TIMEOUT, lasts=3)
-def another_lambda(stage):
+def another_lambda(stage: Stage) -> None:
     stage.idle()
     for way in WAYS:
         fault = next(filter(None, (fault_in(stage, way.name, manner) for manner in way.manners)), None)
@@ -78,25 +83,35 @@ def another_lambda(stage):
             stage.idle()
 
 
-def fault_in(stage, name, manner):
+def fault_in(stage: Stage, name: str, manner: Manner) -> Optional[str]:
     """What is wrong with invocations that are answered in this manner."""
-    stage.environment.proxy.manner = manner
     try:
         usable(stage)
+        if name == "without_trace":
+            trace_before(stage)
+        stage.environment.proxy.manner = manner
         answer = stage.invoke({"do": "context", "value": 0}, trace=TRACE)
         if answer.failed or not isinstance(answer.value, dict):
             return f"the caller received {shown(answer.body)}"
         if answer.value.get("requestId") != answer.headers.get("x-amzn-requestid"):
             return f"the handler sees the request identifier {shown(answer.value.get('requestId'))}"
+        if name == "without_trace" and answer.value.get("traceId") == OLDER_TRACE:
+            stage.should(name, f"the handler sees the trace of an earlier invocation, {OLDER_TRACE}")
     except Missing as missing:
         return str(missing)
     return fault_after(stage, name)
 
 
+def trace_before(stage: Stage) -> None:
+    """An invocation with a trace, before one without."""
+    stage.invoke({"do": "echo", "value": 1}, trace=OLDER_TRACE)
+    usable(stage)
+
+
 @scenario(
     ("cut_event", pages.INCOMPLETE,
      "an event whose connection ends before it is whole is not taken for one (a SHOULD): it asks again, or ends"))
-def cut_event(stage):
+def cut_event(stage: Stage) -> None:
     proxy = stage.environment.proxy
     stage.idle()
     proxy.rule = CUT
@@ -108,13 +123,13 @@ def cut_event(stage):
     goes_on(stage, "cut_event", cut, "its event was cut short")
 
 
-def goes_on(stage, name, exchange, since):
+def goes_on(stage: Stage, name: str, exchange: Exchange, since: str) -> None:
     """Judges whether it asks again or ends after an exchange that brought it nothing."""
     environment = stage.environment
     environment.proxy.wait(lambda: exchange.ended, ASKS)
     if not environment.asked_after(exchange, ASKS) and not environment.process.ended:
         return stage.check(name, False, f"{ASKS} s after {since} it has neither asked again nor ended")
-    if any(one.begun >= exchange.ended for one in environment.proxy.of("response")):
+    if any(one.begun >= exchange.end for one in environment.proxy.of("response")):
         stage.should(name, f"{since}, and it sent a response to what had come")
     fault = fault_after(stage, "after a lost event")
     return stage.check(name, not fault, fault)
@@ -123,7 +138,7 @@ def goes_on(stage, name, exchange, since):
 @scenario(
     ("lost_poll", pages.RETRYING,
      "if the connection ends while Next waits, it asks again, or ends: it waits for no answer that cannot come"))
-def lost_poll(stage):
+def lost_poll(stage: Stage) -> None:
     proxy = stage.environment.proxy
     stage.idle()
     proxy.rule = Rule("next", ends_after=WAITS)

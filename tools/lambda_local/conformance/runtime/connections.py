@@ -1,18 +1,24 @@
 """Requests and connections: how many, one after the other, and what becomes of them."""
-from .. import pages
-from ..again import fault_after
-from ..clock import CLOCK
-from ..kit import Missing, scenarios_of
-from ..exchanges import Rule
-from ..stage import shown
+import math
+from typing import List, Optional
 
-SCENARIOS = []
+from .. import pages
+from ..again import MESSAGE, TYPE, fault_after, usable
+from ..clock import CLOCK
+from ..kit import Missing, Scenario, scenarios_of
+from ..exchanges import Exchange, Rule
+from ..stage import Stage, shown
+from .payloads import received
+
+SCENARIOS: List[Scenario] = []
 scenario = scenarios_of(SCENARIOS)
 
 ROUNDS = 5
 SETTLES = 1  # seconds in which a poll too many is seen
 ASKS = 5  # seconds in which it has asked again
 LOOKS_UP = 0.2  # seconds in which a connection's end is known to both sides
+LONG_TIMEOUT = 60  # seconds that a function has whose handler works for long
+LONGEST_WORK = 10  # seconds of it, at most
 WORKS = 300  # milliseconds that a handler works, in which its connection ends
 
 
@@ -22,30 +28,37 @@ WORKS = 300  # milliseconds that a handler works, in which its connection ends
      "Next is asked for after the response was sent, and not while the handler works"),
     ("responds_once", pages.RESPONSE, "each invocation gets one response, or one error"),
     ("identifier_as_given", pages.RESPONSE,
-     "the path of a response has the request identifier letter by letter, as Lambda-Runtime-Aws-Request-Id has it"))
-def one_after_the_other(stage):
+     "the path of a response has the request identifier letter by letter, as Lambda-Runtime-Aws-Request-Id has it"),
+    ("known_routes", pages.NEXT, "it makes no request of another route than the Runtime API has"))
+def one_after_the_other(stage: Stage) -> None:
     for number in range(ROUNDS):
         stage.output({"do": "sleep", "value": 20 * (number % 2)})
+    stage.invoke({"do": "fail", "type": TYPE, "message": MESSAGE})
+    usable(stage)
+    stage.output({"do": "echo", "value": "after an error"})
     stage.idle()
     CLOCK.sleep(SETTLES)
     proxy = stage.environment.proxy
     polls = proxy.of("next")
     overlap = next(((one, other) for one, other in zip(polls, polls[1:])
-                    if one.ended is None or other.begun < one.ended), None)
+                    if other.begun < one.end), None)
     stage.check("one_next", overlap is None,
                 "a second Next while one waited" if overlap else f"{len(polls)} one after the other")
     judge_responses(stage, polls, proxy.of("response", "error"))
+    stray = [one for one in proxy.of("other") if one.refused]
+    stage.check("known_routes", not stray, str(stray and stray[0]))
 
 
-def judge_responses(stage, polls, sent):
-    early, counts, otherwise = 0, [], None
+def judge_responses(stage: Stage, polls: List[Exchange], sent: List[Exchange]) -> None:
+    early, counts = 0, []
+    otherwise: Optional[Exchange] = None
     for poll in polls:
         if poll.delivered:
-            own = [one for one in sent if simple(one.request_id) == simple(poll.delivered)]
+            own = [one for one in sent if simple(one.request_id or "") == simple(poll.delivered)]
             counts.append(len(own))
             otherwise = otherwise or next((one for one in own if one.request_id != poll.delivered), None)
             # (the proxy notes an answer before it forwards it: what comes by it is later)
-            early += any(poll.answered <= other.begun and (not own or not own[0].asked or other.begun < own[0].asked)
+            early += any(poll.end <= other.begun and (not own or other.begun < (own[0].asked or math.inf))
                          for other in polls)
     stage.check("next_after_response", early == 0,
                 f"in {early} of {len(counts)} invocations Next came before the response")
@@ -54,7 +67,7 @@ def judge_responses(stage, polls, sent):
     stage.check("identifier_as_given", otherwise is None, f"{otherwise}: the identifier was given otherwise")
 
 
-def simple(identifier):
+def simple(identifier: str) -> str:
     """An identifier without what a lenient service looks over."""
     return identifier.lower().replace("-", "").strip("{}")
 
@@ -62,7 +75,7 @@ def simple(identifier):
 @scenario(
     ("keep_alive", pages.PERSISTENCE,
      "requests share connections, which HTTP/1.1 recommends; a connection for each one is a NOTE"))
-def kept_alive(stage):
+def kept_alive(stage: Stage) -> None:
     for number in range(ROUNDS):
         stage.output({"do": "echo", "value": number})
     requests, used = len(stage.environment.proxy.exchanges), stage.environment.proxy.connections
@@ -74,7 +87,7 @@ def kept_alive(stage):
 @scenario(
     ("connection_end", pages.RETRYING,
      "if its peer ends the connection, while the handler works or after a response, it goes on with a new one"))
-def connection_ends(stage):
+def connection_ends(stage: Stage) -> None:
     environment = stage.environment
     stage.idle()
     environment.proxy.of("next")[-1].by_rule = Rule("next", close=True)
@@ -86,7 +99,7 @@ def connection_ends(stage):
     return ends_after_response(stage)
 
 
-def ends_after_response(stage):
+def ends_after_response(stage: Stage) -> None:
     """(A Next that is on its way when the connection ends may be lost, and RFC 9112 asks no client to repeat it: one
     that ends for that is replaced.)"""
     environment = stage.environment
@@ -108,13 +121,24 @@ def ends_after_response(stage):
     ("next_without_timeout", pages.NEXT,
      "Next has no timeout: it waits as long as there is no invocation (--idle-seconds, 5 by default)"),
     lasts=5)
-def idle_for_long(stage):
+def idle_for_long(stage: Stage) -> None:
     environment, seconds = stage.environment, stage.tools.options.idle_seconds
     stage.idle()
     if poll := environment.given_up("next", seconds):
         return stage.check("next_without_timeout", False,
-                           f"it gave its Next up after {poll.left - poll.begun:.1f} s; "
+                           f"it gave its Next up after {poll.end - poll.begun:.1f} s; "
                            f"{environment.process.how_it_ended()}")
     output = stage.output({"do": "echo", "value": "at last"})
     return stage.check("next_without_timeout", output == "at last",
                        f"after {seconds:g} s the invocation had the output {shown(output)}")
+
+
+@scenario(
+    ("long_handler", pages.INVOKE_PHASE,
+     "a handler may work until the function's timeout: here for as long as a Next waits (--idle-seconds, 5 by "
+     "default), of a timeout of 60 s"), timeout=LONG_TIMEOUT, lasts=5)
+def works_for_long(stage: Stage) -> None:
+    stage.idle()
+    value = round(1000 * min(stage.tools.options.idle_seconds, LONGEST_WORK))
+    received(stage, "long_handler", {"do": "sleep", "value": value}, value)
+    received(stage, "long_handler", {"do": "echo", "value": "after it"}, "after it")

@@ -1,12 +1,13 @@
 """What the handler may know of its invocation."""
 import time
+from typing import Any, List, Optional
 
 from .. import pages
 from ..again import SLACK, remaining_fault
-from ..kit import scenarios_of
-from ..stage import shown
+from ..kit import Scenario, scenarios_of
+from ..stage import Stage, shown
 
-SCENARIOS = []
+SCENARIOS: List[Scenario] = []
 scenario = scenarios_of(SCENARIOS)
 
 TIMEOUT = 20  # seconds
@@ -27,7 +28,7 @@ TRACES = ("Root=1-5759e988-bd862e3fe1be46a994272793;Parent=53995c3f42cd8ad8;Samp
     ("trace_id", pages.PROCESSING_TASKS,
      "_X_AMZN_TRACE_ID has the value of Lambda-Runtime-Trace-Id while the handler works"),
     ("trace_renewed", pages.PROCESSING_TASKS, "_X_AMZN_TRACE_ID is renewed for each invocation"), timeout=TIMEOUT)
-def context(stage):
+def context(stage: Stage) -> None:
     for place, trace in enumerate(TRACES):
         time.sleep(APART * place)
         event, qualified = {"do": "context", "value": SLEEP}, place == 0
@@ -43,7 +44,7 @@ def context(stage):
         judge_trace(stage, place, seen.get("traceId"))
 
 
-def judge_time(stage, remaining, request):
+def judge_time(stage: Stage, remaining: Any, request: Optional[str]) -> None:
     """Two looks at the remaining time, in milliseconds."""
     numbers = isinstance(remaining,
                          list) and len(remaining) == 2 and all(isinstance(each, (int, float)) for each in remaining)
@@ -53,7 +54,7 @@ def judge_time(stage, remaining, request):
     stage.check("remaining_time", numbers and remaining[0] - remaining[1] >= SLEEP - 5, came)
 
 
-def judge_trace(stage, place, seen):
+def judge_trace(stage: Stage, place: int, seen: Optional[str]) -> None:
     if place == 0:
         return stage.check("trace_id", seen == TRACES[0], f"{shown(seen)} in place of {TRACES[0]}")
     return stage.check("trace_renewed", seen != TRACES[0], f"in the second invocation still {shown(seen)}")

@@ -1,12 +1,14 @@
 """Errors of an invocation."""
 import re
+from typing import Any, Dict, List
 
 from .. import pages
 from ..again import MESSAGE, TYPE, context_fault, fault_after, usable
-from ..kit import scenarios_of
-from ..stage import shown
+from ..exchanges import Exchange
+from ..kit import Scenario, scenarios_of
+from ..stage import Stage, shown
 
-SCENARIOS = []
+SCENARIOS: List[Scenario] = []
 scenario = scenarios_of(SCENARIOS)
 
 HEADER = "lambda-runtime-function-error-type"
@@ -35,7 +37,7 @@ TRACES = ("Root=1-5759e98a-bd862e3fe1be46a994272793;Parent=53995c3f42cd8ad8;Samp
     ("error_header", pages.INVOKE_ERROR,
      "Lambda-Runtime-Function-Error-Type names a category and a reason; Lambda accepts any text: without it, or with "
      "another type, a NOTE"))
-def errors(stage):
+def errors(stage: Stage) -> None:
     answer = stage.invoke({"do": "fail", "type": TYPE, "message": MESSAGE})
     report, came = answer.report, f"the caller received {shown(answer.body)}"
     proxy = stage.environment.proxy
@@ -44,7 +46,7 @@ def errors(stage):
     reported = exchange is not None and answer.failed
     others = ", ".join(f"{one.method} {one.path}" for one in proxy.of("response"))
     stage.check("error_reported", reported, "error" if exchange else f"no request to invocation/ID/error, but {others}")
-    if not reported:  # (one cause, one FAIL)
+    if not reported or exchange is None:  # (one cause, one FAIL)
         return stage.jury.rest("NOTE", "no error is reported")
     stage.check("error_message", report.get("errorMessage") == MESSAGE, came)
     stage.check("error_type", names_the_type(report.get("errorType")), came)
@@ -52,13 +54,13 @@ def errors(stage):
     return judge_header(stage, exchange)
 
 
-def names_the_type(value):
+def names_the_type(value: Any) -> bool:
     """Whether the type is a word of this: languages name it with its module, or in brackets."""
     words = re.split(r"[^A-Za-z0-9_]+", value) if isinstance(value, str) else []
     return any(word in (TYPE, TYPE + "Error", TYPE + "Exception") for word in words)
 
 
-def judge_trace(stage, report):
+def judge_trace(stage: Stage, report: Dict[str, Any]) -> None:
     trace = report.get("stackTrace")
     if trace is None:
         others = sorted(name for name in report if "trace" in name.lower() and report[name])
@@ -67,7 +69,7 @@ def judge_trace(stage, report):
                        shown(trace))
 
 
-def judge_header(stage, exchange):
+def judge_header(stage: Stage, exchange: Exchange) -> None:
     value = exchange.request.headers.get(HEADER)
     if not value:
         return stage.note("error_header", "it sends none")
@@ -79,7 +81,7 @@ def judge_header(stage, exchange):
 @scenario(
     ("error_texts", pages.INVOKE_ERROR,
      f"a message with {', '.join(MESSAGES)} in it reaches the caller as it is, each as an error of its own"), lasts=2)
-def error_texts(stage):
+def error_texts(stage: Stage) -> None:
     for name, message in MESSAGES.items():
         usable(stage)
         answer = stage.invoke({"do": "fail", "type": TYPE, "message": message})
@@ -97,7 +99,7 @@ def error_texts(stage):
     ("same_process", pages.INVOKE_ERROR,
      "it is the same process that takes the next invocation after an error; one that ends, and is replaced by Lambda, "
      "is a SHOULD"))
-def error_then_output(stage):
+def error_then_output(stage: Stage) -> None:
     before = [context_fault(stage, trace) for trace in TRACES[:2]]
     stage.invoke({"do": "fail", "type": TYPE, "message": MESSAGE})
     process = stage.environment.process

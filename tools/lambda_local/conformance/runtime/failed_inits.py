@@ -1,17 +1,20 @@
 """Inits that cannot succeed: what is reported, and what becomes of the process."""
+from typing import List, Optional
+
 from .. import pages
 from ..clock import CLOCK
-from ..kit import scenarios_of
-from ..stage import shown
+from ..exchanges import Exchange
+from ..kit import Scenario, scenarios_of
+from ..stage import Stage, shown
 
-SCENARIOS = []
+SCENARIOS: List[Scenario] = []
 scenario = scenarios_of(SCENARIOS)
 
 ENDS = 3  # seconds in which a process that has to end promptly has ended
 REPORTED = 5  # seconds beyond an Init's own time
 
 
-def init_fails(stage, report_check):
+def init_fails(stage: Stage, report_check: str) -> Optional[Exchange]:
     """An Init that cannot succeed is reported: that report's exchange; None, with the check judged, if there is
     none."""
     environment = stage.environment
@@ -32,6 +35,9 @@ def init_fails(stage, report_check):
         if answer.failed:
             stage.check(report_check, False,
                         f"it asked for an invocation, and only that one failed: {shown(answer.body)}")
+        elif answer.body.strip() != b"1":
+            stage.check(report_check, False, f"no Init fails, and for the value 1 the caller received "
+                                             f"{shown(answer.body)}")
         else:
             stage.note(report_check, "no Init fails here: its handler is compiled in, or it does not look at _HANDLER")
     else:
@@ -43,7 +49,7 @@ def init_fails(stage, report_check):
     ("init_error", pages.INIT_ERROR,
      "an error while the handler is loaded is sent to init/error with \"errorMessage\" and \"errorType\""),
     ("init_error_ends", pages.INITIALIZATION_TASKS, "after init/error the process exits"), handler="failing.handler")
-def failing_init(stage):
+def failing_init(stage: Stage) -> None:
     exchange = init_fails(stage, "init_error")
     process = stage.environment.process
     if exchange:
@@ -58,12 +64,12 @@ def failing_init(stage):
 @scenario(
     ("missing_handler", pages.INIT_ERROR, "a handler that cannot be found is an error of the Init, sent to init/error"),
     handler="missing.handler")
-def handler_that_is_missing(stage):
+def handler_that_is_missing(stage: Stage) -> None:
     init_fails(stage, "missing_handler")
 
 
 @scenario(
     ("broken_handler", pages.INIT_ERROR, "a handler that does not compile is an error of the Init, sent to init/error"),
     handler="broken.handler")
-def handler_that_is_broken(stage):
+def handler_that_is_broken(stage: Stage) -> None:
     init_fails(stage, "broken_handler")

@@ -1,56 +1,75 @@
 """The first echo, without which nothing else can be judged."""
 import concurrent.futures
+from typing import Any, Dict, List, Tuple, cast
 
 from ...service import Fault
 from .. import pages
-from ..kit import Missing, scenarios_of
-from ..stage import compact, shown
+from ..kit import Missing, Scenario, scenarios_of
+from ..stage import Answer, Event, Stage, compact, shown
 from ..watch import OwnTime
 from .payloads import is_json
 
-SCENARIOS = []
+SCENARIOS: List[Scenario] = []
 scenario = scenarios_of(SCENARIOS)
 
+ACCEPTED = 202
 SECONDS = 10  # for the first answer
 HANDLER = "docs/conformance.md has the handler that is expected, and examples/conformance has it for some languages"
 # Events that the handler answers otherwise than any other handler would, with what it gives.
-PROBES = (({"do": "echo", "value": 17}, 17), ({"do": "large", "value": 3}, "xxx"),
-          ({"do": "bytes", "value": "a"}, [97]))
+PROBES: Tuple[Tuple[Dict[str, Any], Any], ...] = (
+    ({"do": "echo", "value": 17}, 17), ({"do": "large", "value": 3}, "xxx"), ({"do": "bytes", "value": "a"}, [97]))
+# What comes next, without which most other checks would fail for the same cause.
+BASICS: Tuple[Dict[str, Any], ...] = (
+    {"do": "echo", "value": "a text"}, {"do": "echo", "value": {"name": ["b", 2]}}, {"do": "echo", "value": [18]})
 
 
 @scenario(
     ("first_echo", pages.RESPONSE,
-     "what the handler returns reaches the caller; if it does not, nothing else can be judged"),
+     "what the handler returns reaches the caller: a number, a text, an object and a list, in invocations after one "
+     "another; if it does not, nothing else can be judged"),
     timeout=SECONDS, first=True)
-def first_echo(stage):
+def first_echo(stage: Stage) -> None:
     stage.refuse_if_it_ended()
     answers = []
     for event, expected in PROBES:
         answer = first_answer(stage, event)
         if not answer.failed and is_json(answer.body, expected):
-            return stage.check("first_echo", not answers, f"the caller received {shown(answers and answers[0].body)}")
+            break
         answers.append(answer)
-    refuse_another_handler(answers)
+    else:
+        refuse_another_handler(answers)
+    if answers:
+        return is_wrong(stage, PROBES[0][0], answers[0])
+    for event in BASICS:
+        answer = first_answer(stage, event)
+        if answer.failed or not is_json(answer.body, event["value"]):
+            return is_wrong(stage, event, answer)
+    return stage.check("first_echo", True, "")
+
+
+def is_wrong(stage: Stage, event: Event, answer: Answer) -> None:
+    """The one FAIL of a runtime of which nothing else can be judged."""
     stage.jury.stops = True
-    return stage.check("first_echo", False, f"for {shown(compact(PROBES[0][0]))} the caller received "
-                                            f"{shown(answers[0].body)}")
+    stage.check("first_echo", False, f"for {shown(compact(event))} the caller received {shown(answer.body)}")
 
 
-def first_answer(stage, event):
+def first_answer(stage: Stage, event: Event) -> Answer:
     """What the caller receives; Missing as soon as it is clear that nothing right comes."""
     environment = stage.environment
     waiting, own = stage.later(stage.invoke, event), OwnTime(environment.process.number)
     while not waiting.done():
         concurrent.futures.wait([waiting], 0.02)
         sent = environment.proxy.of("response", "error", "other")
-        if refused := next((one for one in sent if one.refused), None):
+        accepted = [one.request_id for one in sent if one.status == ACCEPTED]  # (the caller may not have it yet)
+        refused = next((one for one in sent if one.refused and one.request_id not in accepted), None)
+        if refused and not waiting.done():
             raise Missing(f"its answer is refused: {refused}")
         if own.look() > SECONDS and not waiting.done():
             raise Missing(f"the caller has no answer after {SECONDS} s: {stage.said()}")
-    return waiting.result()
+    return cast(Answer, waiting.result())
 
 
-def refuse_another_handler(answers):
+def refuse_another_handler(answers: List[Answer]) -> None:
     """A handler that gives the same for different events, or each event back, is not the kit's."""
     bodies = [answer.body for answer in answers]
     came = f"for {shown(compact(PROBES[0][0]))} the caller received {shown(bodies[0])}"
@@ -62,7 +81,7 @@ def refuse_another_handler(answers):
         raise Fault(2, f"{came}, which has the event in it: {HANDLER}")
 
 
-def reported(answer):
+def reported(answer: Answer) -> Any:
     """The output; of an error the type and the message."""
     return (answer.body if not answer.failed else
             (answer.report.get("errorType"), answer.report.get("errorMessage")))

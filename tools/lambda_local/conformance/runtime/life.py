@@ -1,13 +1,14 @@
 """The life of a runtime's process: its Init, its end, and its beginning anew."""
 import signal
+from typing import Any, List
 
 from .. import pages
 from ..clock import CLOCK
-from ..kit import Missing, scenarios_of
-from ..exchanges import Rule
-from ..stage import shown
+from ..kit import Missing, Scenario, scenarios_of
+from ..exchanges import Exchange, Rule
+from ..stage import Stage, shown
 
-SCENARIOS = []
+SCENARIOS: List[Scenario] = []
 scenario = scenarios_of(SCENARIOS)
 
 SHUTDOWN_SECONDS = 2  # that Lambda's Shutdown phase has
@@ -19,7 +20,7 @@ CONTAINER_ERROR = b'{"errorMessage":"Environment is shutting down","errorType":"
 @scenario(
     ("init_in_time", pages.INIT_PHASE,
      "the first Next comes within the Init phase's limit (--init-seconds, 10 by default)"))
-def first_next(stage):
+def first_next(stage: Stage) -> None:
     environment, limit = stage.environment, stage.tools.options.init_seconds
     seconds = environment.proxy.of("next")[0].begun - environment.process.begun
     own = environment.own
@@ -28,7 +29,7 @@ def first_next(stage):
     stage.in_time("init_in_time", passed, own, limit, f"after {seconds:.2f} s, of {limit:g}", f"after {seconds:.2f} s")
 
 
-def ends(stage, name, since, seconds=ENDS):
+def ends(stage: Stage, name: str, since: str, seconds: float = ENDS) -> None:
     """Judges whether its process ends within this many seconds."""
     process = stage.environment.process
     seen = len(stage.environment.proxy.exchanges)
@@ -39,18 +40,30 @@ def ends(stage, name, since, seconds=ENDS):
 
 
 @scenario(
-    ("ends_at_500", pages.NEXT, "after 500 at Next, which is not recoverable, the process exits promptly"))
-def container_error_at_next(stage):
-    stage.spin_down()
+    ("ends_at_500", pages.NEXT,
+     "after 500 at Next, which is not recoverable, the process exits promptly; one that asks again first, and exits at "
+     "the next 500, is a SHOULD"))
+def container_error_at_next(stage: Stage) -> None:
     proxy = stage.environment.proxy
-    if not proxy.wait(lambda: any(one.kind == "next" and one.status == 500 for one in proxy.exchanges), 5):
+    proxy.always["next"] = Rule("next", reply=(500, CONTAINER_ERROR))  # (of each Next but the one that waits)
+    stage.spin_down()
+    exchange = stage.environment.saw("next", SENDS)
+    if exchange is None or exchange.status != 500:
         raise Missing("its Next was not answered with 500")
     ends(stage, "ends_at_500", "500")
+    asks_before_it_ends(stage, "ends_at_500", exchange)
 
 
-def container_error_at(stage, kind, name, event):
+def asks_before_it_ends(stage: Stage, name: str, exchange: Exchange) -> None:
+    """It asks for an invocation once more after the container error, and ends then."""
+    later = [one for one in stage.environment.proxy.of("next") if one.begun > exchange.end]
+    if stage.environment.process.ended and later:
+        stage.should(name, f"it asked {len(later)} times for an invocation before it ended")
+
+
+def container_error_at(stage: Stage, kind: str, name: str, event: Any) -> None:
     """The environment is at its end: each answer from then on is the container error."""
-    proxy, process = stage.environment.proxy, stage.environment.process
+    proxy = stage.environment.proxy
     proxy.rule = Rule(kind, reply=(500, CONTAINER_ERROR))
     proxy.then = Rule("next", reply=(500, CONTAINER_ERROR))
     stage.later(stage.invoke, event)
@@ -58,15 +71,14 @@ def container_error_at(stage, kind, name, event):
     if exchange is None:
         raise Missing(f"it sent no {kind}")
     ends(stage, name, f"500 at its {kind}")
-    if process.ended and (later := [one for one in proxy.of("next") if one.begun > exchange.answered]):
-        stage.should(name, f"it asked {len(later)} times for an invocation before it ended")
+    asks_before_it_ends(stage, name, exchange)
 
 
 @scenario(
     ("ends_at_500_response", pages.RESPONSE,
      "after 500 at its response, which is not recoverable, the process exits promptly; one that asks again first, and "
      "exits at the next 500, is a SHOULD"), timeout=3)
-def container_error_at_response(stage):
+def container_error_at_response(stage: Stage) -> None:
     container_error_at(stage, "response", "ends_at_500_response", {"do": "echo", "value": 1})
 
 
@@ -74,14 +86,14 @@ def container_error_at_response(stage):
     ("ends_at_500_error", pages.INVOKE_ERROR,
      "after 500 at its error, which is not recoverable, the process exits promptly; one that asks again first, and "
      "exits at the next 500, is a SHOULD"), timeout=3)
-def container_error_at_error(stage):
+def container_error_at_error(stage: Stage) -> None:
     container_error_at(stage, "error", "ends_at_500_error", {"do": "fail", "type": "OutOfCheese", "message": "none"})
 
 
 @scenario(
     ("ends_at_sigterm", pages.SHUTDOWN_PHASE,
      f"after SIGTERM the process ends within {SHUTDOWN_SECONDS} s, before Lambda sends SIGKILL"))
-def terminated(stage):
+def terminated(stage: Stage) -> None:
     stage.output({"do": "echo", "value": 1})
     stage.idle()
     stage.environment.process.signal(signal.SIGTERM)
@@ -92,7 +104,7 @@ def terminated(stage):
     ("cold_start", pages.INVOKE_FAILURES,
      "after a timeout, at which the process is killed, a new one serves the next invocation"),
     timeout=2, lasts=3)
-def killed_at_a_timeout(stage):
+def killed_at_a_timeout(stage: Stage) -> None:
     environment = stage.environment
     stage.idle()
     answer = stage.invoke({"do": "hang"})
@@ -111,7 +123,7 @@ def killed_at_a_timeout(stage):
     ("handler_exits", pages.INVOKE_FAILURES,
      "if the handler ends its process, the runtime ends too or reports an error: no invocation is lost"),
     timeout=60)  # far longer than it is waited for, on a busy machine too
-def handler_ends_the_process(stage):
+def handler_ends_the_process(stage: Stage) -> None:
     stage.idle()
     environment, begun = stage.environment, CLOCK.now()
     answer = stage.later(stage.invoke, {"do": "exit", "value": 3})

@@ -1,19 +1,21 @@
 """Payloads: what the handler receives, and what its caller receives."""
 import json
+from typing import Any, Dict, List
 
 from .. import pages
 from ..again import fault_after
-from ..kit import Missing, scenarios_of
+from ..kit import Missing, Scenario, scenarios_of
 from ..manners import Manner
 from ..exchanges import as_json
-from ..stage import compact, shown
+from ..stage import Event, Stage, compact, shown
 
-SCENARIOS = []
+SCENARIOS: List[Scenario] = []
 scenario = scenarios_of(SCENARIOS)
 
 LIMIT = 6_291_456  # bytes of a synchronous payload, in each direction
 TEXT = "Grüße, 世界, \u0627\u0644\u0639\u0627\u0644\u0645, 🚀, e\u0301"
 ESCAPES = r'"\"\\\/\b\f\n\r\t\u0000\u00e9\u4e16\ud83d\ude80\u2028"'
+SPACED = (b' {"a": 1}\n', b'{\r\n\t"a": [\n1,\n2\n],\n\n"b" : null\n}\n', b'\n[ 1\n, "two" ]', b" 17 ")
 NUMBERS = ["0", "-1", "1.50", "1e3", "0.1", "9007199254740993", "12345678901234567890", "-1.7976931348623157e308",
            "5e-324"]
 DEPTH = 100
@@ -22,11 +24,13 @@ TEXTS = (TEXT, "Gr\u00fc\u00dfe", "\u00e9", "\u4e16\u754c", "\U0001f680",
          "na\u00efve caf\u00e9 \u2014 \u201cd\u00e9j\u00e0 vu\u201d")
 MIXED = "a\u00fc\u4e16\U0001f680b\u00e9\u754c\U0001f30dc"  # (its length in bytes has no small divisor)
 LONG, PART = 300_000, 4093  # bytes
-KINDS = {
+MANY = 2100  # members
+KINDS: Dict[str, Any] = {
     "snake_case_name": 1, "camelCaseName": 2, "PascalCaseName": 3, "kebab-case-name": 4, "SCREAMING_NAME": 5, "ID": 6,
     "URLOfId": 7, "name with spaces": 8, "a.dotted.name": 9, "$dollar": 10, "@at": 11, "_underscore_": 12, "0": 13,
     "10": 14, "gr\u00f6\u00dfe": 15, "\u540d\u524d": 16, "/slash/": 17, "a:colon": 18, "class": 19, "type": 20,
-    "#text": 21, "null_member": None, "empty_text": "", "empty_list": [], "empty_object": {}, "false": False,
+    "#text": 21, "": 22, "__proto__": 23, "constructor": 24, "Twice": 25, "twice": 26,
+    "null_member": None, "empty_text": "", "empty_list": [], "empty_object": {}, "false": False,
     "true": True, "zero": 0, "nulls": [None, None],
     "nested": {"null": None, "Inner_Name": {"deepEr": [{"x_y": None}]}}, "date": "2024-01-15",
     "time": "2024-01-15T10:30:00Z", "milliseconds": "2024-01-15T10:30:00.000+00:00",
@@ -42,13 +46,24 @@ KINDS = {
 }
 
 
-def received(stage, name, event, expected):
-    """Judges a check by whether the caller receives the JSON value that is expected."""
+def received(stage: Stage, name: str, event: Event, expected: Any) -> None:
+    """Judges a check by whether the caller receives the JSON value that is expected. (Languages with one type for lists
+    and objects, such as PHP, have no empty object: a NOTE.)"""
     answer = stage.invoke(event)
-    stage.check(name, not answer.failed and is_json(answer.body, expected), f"the caller received {shown(answer.body)}")
+    if not answer.failed and not is_json(answer.body, expected) and is_json(answer.body, without_empty(expected)):
+        return stage.note(name, "{} came as [], as in a language that has one type for both")
+    return stage.check(name, not answer.failed and is_json(answer.body, expected),
+                       f"the caller received {shown(answer.body)}")
 
 
-def is_json(body, expected):
+def without_empty(value: Any) -> Any:
+    """A value in which empty objects are empty lists."""
+    if isinstance(value, dict):
+        return {name: without_empty(member) for name, member in value.items()} or []
+    return [without_empty(member) for member in value] if isinstance(value, list) else value
+
+
+def is_json(body: bytes, expected: Any) -> bool:
     """Whether these bytes are this value as JSON. (In Python alone 1 equals True.)"""
     try:
         return json.dumps(json.loads(body.decode()), sort_keys=True) == json.dumps(expected, sort_keys=True)
@@ -61,17 +76,20 @@ def is_json(body, expected):
      "a handler that returns its event gives {} for the event {}, which an empty payload is"),
     ("payload_null", pages.NEXT, "a handler that returns its event gives null for the event null"),
     ("payload_scalars", pages.NEXT,
-     "a handler that returns its event gives a text, a number, true, false and a list as they are"))
-def small_payloads(stage):
+     "a handler that returns its event gives a text, a number, true, false and a list as they are"),
+    ("payload_spaces", pages.JSON_GRAMMAR, "spaces and line ends around and within an event mean nothing"))
+def small_payloads(stage: Stage) -> None:
     received(stage, "payload_empty", b"", {})
     received(stage, "payload_null", b"null", None)
     for event in (b'""', b'"text"', b"0", b"17", b"true", b"false", b"[]", b'[1,null,{"a":[]}]'):
         received(stage, "payload_scalars", event, json.loads(event))
+    for event in SPACED:
+        received(stage, "payload_spaces", event, json.loads(event))
 
 
 @scenario(
     ("utf8", pages.JSON_TEXTS, "text beyond ASCII reaches the handler, and its caller, as the UTF-8 that was sent"))
-def text(stage):
+def text(stage: Stage) -> None:
     for value in TEXTS:
         received(stage, "utf8", {"do": "echo", "value": value}, value)
     received(stage, "utf8", {"do": "bytes", "value": TEXT}, list(TEXT.encode()))
@@ -81,7 +99,7 @@ def text(stage):
     ("long_text", pages.JSON_TEXTS,
      f"so does a text of {LONG:,} bytes whose letters have one to four of them, of which the ends of what is read at "
      "once fall into each place"))
-def long_text(stage):
+def long_text(stage: Stage) -> None:
     stage.environment.proxy.manner = Manner(kinds=("next",), part=PART, pause=0.001)
     for shift in range(2):
         value = "x" * shift + MIXED * (LONG // len(MIXED.encode()))
@@ -91,25 +109,26 @@ def long_text(stage):
 @scenario(
     ("kinds", pages.NEXT,
      "an event whose names and values are of each kind that serializers treat in their own way is returned as it is: "
-     "names in each case, null, empty members, texts that look like dates, numbers, addresses or markup"))
-def kinds_of_members(stage):
+     "names in each case, null, empty members, texts that look like dates, numbers, addresses or markup, many members"))
+def kinds_of_members(stage: Stage) -> None:
     received(stage, "kinds", {"do": "echo", "value": KINDS}, KINDS)
     received(stage, "kinds", KINDS, KINDS)
-    received(stage, "kinds", {"do": "echo", "value": [KINDS, [], {}, [[]], None, "", [None]]},
-             [KINDS, [], {}, [[]], None, "", [None]])
+    for value in ([KINDS, [], {}, [[]], None, "", [None]], list(range(MANY)),
+                  {f"member {number}": number for number in range(MANY)}):
+        received(stage, "kinds", {"do": "echo", "value": value}, value)
 
 
 @scenario(
     ("escapes", pages.JSON_STRINGS, "each escape of a JSON text stands for the same character in the output"))
-def escaped(stage):
+def escaped(stage: Stage) -> None:
     received(stage, "escapes", b'{"do":"echo","value":' + ESCAPES.encode() + b"}", json.loads(ESCAPES))
 
 
 @scenario(
     ("nesting", pages.JSON_NESTING,
      f"an event of {DEPTH} lists and objects inside one another is returned as it is, or refused as an error (a NOTE)"))
-def nested(stage):
-    value = 1
+def nested(stage: Stage) -> None:
+    value: Any = 1
     for level in range(DEPTH):
         value = [value] if level % 2 else {"in": value}
     answer = stage.invoke({"do": "echo", "value": value})
@@ -124,13 +143,13 @@ def nested(stage):
 @scenario(
     ("numbers", pages.JSON_NUMBERS,
      "numbers are returned as they were written, or at least with the same value as binary64 (a NOTE)"))
-def numbers(stage):
+def numbers(stage: Stage) -> None:
     sent = "[" + ",".join(NUMBERS) + "]"
     body = stage.invoke(b'{"do":"echo","value":' + sent.encode() + b"}").body.decode(errors="replace")
     if "".join(body.split()) == sent:
         return stage.check("numbers", True, "as they were written")
     try:
-        came = json.loads(body, parse_int=str, parse_float=str)
+        came = json.loads(body, parse_int=Written, parse_float=Written)
         pairs = list(zip(NUMBERS, as_many(came)))
     except (ValueError, TypeError):
         return stage.check("numbers", False, f"the caller received {shown(body)}")
@@ -140,9 +159,13 @@ def numbers(stage):
     return stage.check("numbers", False, ", ".join(changed))
 
 
-def as_many(came):
+class Written(str):
+    """A number as it was written; a text of the same letters is none."""
+
+
+def as_many(came: Any) -> List[str]:
     """The numbers that came, if they are as many as were sent."""
-    if not isinstance(came, list) or len(came) != len(NUMBERS) or not all(isinstance(word, str) for word in came):
+    if not isinstance(came, list) or len(came) != len(NUMBERS) or not all(isinstance(word, Written) for word in came):
         raise ValueError
     return came
 
@@ -151,7 +174,7 @@ def as_many(came):
     ("payload_limit", pages.QUOTAS,
      f"an event of {LIMIT:,} bytes reaches the handler whole, and its output the caller"),
     ("output_limit", pages.QUOTAS, f"an output of {LIMIT:,} bytes reaches the caller"), lasts=3)
-def large_payloads(stage):
+def large_payloads(stage: Stage) -> None:
     value = "x" * (LIMIT - len(compact({"do": "echo", "value": ""})))
     answer = stage.invoke({"do": "echo", "value": value})
     stage.check("payload_limit", is_json(answer.body, value),
@@ -163,14 +186,14 @@ def large_payloads(stage):
 
 @scenario(
     ("stdout", pages.RESPONSE, "what a handler writes to standard output is no part of its response"))
-def printed(stage):
+def printed(stage: Stage) -> None:
     answer = stage.invoke({"do": "print", "value": "this is no output"})
     stage.check("stdout", answer.body.strip() == b"null", f"the caller received {shown(answer.body)}")
 
 
 @scenario(
     ("events_apart", pages.REUSE, "an invocation sees nothing of the events before it"))
-def events_one_after_the_other(stage):
+def events_one_after_the_other(stage: Stage) -> None:
     stage.output({"do": "echo", "value": "the first, which is longer than those behind it"})
     received(stage, "events_apart", {"do": "echo", "value": 2}, 2)
     received(stage, "events_apart", {"do": "echo"}, None)
@@ -181,8 +204,8 @@ def events_one_after_the_other(stage):
     ("stream", pages.STREAMING,
      "a streamed response has Lambda-Runtime-Function-Response-Mode: streaming and is sent in chunks; "
      "a runtime that streams nothing sends the texts as one (a NOTE)"))
-def streamed(stage):
-    texts = ["first ", "second ", "third"]
+def streamed(stage: Stage) -> None:
+    texts = ["the first of the parts, ", "the second one, " * 20, "the third"]
     answer = stage.invoke({"do": "stream", "value": texts})
     exchange = stage.environment.saw("response", 5)
     if exchange is None:
@@ -195,7 +218,8 @@ def streamed(stage):
         return stage.check("stream", False, f"the caller received {shown(answer.body)}")
     prelude, zeros, rest = answer.body.partition(PRELUDE_END)
     body = rest if zeros and isinstance(as_json(prelude), dict) else answer.body
-    right = mode.lower() == "streaming" and exchange.request.chunked and body in (whole.encode(), compact(whole))
+    right = (mode.lower() == "streaming" and exchange.request.chunked
+             and body in (whole.encode(), f'"{whole}"'.encode()))
     return stage.check("stream", right,
                        f"mode {shown(mode)}, {'in chunks' if exchange.request.chunked else 'not in chunks'}, "
                        f"and the caller received {shown(answer.body)}")

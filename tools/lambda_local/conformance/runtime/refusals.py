@@ -1,19 +1,22 @@
 """Answers that are refused: what the runtime does then, and that it is of use afterwards."""
+from typing import List
+
 from .. import pages
 from ..again import fault_after
-from ..kit import Missing, scenarios_of
+from ..exchanges import Exchange
+from ..kit import Missing, Scenario, scenarios_of
 from ..manners import Manner
-from ..stage import shown
+from ..stage import Stage, shown
 from .payloads import LIMIT
 
-SCENARIOS = []
+SCENARIOS: List[Scenario] = []
 scenario = scenarios_of(SCENARIOS)
 
 ASKS = 5  # seconds in which it has asked again, or ended
 LONG = b'{"errorMessage":"' + b"the refusal is explained at length, " * 600 + b'","errorType":"Refused"}'
 
 
-def goes_on(stage, name, exchange):
+def goes_on(stage: Stage, name: str, exchange: Exchange) -> None:
     """After a refusal a runtime asks for its next invocation, and is of use. That it ends instead, no document
     forbids: then a new process is."""
     environment, refused = stage.environment, exchange.status
@@ -36,7 +39,7 @@ def goes_on(stage, name, exchange):
      "after a response that is too large (413) it asks for the next invocation, and the next ones are right; an end "
      "instead is a NOTE"),
     lasts=3)
-def response_too_large(stage):
+def response_too_large(stage: Stage) -> None:
     answer = stage.later(stage.invoke, {"do": "large", "value": LIMIT - 1})
     exchange = stage.environment.saw("response", 15)
     if exchange is None:
@@ -47,7 +50,7 @@ def response_too_large(stage):
     goes_on(stage, "too_large", exchange)
 
 
-def judge_late(stage, name):
+def judge_late(stage: Stage, name: str) -> None:
     stage.idle()
     answer = stage.invoke({"do": "sleep", "value": 1000 * stage.timeout + 300})
     if not answer.failed:
@@ -64,7 +67,7 @@ def judge_late(stage, name):
      "after a response that is too late (403) it asks for the next invocation, and the next ones are right; an end "
      "instead is a NOTE"),
     timeout=1, lasts=3)
-def response_too_late(stage):
+def response_too_late(stage: Stage) -> None:
     judge_late(stage, "late_response")
 
 
@@ -72,6 +75,6 @@ def response_too_late(stage):
     ("long_refusal", pages.INVOKE_FAILURES,
      "so it does if the refusal has a long body, in chunks, which comes before the next answer on that connection"),
     timeout=1, lasts=3)
-def response_refused_at_length(stage):
+def response_refused_at_length(stage: Stage) -> None:
     stage.environment.proxy.manner = Manner(kinds=("response", "error"), refusals=True, body=LONG, chunk=1000)
     judge_late(stage, "long_refusal")

@@ -15,16 +15,17 @@ import random
 import signal
 import socket
 import time
+from typing import List, Set, Tuple
 
 from ...service import Fault, program_path
 from ...usage import parser_of
 from ..clock import CLOCK
 from ..run import Parser, ended_by_signal, seconds
 from .calls import Call
-from .course import ANSWER_SECONDS, SURELY, Course, Unrecoverable
+from .course import ANSWER_SECONDS, SURELY, Course, Difference, Played, Unrecoverable
 from .known import KnownDifferences
 from .minimise import Undecided, confirmed, minimised
-from .oracle import FRESH, WARM, Oracle
+from .oracle import FRESH, WARM, Oracle, Plan, left_polls
 from .random_sequences import Generator
 from .report import Report
 from .sequences import plans_of, timed, worked
@@ -40,14 +41,15 @@ BATCH = 20  # random sequences that are made at once
 class Run:
     """One run: what it plays, what it has reported."""
 
-    def __init__(self, options, report):
+    def __init__(self, options: argparse.Namespace, report: Report) -> None:
         self.options, self.report = options, report
         self.tested = tested_by(options.invoke, options.runtime, options.function)
         self.course = Course(self.tested, KnownDifferences(options.known), USUAL_TIMEOUT)
         self.oracle = Oracle(program_path(options.program), USUAL_TIMEOUT)
-        self.generator, self.reported, self.begun = Generator(random.Random(options.seed)), set(), time.monotonic()
+        self.generator, self.begun = Generator(random.Random(options.seed)), time.monotonic()
+        self.reported: Set[Tuple[str, str, str]] = set()  # of differences, the words
 
-    def prepare(self):
+    def prepare(self) -> bool:
         """Finds out whether a Runtime API answers, and the function's timeout. Returns whether sequences can begin."""
         look_for(self.tested.invoke)
         status = self.course.ask(Call("init-failure", "", ("={}",)), {}, ANSWER_SECONDS)
@@ -69,11 +71,11 @@ class Run:
                           f"the function's timeout is {self.oracle.timeout} s")
         return True
 
-    def _has_runtime_api(self):
+    def _has_runtime_api(self) -> bool:
         """Whether Next waits, or is answered as only a Runtime API does."""
         return self.course.ask(Call("next"), {}, SURELY) in (0, 200, 202, 403, 500)
 
-    def everything(self):
+    def everything(self) -> None:
         with_timeouts = self.oracle.timeout <= MOST_TIMEOUT
         share = 0.0
         for start, until in ((FRESH, FRESH_SHARE), (WARM, 1.0)):
@@ -85,7 +87,7 @@ class Run:
         if not with_timeouts:
             self.report.write(f"left out: sequences with a timeout, since it is {self.oracle.timeout} s")
 
-    def _random(self, start, share, until):
+    def _random(self, start: str, share: float, until: float) -> None:
         """Random sequences until their share of the number or of the time is used up."""
         wanted = self.options.sequences
         made, count = 0, round(wanted * until) - round(wanted * share) if wanted else None
@@ -95,10 +97,10 @@ class Run:
             plans = plans_of(self.generator.sequences(start, BATCH), self.oracle)
             made += self.play(plans[:count - made] if wanted else plans, True)
 
-    def over(self):
-        return self.report.differences >= self.options.most
+    def over(self) -> bool:
+        return bool(self.report.differences >= self.options.most)
 
-    def play(self, plans, is_random):
+    def play(self, plans: List[Plan], is_random: bool) -> int:
         """Plays these, and reports what differs: how many were played."""
         for plan in plans:
             if self.over():
@@ -109,7 +111,7 @@ class Run:
             self.report.passed(plan.sequence, played.seconds, is_random)
         return len(plans)
 
-    def _look_into(self, plan, played):
+    def _look_into(self, plan: Plan, played: Played) -> None:
         """Reports a difference with as few calls as show it. One that does not show again with more time between the
         calls was a matter of their order, and is none."""
         difference = None
@@ -122,24 +124,27 @@ class Run:
             self.report.undecided += 1
             return
         except (OSError, Unrecoverable):  # (what the service does not survive is reported as it was last seen)
-            self._tell(difference or self.course.found, plan, played)
+            if difference := difference or self.course.found:
+                self._tell(difference, plan, played)
             raise
         self._tell(difference, plan, played)
 
-    def _tell(self, difference, plan, played):
-        self.reported |= {played.difference.words, difference.words}
+    def _tell(self, difference: Difference, plan: Plan, played: Played) -> None:
+        self.reported |= {one.words for one in (played.difference, difference) if one}
         self.report.differs(difference, plan.sequence.name, played.seconds, self._script(difference))
 
-    def _script(self, difference):
+    def _script(self, difference: Difference) -> List[str]:
         """The calls as a script, as far as they were made."""
         plan = difference.plan
         lines = self.oracle.opening(1)
-        for call, moment in zip(plan.sequence.calls, difference.moments):
-            lines.append(f"{moment} {call.script(1, 'f1', plan.counts)}")
+        entries = {place: place for place in range(len(plan.sequence.calls))}  # (each call is one)
+        left = left_polls(plan.sequence, plan.steps, entries)
+        for place, (call, moment) in enumerate(zip(plan.sequence.calls, difference.moments)):
+            lines.append(f"{moment} {call.script(1, 'f1', plan.counts, left.get(place))}")
         return lines
 
 
-def look_for(address):
+def look_for(address: Tuple[str, int]) -> None:
     try:
         socket.create_connection(address, timeout=5).close()
     except OSError as fault:
@@ -147,14 +152,14 @@ def look_for(address):
                        f"first") from None
 
 
-def count(text):
+def count(text: str) -> int:
     value = int(text)
     if not 1 <= value <= 1_000_000:
         raise argparse.ArgumentTypeError(f"{text} is not a number from 1 to 1,000,000")
     return value
 
 
-def main(words):
+def main(words: List[str]) -> int:
     parser = parser_of("conformance service", __doc__, made=Parser)
     parser.add_argument("--invoke", metavar="URL", help="the port for callers, for example http://127.0.0.1:8080")
     parser.add_argument("--runtime", metavar="HOST:PORT", help="the Runtime API, for example 127.0.0.1:9001")
@@ -188,7 +193,7 @@ def main(words):
     return run(whole, report, options)
 
 
-def run(whole, report, options):
+def run(whole: Run, report: Report, options: argparse.Namespace) -> int:
     """The exit status. What the service does not survive ends the run, with what was found until then."""
     try:
         look_for(whole.tested.runtime)

@@ -2,13 +2,14 @@
 to."""
 import contextlib
 import time
-from typing import NamedTuple, Optional, Tuple
+from typing import Dict, List, NamedTuple, Optional, Tuple, cast
 
-from .calls import Call
+from .calls import Call, Ids
 from .judge import Aspect, Judge, label_of, shown
-from .known import WAITS
+from .known import WAITS, KnownDifferences
 from .oracle import FRESH, WARM, Plan
-from .wire import Wire
+from .tested import Tested
+from .wire import Exchange, Wire
 
 ANSWER_SECONDS = 2.0  # how long an answer may take that the definitions give at once
 BEYOND_SECONDS = 5.0  # and how long more one that a timeout gives
@@ -29,7 +30,7 @@ class Difference(NamedTuple):
     ended: Optional[int]  # when the answer came that differs; none if it is missing
 
     @property
-    def words(self):
+    def words(self) -> Tuple[str, str, str]:
         return self.plan.sequence.calls[self.place].kind, self.label, self.aspect.name
 
 
@@ -44,26 +45,33 @@ class Unrecoverable(Exception):
 
 
 class Course:
-    def __init__(self, tested, known, timeout):
+    def __init__(self, tested: Tested, known: KnownDifferences, timeout: int) -> None:
         self.tested, self.known, self.timeout, self.wire = tested, known, timeout, Wire()
-        self.state, self.poll = None, None  # fresh, warm or not known; the Next that waits in warm
-        self.ids = {}  # that the last sequence learned
-        self.found = None  # the last difference
+        self.state: Optional[str] = None
+        self.poll: Optional[Exchange] = None
+        # fresh, warm or not known; the Next that waits in warm
+        self.ids: Ids = {}  # that the last sequence learned
+        self.found: Optional[Difference] = None  # the last difference
         self.calls = 0
 
     # ---- one sequence ----
 
-    def play(self, plan, settle=None, patience=ANSWER_SECONDS):
+    def play(self, plan: Plan, settle: Optional[float] = None, patience: float = ANSWER_SECONDS) -> Played:
         """Plays it from the state in which it begins: the first difference that is not accepted, if there is one.
         `settle` is how long a call that is not answered has to wait, `patience` how long an answer may take that is
         given at once."""
         self.bring(plan.sequence.start)
-        begun, judge, exchanges, moments = time.monotonic(), Judge(plan), {}, []
+        begun, judge = time.monotonic(), Judge(plan)
+        exchanges: Dict[int, Exchange] = {}
+        moments: List[int] = []
         self.ids, self.state = judge.ids, None
-        difference, whole = None, True
+        difference: Optional[Difference] = None
+        whole = True
         for step, call in enumerate(plan.sequence.calls):
             if step == 0 and plan.sequence.start == WARM:
-                exchanges[0] = self.poll
+                exchanges[0] = cast(Exchange, self.poll)
+            elif call.kind in ("leave", "hang-up"):
+                self._end_connection(plan, step, exchanges)
             elif call.kind != "wait":
                 exchanges[step] = self.send(call, judge.ids)
             moments.append(since(begun))
@@ -74,7 +82,7 @@ class Course:
             if found:
                 exchange = exchanges[found[0]]
                 self.found = difference = Difference(plan, step, *found, tuple(moments),
-                                                     exchange.answered and since(begun, exchange.answered))
+                                                     since(begun, exchange.answered) if exchange.answered else None)
             if found or parted:
                 whole = False
                 break
@@ -82,13 +90,13 @@ class Course:
             self._ended(plan, exchanges)
         return Played(difference, whole, time.monotonic() - begun)
 
-    def send(self, call, ids):
+    def send(self, call: Call, ids: Ids) -> Exchange:
         self.calls += 1
         return self.wire.send(*self.tested.request(call, ids))
 
-    def _await(self, plan, step, exchanges, settle, patience):
+    def _await(self, plan: Plan, step: int, exchanges: Dict[int, Exchange], settle: float, patience: float) -> None:
         """Waits for the answers that belong to the step; if its own call gets none, until it surely waits."""
-        call, given = plan.sequence.calls[step], plan.steps[step]
+        call, given = plan.sequence.calls[step], [one for one in plan.steps[step] if one.call in exchanges]
         answered = [one for one in given
                     if not self.known.accepts_silence((plan.sequence.calls[one.call].kind, label_of(one, False)))]
         if answered:
@@ -98,13 +106,24 @@ class Course:
             self.wire.collect(seconds=self.timeout + 0.5)
         if len(answered) < len(given):
             self.wire.collect([exchanges[one.call] for one in given], SILENCE_SECONDS)
-        if call.kind != "wait" and not any(one.call == step for one in given):
+        if call.kind in ("leave", "hang-up"):
+            self.wire.collect(seconds=max(settle, SURELY))
+        elif call.kind != "wait" and not any(one.call == step for one in given):
             self.wire.collect(seconds=settle)
         elif call.kind != "wait" and exchanges[step].answered:
             self.wire.note_trip(exchanges[step])
         self.wire.collect()
 
-    def _compare(self, plan, step, exchanges, judge):
+    def _end_connection(self, plan: Plan, step: int, exchanges: Dict[int, Exchange]) -> None:
+        """Ends that of the Next that waits, or of an invocation's caller: what it would be answered is not compared."""
+        call = plan.sequence.calls[step]
+        kind = "next" if call.kind == "leave" else "invoke"
+        places = [place for place, exchange in exchanges.items() if not exchange.over
+                  and plan.sequence.calls[place].kind == kind and plan.sequence.calls[place].label == call.label]
+        self.wire.leave([exchanges.pop(place) for place in places])
+
+    def _compare(self, plan: Plan, step: int, exchanges: Dict[int, Exchange],
+                 judge: Judge) -> Tuple[Optional[Tuple[int, str, Aspect]], bool]:
         """The first difference of a step that is not accepted (a call's place, its label, the aspect), and whether the
         two have parted with one that is."""
         here = {given.call: given for given in plan.steps[step]}
@@ -115,7 +134,7 @@ class Course:
         parted = False
 
         # (a delivery first, which makes an identifier known, and then the call itself)
-        def order(place):
+        def order(place: int) -> Tuple[bool, bool, int]:
             return place not in here or here[place].answer.kind != "deliver", place != step, place
         for place in sorted(exchanges, key=order):
             exchange = exchanges[place]
@@ -132,7 +151,7 @@ class Course:
                 parted = parted or (aspect.parts and label != "Container")
         return None, parted
 
-    def _ended(self, plan, exchanges):
+    def _ended(self, plan: Plan, exchanges: Dict[int, Exchange]) -> None:
         waiting = plan.waiting()
         self.state = WARM if waiting else FRESH
         self.poll = exchanges[waiting[0]] if waiting else None
@@ -141,7 +160,7 @@ class Course:
 
     # ---- the state in which a sequence begins ----
 
-    def bring(self, start):
+    def bring(self, start: str) -> None:
         if self.state is None:
             self.restore()
         if self.state == WARM and start == FRESH:
@@ -151,7 +170,7 @@ class Course:
             self.wire.collect(seconds=SURELY)
             self.state = WARM
 
-    def _let_time_out(self):
+    def _let_time_out(self) -> None:
         """An invocation that the runtime does not answer ends the environment."""
         invoke = self.send(PROBE, {})
         self.wire.collect([invoke], self.timeout + BEYOND_SECONDS)
@@ -159,7 +178,7 @@ class Course:
         if self.state is None:
             self.restore()
 
-    def restore(self):
+    def restore(self) -> None:
         """Brings a service of which nothing is known to a fresh environment, by what any Lambda has: an extension that
         fails, a failed Init, or a timeout."""
         self.wire.drop()
@@ -180,7 +199,7 @@ class Course:
                 time.sleep(0.1)
         self.ids, self.state, self.poll = {}, FRESH, None
 
-    def learn_timeout(self):
+    def learn_timeout(self) -> Optional[int]:
         """The function's timeout in seconds, by the deadline of an invocation in a fresh environment; none if it has
         none. With an extension, whose failure ends the environment at once."""
         register = self.send(Call("register", "probe", ("=probe", "-")), {})
@@ -196,13 +215,13 @@ class Course:
         self.state = None
         return min(900, max(1, round((int(deadline) - poll.wall) / 1000))) if deadline.isdigit() else None
 
-    def ask(self, call, ids, seconds=0.1):
+    def ask(self, call: Call, ids: Ids, seconds: float = 0.1) -> int:
         """The status of a call's answer; 0 if none comes."""
         exchange = self.send(call, ids)
         self.wire.collect([exchange], seconds)
         return exchange.status
 
-    def _is_fresh(self):
+    def _is_fresh(self) -> bool:
         """Whether an Init can fail now; then the environment begins anew, unless extensions have to end first."""
         if self.ask(Call("init-failure", "", ("={}",)), {}, ANSWER_SECONDS) != 202:
             return False
@@ -215,17 +234,17 @@ class Course:
                 return False
             time.sleep(0.05)
 
-    def close(self):
+    def close(self) -> None:
         with contextlib.suppress(OSError):
             self.wire.drop()
 
 
-def since(begun, moment=None):
+def since(begun: float, moment: Optional[float] = None) -> int:
     """Milliseconds from one moment to another, or to now."""
     return int(((time.monotonic() if moment is None else moment) - begun) * 1000)
 
 
-def open_invocation(plan, step):
+def open_invocation(plan: Plan, step: int) -> Optional[int]:
     """The place of the invocation that is delivered and not answered before a step."""
     delivered = None
     for earlier in plan.steps[:step]:

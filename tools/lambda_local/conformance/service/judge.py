@@ -1,10 +1,15 @@
 """Compares a reply with the definitions' answer, up to identifiers, times and texts that are a service's own."""
 import json
-from typing import NamedTuple
+from typing import Any, Dict, Iterator, List, NamedTuple, Tuple
 
 from ..clock import CLOCK
 from ..pages import (EXTENSION_EXIT_ERROR, EXTENSION_INIT_ERROR, EXTENSION_NEXT, INIT_ERROR, INIT_PHASE, INVOKE_ERROR,
                      NEXT, REGISTER, RESPONSE, Page)
+from .calls import NEVER_GIVEN, Call, Ids
+from .oracle import Given, Plan
+from .wire import Exchange
+
+Pair = Tuple[str, Any, Any]  # a name, what came, and what is expected
 
 INVOKE = Page("AWS Lambda API Reference, Invoke", "Response Elements",
               "https://docs.aws.amazon.com/lambda/latest/api/API_Invoke.html")
@@ -34,7 +39,7 @@ class Missing(str):
     """What a reply does not have."""
 
 
-def label_of(given, answered_before):
+def label_of(given: Given, answered_before: bool) -> str:
     """Returns the word for an answer: its kind, or why it is refused, as `docs/differences.md` distinguishes them."""
     answer = given.answer
     if answer.kind == "refused":
@@ -48,17 +53,19 @@ def label_of(given, answered_before):
     return answer.kind
 
 
-def status_of(label):
+def status_of(label: str) -> int:
     return STATUSES[label] if label in STATUSES else STATUSES[label.split("-")[0]]
 
 
 class Judge:
     """Knows the identifiers that the service gave in a sequence."""
 
-    def __init__(self, plan):
-        self.plan, self.ids = plan, {}
+    def __init__(self, plan: Plan) -> None:
+        self.plan = plan
+        self.ids: Ids = {}
+        self.deadlines: Dict[str, int] = {}  # by the labels of invocations, what Lambda-Runtime-Deadline-Ms said
 
-    def aspects(self, given, label, exchange):
+    def aspects(self, given: Given, label: str, exchange: Exchange) -> List[Aspect]:
         """The respects in which a reply is another than the answer that is given."""
         wanted = status_of(label)
         if exchange.status != wanted:
@@ -77,16 +84,19 @@ class Judge:
 
     # ---- each gives what is compared: a name, what came, and what is expected; the same if all is well ----
 
-    def _deliver(self, given, exchange):
+    def _deliver(self, given: Given, exchange: Exchange) -> Iterator[Pair]:
         request, _, text = given.answer.fields
-        label = self.plan.label_of(int(request[-12:], 16))
+        label = self.plan.label_of(int(request[-12:], 16)) or NEVER_GIVEN
         invoke = next(call for call in self.plan.sequence.calls if (call.kind, call.label) == ("invoke", label))
         identifier = header(exchange, "lambda-runtime-aws-request-id")
         yield "request-id", identifier, a_text(identifier)
         if not isinstance(identifier, Missing):
             yield "request-id", identifier, "one of its own" if identifier in self.ids.values() else identifier
             self.ids[False, label] = identifier
-        yield self._deadline(header(exchange, "lambda-runtime-deadline-ms"), given, exchange)
+        deadline = header(exchange, "lambda-runtime-deadline-ms")
+        yield self._deadline(deadline, given, exchange)
+        if str(deadline).isdigit():
+            self.deadlines[label] = int(deadline)
         arn = header(exchange, "lambda-runtime-invoked-function-arn")
         yield "function-arn", arn, a_text(arn)
         if not isinstance(arn, Missing):
@@ -96,19 +106,20 @@ class Judge:
         yield "trace-id", trace, invoke.trace or trace
         yield "payload", exchange.body, invoke.body or b"{}"
 
-    def _tell(self, given, exchange):
+    def _tell(self, given: Given, exchange: Exchange) -> Iterator[Pair]:
         identifier = header(exchange, "lambda-extension-event-identifier")
         yield "event-id", identifier, a_text(identifier)
         event = members(exchange)
         yield "event-type", event.get("eventType", Missing("no eventType")), "INVOKE"
-        known = self.ids.get((False, self.plan.label_of(int(given.answer.fields[1][-12:], 16))))
+        label = self.plan.label_of(int(given.answer.fields[1][-12:], 16)) or NEVER_GIVEN
+        known = self.ids.get((False, label))
         request = event.get("requestId", Missing("no requestId"))
         yield "request-id", request, known or a_text(request)
-        yield self._deadline(event.get("deadlineMs", Missing("no deadlineMs")), given, exchange)
+        yield self._deadline_of_event(event.get("deadlineMs", Missing("no deadlineMs")), given, exchange)
         arn = event.get("invokedFunctionArn", Missing("no invokedFunctionArn"))
         yield "function-arn", arn, a_text(arn)
 
-    def _shutdown(self, given, exchange):
+    def _shutdown(self, given: Given, exchange: Exchange) -> Iterator[Pair]:
         event = members(exchange)
         yield "event-type", event.get("eventType", Missing("no eventType")), "SHUTDOWN"
         reason = event.get("shutdownReason", Missing("no shutdownReason"))
@@ -117,7 +128,7 @@ class Judge:
         deadline = event.get("deadlineMs", Missing("no deadlineMs"))
         yield "deadline", deadline, deadline if isinstance(deadline, int) else "a time in Unix milliseconds"
 
-    def _registered(self, given, exchange):
+    def _registered(self, given: Given, exchange: Exchange) -> Iterator[Pair]:
         identifier = header(exchange, "lambda-extension-identifier")
         yield "extension-id", identifier, a_text(identifier)
         if not isinstance(identifier, Missing):
@@ -131,7 +142,7 @@ class Judge:
         if not asks:
             yield "member-accountId", told.get("accountId", NOT_ASKED), NOT_ASKED
 
-    def _of_invoke(self, given, exchange):
+    def _of_invoke(self, given: Given, exchange: Exchange) -> Iterator[Pair]:
         """What each answer to an Invoke has that a function gave, or that stands in its place."""
         version = header(exchange, "x-amz-executed-version")
         yield "executed-version", version, "$LATEST"
@@ -140,21 +151,27 @@ class Judge:
         if known and told:
             yield "request-id", told, known
 
-    def _output(self, given, exchange):
+    def _output(self, given: Given, exchange: Exchange) -> Iterator[Pair]:
         yield from self._of_invoke(given, exchange)
         flag = header(exchange, "x-amz-function-error")
         yield "function-error", flag, Missing("no x-amz-function-error") if not isinstance(flag, Missing) else flag
         yield "output", exchange.body, given.answer.body
 
-    def _error(self, given, exchange):
+    def _error(self, given: Given, exchange: Exchange) -> Iterator[Pair]:
         yield self._flag(exchange)
         yield from self._of_invoke(given, exchange)
         report, ours = exchange.body, given.answer.body
         # (of an extension: docs/differences.md)
         yield "report", report, report if given.cause.startswith("ext-") else ours
 
-    def _timeout(self, given, exchange):
+    def _timeout(self, given: Given, exchange: Exchange) -> Iterator[Pair]:
         yield self._flag(exchange)
+        deadline = self.deadlines.get(self.plan.sequence.calls[given.call].label)
+        if given.answer.kind == "timeout" and deadline:
+            late = exchange.wall - deadline
+            fits = -tolerance() <= late <= 2 * tolerance()
+            words = f"{abs(late) / 1000:.1f} s {'after' if late > 0 else 'before'} its Lambda-Runtime-Deadline-Ms"
+            yield "moment", "" if fits else words, "" if fits else "then"
         told = members(exchange)
         for name in ("errorType", "errorMessage"):  # (the texts: docs/differences.md)
             value = told.get(name, Missing(f"no {name}"))
@@ -162,41 +179,53 @@ class Judge:
 
     _init_timeout = _too_large_output = _timeout
 
-    def _throttled(self, given, exchange):
+    def _throttled(self, given: Given, exchange: Exchange) -> Iterator[Pair]:
         kind = header(exchange, "x-amzn-errortype")
         name = kind if isinstance(kind, Missing) else kind.split(":")[0]
         yield "error-type", name, "TooManyRequestsException"
 
-    def _refused(self, given, exchange):
+    def _refused(self, given: Given, exchange: Exchange) -> Iterator[Pair]:
         told = members(exchange)
         for name in ("errorType", "errorMessage"):
             value = told.get(name, Missing(f"no {name}"))
             yield "member-" + name, value, a_text(value)
 
     @staticmethod
-    def _flag(exchange):
+    def _flag(exchange: Exchange) -> Pair:
         flag = header(exchange, "x-amz-function-error")
         return "function-error", flag, "Unhandled"
 
     @staticmethod
-    def _deadline(value, given, exchange):
+    def _deadline(value: Any, given: Given, exchange: Exchange) -> Pair:
         """A deadline in Unix milliseconds, by the service's clock, which is this one's up to a little."""
         number = int(value) if str(value).isdigit() else None
         ours = exchange.wall + given.remaining
-        tolerance = min(MOST_TOLERANCE, TOLERANCE * CLOCK.slowness() ** 2)
-        fits = number is not None and abs(number - ours) <= tolerance
+        fits = number is not None and abs(number - ours) <= tolerance()
         return "deadline", value, value if fits else f"about {ours:.0f}"
 
+    def _deadline_of_event(self, value: Any, given: Given, exchange: Exchange) -> Pair:
+        """That of the invocation, to within a little."""
+        known = self.deadlines.get(self.plan.label_of(int(given.answer.fields[1][-12:], 16)) or NEVER_GIVEN)
+        if known is None or not str(value).isdigit():
+            return self._deadline(value, given, exchange)
+        fits = abs(int(value) - known) <= TOLERANCE
+        return "deadline", value, value if fits else f"{known}, as Lambda-Runtime-Deadline-Ms of that invocation"
 
-def header(exchange, name):
+
+def tolerance() -> float:
+    """Milliseconds by which a moment may differ."""
+    return min(MOST_TOLERANCE, TOLERANCE * CLOCK.slowness() ** 2)
+
+
+def header(exchange: Exchange, name: str) -> str:
     return exchange.headers.get(name) or Missing(f"no {name}")
 
 
-def a_text(value):
+def a_text(value: Any) -> str:
     return value if isinstance(value, str) and value and not isinstance(value, Missing) else TEXT
 
 
-def members(exchange):
+def members(exchange: Exchange) -> Dict[str, Any]:
     try:
         found = json.loads(exchange.body)
     except ValueError:
@@ -204,7 +233,7 @@ def members(exchange):
     return found if isinstance(found, dict) else {}
 
 
-def shown(exchange, most=100):
+def shown(exchange: Exchange, most: int = 100) -> str:
     """A reply as a few words."""
     if not exchange.over:
         return "no answer: it waits"
@@ -214,5 +243,5 @@ def shown(exchange, most=100):
     return f"{exchange.status} {body if len(body) <= most else body[:most] + '..'}".strip()
 
 
-def page_of(call, label):
+def page_of(call: Call, label: str) -> Page:
     return INIT_PHASE if label == "error-of-init" else PAGES[call.kind]

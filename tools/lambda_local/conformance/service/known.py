@@ -2,7 +2,7 @@
 
 Each is named by three words, as a report gives them: the call, the definitions' answer to it, and the respect in which
 the other answer differs; `*` stands for any word. The details are where answers are compared (judge.py)."""
-from typing import NamedTuple
+from typing import Dict, List, NamedTuple, Optional, Tuple
 
 from ...service import Fault
 
@@ -10,10 +10,10 @@ WAITS = "waits"  # the label of a call that the definitions do not answer yet
 
 
 class Known(NamedTuple):
-    words: tuple
+    words: Tuple[str, ...]
     why: str  # the point in docs/differences.md, or the line of the file
 
-    def accepts(self, words):
+    def accepts(self, words: Tuple[str, ...]) -> bool:
         return all(mine in ("*", other) for mine, other in zip(self.words, words))
 
 
@@ -29,23 +29,23 @@ COMPARED_LOOSELY = ("a timeout", "the greatest response", "a report of an extens
 
 
 class KnownDifferences:
-    def __init__(self, path=None):
+    def __init__(self, path: Optional[str] = None) -> None:
         self.all = [*BUILT_IN, *(read(path) if path else [])]
-        self.met = {}
+        self.met: Dict[str, int] = {}
 
-    def accepts(self, words):
+    def accepts(self, words: Tuple[str, ...]) -> bool:
         """Whether a difference is accepted; counts it."""
         found = next((known for known in self.all if known.accepts(words)), None)
         if found:
             self.met[found.why] = self.met.get(found.why, 0) + 1
         return found is not None
 
-    def accepts_silence(self, words):
+    def accepts_silence(self, words: Tuple[str, ...]) -> bool:
         """Whether it is accepted that an answer never comes: then it is not waited for."""
         return any(known.accepts((*words, "connection")) for known in self.all)
 
 
-def read(path):
+def read(path: str) -> List[Known]:
     try:
         with open(path, encoding="utf-8") as file:
             lines = file.read().splitlines()

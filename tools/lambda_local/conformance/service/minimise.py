@@ -1,9 +1,10 @@
 """Makes the calls of a difference fewer: delta debugging over the sequence, each candidate played on the service."""
 import time
+from typing import List, Optional, Tuple
 
 from .calls import Call
-from .course import ANSWER_SECONDS
-from .oracle import WARM
+from .course import ANSWER_SECONDS, Course, Difference
+from .oracle import WARM, Given, Oracle, Plan
 from .sequences import plans_of
 
 SLOW, SLOWEST = 0.03, 0.2  # seconds for which a call waits that is not answered, so that the order is sure
@@ -16,14 +17,15 @@ class Undecided(Exception):
     """Deadlines came between the calls each time: this machine is too slow, or the function's timeout too short."""
 
 
-def confirmed(course, oracle, plan):
+def confirmed(course: Course, oracle: Oracle, plan: Plan) -> Optional[Difference]:
     """The difference of a plan if the same one shows each time when each call has much time to be taken; else none."""
     first = determined(course, oracle, plan, SLOW)
     again = first and determined(course, oracle, plan, SLOWEST, 2 * ANSWER_SECONDS)
-    return again if again and again.words == first.words else None
+    return again if first and again and again.words == first.words else None
 
 
-def determined(course, oracle, plan, settle, patience=ANSWER_SECONDS):
+def determined(course: Course, oracle: Oracle, plan: Plan, settle: float,
+               patience: float = ANSWER_SECONDS) -> Optional[Difference]:
     """The difference that a plan shows, if the definitions give the same answers for the moments at which the calls
     were made, and no deadline came before the answer that differs. On a machine that is too slow for that, it is tried
     again."""
@@ -34,7 +36,7 @@ def determined(course, oracle, plan, settle, patience=ANSWER_SECONDS):
     raise Undecided
 
 
-def by_its_moments(oracle, difference):
+def by_its_moments(oracle: Oracle, difference: Difference) -> bool:
     plan, length = difference.plan, difference.step + 1
     made, moments = plan.sequence.calls[:length], difference.moments
     if difference.ended is not None:
@@ -44,11 +46,11 @@ def by_its_moments(oracle, difference):
             and not any(steps[length:]))
 
 
-def kinds(step):
+def kinds(step: Tuple[Given, ...]) -> List[Tuple[int, str]]:
     return [(given.call, given.answer.kind) for given in step]
 
 
-def minimised(course, oracle, difference):
+def minimised(course: Course, oracle: Oracle, difference: Difference) -> Difference:
     """A difference of the same words with as few calls as were found."""
     end = time.monotonic() + BUDGET
     best, size = difference, len(calls_before(difference)) // 2
@@ -60,7 +62,8 @@ def minimised(course, oracle, difference):
     return best
 
 
-def smaller(course, oracle, difference, size, first, end):
+def smaller(course: Course, oracle: Oracle, difference: Difference, size: int, first: int,
+            end: float) -> Optional[Tuple[Difference, int]]:
     """Returns the same difference without this many neighbouring calls, and the place of those, searching from a place
     on; or nothing."""
     calls, sequence = calls_before(difference), difference.plan.sequence
@@ -78,6 +81,6 @@ def smaller(course, oracle, difference, size, first, end):
     return None
 
 
-def calls_before(difference):
+def calls_before(difference: Difference) -> Tuple[Call, ...]:
     """The calls up to the one at which the difference shows."""
     return difference.plan.sequence.calls[:difference.step + 1]

@@ -4,15 +4,18 @@ Each sequence of a script has a function and an environment of its own, so that 
 call there is a `tick`, whose own answer shows the entry of the call, even if environments have expired before it."""
 import json
 import subprocess
-from typing import NamedTuple, Tuple
+from typing import Dict, Iterable, Iterator, List, Mapping, NamedTuple, Optional, Set, Tuple
+from typing import Sequence as TypingSequence
 
 from ...history import Answer
 from ...service import Fault
-from .calls import OF_EXTENSIONS, OF_INVOCATIONS, about_extension
+from .calls import MADE_BY_NONE, OF_EXTENSIONS, OF_INVOCATIONS, Call, Counts, about_extension
+Entries = Mapping[int, int]  # by the places of calls
 
 FRESH, WARM = "fresh", "warm"
 AT_ONCE = 60  # sequences in a script; a configuration has at most 64 functions
 BEYOND = 500  # milliseconds that a `wait` lasts longer than the function's timeout
+BY_TICK = ("wait", "hang-up")  # calls for which a script has no line but that of the clock
 FIRST_PORT = 20000  # of environments that no one serves
 
 
@@ -21,7 +24,7 @@ class Sequence(NamedTuple):
     (warm): then the first call is that Next, which was made before."""
     name: str
     start: str
-    calls: tuple
+    calls: Tuple[Call, ...]
 
 
 class Given(NamedTuple):
@@ -35,70 +38,80 @@ class Given(NamedTuple):
 class Plan(NamedTuple):
     """A sequence with the answers of the definitions, step by step."""
     sequence: Sequence
-    steps: Tuple[Tuple[Given, ...], ...]
-    counts: dict  # of labels: an invocation (False, label), an extension (True, label)
+    steps: "Steps"
+    counts: Counts  # of labels: an invocation (False, label), an extension (True, label)
     moments: Tuple[int, ...]
+    tickets: Dict[int, int]  # by the place of each `leave`, that of the Next that it is about
 
-    def own(self, place):
+    def own(self, place: int) -> Optional[Answer]:
         """The answer to a call in its own step; none if it waits."""
         return next((given.answer for given in self.steps[place] if given.call == place), None)
 
-    def label_of(self, identifier_count, of_extension=False):
+    def label_of(self, identifier_count: int, of_extension: bool = False) -> Optional[str]:
         return next((label for (kind, label), count in self.counts.items()
                      if kind == of_extension and count == identifier_count), None)
 
-    def waiting(self):
+    def waiting(self) -> List[int]:
         """The places of the calls that are not answered."""
         answered = {given.call for step in self.steps for given in step}
         return [place for place, call in enumerate(self.sequence.calls)
-                if call.kind != "wait" and place not in answered]
+                if call.kind not in MADE_BY_NONE and place not in answered]
+
+
+Steps = Tuple[Tuple[Given, ...], ...]  # the answers of each step
 
 
 class Oracle:
-    def __init__(self, program, timeout):
+    def __init__(self, program: str, timeout: int) -> None:
         self.program, self.timeout, self.replays = program, timeout, 0
 
-    def plans(self, sequences):
+    def plans(self, sequences: TypingSequence[Sequence]) -> List[Plan]:
         """A plan for each of the sequences."""
         return [plan for first in range(0, len(sequences), AT_ONCE)
                 for plan in self._some(sequences[first:first + AT_ONCE])]
 
-    def plan(self, sequence, moments=None):
+    def plan(self, sequence: Sequence, moments: Optional[TypingSequence[int]] = None) -> Plan:
         """The plan of one; of calls that were made at these moments, if there are any."""
         return self._some([sequence], moments)[0]
 
-    def _some(self, sequences, moments=None):
-        registered = [None] * len(sequences)
+    def _some(self, sequences: TypingSequence[Sequence], moments: Optional[TypingSequence[int]] = None) -> List[Plan]:
+        registered: List[Optional[Set[int]]] = [None] * len(sequences)
+        tickets: List[Dict[int, int]] = [{} for _ in sequences]
         while True:  # (which registrations are taken decides on the counts of the others)
             counts = [counts_of(sequence.calls, taken) for sequence, taken in zip(sequences, registered)]
-            found = self._replayed(sequences, counts, moments)
-            seen = [taken_registrations(plan) for plan in found]
-            if seen == registered:
+            found = self._replayed(sequences, counts, tickets, moments)
+            seen: List[Optional[Set[int]]] = [taken_registrations(plan) for plan in found]
+            known = [plan.tickets for plan in found]
+            if seen == registered and known == tickets:
                 return found
-            registered = seen
+            registered, tickets = seen, known
 
-    def _replayed(self, sequences, counts, moments):
-        lines, marks, now = self.opening(len(sequences)), [], 0
-        times = [[] for _ in sequences]
+    def _replayed(self, sequences: TypingSequence[Sequence], counts: List[Counts], tickets: List[Dict[int, int]],
+                  moments: Optional[TypingSequence[int]]) -> List[Plan]:
+        lines, now = self.opening(len(sequences)), 0
+        marks: List[Tuple[int, int]] = []
+        times: List[List[int]] = [[] for _ in sequences]
         for number, sequence in enumerate(sequences):
             for place, call in enumerate(sequence.calls):
                 now = moments[place] if moments else now + (self.timeout * 1000 + BEYOND if call.kind == "wait" else 1)
                 times[number].append(now)
                 lines.append(f"{now} tick")
-                if call.kind != "wait":
-                    lines.append(f"{now} {call.script(number + 1, f'f{number + 1}', counts[number])}")
+                if call.kind not in BY_TICK:
+                    ticket = tickets[number].get(place)
+                    lines.append(f"{now} {call.script(number + 1, f'f{number + 1}', counts[number], ticket)}")
                 marks.append((number, place))
-        steps = self._steps(self._replay(lines), sequences, marks, times)
-        return [Plan(*parts) for parts in zip(sequences, steps, counts, map(tuple, times))]
+        steps, entries = self._steps(self._replay(lines), sequences, marks, times)
+        left = [left_polls(*parts) for parts in zip(sequences, steps, entries)]
+        return [Plan(*parts) for parts in zip(sequences, steps, counts, [tuple(one) for one in times], left)]
 
-    def opening(self, count):
+    def opening(self, count: int) -> List[str]:
         """Returns the first two lines of a script with this many functions."""
         functions = [{"name": f"f{number + 1}", "ports": [FIRST_PORT + number], "timeout": self.timeout}
                      for number in range(count)]
         return ["form 2", json.dumps({"account": "123456789012", "region": "us-east-1", "functions": functions},
                                      separators=(",", ":"))]
 
-    def _replay(self, lines):
+    def _replay(self, lines: List[str]) -> Iterator[Tuple[int, Answer]]:
         self.replays += 1
         done = subprocess.run([self.program, "replay"], input="\n".join(lines) + "\n", capture_output=True, text=True)
         if done.returncode:
@@ -109,18 +122,21 @@ class Oracle:
             yield int(entry), Answer(int(ticket), kind, tuple(fields))
 
     @staticmethod
-    def _steps(answers, sequences, marks, times):
-        steps = [[[] for _ in sequence.calls] for sequence in sequences]
+    def _steps(answers: Iterable[Tuple[int, Answer]], sequences: TypingSequence[Sequence],
+               marks: List[Tuple[int, int]],
+               times: List[List[int]]) -> Tuple[List[Steps], List[Dict[int, int]]]:
+        steps: List[List[List[Given]]] = [[[] for _ in sequence.calls] for sequence in sequences]
         answers = list(answers)
-        ticks = [entry for entry, answer in answers if answer.kind == "done" and answer.ticket == entry]
+        ticks = iter([entry for entry, answer in answers if answer.kind == "done" and answer.ticket == entry])
         calls, step_at, causes = {}, {}, {}  # by entries: the call; the step to which an entry belongs; what caused it
         before = -1
-        for (number, place), tick in zip(marks, ticks):
+        for number, place in marks:
             kind = sequences[number].calls[place].kind
-            last = tick if kind == "wait" else tick + 1
+            tick = next(tick for tick in ticks if tick > before)  # (a withdrawal is `done` as well)
+            last = tick if kind in BY_TICK else tick + 1
             for entry in range(before + 1, last + 1):
                 step_at[entry], causes[entry] = (number, place), "expire"
-            if kind != "wait":
+            if kind not in BY_TICK:
                 calls[last], causes[last] = (number, place), kind
             before = last
         for entry, answer in answers:
@@ -129,16 +145,32 @@ class Oracle:
                 deadline = deadline_of(answer)
                 steps[number][place].append(Given(calls[answer.ticket][1], answer, causes[entry],
                                                   deadline and deadline - times[number][place]))
-        return [tuple(map(tuple, of_one)) for of_one in steps]
+        entries: List[Dict[int, int]] = [{} for _ in sequences]
+        for entry, (number, place) in calls.items():
+            entries[number][place] = entry
+        return [tuple(map(tuple, of_one)) for of_one in steps], entries
 
 
-def deadline_of(answer):
+def deadline_of(answer: Answer) -> int:
     """The moment that an answer names; none, as 0, if it names none."""
     places = {"deliver": 1, "tell": 2, "shutdown": 2}
     return int(answer.fields[places[answer.kind]]) if answer.kind in places else 0
 
 
-def counts_of(calls, registered):
+def left_polls(sequence: Sequence, steps: Steps, entries: Entries) -> Dict[int, int]:
+    """By the place of each `leave`: the ticket of the Next that waits then, if there is one."""
+    found, waiting = {}, None
+    for place, call in enumerate(sequence.calls):
+        if call.kind == "next":
+            waiting = place
+        if call.kind == "leave" and waiting is not None:
+            found[place] = entries[waiting]
+        if any(given.call == waiting for given in steps[place]):
+            waiting = None
+    return found
+
+
+def counts_of(calls: TypingSequence[Call], registered: Optional[Set[int]]) -> Counts:
     """The count in the identifier of each label: all Invokes count, and the registrations that are taken (all, if that
     is not known yet)."""
     counts, invocations, extensions = {}, 0, 0
@@ -152,11 +184,11 @@ def counts_of(calls, registered):
     return counts
 
 
-def taken_registrations(plan):
+def taken_registrations(plan: Plan) -> Set[int]:
     return {given.call for step in plan.steps for given in step if given.answer.kind == "registered"}
 
 
-def playable(plan):
+def playable(plan: Plan) -> Sequence:
     """The sequence without the calls that name what the caller cannot know at that time: an invocation that was not
     delivered, or an extension that was not registered."""
     known, kept = {(False, "?"), (True, "?")}, []
@@ -174,7 +206,7 @@ def playable(plan):
     return plan.sequence._replace(calls=tuple(kept))
 
 
-def labelled(plan, given):
+def labelled(plan: Plan, given: Given) -> int:
     """The place of the call whose label a delivery or a registration makes known."""
     if given.answer.kind == "registered":
         return given.call

@@ -1,29 +1,31 @@
 """What a run says: each difference with its calls, both answers and the public page, and the counts at the end."""
 import os
+from typing import Any, Callable, List, Optional
 
 from ... import junit
 from ...service import Fault
 from ..pages import INIT_ERROR
+from .course import Course, Difference
 from .judge import page_of
-from .oracle import WARM
+from .oracle import WARM, Sequence
 
 WIDTH = 150
 
 
 class Report:
-    def __init__(self, path, write=print):
+    def __init__(self, path: Optional[str], write: Callable[[str], Any] = print) -> None:
         self.write, self.path, self.suite = write, path, junit.Suite("conformance service")
         self.differences, self.sequences, self.random, self.undecided = 0, 0, 0, 0
         if path and not os.access(os.path.dirname(os.path.abspath(path)), os.W_OK):
             raise Fault(2, f"--junit {path}: name a file in a folder that can be written")
 
-    def passed(self, sequence, seconds, is_random):
+    def passed(self, sequence: Sequence, seconds: float, is_random: bool) -> None:
         self.sequences += 1
         self.random += is_random
         if not is_random:
             self.suite.case("conformance service.worked", sequence.name, seconds)
 
-    def differs(self, difference, name, seconds, script):
+    def differs(self, difference: Difference, name: str, seconds: float, script: List[str]) -> None:
         """A difference that was found in the sequence of this name."""
         self.differences += 1
         title = (f"{' '.join(difference.words)}: {cut(difference.aspect.theirs)} "
@@ -34,7 +36,7 @@ class Report:
         self.suite.case("conformance service", f"{name}: {' '.join(difference.words)}", seconds, failure=title,
                         details="\n".join(details))
 
-    def missing(self, route, status):
+    def missing(self, route: str, status: int) -> None:
         """A route of the Runtime API that is not there, without which no sequence has a known beginning."""
         self.differences += 1
         title = f"init-failure accepted status: {route} is answered {status} instead of 202"
@@ -43,7 +45,7 @@ class Report:
             self.write(line)
         self.suite.case("conformance service", "init-failure accepted status", 0.0, failure=title, details=page)
 
-    def finish(self, course, seconds):
+    def finish(self, course: Course, seconds: float) -> int:
         """The last lines and the file: the exit status."""
         for why, count in sorted(course.known.met.items()):
             self.write(f"accepted {count} times: {why}")
@@ -62,7 +64,7 @@ class Report:
         return 1 if self.differences else 0
 
 
-def details_of(difference, script):
+def details_of(difference: Difference, script: List[str]) -> List[str]:
     plan, place, step = difference.plan, difference.place, difference.step
     call = plan.sequence.calls[place]
     begins = "the runtime alone waits, with the first call" if plan.sequence.start == WARM else "a fresh environment"
@@ -77,5 +79,5 @@ def details_of(difference, script):
             "script", *(f"  {cut(line)}" for line in script)]
 
 
-def cut(text):
+def cut(text: str) -> str:
     return text if len(text) <= WIDTH else text[:WIDTH] + ".."

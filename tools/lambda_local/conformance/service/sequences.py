@@ -1,8 +1,14 @@
 """The sequences that are played: worked ones, and random ones, each with an ending that leaves a known state."""
+import functools
+from typing import Iterable, List, Tuple
+
 from .calls import NEVER_GIVEN, Call, calls_of
-from .oracle import FRESH, WARM, Sequence, playable, taken_registrations
+from .oracle import FRESH, WARM, Oracle, Plan, Sequence, playable, taken_registrations
 
 REPORT = '={"errorMessage":"no%20cheese","errorType":"OutOfCheese"}'
+LIMIT = 6_291_456  # bytes of a response
+LONG = {"LONG_EVENT": '{"text":"' + "x" * 70_000 + '"}', "LONG_OUTPUT": '"' + "y" * 90_000 + '"',
+        "GREATEST": '"' + "x" * (LIMIT - 2) + '"'}
 PARTS = {FRESH: """
 one invocation
   register x =probe -
@@ -97,6 +103,15 @@ who is told the end
   ext-next x
   ext-next w
   ext-next y
+a Next of an Init whose connection ends
+  register x =probe -
+  next
+  leave
+  ext-next x
+  invoke a =1
+  next
+  response a =2
+  next
 an extension that fails as it starts
   register x =probe s
   register y =other is
@@ -180,6 +195,32 @@ a newer Next
   next
   invoke a =1
   next
+a Next whose connection ends
+  next
+  leave
+  next
+  invoke a =1
+  response a =2
+  next
+a caller that hangs up
+  next
+  invoke a =1
+  hang-up a
+  response a =2
+  next
+  invoke b =3
+  response b =4
+  next
+a long event and a long output
+  next
+  invoke a =LONG_EVENT
+  response a =LONG_OUTPUT
+  next
+the greatest response
+  next
+  invoke a =1
+  response a =GREATEST
+  next
 """}
 TIMED = {FRESH: """
 a timeout with extensions
@@ -199,13 +240,22 @@ a late response
   invoke a =1
   wait
   response a =2
+a Next that waits
+  next
+  wait
+  invoke a =1
+  response a =2
+  next
 """}
 
 
-def sequences_of(text, start):
+def sequences_of(text: str, start: str) -> List[Sequence]:
     """The sequences of a text, in which an indented line is a call and another one the name of a sequence."""
-    found = []
-    for line in filter(str.strip, text.replace("REPORT", REPORT).splitlines()):
+    found: List[Sequence] = []
+    text = text.replace("REPORT", REPORT)
+    for word, long in LONG.items():
+        text = text.replace(word, long)
+    for line in filter(str.strip, text.splitlines()):
         if line.startswith(" "):
             name, _, calls = found[-1]
             found[-1] = Sequence(name, start, calls + calls_of(line))
@@ -214,19 +264,21 @@ def sequences_of(text, start):
     return found
 
 
-def worked(start):
-    return sequences_of(PARTS[start], start)
+@functools.lru_cache(None)
+def worked(start: str) -> Tuple[Sequence, ...]:
+    return tuple(sequences_of(PARTS[start], start))
 
 
-def timed(start):
-    return sequences_of(TIMED[start], start)
+@functools.lru_cache(None)
+def timed(start: str) -> Tuple[Sequence, ...]:
+    return tuple(sequences_of(TIMED[start], start))
 
 
-def with_ending(plan):
+def with_ending(plan: Plan) -> Sequence:
     """Returns the sequence, followed by calls that end its generation, or answer what is open and wait again."""
     sequence = plan.sequence
     waits = any(call.kind == "wait" for call in sequence.calls)
-    if sequence.start == FRESH or waits:
+    if sequence.start == FRESH or (waits and not plan.waiting()):
         taken = sorted(taken_registrations(plan))
         ending = [Call("ext-exit-failure", sequence.calls[place].label, (REPORT,)) for place in taken]
         ending.append(Call("init-failure", "", (REPORT,)))
@@ -234,12 +286,12 @@ def with_ending(plan):
         ending = [Call("next")]
         delivered = [given for step in plan.steps for given in step if given.answer.kind == "deliver"]
         if delivered:
-            last = plan.label_of(int(delivered[-1].answer.fields[0][-12:], 16))
+            last = plan.label_of(int(delivered[-1].answer.fields[0][-12:], 16)) or NEVER_GIVEN
             ending.insert(0, Call("response", last, ('="the%20last"',)))
     return sequence._replace(calls=sequence.calls + tuple(ending))
 
 
-def ends_well(plan):
+def ends_well(plan: Plan) -> bool:
     """Whether it leaves an environment of which nothing has been heard, or whose runtime alone waits."""
     last, waiting = plan.sequence.calls[-1].kind, plan.waiting()
     if last == "init-failure":
@@ -248,12 +300,12 @@ def ends_well(plan):
     return last == "next" and waiting == [len(plan.sequence.calls) - 1]
 
 
-def plans_of(sequences, oracle):
+def plans_of(sequences: Iterable[Sequence], oracle: Oracle) -> List[Plan]:
     """Plans of those that can be played and leave a known state."""
     known = [playable(plan) for plan in oracle.plans(list(sequences))]
     ended = [with_ending(plan) for plan in oracle.plans(known)]
     return [plan for plan in oracle.plans(ended) if ends_well(plan) and playable(plan) == plan.sequence]
 
 
-def labels_of(calls, kind):
+def labels_of(calls: Iterable[Call], kind: str) -> List[str]:
     return [call.label for call in calls if call.kind == kind] or [NEVER_GIVEN]

@@ -1,10 +1,11 @@
 """The tested service: how a call becomes a request to it."""
 import json
 import urllib.parse
-from typing import NamedTuple, Tuple
+from typing import List, NamedTuple, Optional, Tuple
 
 from ...service import EXTENSION, RUNTIME, Fault
-from .calls import NEVER_GIVEN
+from .calls import NEVER_GIVEN, Call, Ids
+Request = Tuple[Tuple[str, int], str, str, List[Tuple[str, str]], Optional[bytes]]
 
 TOO_LARGE = 6_291_457  # bytes: one more than a response may have
 NEVER = "00000000-0000-4000-8000-00000000dead"  # an identifier that no service gave
@@ -18,7 +19,7 @@ class Tested(NamedTuple):
     path: str  # of an Invoke
     runtime: Tuple[str, int]
 
-    def request(self, call, ids):
+    def request(self, call: Call, ids: Ids) -> Request:
         """The address, method, path, headers and body of a call. `ids` has the identifier of each label."""
         if call.kind == "invoke":
             headers = [("Content-Type", "application/json"), *([("X-Amzn-Trace-Id", call.trace)] if call.trace else [])]
@@ -27,7 +28,7 @@ class Tested(NamedTuple):
         return (self.runtime, *from_environment(call, ids))
 
 
-def from_environment(call, ids):
+def from_environment(call: Call, ids: Ids) -> Tuple[str, str, List[Tuple[str, str]], Optional[bytes]]:
     request = ids.get((False, call.label), NEVER) if call.label != NEVER_GIVEN else NEVER
     extension = [("Lambda-Extension-Identifier",
                   ids.get((True, call.label), NEVER) if call.label != NEVER_GIVEN else NEVER)]
@@ -52,7 +53,7 @@ def from_environment(call, ids):
     return "POST", EXTENSION + route, [*extension, ("Lambda-Extension-Function-Error-Type", ERROR_TYPE)], call.body
 
 
-def tested_by(invoke, runtime, function):
+def tested_by(invoke: str, runtime: str, function: str) -> Tested:
     """What --invoke, --runtime and --function name."""
     found = urllib.parse.urlsplit(invoke)
     try:

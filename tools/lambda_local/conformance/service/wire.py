@@ -4,6 +4,7 @@ import contextlib
 import select
 import socket
 import time
+from typing import Deque, Dict, List, Optional, Sequence, Tuple
 
 from ..clock import CLOCK
 from ..messages import Malformed, Message
@@ -16,39 +17,42 @@ class Exchange:
     """A request and what came of it: `status` of a reply, `ended` if the connection ended without one, else it
     waits."""
 
-    def __init__(self, address):
+    def __init__(self, address: Tuple[str, int]) -> None:
         self.address, self.message = address, Message()
         self.sent = time.monotonic()
-        self.answered = self.wall = None
+        self.answered: Optional[float] = None
+        self.wall = 0.0  # then, in Unix milliseconds
         self.status, self.ended = 0, ""
 
     @property
-    def over(self):
+    def over(self) -> bool:
         return bool(self.status or self.ended)
 
     @property
-    def headers(self):
+    def headers(self) -> Dict[str, str]:
         return self.message.headers
 
     @property
-    def body(self):
+    def body(self) -> bytes:
         return bytes(self.message.body)
 
 
 class Wire:
     """Connections are kept: one that has been answered carries the next request to its address."""
 
-    def __init__(self):
-        self.open, self.idle = {}, {}  # sockets of exchanges that wait; idle ones by address
-        self.trips = collections.deque(maxlen=RECENT)
+    def __init__(self) -> None:
+        self.open: Dict[socket.socket, Exchange] = {}  # of exchanges that wait
+        self.idle: Dict[Tuple[str, int], List[socket.socket]] = {}
+        self.trips: Deque[float] = collections.deque(maxlen=RECENT)
 
     @property
-    def settle(self):
+    def settle(self) -> float:
         """How long a request may go without an answer until it surely waits: some round trips of late."""
         usual = sorted(self.trips)[len(self.trips) // 2] if self.trips else LEAST_SETTLE
         return min(MOST_SETTLE, max(LEAST_SETTLE, 3 * usual))
 
-    def send(self, address, method, path, headers=(), body=None):
+    def send(self, address: Tuple[str, int], method: str, path: str, headers: Sequence[Tuple[str, str]] = (),
+             body: Optional[bytes] = None) -> Exchange:
         """Sends a request. Raises OSError if no one listens there."""
         lines = [f"{method} {path} HTTP/1.1", f"Host: {address[0]}:{address[1]}",
                  *(f"{name}: {value}" for name, value in headers)]
@@ -63,7 +67,7 @@ class Wire:
         self.open[connection] = exchange
         return exchange
 
-    def _connection(self, address):
+    def _connection(self, address: Tuple[str, int]) -> socket.socket:
         for connection in self.idle.pop(address, []):
             if select.select([connection], [], [], 0)[0]:  # the peer has ended it
                 connection.close()
@@ -75,7 +79,7 @@ class Wire:
         connection.setsockopt(socket.IPPROTO_TCP, socket.TCP_NODELAY, 1)
         return connection
 
-    def collect(self, wanted=(), seconds=0.0):
+    def collect(self, wanted: Sequence[Exchange] = (), seconds: float = 0.0) -> None:
         """Reads until all that is wanted is over or the time is up; without a wish, for as long as that."""
         now = CLOCK.now if wanted else time.monotonic  # (what is wanted may be late if this machine is busy)
         end = now() + seconds
@@ -87,7 +91,7 @@ class Wire:
             if (wanted and all(exchange.over for exchange in wanted)) or (not ready and now() >= end):
                 return
 
-    def _read(self, connection):
+    def _read(self, connection: socket.socket) -> None:
         exchange = self.open[connection]
         try:
             data = connection.recv(65536)
@@ -105,7 +109,7 @@ class Wire:
             del self.open[connection]
             connection.close()
 
-    def _end(self, connection, exchange, data):
+    def _end(self, connection: socket.socket, exchange: Exchange, data: bytes) -> None:
         words = exchange.message.start.split(" ")
         if len(words) > 1 and words[1].isdigit():
             exchange.status = int(words[1])
@@ -118,18 +122,18 @@ class Wire:
         else:
             self.idle.setdefault(exchange.address, []).append(connection)
 
-    def note_trip(self, exchange):
+    def note_trip(self, exchange: Exchange) -> None:
         """Notes how long an immediate answer takes."""
-        self.trips.append(exchange.answered - exchange.sent)
+        self.trips.append((exchange.answered or exchange.sent) - exchange.sent)
 
-    def leave(self, exchanges):
+    def leave(self, exchanges: Sequence[Exchange]) -> None:
         """Ends the connections of these, whose answers do not come and are not missed."""
         for connection, exchange in list(self.open.items()):
             if exchange in exchanges:
                 del self.open[connection]
                 connection.close()
 
-    def drop(self):
+    def drop(self) -> None:
         """Ends all connections, as processes that are killed do."""
         for connection in [*self.open, *(one for kept in self.idle.values() for one in kept)]:
             connection.close()

@@ -1,0 +1,46 @@
+"""Which FAILs come of one cause: the first of them is told, and the others are named in the last lines."""
+import re
+from typing import Callable, Dict, Optional, Tuple
+
+SIGNS = re.compile(r"\d+|[0-9a-f]{8}-[0-9a-f-]{27}")  # that differ from one FAIL of a cause to another
+# Checks that fail as well if one of these has failed: they say nothing new then.
+FOLLOWS: Dict[str, Tuple[str, ...]] = {
+    "long_text": ("utf8",), "kinds": ("utf8", "payload_empty", "payload_null", "payload_scalars"),
+    "escapes": ("utf8", "kinds"), "payload_limit": ("long_text",), "output_limit": ("payload_limit", "long_text"),
+    "nesting": ("kinds",), "many_invocations": ("long_text", "payload_limit", "error_reported"),
+    "function_arn": ("request_id",), "deadline": ("request_id",), "remaining_time": ("deadline",),
+    "trace_id": ("request_id",), "trace_renewed": ("request_id", "trace_id"),
+    "error_message": ("utf8", "kinds"), "error_texts": ("utf8", "kinds", "escapes", "error_message"),
+    "after_error": ("error_texts", "request_id", "deadline", "trace_id", "trace_renewed"),
+    "ends_at_500_error": ("error_reported",), "long_refusal": ("late_response", "chunked_answers"),
+    "closing_answers": ("connection_end",), "slow_answers": ("long_text",), "cut_event": ("slow_answers", "long_text"),
+    "missing_handler": ("init_error",), "broken_handler": ("init_error",), "responds_once": ("error_reported",),
+    "long_handler": ("late_response",),
+    # of extensions
+    "ends_at_timeout": ("ends_at_spindown",), "ends_at_failure": ("ends_at_spindown",), "exit_error": ("init_error",),
+    "refused_registration": ("ends_at_500_register",),
+}
+# What many checks look at once more, by the words with which they tell it, and the checks that are about it.
+TOLD = ((re.compile(r"sees the request identifier"), ("request_id",)),
+        (re.compile(r"sees the trace"), ("trace_id", "trace_renewed")),
+        (re.compile(r"the remaining milliseconds are"), ("deadline",)),
+        (re.compile(r"in place of the error"), ("error_reported", "error_message", "error_texts")))
+
+
+class Causes:
+    """The FAILs of a run so far."""
+
+    def __init__(self) -> None:
+        self._told: Dict[str, str] = {}  # by their causes: the names of the checks whose FAILs were told
+        self._failed: Dict[str, str] = {}  # by the name of each check that failed: that of the FAIL that was told
+
+    def first(self, name: str, came: str, cause: str) -> Optional[str]:
+        """Notes a FAIL: the check whose FAIL was told for the same cause; none if this one is to be told."""
+        key = cause or SIGNS.sub("", came)
+        about = [one for words, names in TOLD if words.search(came) for one in names]
+        has_failed: Callable[[str], bool] = self._failed.__contains__
+        before = next(filter(has_failed, (*FOLLOWS.get(name, ()), *about)), None)
+        first = self._told.get(key) or (self._failed[before] if before and before != name else None)
+        self._told.setdefault(key, first or name)
+        self._failed[name] = first or name
+        return first
